@@ -1,4 +1,4 @@
--- Where a report has found no memory, its text was accepted.
+-- A text was accepted if an allocation for its report failed.
 use Rattle.std.proofs.Common.{ℕ, List, Option, Err}
 use Rattle.fr_trace.specs.Audit.{Audits, HasBegin}
 use Rattle.fr_trace.specs.declared.error.TraceError.TheVariants.{Write}

@@ -1,4 +1,4 @@
--- How far `audit` reads.
+-- The bytes that `audit` reads.
 use Rattle.std.specs.Prelude.{ℕ, List, Option, Some, None, Result, Err, ◌⊎◌}
 use Rattle.fr_interface.specs.State.{State, IsLegalInterface}
 use Rattle.fr_trace.specs.Audit.{IsTextOf, StopsAt, StopsAtEnd}
@@ -9,12 +9,12 @@ use Rattle.fr_trace.specs.declared.error.TraceError.TheVariants.{Memory}
 abbrev pub IsAccepted : List ℕ → Type 0
 IsAccepted text = (s : State) × IsTextOf s (Some text) × IsLegalInterface s
 
--- As an audit of the text alone. Memory may also be refused for the report, which is written once all is accepted.
+-- It reads as an audit of the text alone. Memory may also run out for the report, once the whole text is accepted.
 abbrev pub EndsAt : List ℕ → List ℕ → Result (Unit {0}) TraceError → Type 0
 EndsAt text rest (Err Memory) = StopsAt text rest (Err Memory) ⊎ (StopsAtEnd text rest × IsAccepted text)
 EndsAt text rest r = StopsAt text rest r
 
--- the same of a reader, where its bytes are known
+-- the same for a reader whose bytes are known
 abbrev pub Ends : Option (List ℕ) → Option (List ℕ) → Result (Unit {0}) TraceError → Type 0
 Ends None rest r = Unit {0}
 Ends (Some text) None r = ⊥

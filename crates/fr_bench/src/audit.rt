@@ -11,28 +11,28 @@ use std::io::{Read, Write};
 
 /// Reads a trace to its end and writes its report (project-defined).
 ///
-/// The report is kept in memory first and then written at once, so that nothing is written of a
-/// report that isn't whole. The refusals are those of the trace; `Memory` also where memory for the
-/// report was refused, and `Write` where the writer failed, which may have taken a part by then.
-/// Every other refusal leaves the writer as it was.
+/// The report is gathered in memory and then written at once, so that no part of an incomplete report is written.
+///
+/// Returns the error of the trace; `Memory` also if an allocation for the report fails; and `Write` if the writer
+/// fails, which may have taken a part. Every other error leaves the writer unchanged.
 #[tactic(auto, using(crate::proofs::AuditLemmas::no_room))]
 pub fn audit<R: Read, W: Write>(
     alloc: Global,
     reader: &mut R,
     writer: &mut W,
 ) -> Result<(), TraceError>
-    // What is accepted is a text of a legal interface, whose report is written, and nothing else.
+    // An accepted text is a text of a legal interface, whose report is written.
     ensures found { Audits (R.remaining reader.old) (W.contents writer.old) (W.contents writer.new) result }
     // It reads in pieces of at most 4096 bytes, and none after the one that has the fault.
     ensures read { Ends (R.remaining reader.old) (R.remaining reader.new) result }
-    // A text of a legal interface is not refused, in whichever version.
+    // A text of a legal interface is accepted in each version.
     ensures only { (s : State) → IsLegalInterface s → IsSomeAnd (R.remaining reader.old) (λ text. IsTraceOf s text)
         → IsNotRefused result }
 {
     let mut report = Vec::new(alloc);
     match fr_trace::audit::audit(alloc, reader, &mut report) {
         Ok(()) => {}
-        // A list of bytes takes no more only if an allocation fails.
+        // A list of bytes fails to grow only if an allocation fails.
         Err(TraceError::Write) => return Err(TraceError::Memory),
         Err(refusal) => return Err(refusal),
     }

@@ -1,4 +1,4 @@
-//! How the program ends when it hasn't done what it was asked.
+//! Failures of the program, and its exit status.
 ghost use Rattle.std.specs.Prelude.{◌≡◌};
 ghost use Rattle.fr_bench.specs.Failures.{status_of};
 
@@ -8,17 +8,18 @@ use fr_trace::error::TraceError;
 use fr_words::error::OrderError;
 use thiserror::Error;
 
-/// Why the program hasn't done what it was asked; printed, it is the line on standard error
-/// (project-defined).
+/// Reasons why the program hasn't executed its command (project-defined).
+///
+/// An error prints as the line on standard error.
 #[derive(Clone, Copy, Debug, Drop, PartialEq, Eq, Error)]
 pub enum Failure {
-    /// The words were no command, or memory for reading them was refused.
+    /// The words are no command, or an allocation for them failed.
     #[error("{0}")]
     Words(#[from] OrderError),
-    /// The trace was refused, or couldn't be read, or its report couldn't be written.
+    /// The trace was rejected, or couldn't be read, or its report couldn't be written.
     #[error("refused {0}")]
     Audit(#[from] TraceError),
-    /// Another input was refused, or couldn't be read, or the output couldn't be written.
+    /// Another input was rejected, or couldn't be read, or the output couldn't be written.
     #[error("refused {0}")]
     Text(#[from] BenchError),
     /// A run was refused, or failed.

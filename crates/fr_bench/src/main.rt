@@ -1,26 +1,25 @@
-//! The bench's program. It reads its command from the words after its name, does it, and says by its
-//! exit status how it went: 0 where it is done, 1 where an input is refused, 2 where the words are
-//! no command.
+//! The program of the bench. It reads its command from the words after its name, and executes it. The exit status is 0
+//! if the command is executed, 1 if an input is rejected, and 2 if the words are no command.
 //!
-//! What it prints on standard output comes from one command and only once that command has accepted
-//! all its input. A refusal is one line on standard error.
+//! Standard output has the output of one command, and only once that command has accepted all its input. A refusal is
+//! one line on standard error.
 //!
 //! ```text
 //! fr_bench audit < node.trace      the report of a trace, or the first line at fault
 //! fr_bench check cluster.toml      the parameters of a cluster, or the first fault of its file
-//! fr_bench plan cluster.toml       who sends where, and when each channel is open to each node
+//! fr_bench plan cluster.toml       senders of slots, and open intervals of each channel for each node
 //! fr_bench midpoint < numbers      the fault-tolerant midpoint of numbers
 //! fr_bench run cluster.toml scenario --cycles 4
 //!                                  the reports of all nodes after a run in which tasks, controllers and the
 //!                                  bus are threads
 //! ```
 //!
-//! A chapter in parentheses is one of the FlexRay Protocol Specification 2.1, revision A, whose rule it is.
-//! *(project-defined)* marks a rule of this project's own, which says nothing of the standard.
+//! A chapter in parentheses is one of the FlexRay Protocol Specification 2.1, revision A.
+//! *(project-defined)* marks a rule of this project, and makes no claim about the standard.
 //!
 //! # Definitions
 //!
-//! - `Audits`, `Failures`: how far the program's `audit` reads; the exit status of each failure.
+//! - `Audits`, `Failures`: the bytes that the program's `audit` reads; the exit status of each failure.
 #![tactic(auto)]
 
 mod audit;
@@ -45,7 +44,7 @@ use std::sync::Wait;
 use std::thread::Threads;
 use std::time::Clock;
 
-/// Runs the cluster of the one file with the scenario of the other, which is opened once the cluster is accepted.
+/// Runs the cluster of one file with the scenario of the other. The scenario is opened once the cluster is accepted.
 fn run_files<R: Files + Print + AllocGlobal + Threads + Wait + Clock + Sync>(
     rt: &R,
     cluster: &str,
@@ -67,7 +66,7 @@ fn run_files<R: Files + Print + AllocGlobal + Threads + Wait + Clock + Sync>(
     )
 }
 
-/// Does the order.
+/// Executes the command.
 fn carry_out<R: Files + Input + Print + AllocGlobal + Threads + Wait + Clock + Sync>(
     rt: &R,
     order: Order<'_>,
@@ -102,7 +101,7 @@ fn carry_out<R: Files + Input + Print + AllocGlobal + Threads + Wait + Clock + S
     }
 }
 
-/// Does what the words ask for.
+/// Reads the words and executes their command.
 fn run<R: Env + Files + Input + Print + AllocGlobal + Threads + Wait + Clock + Sync>(
     rt: &R,
 ) -> Result<(), Failure> {

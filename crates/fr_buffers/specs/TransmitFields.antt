@@ -1,4 +1,4 @@
--- The fields of `TxBuffer` as what it keeps.
+-- The fields of `TxBuffer` as a `Transmitter`.
 use Rattle.std.specs.Prelude.{◌≡◌, ◌+◌, ◌≤◌}
 use Rattle.fr_buffers.specs.declared.transmit.TxBuffer.TheInside.{Inside}
 use Rattle.fr_buffers.specs.Transmitting.{Transmitter}

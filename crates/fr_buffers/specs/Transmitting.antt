@@ -1,11 +1,11 @@
--- What a transmit buffer is seen as, and what its calls leave.
+-- The view of a transmit buffer, and its state after each call.
 use Rattle.std.specs.Prelude.{ℕ, ◌+◌, ◌==◌, List, Option, Some, None, if◌then◌else◌, option_map}
 use Rattle.fr_buffers.specs.declared.transmit.HeldCommit.{HeldCommit}
 use Rattle.fr_journal.specs.declared.fate.Tally.{Tally}
 use Rattle.fr_slots.specs.declared.plan.Mode.{Mode}
 use Rattle.fr_slots.specs.declared.plan.Mode.TheVariants.{Event, State, Receive}
 
--- its mode, the commit that it holds, and what became of all of its commits
+-- the mode, the held commit, and the tally of all commits
 pub record Transmitter : Type 0 where
   pub mode : Mode
   pub last : Option HeldCommit
@@ -18,7 +18,7 @@ abbrev pub new_transmitter : Mode → Transmitter
 new_transmitter mode =
     record { mode = mode; last = None; tally = no_commits }
 
--- one commit more; what was pending is overwritten
+-- one more commit; a pending one is overwritten
 abbrev pub with_commit : Transmitter → HeldCommit → Transmitter
 with_commit b c = record {
   mode = b.mode;
@@ -33,7 +33,7 @@ with_commit b c = record {
   };
 }
 
--- the entry of the commit that it holds, and its payload
+-- the entry of the held commit, and its payload
 abbrev pub entry_of : Transmitter → Option ℕ
 entry_of b = option_map (λ c. c.entry) b.last
 
@@ -45,11 +45,11 @@ offer_by Event pending last = if pending == 1 then last else None
 offer_by State pending last = last
 offer_by Receive pending last = None
 
--- the commit that it offers, by the number of its entry
+-- the offered commit, as the number of its entry
 abbrev pub offer_of : Transmitter → Option ℕ
 offer_of b = offer_by b.mode b.tally.pending (entry_of b)
 
--- the commit that it offers has gone out
+-- the offered commit was sent
 abbrev pub after_send : Transmitter → Transmitter
 after_send b = record {
   mode = b.mode;
@@ -63,7 +63,7 @@ after_send b = record {
   };
 }
 
--- the commit that a withdraw takes back, by the number of its entry: the one that it holds, where that is pending
+-- the commit that a withdraw removes, as the number of its entry: the held one, if it is pending
 abbrev pub pending_of : Transmitter → Option ℕ
 pending_of b = if b.tally.pending == 1 then entry_of b else None
 
@@ -80,6 +80,6 @@ emptied b = record {
   };
 }
 
--- a pending commit was taken back, and nothing earlier is there again
+-- a pending commit was withdrawn, and no earlier one comes back
 abbrev pub after_withdraw : Transmitter → Transmitter
 after_withdraw b = if b.tally.pending == 1 then emptied b else b

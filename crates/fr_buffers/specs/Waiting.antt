@@ -1,15 +1,15 @@
--- What a receive queue is seen as, and what its calls leave.
+-- The view of a receive FIFO, and its state after each call.
 use Rattle.std.specs.Prelude.{ℕ, ◌+◌, nat_lt, List, [], ◌∷◌, ◌++◌, length, drop, if◌then◌else◌}
 use Rattle.circular_buffer.specs.Buffer.{keep_last}
 use Rattle.fr_journal.specs.declared.entry.Arrival.{Arrival}
 
--- its capacity, the frames that it holds, the oldest first, and how many it lost
+-- the capacity, the held frames, the oldest first, and the number of lost frames
 pub record Waiting : Type 0 where
   pub capacity : ℕ
   pub frames : List Arrival
   pub lost : ℕ
 
--- one frame more; a full queue loses its oldest
+-- one more frame; a full receive FIFO loses its oldest
 abbrev pub with_frame : Waiting → Arrival → Waiting
 with_frame q a = record {
   capacity = q.capacity;

@@ -1,10 +1,8 @@
-//! What an interface keeps beside its journal: transmit buffers, receive buffers and the receive queue, each call of
-//! which takes the same time however long the journal is.
+//! Transmit buffers, receive buffers and the receive FIFO of an interface. Each call takes the same time, for a journal
+//! of any length.
 //!
-//! Contracts speak of a buffer alone: a transmit buffer is seen as a `Transmitter`, a receive buffer as the arrival
-//! that it holds, if any, and a queue as `Waiting`. How a journal gives these is said where journals and buffers meet,
-//! in `fr_interface`.
-//!
+//! Contracts describe a buffer alone. They see a transmit buffer as a `Transmitter`, a receive buffer as the arrival
+//! that it holds, if any, and the receive FIFO as `Waiting`. `fr_interface` derives these from the journal.
 //! ```text
 //! let mut buffer = TxBuffer::new(Mode::Event);
 //! buffer.commit(entry, &payload);
@@ -13,15 +11,15 @@
 //! }
 //! ```
 //!
-//! A chapter in parentheses is one of the FlexRay Protocol Specification 2.1, revision A, whose rule it is.
-//! *(project-defined)* marks a rule of this project's own, which says nothing of the standard.
+//! A chapter in parentheses is one of the FlexRay Protocol Specification 2.1, revision A.
+//! *(project-defined)* marks a rule of this project, and makes no claim about the standard.
 //!
 //! # Definitions
 //!
-//! Modules that go the way of the code, for private functions, with the module that has the meaning:
+//! Modules that follow the steps of the code, for private functions, with the module that has the meaning:
 //!
-//! - `Transmitting`, `Waiting`: a buffer or a FIFO after one call. Meaning: `fr_journal`: `Fate`, `Offers`, `Held`,
-//!   `Arrivals`.
+//! - `Transmitting`, `Waiting`: a buffer or a receive FIFO after one call. Meaning: `Fate`, `Offers`, `Held` and
+//!   `Arrivals` in `fr_journal`.
 #![tactic(auto)]
 
 pub mod queue;

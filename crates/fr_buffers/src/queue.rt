@@ -1,4 +1,4 @@
-//! The receive queue.
+//! The receive FIFO.
 
 ghost use Rattle.std.specs.Prelude.{◌≡◌, ◌+◌, ◌<◌, ◌≤◌, ◌^◌, ◌↔◌, [], length, slice_get, IfOk, IsTrue};
 
@@ -12,7 +12,7 @@ use std::marker::Model;
 /// Frames that wait to be popped, the oldest first, in a ring (project-defined).
 #[derive(Drop)]
 pub struct ReceiveQueue {
-    // It takes its memory once, and a push into a full ring returns the frame that made room.
+    // The ring allocates once, and a push into a full ring returns the frame that it replaces.
     ring: HeapCircularBuffer<Arrival>,
     lost: u32,
 }
@@ -34,8 +34,9 @@ impl ReceiveQueue {
     ghost use Rattle.fr_buffers.specs.Waiting.{with_frame, without_oldest};
     ghost use Rattle.fr_journal.specs.Held.{arrival_of};
 
-    /// Returns an empty queue that holds at most so many frames, for all of which it takes memory. Refused where that
-    /// is refused.
+    /// Returns an empty receive FIFO for at most so many frames, and allocates its memory.
+    ///
+    /// Fails if the allocation fails.
     pub fn new(alloc: Global, capacity: u16) -> Result<ReceiveQueue, AllocError>
         ensures { IfOk result (λ q. q ≡ record { capacity = capacity; frames = []; lost = 0 }) }
     {
@@ -43,10 +44,10 @@ impl ReceiveQueue {
         Ok(ReceiveQueue { ring, lost: 0 })
     }
 
-    /// Appends a frame that the observe of this entry saw on the channel. In a full queue the oldest frame makes room,
-    /// and is lost.
+    /// Appends a frame that this entry observed on the channel. In a full receive FIFO it replaces the oldest, which is
+    /// lost.
     ///
-    /// One lost frame more has to fit 32 bits.
+    /// The number of lost frames, with one more, must fit 32 bits.
     pub fn arrive(&mut self, entry: u32, channel: Channel, frame: Frame)
         requires { self.old.lost + 1 < 2 ^ 32 }
         ensures { self.new ≡ with_frame self.old (arrival_of entry channel frame) }
@@ -58,7 +59,7 @@ impl ReceiveQueue {
         }
     }
 
-    /// Takes the oldest frame, if there is one.
+    /// Removes the oldest frame and returns it, if there is one.
     pub fn pop(&mut self) -> Option<Arrival>
         ensures oldest { result ≡ slice_get self.old.frames 0 }
         ensures left { self.new ≡ without_oldest self.old }
@@ -66,7 +67,7 @@ impl ReceiveQueue {
         self.ring.pop_front()
     }
 
-    /// Returns how many frames wait, at most the capacity.
+    /// Returns the number of waiting frames, at most the capacity.
     pub fn len(&self) -> u32
         ensures value { result ≡ length self.now.frames }
         ensures within { result ≤ self.now.capacity }
@@ -81,7 +82,7 @@ impl ReceiveQueue {
         self.ring.is_empty()
     }
 
-    /// Returns how many frames were lost.
+    /// Returns the number of lost frames.
     pub fn lost(&self) -> u32
         ensures { result ≡ self.now.lost }
     {

@@ -10,7 +10,7 @@ use fr_journal::entry::{Arrival, Origin};
 use fr_slots::channel::Channel;
 use std::marker::Model;
 
-/// What a node keeps of a buffer that receives: the last frame that it took (chapter 9).
+/// The state of a receive buffer: the last frame that it stored (chapter 9).
 #[derive(Drop)]
 pub struct RxBuffer {
     held: Option<Arrival>,
@@ -33,7 +33,7 @@ impl RxBuffer {
         RxBuffer { held: None }
     }
 
-    /// Holds a frame in place of the one before. It was seen on the channel by the observe of this entry.
+    /// Stores a frame in place of the one before. This entry observed it on the channel.
     pub fn store(&mut self, entry: u32, channel: Channel, frame: &Frame)
         ensures { self.new ≡ Some (arrival_of entry channel frame.now) }
     {
@@ -43,7 +43,7 @@ impl RxBuffer {
         });
     }
 
-    /// Holds a frame that is lent in place of the one before, over which it is copied.
+    /// Stores a lent frame by copying it over the one before.
     pub fn store_lent(&mut self, entry: u32, channel: Channel, frame: &LentFrame<'_>)
         ensures { self.new ≡ Some (arrival_of entry channel frame.now) }
     {
@@ -58,8 +58,8 @@ impl RxBuffer {
         }
     }
 
-    // It lends an `Arrival`, as the definitions of the journal have it, not a tuple.
-    /// Returns the frame that it holds, and where that comes from.
+    // The result is an `Arrival`, as in the definitions of the journal, and no tuple.
+    /// Returns the stored frame, with its origin.
     pub fn held(&self) -> Option<&Arrival>
         ensures { option_copied result ≡ self.now }
     {
@@ -67,7 +67,7 @@ impl RxBuffer {
     }
 }
 
-/// Makes this the arrival of the frame from there.
+/// Replaces the arrival by this frame and its origin.
 fn replace(arrival: &mut Arrival, origin: Origin, frame: &LentFrame<'_>)
     ensures { arrival.new ≡ record { origin = origin; frame = frame.now } }
 {

@@ -15,14 +15,14 @@ use std::marker::Model;
 pub struct HeldCommit {
     /// The number of its entry, from 0.
     pub entry: u32,
-    /// What was committed.
+    /// The payload of the commit.
     pub payload: Payload,
 }
 
-// The tally is kept as numbers, since a walk for each commit is quadratic. The definition (`Fate`) still asks each
-// commit for its fate by the entries after it.
-/// What a node keeps of a buffer that transmits: its mode, its last commit unless that was withdrawn, and what became
-/// of all of them (chapter 9; the modes, withdraws and the tally are project-defined).
+// The tally is kept as numbers, since walking the journal for each commit would be quadratic. The definition (`Fate`)
+// still derives the fate of each commit from the entries after it.
+/// The state of a transmit buffer: its mode, its last commit unless withdrawn, and its tally. Chapter 9; the modes,
+/// withdrawing and the tally are project-defined.
 #[derive(Drop)]
 pub struct TxBuffer {
     mode: Mode,
@@ -62,7 +62,7 @@ impl TxBuffer {
 
     /// Holds the commit of this entry in place of the one before, which is overwritten if it is pending.
     ///
-    /// One commit more has to fit 32 bits.
+    /// The number of commits, with one more, must fit 32 bits.
     pub fn commit(&mut self, entry: u32, payload: &Payload)
         requires { self.old.tally.committed + 1 < 2 ^ 32 }
         ensures { self.new ≡ with_commit self.old (record { entry = entry; payload = payload.now }) }
@@ -84,8 +84,8 @@ impl TxBuffer {
         };
     }
 
-    /// Returns the entry of the commit that it offers where it admits a slot and may begin: in event mode the last one
-    /// where it is pending, in state mode the last one unless it was withdrawn.
+    /// Returns the entry of the commit that the buffer offers, if it has one to offer. In event mode it is the last
+    /// commit if that is pending, in state mode the last commit unless it was withdrawn.
     pub fn offers(&self) -> Option<u32>
         ensures { result ≡ offer_of self.now }
     {
@@ -102,21 +102,21 @@ impl TxBuffer {
         }
     }
 
-    /// Returns the entry of the commit that it holds, sent or not.
+    /// Returns the entry of the held commit, sent or not.
     pub fn entry(&self) -> Option<u32>
         ensures { result ≡ entry_of self.now }
     {
         self.last.as_ref().map(|commit| commit.entry)
     }
 
-    /// Returns the payload of the commit that it holds, sent or not.
+    /// Returns the payload of the held commit, sent or not.
     pub fn payload(&self) -> Option<&Payload>
         ensures { option_copied result ≡ payload_of self.now }
     {
         self.last.as_ref().map(|commit| &commit.payload)
     }
 
-    /// The commit that it offers goes to the bus. It is sent from then on, however often it goes.
+    /// Marks the offered commit as sent, which it stays if it is sent again.
     pub fn send(&mut self)
         requires { IsSome (offer_of self.old) }
         ensures { self.new ≡ after_send self.old }
@@ -130,10 +130,10 @@ impl TxBuffer {
         };
     }
 
-    /// Takes the commit back that it holds, where that is pending, and tells its entry (project-defined).
+    /// Withdraws the held commit if it is pending, and returns its entry (project-defined).
     ///
-    /// The buffer is empty then: no commit before that one comes back. Where no commit is pending, nothing changes: a
-    /// commit that was sent stays, and is offered again in state mode.
+    /// The buffer is empty then: no earlier commit comes back. If no commit is pending, nothing changes. A commit that
+    /// was sent stays, and is offered again in state mode.
     pub fn withdraw(&mut self) -> Option<u32>
         ensures answer { result ≡ pending_of self.old }
         ensures buffer { self.new ≡ after_withdraw self.old }
@@ -148,8 +148,7 @@ impl TxBuffer {
         entry
     }
 
-    /// Returns what became of its commits: each was sent, overwritten or withdrawn or is pending, and at most one is
-    /// pending.
+    /// Returns the tally of the commits: sent, overwritten, withdrawn and pending, the last at most one.
     pub fn tally(&self) -> Tally
         ensures value { result ≡ self.now.tally }
         ensures fates { result.committed ≡ result.sent + result.overwritten + result.pending + result.withdrawn }
@@ -159,7 +158,7 @@ impl TxBuffer {
     }
 }
 
-/// Makes this the commit of the entry.
+/// Replaces the held commit by this one.
 fn replace(held: &mut HeldCommit, entry: u32, payload: &Payload)
     ensures { held.new ≡ record { entry = entry; payload = payload.now } }
 {

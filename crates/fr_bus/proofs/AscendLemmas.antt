@@ -158,7 +158,7 @@ least_in : (c : Standpoint) (m : ℕ) → least_of (next_in c.a) (next_in c.b) �
     → IsLeast (row_of c.a) (row_of c.b) c.a.begins c.b.begins m
 least_in c m e = least_is (row_of c.a) (row_of c.b) c.a.begins c.b.begins m e
 
--- a row that is still to come begins among the minislots, after those that were opened
+-- a row that is still to come begins at a minislot of the segment, after those that were opened
 row_between : (p : Parameters) (used : ℕ) (lane : Standing) → IsAhead p used lane → row_of lane ≡ true
     → (used < lane.begins) × (lane.begins ≤ p.minislots)
 row_between p used lane ahead row =
@@ -202,7 +202,7 @@ ahead_more p used m bytes lane false lawful ahead opens least =
           (and_open (row_of lane) (lane.begins == m) opens row) (least row);
     }
 
--- what a dynamic window leaves, once it is known to be one
+-- the course after a window that is known to be dynamic
 abbrev dynamic_passed : Standpoint → ℕ → ℕ → ℕ → Standpoint
 dynamic_passed c m a b = record c {
   windows = c.windows + 1;

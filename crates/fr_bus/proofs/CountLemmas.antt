@@ -1,4 +1,4 @@
--- How many of a list pass a test where none does, and where all do.
+-- The number of items of a list that pass a test, if none does, and if all do.
 use Rattle.std.proofs.Common.{◌≡◌, ℕ, suc, ◌+◌, ◌*◌, ◌≤◌, Bool, true, false, cond, List, [], ◌∷◌, length, replicate}
 use Rattle.std.proofs.Common.{refl, sym, ap, ◌∙◌, arith}
 use Rattle.std.specs.Prelude.{◌&&◌, ◌==◌}
@@ -22,7 +22,7 @@ count_all p (x ∷ xs) =
     all_step (p x) (list_all p xs) (count_by p xs) (length xs) (count_all p xs) (count_by-le-length p xs)
     ∙ ap (λ n. n == suc (length xs)) (sym (sum_by-cons (λ y. cond (p y) 1 0) x xs))
 
--- all pass where as many pass as there are
+-- if as many items pass as there are, all pass
 pub all_counted : {X : Type 0} (p : X → Bool) (xs : List X) (count n : ℕ) → count ≡ count_by p xs → n ≡ length xs
     → (count == n) ≡ list_all p xs
 all_counted p xs count n counted many = (λ i. counted i == many i) ∙ sym (count_all p xs)

@@ -1,4 +1,4 @@
--- One window more of a run.
+-- One more window of a run.
 use Rattle.std.proofs.Common.{◌≡◌, ℕ, ◌+◌, Bool, true, false, cond, List, [], ◌∷◌, ◌++◌, length, length-append, map}
 use Rattle.std.proofs.Common.{refl, sym, ap, ◌∙◌, arith}
 use Rattle.std.proofs.lemmas.List.{map-append, append-nil}
@@ -126,7 +126,7 @@ later_more p cycles rs r e =
     going true is = absurd (let none : ⊥ = cc in none)
     going false is = refl
 
--- where a run stands with one window more
+-- the progress of a run with one more window
 pub course_more : (p : Parameters) (cycles : ℕ) (rs : List Recorded) (r : Recorded)
     → course_of p cycles (rs ++ r ∷ []) ≡ course_after (course_of p cycles rs) r
 course_more p cycles rs r = by_case (begins_cycle r) refl

@@ -34,7 +34,7 @@ find_at test start (suc n) x least below passes fails = elim (eqb_tells start x)
       (λ m from before. fails m (omega (arith, from)) before)
 ]
 
--- one number, where it is there
+-- one number, if there is one
 single_none : (x m : ℕ) → m < x → (x == m) ≡ false
 single_none x m before = ne_eqb x m (λ same. let none : ⊥ = omega (arith, before, same) in none)
 
@@ -52,7 +52,7 @@ and_false : (r : Bool) (x m : ℕ) → m < x → (r && x == m) ≡ false
 and_false true x m before = single_none x m before
 and_false false x m before = refl
 
--- of two lanes, of which each opens its next slot at a minislot from 1 up to n, or opens none
+-- two lanes, each of which opens its next slot at a minislot from 1 to n, or opens none
 pub find_least : (a b : Bool) (x y n : ℕ) → (a ≡ true → (1 ≤ x) × (x ≤ n)) → (b ≡ true → (1 ≤ y) × (y ≤ n))
     → find (λ m. (a && x == m) || (b && y == m)) (range_with_len 1 n) ≡ least_of (cond a (Some x) None)
     (cond b (Some y) None)

@@ -28,7 +28,7 @@ pub and_left : (p q : Bool) → (p && q) ≡ true → p ≡ true
 and_left true q e = refl
 and_left false q e = e
 
--- the minislot at which a channel opens its next slot, where it opens one
+-- the minislot at which a channel opens its next slot, if it opens one
 abbrev pub next_on : Parameters → Channel → List Recorded → Option ℕ
 next_on p channel rows = cond (has_row_after p (counts_on channel rows))
     (Some (first_minislot p (counts_on channel rows))) None
@@ -61,7 +61,7 @@ next_minislot_is p rows =
 not_empty : {X : Type 0} (n : ℕ) (x y : X) → cond (suc n == 0) x y ≡ y
 not_empty n x y = ap (λ b. cond b x y) (ne_eqb (suc n) 0 (λ same. let none : ⊥ = omega (arith, same) in none))
 
--- the window that follows those of a record is the one that its course leads to
+-- the window that follows those of a record is the next one of its course
 pub next_is : (p : Parameters) (cycles : ℕ) (rs : List Recorded)
     → next_of (course_of p cycles rs) ≡ following p cycles rs
 next_is p cycles [] = refl

@@ -1,4 +1,4 @@
--- What a node offered, by what the record has of it.
+-- The offer of a node, by the record.
 use Rattle.std.proofs.Common.{◌≡◌, ℕ, zero, suc, ◌+◌, ◌<◌, Bool, true, false, cond, List, [], ◌∷◌, ◌++◌, length, Option}
 use Rattle.std.proofs.Common.{Some, None, refl, sym, ap, ◌∙◌, arith}
 use Rattle.std.proofs.lemmas.Bool.{eq-eqb, ne_eqb}
@@ -54,7 +54,7 @@ one_offer channel c n node babble fate (Some bytes) =
     one_case channel n (record { node = node; channel = c; babble = babble; bytes = bytes; fate = fate })
     (length bytes.items == 0)
 
--- of a node's two sides: its offer on the channel, if it is this node
+-- a node's two sides give its offer on the channel, if it is this node
 of_side : (d : Description) (w : Opportunity) (channel c : Channel) (n node : ℕ) (side : Side) (slot : Option ℕ)
     (mine on : Bool) → (node == n) ≡ mine → is_channel c channel ≡ on
     → offer_in channel n (sent_in d w node c side slot) ≡ cond (mine && on) (recordable slot side.offer) None
@@ -113,7 +113,7 @@ before_all d w channel n start (s ∷ ss) below =
     (λ same. let none : ⊥ = omega (arith, below, same) in none)))
     ∙ before_all d w channel n (start + 1) ss (omega (arith, below))
 
--- the offer that the record has of a node is the one of its station
+-- the node's offer in the record is the one of its station
 pub offer_of_station : (d : Description) (w : Opportunity) (channel : Channel) (n start k : ℕ) (ss : List Station)
     → n ≡ start + k → k < length ss
     → offer_in channel n (sent_from d w start ss) ≡ recordable (slot_of w channel)

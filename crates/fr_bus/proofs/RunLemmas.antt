@@ -1,4 +1,4 @@
--- A new bus, a seal and an advance keep what every bus keeps.
+-- A new bus, a seal and an advance keep the properties of every bus.
 use Rattle.std.proofs.Common.{◌≡◌, ℕ, ◌-◌, ◌≤◌, Bool, true, false, cond, List, [], ◌∷◌, ◌++◌, length, length-append}
 use Rattle.std.proofs.Common.{replicate, Option, Some, None, slice_get, refl, subst, sym, ap, ◌∙◌, arith}
 use Rattle.std.proofs.lemmas.Bool.{lt-ltb, ltb-false}
@@ -49,7 +49,7 @@ stands_open Collect b e stands = stands
 stands_open InSealed b e stands = absurd (let none : ⊥ = cc in none)
 stands_open Finished b e stands = absurd (let none : ⊥ = cc in none)
 
--- the open window is the one that the course leads to
+-- the open window is the next one of the course
 pub opened_is_next : (b : BusState) (c : Standpoint) (w : Opportunity) → IsRun b
     → c ≡ course_of b.cluster.params b.cycles b.sealed → collects b.phase ≡ true → b.opened ≡ Some w
     → next_of c ≡ Some w
@@ -66,7 +66,7 @@ last_more xs x =
     let place : length (xs ++ x ∷ []) - 1 ≡ length xs = omega (arith, length-append xs (x ∷ [])) in
     ap (slice_get (xs ++ x ∷ [])) place ∙ at_end xs x
 
--- what is appended is the next window's outcome
+-- the appended window has the next window's outcome
 recorded_more : (b : BusState) (w : Opportunity) → IsRun b → collects b.phase ≡ true → b.opened ≡ Some w
     → IsRecorded b.cluster b.cycles b.sealed (outcome_of b w)
 recorded_more b w run collecting opened = (
@@ -94,7 +94,7 @@ run_sealed b w sealed same run collecting opened =
       );
     })
 
--- and the course that passed the window is that of the record
+-- the course that passed the window is that of the record
 pub course_sealed : (b : BusState) (w : Opportunity) (c new : Standpoint) (x y : ℕ) (sealed : List Recorded)
     → new ≡ passed c w x y → c ≡ course_of b.cluster.params b.cycles b.sealed
     → x ≡ longest A (outcome_of b w).sent → y ≡ longest B (outcome_of b w).sent
@@ -122,7 +122,7 @@ run_advanced b run = record {
   stands = stands_at (next_of_bus b) (advanced b) refl refl;
 }
 
--- what an advance leaves, by its parts
+-- the bus after an advance, by its parts
 pub advanced_is : (b : BusState) (c : Standpoint) (phase : Phase) (opened : Option Opportunity)
     (stations : List Station) → c ≡ course_of b.cluster.params b.cycles b.sealed
     → opened ≡ next_of c → phase ≡ phase_at opened → stations ≡ replicate (length b.stations) idle_station

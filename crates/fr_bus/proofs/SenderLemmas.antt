@@ -24,7 +24,7 @@ use Rattle.fr_slots.specs.declared.channel.Channel.TheVariants.{A, B}
 use Rattle.fr_slots.specs.History.{AllAfter}
 use Rattle.fr_slots.specs.Windows.{Opportunity, slot_of, is_static}
 
--- what passed is let pass by its node's guardian
+-- the node's guardian let the transmission pass
 abbrev pub IsLetPass : Description → Opportunity → Sent → Type 0
 IsLetPass d w t = (channel : Channel) → passed_on channel t ≡ true → passes d t.node w channel ≡ true
 
@@ -80,7 +80,7 @@ in_all d w node (s ∷ ss) =
     (All-append (IsLetPass d w) _ _ (in_side d w node A s.a (slot_of w A)) (in_side d w node B s.b (slot_of w B)))
     (in_all d w (node + 1) ss)
 
--- what holds of those that pass a test holds of all that a filter by it keeps
+-- a property of all items that pass a test holds for all items that a filter by it keeps
 All-kept : {X : Type 0} (test : X → Bool) (P : X → Type 0) (xs : List X) → All (λ x. test x ≡ true → P x) xs
     → All P (filter test xs)
 All-kept test P [] all = All-nil P
@@ -90,7 +90,7 @@ All-kept test P (x ∷ xs) all = by_case (test x) refl (All-kept test P xs (All-
     by_case true e rest = All-cons P x (filter test xs) (All-head (λ x. test x ≡ true → P x) x xs all e) rest
     by_case false e rest = rest
 
--- what holds of each one after those before it holds of each
+-- a property of each event after those before it gives a property of each event
 All-each : {X : Type 0} (P : List X → X → Type 0) (Q : X → Type 0) → ((before : List X) (x : X) → P before x → Q x)
     → (before xs : List X) → AllAfter P before xs → All Q xs
 unfolding AllAfter
@@ -98,7 +98,7 @@ All-each P Q weaker before [] all = All-nil Q
 All-each P Q weaker before (x ∷ xs) all = All-cons Q x xs (weaker before x all.0)
     (All-each P Q weaker (before ++ x ∷ []) xs all.1)
 
--- where each of them is let pass by its node's guardian, what passes a guarded static slot is its sender's
+-- if its node's guardian let each transmission pass, those that pass a guarded static slot are from its sender
 pub passed_sends : (d : Description) → IsCluster d → (r : Recorded) → All (IsLetPass d r.window) r.sent
     → (channel : Channel) (slot : ℕ) (t : Sent)
     → is_static r.window ≡ true → is_guarded d.guard channel ≡ true → slot_of r.window channel ≡ Some slot

@@ -1,4 +1,4 @@
--- Stations, of which flags and sides stand apart.
+-- Stations whose flags and sides are kept apart.
 use Rattle.std.proofs.Common.{◌≡◌, ℕ, zero, suc, ◌+◌, ◌<◌, ◌≤◌, Bool, true, false, List, [], ◌∷◌, ◌++◌, length, drop}
 use Rattle.std.proofs.Common.{replicate, refl, sym, ap, ◌∙◌, add-one, arith}
 use Rattle.std.specs.Prelude.{slice_index_or, slice_set}
@@ -15,7 +15,7 @@ use Rattle.fr_slots.specs.Windows.{Opportunity}
 use Rattle.fr_slots.specs.declared.channel.Channel.{Channel}
 use Rattle.fr_slots.specs.declared.channel.Channel.TheVariants.{A, B}
 
--- there is one for each of the sides
+-- there is a station for each of the sides
 pub length_stations : (ps ts : List Bool) (ss : List Sides) → length ss ≤ length ps → length ss ≤ length ts
     → length (stations_of ps ts ss) ≡ length ss
 length_stations (p ∷ ps) (t ∷ ts) (s ∷ ss) put taken = ap suc
@@ -26,7 +26,7 @@ length_stations (p ∷ ps) [] [] put taken = refl
 length_stations [] ts (s ∷ ss) put taken = absurd (let none : ⊥ = omega (arith, put) in none)
 length_stations [] ts [] put taken = refl
 
--- the one of a node has its flags and sides
+-- a node's station has the node's flags and sides
 pub station_is : (ps ts : List Bool) (ss : List Sides) (n : ℕ) (d : Station) (p t : Bool) (s : Sides) → n < length ss
     → length ss ≤ length ps → length ss ≤ length ts
     → slice_index_or (stations_of ps ts ss) n d ≡ station_of (slice_index_or ps n p) (slice_index_or ts n t)
@@ -38,7 +38,7 @@ station_is ps ts [] n d q u v within put taken = absurd (let none : ⊥ = omega 
 station_is (p ∷ ps) [] (s ∷ ss) n d q u v within put taken = absurd (let none : ⊥ = omega (arith, taken) in none)
 station_is [] ts (s ∷ ss) n d q u v within put taken = absurd (let none : ⊥ = omega (arith, put) in none)
 
--- what is set of one node is set in its station
+-- setting the flags and sides of a node sets its station
 pub station_set : (ps ts : List Bool) (ss : List Sides) (n : ℕ) (p t : Bool) (s : Sides)
     → slice_set (stations_of ps ts ss) n (station_of p t s) ≡ stations_of (slice_set ps n p) (slice_set ts n t)
     (slice_set ss n s)
@@ -50,7 +50,7 @@ station_set (q ∷ ps) [] ss zero p t s = refl
 station_set (q ∷ ps) [] ss (suc n) p t s = refl
 station_set [] ts ss n p t s = refl
 
--- where no flag is set and all are silent they are idle
+-- if no flag is set and all sides are silent, all stations are idle
 pub stations_idle : (k n : ℕ) → n ≤ k → stations_of (replicate k false) (replicate k false) (replicate n silent_sides)
     ≡ replicate n idle_station
 stations_idle (suc k) (suc n) few = ap (λ zs. idle_station ∷ zs) (stations_idle k n (omega (arith, few)))
@@ -58,7 +58,7 @@ stations_idle (suc k) zero few = refl
 stations_idle zero zero few = refl
 stations_idle zero (suc n) few = absurd (let none : ⊥ = omega (arith, few) in none)
 
--- ---- as the bus holds them
+-- ---- as the bus keeps them
 
 sides_here : (i : Inside) → HasRoom i → (now : List Station) → stations_in i ≡ now → length now ≡ length i.sides.items
 sides_here i room now view =
@@ -66,7 +66,7 @@ sides_here i room now view =
     ∙ length_stations i.put i.taken i.sides.items (omega (arith, room.put_long, room.few))
     (omega (arith, room.taken_long, room.few))
 
--- what is read of one node
+-- reading the flags and sides of a node
 pub read_station : (i : Inside) → HasRoom i → (now : List Station) → stations_in i ≡ now → (m n : ℕ) → m ≡ n
     → n < length now → (q u : Bool) (v : Sides)
     → slice_index_or now n idle_station ≡ station_of (slice_index_or i.put m q) (slice_index_or i.taken m u)
@@ -77,7 +77,7 @@ read_station i room now view m n is within q u v =
     (omega (arith, is, within, sides_here i room now view)) (omega (arith, room.put_long, room.few))
     (omega (arith, room.taken_long, room.few))
 
--- what is written of one node
+-- writing the flags and sides of a node
 pub write_station : (i : Inside) → HasRoom i → (now : List Station) → stations_in i ≡ now → (m n : ℕ) → m ≡ n
     → n < length now
     → (q u : Bool) (v : Sides) (p t : Bool) (s : Sides) (f : Station → Station)
@@ -100,7 +100,7 @@ clear_stations i room now view ss silent =
     ∙ stations_idle 16 (length i.sides.items) room.few
     ∙ ap (λ (n : ℕ). replicate n idle_station) (sym (sides_here i room now view))
 
--- ---- of one node
+-- ---- one node
 
 pub side_is : (channel : Channel) (p t : Bool) (s : Sides) → side_on channel (station_of p t s) ≡ side_in channel s
 side_is A p t s = refl
@@ -116,7 +116,7 @@ pub muting_is : (channel : Channel) (p t : Bool) (s : Sides)
 muting_is A p t s = refl
 muting_is B p t s = refl
 
--- ---- what they send
+-- ---- transmissions of stations
 
 sent_next : (d : Description) (w : Opportunity) (n k : ℕ) (ss : List Station) → n < length ss
     → sent_from d w k (drop n ss) ≡ sent_of d w k (slice_index_or ss n idle_station) ++ sent_from d w (k + 1)
@@ -125,7 +125,7 @@ sent_next d w n k [] within = absurd (let none : ⊥ = omega (arith, within) in 
 sent_next d w zero k (s ∷ ss) within = refl
 sent_next d w (suc n) k (s ∷ ss) within = sent_next d w n k ss (omega (arith, within))
 
--- what the stations from one on send is what that one sends, and then what those after it do
+-- the transmissions of the stations from one on are those of that one, then those of the rest
 pub sent_more : (d : Description) (w : Opportunity) (n k : ℕ) (ss : List Station) → n < length ss
     → sent_from d w k (drop n ss) ≡ sent_of d w k (slice_index_or ss n idle_station) ++ sent_from d w (k + 1)
     (drop (n + 1) ss)

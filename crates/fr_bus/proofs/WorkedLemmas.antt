@@ -124,12 +124,12 @@ two_owners = record {
   plans = owning_in (record { base = 0; repetition = 4 }) 3 ∷ owning_in (record { base = 1; repetition = 4 }) 3 ∷ [];
 }
 
--- what becomes of both nodes' offers: of node 0's on A and on B, and of node 1's
+-- the outcomes of both nodes' offers: of node 0's on A and on B, and of node 1's
 abbrev fates_in : ℕ → List Fate
 fates_in cycle = map (λ (t : Sent). t.fate) (sent_from two_owners (static_window 1 cycle 3) 0
     (sender offering ∷ sender offering ∷ []))
 
--- on A the owner of the cycle passes alone, and nobody does in a cycle without an owner
+-- on A the owner of the cycle passes alone, and no node passes in a cycle without an owner
 pub a_divided_slot_is_guarded_by_cycles :
     (fates_in 0 ≡ Passed ∷ Passed ∷ Blocked ∷ Passed ∷ []) × (fates_in 1 ≡ Blocked ∷ Passed ∷ Passed ∷ Passed ∷ [])
     × (fates_in 2 ≡ Blocked ∷ Passed ∷ Blocked ∷ Passed ∷ []) × (fates_in 60 ≡ Passed ∷ Passed ∷ Blocked ∷ Passed ∷ [])

@@ -17,7 +17,7 @@ state_in b = record {
   sealed = b.record.items;
 }
 
--- the course is that of the record, and the counts are those of the stations that have put and taken
+-- the course is that of the record, and the counts are the numbers of stations that have put and taken
 pub record IsLawful (b : Inside) : Type 0 where
   pub run : IsRun (state_in b)
   pub course_is : b.course ≡ course_of b.guardian.params b.cycles b.record.items

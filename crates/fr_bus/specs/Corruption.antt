@@ -1,4 +1,4 @@
--- One bit of a transmission turned (project-defined).
+-- One flipped bit of a transmission (project-defined).
 use Rattle.std.specs.Prelude.{ℕ, ◌-◌, ◌/◌, ◌%◌, ◌^◌, nat_lt, List, length, Option, Some, None, bit_xor, slice_index}
 use Rattle.std.specs.Prelude.{slice_set, if◌then◌else◌}
 use Rattle.arrayvec.specs.ArrayVec.{ArrayVec}
@@ -7,8 +7,8 @@ use Rattle.arrayvec.specs.ArrayVec.{ArrayVec}
 abbrev pub turned : ℕ → ℕ → ℕ
 turned byte bit = bit_xor byte (2 ^ (7 - bit))
 
--- the bytes with one bit turned, counted from the most significant bit of the first byte; a bit after the last byte is
--- none of them
+-- the bytes with one bit flipped, counted from the most significant bit of the first byte; a bit after the last byte
+-- has no effect
 abbrev pub with_bit_turned : List ℕ → ℕ → List ℕ
 with_bit_turned bytes bit =
     if nat_lt (bit / 8) (length bytes) then slice_set bytes (bit / 8) (turned (slice_index bytes (bit / 8)) (bit % 8))

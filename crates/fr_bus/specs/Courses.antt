@@ -1,4 +1,4 @@
--- How far a run has come, as a bus keeps it, and the window that this leads to.
+-- The progress of a run, as a bus keeps it, and the next window by it.
 use Rattle.std.specs.Prelude.{◌≡◌, ℕ, ◌+◌, ◌-◌, ◌*◌, ◌%◌, ◌<◌, ◌≤◌, ◌==◌, nat_lt, true, List, [], length, Option, Some}
 use Rattle.std.specs.Prelude.{option_map, if◌then◌else◌}
 use Rattle.std.specs.Option.{option_or}
@@ -13,7 +13,7 @@ use Rattle.fr_slots.specs.declared.channel.Channel.TheVariants.{A, B}
 use Rattle.fr_slots.specs.Parameters.{Parameters, IsParameters}
 use Rattle.fr_slots.specs.Windows.{Opportunity, is_static, static_window}
 
--- how many windows there were, how many cycles began, how many static windows the last of them had, and its two lanes
+-- the numbers of windows, of cycles that began, and of static windows in the last of these; the two lanes of that cycle
 pub record Standpoint : Type 0 where
   pub params : Parameters
   pub cycles : ℕ
@@ -39,7 +39,7 @@ course_of p cycles rs = record {
   b = lane_on p B (this_cycle rs);
 }
 
--- ---- with one window more
+-- ---- with one more window
 
 -- the first window of a cycle begins its lanes
 abbrev pub first_passed : Standpoint → Standpoint
@@ -51,7 +51,7 @@ first_passed c = record c {
   b = standing_after c.params [];
 }
 
--- a dynamic window ends the slot that it has on the channel, in which the longest transmission has so many bytes
+-- a dynamic window closes its slot on the channel, in which the longest transmission has so many bytes
 abbrev pub ended : Channel → Standing → Opportunity → ℕ → Standing
 ended channel lane w bytes = if has_row channel w then closed lane bytes else lane
 
@@ -97,7 +97,7 @@ inner_next c = if nat_lt c.statics c.params.static_slots
 abbrev pub next_of : Standpoint → Option Opportunity
 next_of c = if c.windows == 0 then first_next c else option_or (inner_next c) (first_next c)
 
--- ---- what every course keeps
+-- ---- the properties of every course
 
 -- the lane's next slot, if there is one, opens after this minislot
 pub record IsAhead (p : Parameters) (used : ℕ) (lane : Standing) : Type 0 where
@@ -107,7 +107,7 @@ pub record IsAhead (p : Parameters) (used : ℕ) (lane : Standing) : Type 0 wher
 abbrev pub opportunities : Parameters → ℕ
 opportunities p = p.static_slots + p.minislots
 
--- no cycle has more windows than static slots and minislots: of the last one no minislot after `used` was opened
+-- No cycle has more windows than static slots and minislots. In the last cycle no minislot after `used` was opened.
 pub record IsCourse (c : Standpoint) : Type 0 where
   pub used : ℕ
   pub lawful : IsParameters c.params

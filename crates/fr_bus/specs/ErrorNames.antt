@@ -1,4 +1,4 @@
--- The names of a bus's refusals, as they are printed (project-defined).
+-- The printed names of a bus's refusals (project-defined).
 use Rattle.std.specs.Prelude.{ℕ, List, codes}
 use Rattle.fr_bus.specs.declared.error.BusError.{BusError}
 use Rattle.fr_bus.specs.declared.error.BusError.TheVariants as bus

@@ -1,5 +1,5 @@
--- What becomes of the transmissions of a window, and what each node sees of them (project-defined, but for what a
--- guardian is).
+-- The outcome of the transmissions of a window, and each node's observation (project-defined; bus guardians are those
+-- of chapter 5).
 use Rattle.std.specs.Prelude.{ℕ, ◌+◌, ◌-◌, ◌*◌, ◌==◌, nat_lt, max, Bool, true, false, ◌&&◌, List, [], ◌∷◌, ◌++◌, length}
 use Rattle.std.specs.Prelude.{map, Option, Some, None, if◌then◌else◌}
 use Rattle.std.specs.List.{list_any, filter, fold}
@@ -23,38 +23,38 @@ use Rattle.fr_status.specs.declared.seen.Seen.TheVariants.{Silence, Own, Conflic
 
 -- ---- transmissions
 
--- a muted offer is lost before the guardian; of all else the guardian lets pass what passes by its rule
+-- a muted offer is lost before the guardian; every other transmission passes if the guardian lets it pass
 abbrev pub fate_of : Bool → Bool → Fate
 fate_of muted let_pass = if muted then Muted else if let_pass then Passed else Blocked
 
--- what has no bytes is no transmission
+-- a transmission has bytes
 abbrev pub transmission : ℕ → Channel → Bool → Fate → Option (ArrayVec ℕ) → List Sent
 transmission node channel babble fate None = []
 transmission node channel babble fate (Some bytes) =
     if length bytes.items == 0 then []
     else record { node = node; channel = channel; babble = babble; bytes = bytes; fate = fate } ∷ []
 
--- of a node on a channel with a slot: its offer, and then its babble
+-- the transmissions of a node on a channel with a slot: its offer, then its babble
 abbrev pub sent_on : Description → Opportunity → ℕ → Channel → Side → List Sent
 sent_on d w node channel side =
     transmission node channel false (fate_of side.mute (passes d node w channel)) side.offer
     ++ transmission node channel true (fate_of false (passes d node w channel)) side.babble
 
--- on a channel without a slot nothing is sent
+-- there is no transmission on a channel without a slot
 abbrev pub sent_in : Description → Opportunity → ℕ → Channel → Side → Option ℕ → List Sent
 sent_in d w node channel side None = []
 sent_in d w node channel side (Some slot) = sent_on d w node channel side
 
--- channel A before channel B
+-- the transmissions of a node: channel A before channel B
 abbrev pub sent_of : Description → Opportunity → ℕ → Station → List Sent
 sent_of d w node s = sent_in d w node A s.a (slot_of w A) ++ sent_in d w node B s.b (slot_of w B)
 
--- of the stations from this node on, in the order of the nodes
+-- the transmissions of the stations from this node on, in the order of the nodes
 abbrev pub sent_from : Description → Opportunity → ℕ → List Station → List Sent
 sent_from d w node [] = []
 sent_from d w node (s ∷ ss) = sent_of d w node s ++ sent_from d w (node + 1) ss
 
--- ---- what passed
+-- ---- transmissions that passed
 
 abbrev pub is_passed : Fate → Bool
 is_passed Passed = true
@@ -71,28 +71,28 @@ all_passed channel sent = filter (passed_on channel) sent
 abbrev pub longest : Channel → List Sent → ℕ
 longest channel sent = fold max 0 (map (λ (t : Sent). length t.bytes.items) (all_passed channel sent))
 
--- ---- what is seen
+-- ---- observations
 
--- too long for a static slot, or for the rest of the dynamic segment
+-- the bytes are too long for a static slot, or for the rest of the dynamic segment
 abbrev pub overruns : Parameters → Opportunity → ℕ → Bool
 overruns p w bytes =
     if is_static w then nat_lt (8 + 2 * p.static_words) bytes
     else nat_lt p.minislots (w.minislot - 1 + minislots_filled_by p bytes)
 
--- what the other nodes see of the only transmission that passed
+-- the other nodes' observation of the only transmission that passed
 abbrev pub received : Parameters → Opportunity → Option ℕ → ArrayVec ℕ → Seen
 received p w corrupt bytes = if overruns p w (length bytes.items) then Overrun else Bytes (corrupted bytes corrupt)
 
 abbrev pub is_of : ℕ → Sent → Bool
 is_of node t = t.node == node
 
--- what a node sees that sends nothing, where these passed
+-- the observation of a node that sends nothing, if these passed
 abbrev pub heard_of : Parameters → Opportunity → Option ℕ → List Sent → Seen
 heard_of p w corrupt [] = Silence
 heard_of p w corrupt (t ∷ []) = received p w corrupt t.bytes
 heard_of p w corrupt (t ∷ u ∷ ts) = Noise
 
--- what a node sees where these passed
+-- the observation of a node, if these passed
 abbrev pub seen_of : Parameters → Opportunity → Option ℕ → ℕ → List Sent → Seen
 seen_of p w corrupt node [] = Silence
 seen_of p w corrupt node (t ∷ []) = if is_of node t then Own else received p w corrupt t.bytes

@@ -1,4 +1,4 @@
--- What a bus records of a window.
+-- The record of a window.
 use Rattle.std.specs.Prelude.{◌≡◌, ℕ, ◌==◌, Bool, not, ◌&&◌, List, [], ◌∷◌, length, Option, Some, None, if◌then◌else◌}
 use Rattle.arrayvec.specs.ArrayVec.{ArrayVec}
 use Rattle.fr_bus.specs.declared.outcome.Sent.{Sent}
@@ -13,7 +13,7 @@ use Rattle.fr_slots.specs.Parameters.{Parameters}
 use Rattle.fr_slots.specs.Windows.{Opportunity}
 use Rattle.fr_status.specs.Forms.{Seen}
 
--- the window, what was sent in it, and the bits that were to be turned
+-- the window, its transmissions, and the bits that were to be flipped
 pub record Recorded : Type 0 where
   pub window : Opportunity
   pub sent : List Sent
@@ -24,21 +24,21 @@ abbrev pub corrupt_on : Recorded → Channel → Option ℕ
 corrupt_on r A = r.corrupt_a
 corrupt_on r B = r.corrupt_b
 
--- what a node sees of a recorded window on a channel
+-- the observation of a node on a channel of a recorded window
 abbrev pub seen_by : Parameters → Recorded → Channel → ℕ → Seen
 seen_by p r channel node = seen_of p r.window (corrupt_on r channel) node (all_passed channel r.sent)
 
--- what a node sees of a recorded window on a channel that sends nothing there
+-- the observation on a channel of a recorded window, for a node that sends nothing there
 abbrev pub heard : Parameters → Recorded → Channel → Seen
 heard p r channel = heard_of p r.window (corrupt_on r channel) (all_passed channel r.sent)
 
--- some offers and faults of the cluster's nodes give what is recorded
+-- some offers and faults of the cluster's nodes have this outcome
 pub record IsOutcome (d : Description) (r : Recorded) : Type 0 where
   pub stations : List Station
   pub one_each : length stations ≡ length d.plans
   pub sent_is : r.sent ≡ sent_from d r.window 0 stations
 
--- ---- what a node offered
+-- ---- the offer of a node
 
 abbrev pub side_on : Channel → Station → Side
 side_on A s = s.a
@@ -52,12 +52,12 @@ abbrev pub offer_in : Channel → ℕ → List Sent → Option (ArrayVec ℕ)
 offer_in channel node [] = None
 offer_in channel node (t ∷ ts) = if is_offer_of channel node t then Some t.bytes else offer_in channel node ts
 
--- an offer without bytes is none
+-- an offer without bytes is no offer
 abbrev pub if_bytes : Option (ArrayVec ℕ) → Option (ArrayVec ℕ)
 if_bytes None = None
 if_bytes (Some bytes) = if length bytes.items == 0 then None else Some bytes
 
--- on a channel without a slot nothing is offered
+-- on a channel without a slot there is no offer
 abbrev pub recordable : Option ℕ → Option (ArrayVec ℕ) → Option (ArrayVec ℕ)
 recordable None offer = None
 recordable (Some slot) offer = if_bytes offer

@@ -1,4 +1,4 @@
--- What a bus is seen as, what its calls answer and leave, and what every bus keeps.
+-- The view of a bus, the answers and effects of its calls, and the properties of every bus.
 use Rattle.std.specs.Prelude.{◌≡◌, ℕ, ◌≤◌, ◌-◌, ◌==◌, nat_lt, nat_le, Bool, true, false, not, ◌&&◌, List, [], ◌∷◌, ◌++◌}
 use Rattle.std.specs.Prelude.{length, replicate, Option, Some, None, is_some, option_map, Result, Ok, Err, Contains}
 use Rattle.std.specs.Prelude.{slice_set, slice_index_or, slice_get, if◌then◌else◌}
@@ -50,7 +50,7 @@ seals Collect = false
 seals InSealed = true
 seals Finished = false
 
--- ---- what every bus keeps
+-- ---- the properties of every bus
 
 abbrev pub last_recorded : BusState → Option Recorded
 last_recorded b = slice_get b.sealed (length b.sealed - 1)
@@ -63,7 +63,7 @@ next_of_bus b = following b.cluster.params b.cycles b.sealed
 abbrev pub IsRecorded : Description → ℕ → List Recorded → Recorded → Type 0
 IsRecorded d cycles before r = (following d.params cycles before ≡ Some r.window) × IsOutcome d r
 
--- the window that is open
+-- the open window
 abbrev pub Stands : Phase → BusState → Type 0
 Stands Collect b = (b.opened ≡ next_of_bus b) × (is_some b.opened ≡ true)
 Stands InSealed b = (b.opened ≡ option_map (λ (r : Recorded). r.window) (last_recorded b)) × (is_some b.opened ≡ true)
@@ -77,7 +77,7 @@ pub record IsRun (b : BusState) : Type 0 where
   pub recorded : AllAfter (IsRecorded b.cluster b.cycles) [] b.sealed
   pub stands : Stands b.phase b
 
--- in a static slot of a guarded channel what passed is the slot's sender's, of whom there is one at most
+-- in a static slot of a guarded channel, everything that passed is from the slot's sender, and there is at most one
 abbrev pub OneSenderEach : Description → List Recorded → Type 0
 OneSenderEach d rs = (r : Recorded) (channel : Channel) (slot : ℕ) (t : Sent)
     → Contains rs r
@@ -143,7 +143,7 @@ new_bus d cycles = record {
   sealed = [];
 }
 
--- a failed allocation comes only where the cycles fit
+-- a failed allocation is possible only if the number of cycles is valid
 abbrev pub Opens : Description → ℕ → Result BusState BusError → Type 0
 Opens d cycles (Ok b) = (cycles_fit cycles ≡ true) × (b ≡ new_bus d cycles)
 Opens d cycles (Err Memory) = cycles_fit cycles ≡ true
@@ -151,7 +151,7 @@ Opens d cycles (Err e) = (cycles_fit cycles ≡ false) × (e ≡ BadCycles)
 
 -- ---- offers
 
--- the window that is open while nodes offer
+-- the open window while nodes offer
 abbrev pub collecting_of : BusState → Option Opportunity
 collecting_of b = if collects b.phase then b.opened else None
 
@@ -179,7 +179,7 @@ abbrev pub corrupt_in : BusState → Channel → Option ℕ
 corrupt_in b A = b.corrupt_a
 corrupt_in b B = b.corrupt_b
 
--- the fault's node, where it has one, is one of the cluster's
+-- the fault's node, if it has one, is one of the cluster's
 abbrev pub knows : BusState → Fault → Bool
 knows b (Babble node channel bytes) = is_node b node
 knows b (Mute node channel) = is_node b node
@@ -227,13 +227,14 @@ sealed_with b (Some w) = record b { phase = InSealed; sealed = b.sealed ++ outco
 abbrev pub sealed_now : BusState → BusState
 sealed_now b = sealed_with b b.opened
 
--- the answer and what it leaves: a failed allocation comes only where the seal is otherwise lawful, and changes nothing
+-- The answer of a seal, and the state after it. A failed allocation is possible only if the seal is otherwise lawful,
+-- and leaves the state unchanged.
 abbrev pub Seals : BusState → Result (Unit {0}) BusError → BusState → Type 0
 Seals old (Ok x) new = (seal_refusal old ≡ None) × (new ≡ sealed_now old)
 Seals old (Err Memory) new = (seal_refusal old ≡ None) × (new ≡ old)
 Seals old (Err e) new = (seal_refusal old ≡ Some e) × (new ≡ old)
 
--- ---- what nodes take
+-- ---- the takes of nodes
 
 abbrev pub take_refusal : BusState → ℕ → ℕ → Option BusError
 take_refusal b node number =
@@ -250,7 +251,7 @@ abbrev pub seen_where : BusState → Option Recorded → Channel → ℕ → See
 seen_where b None channel node = Silence
 seen_where b (Some r) channel node = seen_by b.cluster.params r channel node
 
--- what the node sees on the channel of the last window of the record
+-- the node's observation on the channel of the last window of the record
 abbrev pub seen_last : BusState → Channel → ℕ → Seen
 seen_last b channel node = seen_where b (last_recorded b) channel node
 

@@ -1,4 +1,4 @@
--- What nodes do in the open window.
+-- The nodes' calls in the open window.
 use Rattle.std.specs.Prelude.{Bool, true, false, List, [], ◌∷◌, ℕ, None, Some}
 use Rattle.arrayvec.specs.ArrayVec.{ArrayVec}
 use Rattle.fr_bus.specs.declared.station.Side.{Side}
@@ -16,7 +16,7 @@ pub record Station : Type 0 where
 abbrev pub station_of : Bool → Bool → Sides → Station
 station_of put taken s = record { put = put; taken = taken; a = s.a; b = s.b }
 
--- the stations of which these have put, these have taken, and these are the sides
+-- the stations with these flags for put and for taken, and these sides
 abbrev pub stations_of : List Bool → List Bool → List Sides → List Station
 stations_of (p ∷ ps) (t ∷ ts) (s ∷ ss) = station_of p t s ∷ stations_of ps ts ss
 stations_of (p ∷ ps) (t ∷ ts) [] = []

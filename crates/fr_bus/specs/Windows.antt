@@ -1,5 +1,4 @@
--- The windows of a run, each by what passed before it (chapter 5; what a window is, and their numbers, are
--- project-defined).
+-- The windows of a run, each by the record before it (chapter 5; windows and their numbers are project-defined).
 use Rattle.std.specs.Prelude.{ℕ, ◌+◌, ◌-◌, ◌%◌, ◌==◌, nat_lt, not, min, Bool, false, ◌&&◌, ◌||◌, List, [], ◌∷◌, ◌++◌}
 use Rattle.std.specs.Prelude.{length, map, count_by, Option, Some, None, is_some, option_map, if◌then◌else◌}
 use Rattle.std.specs.List.{filter, find, fold, range_with_len}
@@ -44,7 +43,7 @@ has_row channel w = not (is_static w) && is_some (slot_of w channel)
 abbrev pub is_row_of : Channel → Recorded → Bool
 is_row_of channel r = has_row channel r.window
 
--- the byte counts of a channel's rows: in each the greatest that passed
+-- the byte counts of a channel's rows: for each, the greatest one that passed
 abbrev pub counts_on : Channel → List Recorded → List ℕ
 counts_on channel cycle = map (λ (r : Recorded). longest channel r.sent) (filter (is_row_of channel) cycle)
 
@@ -66,7 +65,7 @@ window_at p number cycle rows minislot =
       b = opened_on p B rows minislot;
     }
 
--- at the first minislot at which a channel opens a slot
+-- the window of the first minislot at which a channel opens a slot
 abbrev pub next_dynamic : Parameters → ℕ → ℕ → List Recorded → Option Opportunity
 next_dynamic p number cycle rows =
     option_map (window_at p number cycle rows) (find (opens_any p rows) (range_with_len 1 p.minislots))
@@ -74,11 +73,11 @@ next_dynamic p number cycle rows =
 abbrev pub is_static_one : Recorded → Bool
 is_static_one r = is_static r.window
 
--- how many static windows there are
+-- the number of static windows
 abbrev pub statics_of : List Recorded → ℕ
 statics_of done = count_by is_static_one done
 
--- the static slots in their order, and then the minislots
+-- the static slots in their order, then the minislots
 abbrev pub next_in_cycle : Parameters → ℕ → ℕ → List Recorded → Option Opportunity
 next_in_cycle p number cycle done =
     if nat_lt (statics_of done) p.static_slots then Some (static_window number cycle (statics_of done + 1))
@@ -87,7 +86,8 @@ next_in_cycle p number cycle done =
 abbrev pub first_of_cycle : ℕ → ℕ → ℕ → Option Opportunity
 first_of_cycle cycles number begun = if nat_lt begun cycles then Some (static_window number (begun % 64) 1) else None
 
--- the next of the cycle that began last, or else the first of the next cycle, where the run has one
+-- The next window of the cycle that began last. If there is none, the first window of the next cycle, if the run has
+-- one.
 abbrev pub following : Parameters → ℕ → List Recorded → Option Opportunity
 following p cycles [] = first_of_cycle cycles 0 0
 following p cycles (r ∷ rs) =
@@ -97,7 +97,7 @@ following p cycles (r ∷ rs) =
 
 -- ---- the same by two lanes
 
--- the lesser of two numbers that may be there
+-- the lesser of two numbers, each of which may be absent
 abbrev pub least_of : Option ℕ → Option ℕ → Option ℕ
 least_of None y = y
 least_of (Some x) None = Some x

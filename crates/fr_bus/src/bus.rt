@@ -23,32 +23,31 @@ use fr_status::seen::Seen;
 use std::alloc::{AllocError, Global};
 use std::marker::Model;
 
-/// The bus of a cluster in a run of so many cycles: the open window, what the nodes put and take in it, the faults
-/// injected, and the record of all windows before it (project-defined, but for the order of slots, which is chapter
-/// 5's).
+/// The bus of a cluster in a run of so many cycles. It has the open window, what the nodes put and take in it, the
+/// injected faults, and the record of all windows before it (project-defined; the order of slots is that of chapter 5).
 ///
-/// A window goes through three steps. While it collects, each node puts its offer once, and faults may be injected.
-/// Once all have put, `seal` settles what became of each transmission and appends that to the record. Then each node
-/// takes what it sees, once, and when all have taken `advance` opens the next window.
+/// A window has three phases. While the bus collects, each node puts its offer once, and faults may be injected. Once
+/// all nodes have put, `seal` decides the outcome of each transmission and appends it to the record. Then each node
+/// takes its observation, once, and when all have taken, `advance` opens the next window.
 #[derive(Drop)]
 pub struct Bus {
     alloc: Global,
     guardian: Guardian,
     cycles: u16,
     phase: Phase,
-    /// The open window, up to the run's end.
+    /// The open window, until the end of the run.
     opened: Option<Window>,
-    /// How far the run has come, with the windows of the record.
+    /// The progress of the run, with the windows of the record.
     course: Course,
-    /// One for each node.
+    /// The stations, one for each node.
     stations: Stations,
-    // Up to 16 stations of a kilobyte were read for that under the lock. The invariant says that both numbers count the
-    // stations.
-    /// How many stations have put in the open window, so that none is read to know whether all have.
+    // Without the counts, up to 16 stations of a kilobyte were read under the lock for each test. The invariant says
+    // that both count the stations.
+    /// The number of stations that have put in the open window.
     put_count: usize,
-    /// How many stations have taken in it.
+    /// The number of stations that have taken in it.
     taken_count: usize,
-    /// The bits to be turned in the open window, on A and on B.
+    /// The bits to be flipped in the open window, on A and on B.
     corrupt: [Option<u16>; 2],
     record: Vec<Sealed>,
 }
@@ -91,7 +90,7 @@ fn sealed_window(
     })
 }
 
-/// Appends a window to those that were sealed.
+/// Appends a window to the sealed ones.
 fn append(list: &mut Vec<Sealed>, sealed: Sealed) -> Result<(), AllocError>
     ensures ok { OnOk result (list.new.items ≡ list.old.items ++ sealed ∷ []) }
     ensures err { OnErr result (list.new.items ≡ list.old.items) }
@@ -100,7 +99,7 @@ fn append(list: &mut Vec<Sealed>, sealed: Sealed) -> Result<(), AllocError>
     Ok(())
 }
 
-/// Returns the phase in which this window opens, or the run's last where there is none.
+/// Returns the phase in which this window opens; without a window the run is finished.
 fn phase_at(window: &Option<Window>) -> Phase
     ensures { result ≡ phase_at window.now }
 {
@@ -110,7 +109,7 @@ fn phase_at(window: &Option<Window>) -> Phase
     }
 }
 
-/// Returns whether this is the window's number, if there is a window.
+/// Returns whether there is a window and it has this number.
 fn has_number(number: u32, window: &Option<Window>) -> bool
     ensures { result ≡ has_number number window.now }
 {
@@ -134,7 +133,7 @@ impl Bus {
     /// Returns the bus of a cluster for a run of so many cycles, 1 to 1024. It collects in its first window: cycle 0,
     /// slot 1.
     ///
-    /// Refused with `BadCycles` for 0 cycles or more than 1024, and then with `Memory` where memory is refused.
+    /// Fails with `BadCycles` for 0 cycles or more than 1024, then with `Memory` if an allocation fails.
     pub fn new(alloc: Global, cluster: &Cluster, cycles: u16) -> Result<Bus, BusError>
         ensures { Opens cluster.now cycles result }
     {
@@ -164,23 +163,23 @@ impl Bus {
         })
     }
 
-    /// Returns the open window. None once the run is over.
+    /// Returns the open window, or none once the run is over.
     pub fn window(&self) -> Option<Window>
         ensures { result ≡ self.now.opened }
     {
         self.opened
     }
 
-    /// Returns where the open window stands.
+    /// Returns the phase of the open window.
     pub fn phase(&self) -> Phase
         ensures { result ≡ self.now.phase }
     {
         self.phase
     }
 
-    // With `nodes`, `all_put` and `all_taken` it lets a waiting caller decide without a second look. A bus that is over
+    // With `nodes`, `all_put` and `all_taken`, a waiting caller decides with one look. At the end of a run the bus
     // answers `NotCollecting` or `NotSealed`.
-    /// Returns the open window, while nodes put their offers. None once it is sealed, and once the run is over.
+    /// Returns the open window while the bus collects, or none once it is sealed or the run is over.
     pub fn collecting(&self) -> Option<Window>
         ensures { result ≡ collecting_of self.now }
     {
@@ -206,7 +205,7 @@ impl Bus {
         self.put_count == self.stations.len()
     }
 
-    /// Returns whether all nodes have taken what they see in the open window.
+    /// Returns whether all nodes have taken their observations in the open window.
     #[tactic(auto, using(crate::proofs::CountLemmas::all_counted))]
     pub fn all_taken(&self) -> bool
         ensures { result ≡ all_taken self.now }
@@ -214,35 +213,37 @@ impl Bus {
         self.taken_count == self.stations.len()
     }
 
-    /// Returns the windows that were sealed, in order of their numbers, which are counted from 0.
+    /// Returns the sealed windows, in the order of their numbers, which are counted from 0.
     ///
-    /// Each is the window that follows those before it, and has what became of the offers and faults of the cluster's
-    /// nodes. So in a static slot of a guarded channel what passed is all of one sender.
+    /// Each is the window that follows those before it, with the outcome of the offers and faults of the cluster's
+    /// nodes. So in a static slot of a guarded channel everything that passed is from one sender.
     pub fn record(&self) -> &[Sealed]
         ensures value { result.now ≡ self.now.sealed }
         ensures run { IsRun self.now }
         ensures one_sender { OneSenderEach self.now.cluster self.now.sealed }
     {
+        // For the prover: the clause of this call.
         self.known();
         self.record.as_slice()
     }
 
-    /// Returns how many cycles began with a window that was sealed, 0 to 1024. While the bus collects in the first
-    /// window of a cycle this is the number of its run cycle, counted from 0 and not wrapped at 64; in any other
-    /// window, and once it is sealed, it is one more.
+    /// Returns the number of cycles that began with a sealed window, 0 to 1024. While the bus collects in the first
+    /// window of a cycle, this is the number of the run cycle, counted from 0 and not wrapped at 64. In any other
+    /// window, and once that window is sealed, it is one more.
     pub fn cycles_begun(&self) -> u16
         ensures { result ≡ cycles_begun self.now.sealed }
     {
         self.course.begun()
     }
 
-    /// What every bus keeps: its record is that of a run, no static slot of a guarded channel carries two senders, and
-    /// a run that is over had all its cycles. It does nothing but tell so.
+    /// States the properties of every bus, and has no effect. The record is that of a run, each static slot of a
+    /// guarded channel carries at most one sender, and a run that is over had all its cycles.
     pub fn known(&self)
         ensures run { IsRun self.now }
         ensures one_sender { OneSenderEach self.now.cluster self.now.sealed }
         ensures all_cycles { self.now.phase ≡ phase.Finished → cycles_begun self.now.sealed ≡ self.now.cycles }
     {
+        // For the prover: the clause of this call.
         self.course.known();
     }
 
@@ -253,11 +254,11 @@ impl Bus {
         usize::from(node.number()) < self.stations.len()
     }
 
-    /// Takes a copy of what the node offers in the open window, of which this is the number. On a channel without a
-    /// slot, and without bytes, an offer is taken and comes to nothing.
+    /// Copies the node's offer in the open window, which has this number. On a channel without a slot, and without
+    /// bytes, an offer is accepted and has no effect.
     ///
-    /// Refused, in this order, with `UnknownNode`, `NotCollecting`, `WrongWindow` where another window is open, and
-    /// `AlreadyPut`; the bus is then unchanged.
+    /// Fails, in this order, with `UnknownNode`, `NotCollecting`, `WrongWindow` if another window is open, and
+    /// `AlreadyPut`. A refusal leaves the bus unchanged.
     pub fn put(&mut self, node: NodeId, number: u32, offer: &Offer) -> Result<(), BusError>
         ensures refusal { result_err result ≡ put_refusal self.old node number }
         ensures accepted { OnOk result (self.new ≡ put_done self.old node offer.now) }
@@ -299,7 +300,7 @@ impl Bus {
         Ok(())
     }
 
-    /// Loses the node's offer on the channel.
+    /// Mutes the node's offer on the channel.
     fn mute(&mut self, node: NodeId, channel: Channel) -> Result<(), BusError>
         ensures refusal { result_err result ≡ inject_refusal self.old (fault.Mute node channel) }
         ensures accepted { OnOk result (self.new ≡ inject_done self.old (fault.Mute node channel)) }
@@ -318,7 +319,7 @@ impl Bus {
         Ok(())
     }
 
-    /// Has a bit turned on the channel.
+    /// Has a bit flipped on the channel.
     fn corrupt(&mut self, channel: Channel, bit: u16) -> Result<(), BusError>
         ensures refusal { result_err result ≡ inject_refusal self.old (fault.Corrupt channel bit) }
         ensures accepted { OnOk result (self.new ≡ inject_done self.old (fault.Corrupt channel bit)) }
@@ -336,11 +337,11 @@ impl Bus {
         Ok(())
     }
 
-    /// Does the fault to the open window, and to no later one.
+    /// Injects the fault in the open window alone.
     ///
-    /// Refused, in this order, with `UnknownNode`, `NotCollecting`, and `TooManyFaults` where the window has a fault of
-    /// this kind, node and channel; of `Corrupt` it has one for each channel. A babble without bytes counts too. The
-    /// bus is then unchanged.
+    /// Fails, in this order, with `UnknownNode`, `NotCollecting`, and `TooManyFaults` if the window has a fault of this
+    /// kind, node and channel; for `Corrupt` each channel has one. A babble without bytes counts too. A refusal leaves
+    /// the bus unchanged.
     pub fn inject(&mut self, fault: Fault) -> Result<(), BusError>
         ensures refusal { result_err result ≡ inject_refusal self.old fault }
         ensures accepted { OnOk result (self.new ≡ inject_done self.old fault) }
@@ -357,12 +358,12 @@ impl Bus {
         }
     }
 
-    /// Settles what becomes of each transmission of the open window, and appends that to the record.
+    /// Decides the outcome of each transmission of the open window, and appends it to the record.
     ///
-    /// A muted offer is lost. Of all other transmissions those pass that the guardian lets pass.
+    /// A muted offer is lost. Of all other transmissions, those pass that the guardian lets pass.
     ///
-    /// Refused, in this order, with `NotCollecting`, `NotAllPut`, and `Memory` where memory for the record is refused;
-    /// the bus is then unchanged, and another call may give what this one would have given.
+    /// Fails, in this order, with `NotCollecting`, `NotAllPut`, and `Memory` if the allocation for the record fails. A
+    /// refusal leaves the bus unchanged, and a later call may succeed.
     pub fn seal(&mut self) -> Result<(), BusError>
         ensures { Seals self.old result self.new }
     {
@@ -402,7 +403,7 @@ impl Bus {
         self.record.get(place)
     }
 
-    /// Writes what the node sees on the channel of the window that was sealed last over what stands in `seen`.
+    /// Writes the node's observation on the channel of the last sealed window to `seen`.
     fn see_last(&self, node: NodeId, channel: Channel, seen: &mut Seen)
         ensures { seen.new ≡ seen_last self.now channel node }
     {
@@ -412,10 +413,10 @@ impl Bus {
         }
     }
 
-    /// Returns what the node sees in the sealed window, of which this is the number, on channel A and on B.
+    /// Returns the node's observations on channel A and on B in the sealed window, which has this number.
     ///
-    /// Refused, in this order, with `UnknownNode`, `NotSealed`, `WrongWindow` where another window is open, and
-    /// `AlreadyTaken`; the bus is then unchanged.
+    /// Fails, in this order, with `UnknownNode`, `NotSealed`, `WrongWindow` if another window is open, and
+    /// `AlreadyTaken`. A refusal leaves the bus unchanged.
     pub fn take(&mut self, node: NodeId, number: u32) -> Result<(Seen, Seen), BusError>
         ensures refusal { result_err result ≡ take_refusal self.old node number }
         ensures seen { IfOk result (λ s. s ≡ (seen_last self.old channel.A node, seen_last self.old channel.B node)) }
@@ -427,8 +428,8 @@ impl Bus {
         Ok((a, b))
     }
 
-    /// The same step as `take`, with the same refusals. What the node sees on channel A and on B is written over `a`
-    /// and `b`, and bytes over those that are there. After a refusal `a` and `b` are unchanged too.
+    /// Does the same as `take`, with the same refusals, and writes the observations to `a` and `b`. Bytes are written
+    /// over the old ones. A refusal leaves `a` and `b` unchanged too.
     pub fn take_into(
         &mut self,
         node: NodeId,
@@ -444,7 +445,7 @@ impl Bus {
         ensures refused_a { OnErr result (a.new ≡ a.old) }
         ensures refused_b { OnErr result (b.new ≡ b.old) }
     {
-        // It writes in place, as `put` and `fetch_into` of the interface do, so no room for frames is moved.
+        // It writes in place, as `put` and the interface's `fetch_into` do, so no room for frames is moved.
         if !self.is_node(node) {
             return Err(BusError::UnknownNode);
         }
@@ -464,10 +465,11 @@ impl Bus {
         Ok(())
     }
 
-    /// Opens the next window, without offers and faults, or ends the run: the next static slot, or else the next
-    /// minislot at which a channel opens a slot, or else the first slot of the next cycle.
+    /// Opens the next window, without offers and faults, or ends the run. The next window is the next static slot.
+    /// After these it is the next minislot at which a channel opens a slot, and after these the first slot of the next
+    /// cycle.
     ///
-    /// Refused, in this order, with `NotSealed` and `NotAllTaken`; the bus is then unchanged.
+    /// Fails, in this order, with `NotSealed` and `NotAllTaken`. A refusal leaves the bus unchanged.
     pub fn advance(&mut self) -> Result<(), BusError>
         ensures refusal { result_err result ≡ advance_refusal self.old }
         ensures accepted { OnOk result (self.new ≡ advanced self.old) }

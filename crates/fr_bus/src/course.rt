@@ -1,6 +1,7 @@
-//! Which window of a run comes next.
+//! The next window of a run.
 //!
-//! The windows of a cycle follow from all that passed in it. This keeps numbers and two lanes in place of that list.
+//! The windows of a cluster follow from all that passed in it. A course keeps numbers and two lanes in place of that
+//! list.
 
 ghost use Rattle.std.specs.Prelude.{◌≡◌, ◌<◌, ◌≤◌, ◌%◌, Some, None, true, if◌then◌else◌};
 ghost use Rattle.fr_bus.specs.Courses.{ended};
@@ -16,21 +17,21 @@ use fr_slots::params::Params;
 use fr_slots::window::Window;
 use std::marker::Model;
 
-/// How far a run has come (chapter 5; what a window is, is project-defined).
+/// The progress of a run (chapter 5; windows are project-defined).
 #[derive(Drop)]
 pub(crate) struct Course {
     params: Params,
     /// The cycles of the run.
     cycles: u16,
-    /// The windows that it passed.
+    /// The number of windows that it passed.
     windows: u32,
-    /// The cycles that began.
+    /// The number of cycles that began.
     begun: u16,
-    /// The static windows that it passed in the last of these.
+    /// The number of static windows that it passed in the last cycle.
     statics: u16,
-    /// How far channel A's dynamic segment has come in it.
+    /// The progress of channel A's dynamic segment in it.
     a: Lane,
-    /// The same of channel B.
+    /// The progress of channel B's.
     b: Lane,
 }
 
@@ -46,7 +47,7 @@ impl Model for Course {
     ghost invariant = { IsLawful };
 }
 
-/// Returns the lesser of two numbers, of which either may lack.
+/// Returns the lesser of two numbers, each of which may be absent.
 fn least_of(a: Option<u16>, b: Option<u16>) -> Option<u16>
     ensures { result ≡ least_of a b }
 {
@@ -57,7 +58,7 @@ fn least_of(a: Option<u16>, b: Option<u16>) -> Option<u16>
     }
 }
 
-/// Returns the cycle number of the run's cycle of this number: cycles are counted up to 63, and then from 0 again.
+/// Returns the cycle number of a run's cycle, which wraps to 0 after 63.
 fn cycle_of(number: u16) -> Cycle
     ensures { result ≡ number % 64 }
 {
@@ -76,7 +77,7 @@ fn slot_of(number: u16) -> SlotId
     }
 }
 
-/// 1 for a static window, and 0 for a dynamic one.
+/// Returns 1 for a static window, and 0 for a dynamic one.
 fn static_count(window: &Window) -> u16
     ensures { result ≡ if is_static window.now then 1 else 0 }
 {
@@ -90,7 +91,7 @@ fn has_row(channel: Channel, window: &Window) -> bool
     !window.is_static() && window.slot(channel).is_some()
 }
 
-/// Returns the lane after the window, in which the longest transmission that passed on the channel had so many bytes.
+/// Returns the lane after the window, given the bytes of the longest transmission on the channel.
 fn lane_after(channel: Channel, lane: &Lane, window: &Window, bytes: u16) -> Lane
     requires { has_row channel window.now ≡ true → close_refusal lane.now bytes ≡ None }
     ensures { result ≡ ended channel lane.now window.now bytes }
@@ -108,12 +109,12 @@ impl Course {
     ghost use Rattle.std.specs.Prelude.{◌≡◌, ◌≤◌, [], Some};
     ghost use Rattle.fr_bus.specs.Courses.{IsCourse, course_of, passed, first_next, inner_next, dynamic_next, next_of};
 
-    /// Returns the course of a run of so many cycles, from its start.
+    /// Returns the course of a run of so many cycles, at its start.
     pub(crate) fn new(params: &Params, cycles: u16) -> Course
         requires { cycles ≤ 1024 }
         ensures { result ≡ course_of params.now cycles [] }
     {
-        // Field by field, since what holds of parameters is stated where one of them is read.
+        // For the prover: a copy field by field, since reading a field states the properties of parameters.
         let params = Params { ..*params };
         Course {
             params,
@@ -133,17 +134,18 @@ impl Course {
         &self.params
     }
 
-    /// Returns how many cycles began, with the windows gone past.
+    /// Returns the number of cycles that began, with the windows passed.
     pub(crate) fn begun(&self) -> u16
         ensures { result ≡ self.now.begun }
     {
         self.begun
     }
 
-    /// What every course keeps.
+    /// States the properties of every course, and has no effect.
     pub(crate) fn known(&self)
         ensures { IsCourse self.now }
     {
+        // For the prover: the clause of this call.
         let _ = &self.windows;
     }
 
@@ -196,7 +198,7 @@ impl Course {
         }
     }
 
-    /// Goes past the next window, in which the longest transmissions on A and on B had so many bytes.
+    /// Passes the next window, given the bytes of the longest transmissions on A and on B.
     pub(crate) fn pass(&mut self, window: &Window, a: u16, b: u16)
         requires next { next_of self.old ≡ Some window.now }
         requires few_a { a ≤ 262 }

@@ -1,4 +1,4 @@
-//! Where the open window stands, and why a call of a bus is refused.
+//! The phases of the open window, and the refusals of a bus.
 
 ghost use Rattle.std.specs.Prelude.{◌≡◌};
 ghost use Rattle.fr_bus.specs.States.{collects, seals};
@@ -6,12 +6,12 @@ ghost use Rattle.fr_bus.specs.States.{collects, seals};
 use std::error::Error;
 use std::fmt;
 
-/// Where the open window stands (project-defined).
+/// The phase of the open window (project-defined).
 #[derive(Clone, Copy, PartialEq, Eq)]
 pub enum Phase {
     /// Nodes put their offers, and faults are injected.
     Collect,
-    /// The window's outcome stands in the record, and nodes take what they see of it.
+    /// The window's outcome is in the record, and nodes take their observations.
     Sealed,
     /// The run has no further window.
     Finished,
@@ -25,7 +25,7 @@ impl Phase {
         matches!(self, Phase::Collect)
     }
 
-    /// Returns whether nodes take what they see.
+    /// Returns whether nodes take their observations.
     pub(crate) fn seals(self) -> bool
         ensures { result ≡ seals self }
     {
@@ -33,30 +33,30 @@ impl Phase {
     }
 }
 
-/// Why a call of a bus is refused (project-defined).
+/// Reasons to refuse a call of a bus (project-defined).
 #[derive(Clone, Copy, Debug, PartialEq, Eq)]
 pub enum BusError {
-    /// The cluster doesn't have the node.
+    /// A node that the cluster doesn't have.
     UnknownNode,
-    /// The open window is sealed, or the run is over.
+    /// A window that is sealed, or a run that is over.
     NotCollecting,
-    /// The number isn't that of the open window.
+    /// A number other than that of the open window.
     WrongWindow,
-    /// The node has put its offer in the open window.
+    /// A node that has put its offer in the open window.
     AlreadyPut,
-    /// The open window has a fault of this kind, node and channel.
+    /// A second fault of this kind, node and channel in the open window.
     TooManyFaults,
-    /// A node hasn't put its offer in the open window.
+    /// A node that hasn't put its offer in the open window.
     NotAllPut,
-    /// The open window isn't sealed, or the run is over.
+    /// A window that isn't sealed, or a run that is over.
     NotSealed,
-    /// The node has taken what it sees in the open window.
+    /// A node that has taken its observation in the open window.
     AlreadyTaken,
-    /// A node hasn't taken what it sees in the open window.
+    /// A node that hasn't taken its observation in the open window.
     NotAllTaken,
-    /// A run has 1 to 1024 cycles.
+    /// A number of cycles other than 1 to 1024.
     BadCycles,
-    /// Memory was refused.
+    /// An allocation that failed.
     Memory,
 }
 
@@ -64,7 +64,7 @@ impl BusError {
     ghost use Rattle.std.specs.Prelude.{◌≡◌};
     ghost use Rattle.fr_bus.specs.ErrorNames.{bus_error_name};
 
-    /// Returns the refusal's name, as it is printed (project-defined).
+    /// Returns the printed name of the refusal (project-defined).
     pub fn name(self) -> &'static str
         ensures { result.now ≡ bus_error_name self }
     {

@@ -6,22 +6,22 @@ use fr_frame::frame::{Bytes, duplicate_bytes};
 use fr_slots::channel::Channel;
 use fr_slots::numbers::NodeId;
 
-/// A fault of the open window, and of no other (project-defined). On a channel without a slot it has no effect.
+/// A fault of the open window alone (project-defined). It has no effect on a channel without a slot.
 #[derive(Drop, PartialEq, Eq)]
 pub enum Fault {
-    /// The node sends these bytes on the channel, beside what it offers. Without bytes it sends nothing more.
+    /// These bytes, which the node sends on the channel beside its offer. Without bytes it sends nothing more.
     Babble {
         node: NodeId,
         channel: Channel,
         bytes: Bytes,
     },
-    /// What the node offers on the channel is lost, and what it babbles isn't.
+    /// The loss of the node's offer on the channel, but not of its babble.
     Mute {
         node: NodeId,
         channel: Channel,
     },
-    /// One bit is flipped where exactly one transmission passes on the channel, counted from the most significant bit
-    /// of its first byte. A bit after its last byte flips nothing.
+    /// One flipped bit, if exactly one transmission passes on the channel. It is counted from the most significant bit
+    /// of the first byte. A bit after the last byte has no effect.
     Corrupt {
         channel: Channel,
         bit: u16,

@@ -1,29 +1,29 @@
-//! The bus of a cluster: the windows of a run, what the nodes send in each, the faults injected, and what each node
-//! sees.
+//! The bus of a cluster: the windows of a run, the nodes' transmissions in each, the injected faults, and each node's
+//! observations.
 //!
 //! ```text
 //! let mut bus = Bus::new(alloc, &cluster, cycles)?;
 //! bus.put(node, number, &offer)?; // each node, in the window of this number
-//! bus.seal()?; // what becomes of each transmission
+//! bus.seal()?; // decides the outcome of each transmission
 //! let (a, b) = bus.take(node, number)?; // each node
 //! bus.advance()?; // the next window, and bus.record() has those before
 //! ```
 //!
-//! A chapter in parentheses is one of the FlexRay Protocol Specification 2.1, revision A, whose rule it is.
-//! *(project-defined)* marks a rule of this project's own, which says nothing of the standard.
+//! A chapter in parentheses is one of the FlexRay Protocol Specification 2.1, revision A.
+//! *(project-defined)* marks a rule of this project, and makes no claim about the standard.
 //!
 //! # Definitions
 //!
 //! - `Windows`: the windows of a run, each by the record before it.
 //! - `Outcome`, `Corruption`, `Record`: the transmissions of a window, the outcome of each, each node's observation; a
 //!   flipped bit; the record.
-//! - `States`, `Stations`, `Courses`: the state of a bus, its refusals, effects and invariant; how far a run has come.
+//! - `States`, `Stations`, `Courses`: the state of a bus, its refusals, effects and invariant; the progress of a run.
 //! - `ErrorNames`: the printed names of refusals.
 //!
-//! Modules that go the way of the code, for private functions, with the module that has the meaning:
+//! Modules that follow the steps of the code, for private functions, with the module that has the meaning:
 //!
 //! - `stations_of` in `Stations`: the nodes that have put, those that have taken, and each node's frames, apart.
-//!   Meaning: `Station`, with all of it.
+//!   Meaning: `Station`, which has all of it.
 //!
 //! # Inner workings
 //!
@@ -31,16 +31,16 @@
 //! - `put` copies an offer into its station (`station`).
 //! - `inject` keeps a fault there, or among the flipped bits.
 //! - `seal` lists the outcome of each transmission of each station (`outcome`), appends the list to the record, and
-//!   then moves the course on. The list has its whole room reserved first, so both growths come before any change.
-//! - `take` looks at the last window of the record alone.
+//!   then advances the course. The list reserves its whole room first, so both allocations come before any change.
+//! - `take` reads only the last window of the record.
 //! - `advance` clears the stations and opens the next window.
 //!
-//! Stations keep apart what each node sends, which nodes have put and which have taken. The bus keeps counts of the
+//! Stations keep apart each node's frames, the nodes that have put, and the nodes that have taken. The bus counts the
 //! last two.
 //!
 //! The definition of the next window speaks of the whole record: the rows of a channel are those of this cycle's
 //! windows. The code keeps a `Course` beside the record, with numbers and a `Lane` (`fr_minislot`) for each channel.
-//! Its type says that it leads where the record leads, so no call's time grows with the record.
+//! Its type says that the course and the record have the same next window, so no call's time grows with the record.
 #![tactic(auto)]
 
 pub mod bus;

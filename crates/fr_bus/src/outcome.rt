@@ -1,4 +1,4 @@
-//! What becomes of the transmissions of a window, and what each node sees of them.
+//! The outcome of the transmissions of a window, and each node's observation.
 
 ghost use Rattle.std.specs.Prelude.{◌≡◌, ◌<◌, ◌≤◌, [], ◌∷◌, ◌++◌, List, length, IfOk, OnOk, OnErr};
 ghost use Rattle.std.specs.Prelude.{None, ◌&&◌, ◌+◌, ◌↔◌, IsTrue, IfSome, IfNone, if◌then◌else◌};
@@ -27,42 +27,42 @@ use fr_status::seen::{LentSeen, Seen};
 use std::alloc::{AllocError, Global};
 use std::marker::Model;
 
-/// What becomes of a transmission (project-defined).
+/// The outcome of a transmission (project-defined).
 #[derive(Clone, Copy, PartialEq, Eq)]
 pub enum Fate {
-    /// It reaches the channel.
+    /// A transmission that reaches the channel.
     Passed,
-    /// The guardian of its node stops it.
+    /// A transmission that its node's guardian stops.
     Blocked,
-    /// A fault loses it.
+    /// A transmission that a fault loses.
     Muted,
 }
 
 /// A transmission of a sealed window (project-defined).
 #[derive(Drop, PartialEq, Eq)]
 pub struct Sent {
-    /// Who sent it.
+    /// The sender.
     pub node: NodeId,
-    /// Where it was sent.
+    /// The channel of the transmission.
     pub channel: Channel,
-    /// Whether it is a babble, and not the node's offer.
+    /// True for a babble, false for the node's offer.
     pub babble: bool,
-    /// What was sent, 1 to 262 bytes, before any of its bits is turned.
+    /// The bytes, 1 to 262, before any bit is flipped.
     pub bytes: Bytes,
-    /// What became of it.
+    /// The outcome.
     pub fate: Fate,
 }
 
 impl Sent {
-    /// Returns whether it passed on the channel (project-defined).
+    /// Returns whether the transmission passed on the channel (project-defined).
     pub fn passed_on(&self, channel: Channel) -> bool
         ensures { result ≡ passed_on channel self.now }
     {
         self.channel == channel && self.fate == Fate::Passed
     }
 
-    /// Returns whether it is too long for the window: longer than a static slot's frame, or beyond the last minislot
-    /// (project-defined).
+    /// Returns whether the transmission is too long for the window (project-defined). It is longer than a static slot's
+    /// frame, or ends after the last minislot.
     pub fn overruns(&self, params: &Params, window: &Window) -> bool
         ensures { result ≡ overruns params.now window.now (length self.now.bytes.items) }
     {
@@ -75,11 +75,11 @@ impl Sent {
 pub struct Sealed {
     /// The window.
     pub window: Window,
-    /// What was sent in it, in the order of nodes; of a node on channel A before B, and its offer before its babble. On
-    /// a channel without a slot nothing is sent, and nothing is a transmission that has no bytes.
+    /// The transmissions in the window, in the order of nodes. Those of a node on channel A come before those on B, and
+    /// its offer comes before its babble. There is no transmission on a channel without a slot, and none without bytes.
     pub sent: Vec<Sent>,
-    /// The bits that a fault turns on channel A and on B, if any, counted from the most significant bit of the first
-    /// byte. They stand here as they were injected, also where they turn nothing.
+    /// The injected bits to flip on channel A and on B, if any. They are counted from the most significant bit of the
+    /// first byte, and are kept even if they flip nothing.
     pub corrupt: [Option<u16>; 2],
 }
 
@@ -93,7 +93,7 @@ impl Model for Sealed {
     ghost view = { recorded_in };
 }
 
-/// Returns what becomes of a transmission that a fault loses or not, and that the guardian lets pass or not.
+/// Returns the outcome of a transmission, by its mute and by its guardian.
 fn fate_of(muted: bool, let_pass: bool) -> Fate
     ensures { result ≡ fate_of muted let_pass }
 {
@@ -134,7 +134,7 @@ fn add(
     Ok(())
 }
 
-/// Appends what the node sends on the channel, which has a slot.
+/// Appends the node's transmissions on the channel, which has a slot.
 fn add_side(
     list: &mut Vec<Sent>,
     guardian: &Guardian,
@@ -145,7 +145,7 @@ fn add_side(
 ) -> Result<(), AllocError>
     ensures { OnOk result (list.new.items ≡ list.old.items ++ sent_on guardian.now window.now node channel side.now) }
 {
-    // The guardian is asked only where something is sent.
+    // The guardian is asked only if something is sent.
     if side.offer.is_none() && side.babble.is_none() {
         return Ok(());
     }
@@ -168,7 +168,7 @@ fn add_side(
     )
 }
 
-/// Appends what the node sends on the channel, which may have no slot.
+/// Appends the node's transmissions on the channel, which may have no slot.
 fn add_in(
     list: &mut Vec<Sent>,
     guardian: &Guardian,
@@ -186,7 +186,7 @@ fn add_in(
     }
 }
 
-/// Appends what the node sends.
+/// Appends the node's transmissions.
 fn add_station(
     list: &mut Vec<Sent>,
     guardian: &Guardian,
@@ -216,7 +216,7 @@ fn add_station(
     )
 }
 
-/// Returns what all nodes send. The list has room for these alone, so no transmission is moved as it grows.
+/// Returns the transmissions of all nodes. The list has room for exactly these, so it moves no transmission.
 pub(crate) fn all_sent(
     alloc: Global,
     guardian: &Guardian,
@@ -225,7 +225,7 @@ pub(crate) fn all_sent(
 ) -> Result<Vec<Sent>, AllocError>
     ensures { IfOk result (λ list. list.items ≡ sent_from guardian.now window.now 0 stations.now) }
 {
-    // So a frame is copied only into its station, into the record, and for each node that takes it.
+    // So a frame is copied only to its station, to the record, and to each node that takes it.
     let mut list = Vec::with_capacity(alloc, stations.count_offered())?;
     for number in 0..stations.len() {
         let node = NodeId::from_number(number as u8);
@@ -234,14 +234,14 @@ pub(crate) fn all_sent(
     Ok(list)
 }
 
-/// Returns whether it is the node's.
+/// Returns whether the transmission is the node's.
 fn is_of(node: NodeId, sent: &Sent) -> bool
     ensures { result ≡ is_of node sent.now }
 {
     sent.node == node
 }
 
-/// Returns the first transmission that passed on the channel, and all that were sent after it.
+/// Returns the first transmission that passed on the channel, and all transmissions after it.
 fn next_passed<'a>(channel: Channel, sent: &'a [Sent]) -> Option<(&'a Sent, &'a [Sent])>
     ensures none { IfNone result (all_passed channel sent.now ≡ []) }
     ensures some { IfSome result (λ r. all_passed channel sent.now ≡ r.0.now ∷ all_passed channel r.1.now) }
@@ -262,7 +262,7 @@ fn any_own(channel: Channel, node: NodeId, sent: &[Sent]) -> bool
     any_passed_of(channel, node, sent)
 }
 
-/// The same, transmission by transmission.
+/// Returns the same, transmission by transmission.
 fn any_passed_of(channel: Channel, node: NodeId, sent: &[Sent]) -> bool
     ensures { result ≡ list_any (λ t. passed_on channel t && is_of node t) sent.now }
 {
@@ -282,7 +282,7 @@ fn is_too_long(params: &Params, window: &Window, bytes: usize) -> bool
     }
 }
 
-/// Returns the byte with this bit turned, counted from its most significant one, which is 0.
+/// Returns the byte with this bit flipped, counted from 0, its most significant one.
 fn byte_with_bit_turned(byte: u8, bit: u16) -> u8
     requires { bit < 8 }
     ensures { result ≡ turned byte bit }
@@ -290,7 +290,7 @@ fn byte_with_bit_turned(byte: u8, bit: u16) -> u8
     byte ^ (1 << (7 - bit))
 }
 
-/// Flips one bit, counted from the most significant bit of the first byte. A bit after the last byte is none of them.
+/// Flips one bit, counted from the most significant bit of the first byte. A bit after the last byte has no effect.
 fn turn_bit(bytes: &mut Bytes, bit: u16)
     ensures { bytes.new.items ≡ with_bit_turned bytes.old.items bit }
 {
@@ -301,7 +301,7 @@ fn turn_bit(bytes: &mut Bytes, bit: u16)
     }
 }
 
-/// Returns the bytes with the bit turned, if there is one to turn.
+/// Returns the bytes with the bit flipped, if there is one to flip.
 fn bytes_with_bit_turned(bytes: &Bytes, corrupt: Option<u16>) -> Bytes
     ensures { result ≡ corrupted bytes.now corrupt }
 {
@@ -312,7 +312,7 @@ fn bytes_with_bit_turned(bytes: &Bytes, corrupt: Option<u16>) -> Bytes
     copy
 }
 
-/// Writes the bytes, with the bit turned if there is one to turn, over those that are there.
+/// Writes the bytes over the old ones, with the bit flipped if there is one to flip.
 fn write_turned(place: &mut Bytes, bytes: &Bytes, corrupt: Option<u16>)
     ensures { place.new ≡ corrupted bytes.now corrupt }
 {
@@ -322,7 +322,7 @@ fn write_turned(place: &mut Bytes, bytes: &Bytes, corrupt: Option<u16>)
     }
 }
 
-/// Sees silence. Nothing is written where nothing was seen before.
+/// Writes silence, unless it is there already.
 fn see_silence(seen: &mut Seen)
     ensures { seen.new ≡ Sight.Silence }
 {
@@ -332,7 +332,7 @@ fn see_silence(seen: &mut Seen)
     }
 }
 
-/// Sees the bytes, with the bit turned if there is one to turn. They are written over those that were seen before.
+/// Writes the bytes over the old observation, with the bit flipped if there is one to flip.
 fn see_bytes(bytes: &Bytes, corrupt: Option<u16>, seen: &mut Seen)
     ensures { seen.new ≡ Sight.Bytes (corrupted bytes.now corrupt) }
 {
@@ -342,7 +342,7 @@ fn see_bytes(bytes: &Bytes, corrupt: Option<u16>, seen: &mut Seen)
     }
 }
 
-/// Sees what the other nodes see of the only transmission that passed.
+/// Writes the other nodes' observation of the only transmission that passed.
 fn see_alone(params: &Params, window: &Window, corrupt: Option<u16>, bytes: &Bytes, seen: &mut Seen)
     ensures { seen.new ≡ received params.now window.now corrupt bytes.now }
 {
@@ -353,14 +353,14 @@ fn see_alone(params: &Params, window: &Window, corrupt: Option<u16>, bytes: &Byt
     }
 }
 
-/// Returns what a node sees where several passed, its own among them or not.
+/// Returns a node's observation if several transmissions passed, its own among them or not.
 fn sight_of_several(any_own: bool) -> Seen
     ensures { result ≡ (if any_own then Sight.Conflict else Sight.Noise) }
 {
     if any_own { Seen::Conflict } else { Seen::Noise }
 }
 
-/// Sees what a node sees on a channel of the window where this was sent, and this bit is flipped (project-defined).
+/// Writes the node's observation on the channel, given the transmissions and the bit to flip.
 fn see_in(
     params: &Params,
     window: &Window,
@@ -384,7 +384,7 @@ fn see_in(
     }
 }
 
-/// Sees what a node sees that sends nothing, on a channel of the window where this was sent, and this bit is flipped.
+/// Writes the observation of a node that sends nothing, from these transmissions and this bit.
 fn hear_in(
     params: &Params,
     window: &Window,
@@ -405,8 +405,7 @@ fn hear_in(
     }
 }
 
-/// Returns whether the other nodes see this of the only transmission that passed. Bytes are copied only to flip a bit
-/// of them.
+/// Returns whether other nodes observe this if only these bytes passed. Bytes are copied only to flip a bit of them.
 fn shows_alone(
     params: &Params,
     window: &Window,
@@ -424,7 +423,7 @@ fn shows_alone(
     }
 }
 
-/// Returns whether these are the bytes with the bit turned, if there is one to turn.
+/// Returns whether these are the bytes with the bit flipped, if there is one to flip.
 fn are_turned(bytes: &Bytes, corrupt: Option<u16>, seen: &[u8]) -> bool
     ensures { IsTrue result ↔ ((corrupted bytes.now corrupt).items ≡ seen.now) }
 {
@@ -435,7 +434,7 @@ fn are_turned(bytes: &Bytes, corrupt: Option<u16>, seen: &[u8]) -> bool
     }
 }
 
-/// Returns whether a node sees this on a channel of the window where this was sent, and this bit is flipped.
+/// Returns whether the node observes this on the channel, from these transmissions and this bit.
 fn shows_in(
     params: &Params,
     window: &Window,
@@ -491,8 +490,8 @@ impl Sealed {
     ghost use Rattle.fr_bus.specs.Outcome.{longest};
     ghost use Rattle.fr_status.specs.Forms.{whole_seen};
 
-    /// Returns the bit that a fault turns on the channel, if any, counted from the most significant bit of the first
-    /// byte (project-defined).
+    /// Returns the bit that a fault flips on the channel, if any (project-defined). It is counted from the most
+    /// significant bit of the first byte.
     pub fn corrupt_on(&self, channel: Channel) -> Option<u16>
         ensures { result ≡ corrupt_on self.now channel }
     {
@@ -502,8 +501,8 @@ impl Sealed {
         }
     }
 
-    /// Returns what the node sees on the channel of what passed there and of the bit that is turned, by the parameters
-    /// of the cluster (project-defined).
+    /// Returns the node's observation on the channel (project-defined). It follows from the transmissions that passed
+    /// there, the flipped bit and the parameters.
     pub fn seen(&self, params: &Params, channel: Channel, node: NodeId) -> Seen
         ensures { result ≡ seen_by params.now self.now channel node }
     {
@@ -512,8 +511,8 @@ impl Sealed {
         seen
     }
 
-    /// Writes what the node sees on the channel, as `seen` says it, over what stands in `seen`. Bytes are written over
-    /// those that are there.
+    /// Writes the node's observation on the channel, the result of `Sealed::seen`, to `seen`. Bytes are written over
+    /// the old ones.
     pub fn see(&self, params: &Params, channel: Channel, node: NodeId, seen: &mut Seen)
         ensures { seen.new ≡ seen_by params.now self.now channel node }
     {
@@ -529,8 +528,8 @@ impl Sealed {
         );
     }
 
-    /// Returns what a node sees on the channel that sends nothing there: the bytes of what passed alone, with the bit
-    /// that is turned, or how else the window went (project-defined).
+    /// Returns the observation on the channel of a node that sends nothing there (project-defined). If one transmission
+    /// passed alone, it is the bytes of this transmission with the flipped bit.
     pub fn heard(&self, params: &Params, channel: Channel) -> Seen
         ensures { result ≡ heard params.now self.now channel }
     {
@@ -547,7 +546,7 @@ impl Sealed {
         seen
     }
 
-    /// Returns whether the node sees this on the channel, as `seen` says it.
+    /// Returns whether the node observes this on the channel, as `Sealed::seen` defines it.
     pub fn shows(&self, params: &Params, channel: Channel, node: NodeId, seen: LentSeen<'_>) -> bool
         ensures { IsTrue result ↔ (seen_by params.now self.now channel node ≡ whole_seen seen.entry) }
     {
@@ -563,15 +562,14 @@ impl Sealed {
         )
     }
 
-    /// Returns the bytes of the node's offer on the channel, whatever became of it. None where it offered nothing
-    /// there.
+    /// Returns the bytes of the node's offer on the channel, with any outcome, or none without an offer.
     pub fn offered(&self, channel: Channel, node: NodeId) -> Option<&Bytes>
         ensures { option_copied result ≡ offer_in channel node self.now.sent }
     {
         offer_in(channel, node, self.sent.as_slice())
     }
 
-    /// Returns the bytes of the longest transmission that passed on the channel, up to 262, or 0 where none did.
+    /// Returns the bytes of the longest transmission that passed on the channel, up to 262, or 0.
     pub(crate) fn longest(&self, channel: Channel) -> u16
         ensures value { result ≡ longest channel self.now.sent }
         ensures few { result ≤ 262 }
@@ -580,7 +578,7 @@ impl Sealed {
     }
 }
 
-/// Returns the bytes of the longest transmission that passed on the channel, or 0 where none did.
+/// Returns the bytes of the longest transmission that passed on the channel, or 0.
 fn longest(channel: Channel, sent: &[Sent]) -> u16
     ensures value { result ≡ longest channel sent.now }
     ensures few { result ≤ 262 }
@@ -594,7 +592,7 @@ fn longest(channel: Channel, sent: &[Sent]) -> u16
     most
 }
 
-/// Returns how many bytes it has.
+/// Returns the number of bytes of the transmission.
 fn length_of(sent: &Sent) -> u16
     ensures value { result ≡ length sent.now.bytes.items }
     ensures few { result ≤ 262 }

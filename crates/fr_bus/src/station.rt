@@ -1,4 +1,4 @@
-//! What the nodes put and take in the open window, and the faults that name them.
+//! The nodes' puts and takes in the open window, and the faults of nodes.
 
 ghost use Rattle.std.specs.Prelude.{◌≡◌, ◌<◌, ◌≤◌, length, replicate, None, Some, OnErr, OnOk, IfOk};
 ghost use Rattle.std.specs.Prelude.{slice_index_or, slice_set};
@@ -14,18 +14,18 @@ use fr_slots::numbers::NodeId;
 use std::alloc::{AllocError, Global};
 use std::marker::Model;
 
-/// What a node sends on one channel of the open window.
+/// The transmissions of a node on one channel of the open window.
 #[derive(Drop)]
 pub(crate) struct Side {
-    /// What it offers.
+    /// The offer.
     pub(crate) offer: Option<Bytes>,
-    /// What it sends beside that.
+    /// The babble beside the offer.
     pub(crate) babble: Option<Bytes>,
-    /// Whether its offer is lost.
+    /// True if the offer is muted.
     pub(crate) mute: bool,
 }
 
-/// What a node sends on both channels of the open window.
+/// The transmissions of a node on both channels of the open window.
 #[derive(Drop)]
 struct Sides {
     a: Side,
@@ -33,7 +33,7 @@ struct Sides {
 }
 
 impl Sides {
-    /// Returns what is sent on the channel.
+    /// Returns the transmissions on the channel.
     fn side(&self, channel: Channel) -> &Side
         ensures { result.now ≡ side_in channel self.now }
     {
@@ -43,7 +43,7 @@ impl Sides {
         }
     }
 
-    /// Keeps a copy of what is offered.
+    /// Copies the offer.
     fn put(&mut self, offer: &Offer)
         ensures { self.new ≡ with_offers self.old offer.now }
     {
@@ -51,7 +51,7 @@ impl Sides {
         keep(&mut self.b.offer, &offer.b);
     }
 
-    /// Adds a transmission.
+    /// Adds a babble.
     fn babble(&mut self, channel: Channel, bytes: Bytes)
         ensures { self.new ≡ with_babble channel bytes self.old }
     {
@@ -61,7 +61,7 @@ impl Sides {
         }
     }
 
-    /// Loses the offer on the channel.
+    /// Mutes the offer on the channel.
     fn mute(&mut self, channel: Channel)
         ensures { self.new ≡ with_mute channel self.old }
     {
@@ -71,7 +71,7 @@ impl Sides {
         }
     }
 
-    /// Forgets all that was done.
+    /// Clears both sides.
     fn clear(&mut self)
         ensures { self.new ≡ silent_sides }
     {
@@ -79,7 +79,7 @@ impl Sides {
         self.b.clear();
     }
 
-    /// Returns how many transmissions there may be.
+    /// Returns the greatest number of transmissions.
     fn count_offered(&self) -> usize
         ensures { result ≤ 4 }
     {
@@ -87,18 +87,18 @@ impl Sides {
     }
 }
 
-// In one place the run of the car took 6 % longer.
-/// What all nodes do in the open window, 16 at the most.
+// With flags and transmissions in one list, the run of the car took 6 % longer.
+/// The stations of all nodes in the open window, at most 16.
 ///
-/// Who has put and taken stands beside the bus's counts, since each call of a node writes it, and apart from what is
-/// sent, since few nodes send: so a call of a node that sends nothing leaves the others' cache lines alone.
+/// The flags are beside the bus's counts, since each call of a node writes them. They are apart from the transmissions,
+/// since few nodes send. So a call of a node that sends nothing leaves the others' cache lines alone.
 #[derive(Drop)]
 pub(crate) struct Stations {
-    /// Who has put its offer, which may be nothing on both channels.
+    /// The nodes that have put an offer, which may be nothing on both channels.
     put: [bool; 16],
-    /// Who has taken what it sees.
+    /// The nodes that have taken their observations.
     taken: [bool; 16],
-    /// What each node sends.
+    /// The transmissions of each node.
     sides: Vec<Sides>,
 }
 
@@ -116,7 +116,7 @@ impl Model for Stations {
 }
 
 impl Stations {
-    /// So many stations that have done nothing yet.
+    /// Returns so many idle stations.
     #[tactic(auto, using(crate::proofs::StationLemmas::stations_idle))]
     pub(crate) fn idle(alloc: Global, count: usize) -> Result<Stations, AllocError>
         requires { count ≤ 16 }
@@ -129,7 +129,7 @@ impl Stations {
         })
     }
 
-    /// Returns how many there are.
+    /// Returns the number of stations.
     #[tactic(auto, using(crate::proofs::StationLemmas::length_stations))]
     pub(crate) fn len(&self) -> usize
         ensures value { result ≡ length self.now }
@@ -146,7 +146,7 @@ impl Stations {
         self.put[usize::from(node.number())]
     }
 
-    /// Returns whether the node has taken what it sees.
+    /// Returns whether the node has taken its observation.
     pub(crate) fn has_taken(&self, node: NodeId) -> bool
         requires { node < length self.now }
         ensures { result ≡ (slice_index_or self.now node idle_station).taken }
@@ -154,7 +154,7 @@ impl Stations {
         self.taken[usize::from(node.number())]
     }
 
-    /// Returns what the node does on the channel.
+    /// Returns the node's transmissions on the channel.
     #[tactic(auto, using(crate::proofs::StationLemmas::length_stations))]
     pub(crate) fn side(&self, node: NodeId, channel: Channel) -> &Side
         requires { node < length self.now }
@@ -163,7 +163,7 @@ impl Stations {
         self.sides[usize::from(node.number())].side(channel)
     }
 
-    /// Keeps a copy of what the node offers.
+    /// Copies the node's offer.
     #[tactic(auto, using(crate::proofs::StationLemmas::length_stations))]
     pub(crate) fn put(&mut self, node: NodeId, offer: &Offer)
         requires { node < length self.old }
@@ -174,7 +174,7 @@ impl Stations {
         self.sides[place].put(offer);
     }
 
-    /// Has the node take what it sees.
+    /// Marks that the node has taken its observation.
     pub(crate) fn take(&mut self, node: NodeId)
         requires { node < length self.old }
         ensures { self.new ≡ slice_set self.old node (taking (slice_index_or self.old node idle_station)) }
@@ -182,7 +182,7 @@ impl Stations {
         self.taken[usize::from(node.number())] = true;
     }
 
-    /// Adds a transmission of the node.
+    /// Adds a babble of the node.
     #[tactic(auto, using(crate::proofs::StationLemmas::length_stations))]
     pub(crate) fn babble(&mut self, node: NodeId, channel: Channel, bytes: Bytes)
         requires { node < length self.old }
@@ -192,7 +192,7 @@ impl Stations {
         self.sides[usize::from(node.number())].babble(channel, bytes);
     }
 
-    /// Loses the node's offer on the channel.
+    /// Mutes the node's offer on the channel.
     #[tactic(auto, using(crate::proofs::StationLemmas::length_stations))]
     pub(crate) fn mute(&mut self, node: NodeId, channel: Channel)
         requires { node < length self.old }
@@ -201,7 +201,7 @@ impl Stations {
         self.sides[usize::from(node.number())].mute(channel);
     }
 
-    /// Readies all for the next window. No bytes are moved for that.
+    /// Clears all stations for the next window, and moves no bytes.
     pub(crate) fn clear(&mut self)
         ensures { self.new ≡ replicate (length self.old) idle_station }
     {
@@ -210,7 +210,7 @@ impl Stations {
         clear_sides(&mut self.sides);
     }
 
-    /// Returns how many transmissions there may be.
+    /// Returns the greatest number of transmissions.
     pub(crate) fn count_offered(&self) -> usize
         ensures { result ≤ 64 }
     {
@@ -218,7 +218,7 @@ impl Stations {
     }
 }
 
-/// Returns how many offers and babbles there are, of which some may be no transmissions.
+/// Returns the number of offers and babbles, some of which may be no transmissions.
 fn count_offered(sides: &[Sides]) -> usize
     requires { length sides.now ≤ 16 }
     ensures { result ≤ 64 }
@@ -231,7 +231,7 @@ fn count_offered(sides: &[Sides]) -> usize
 }
 
 impl Side {
-    /// Forgets all that was done. Nothing is written where nothing was done.
+    /// Clears the side, and writes only where something is set.
     fn clear(&mut self)
         ensures { self.new ≡ silent_side }
     {
@@ -242,7 +242,7 @@ impl Side {
         }
     }
 
-    /// Returns how many transmissions it may have.
+    /// Returns the greatest number of transmissions of the side.
     fn count_offered(&self) -> usize
         ensures { result ≤ 2 }
     {
@@ -254,7 +254,8 @@ impl Side {
     }
 }
 
-/// Makes this what is kept. Bytes are written over those that are there, and nothing is written where nothing is.
+/// Replaces the kept bytes by the offer. Bytes are written over the old ones, and nothing is written if nothing is kept
+/// or offered.
 fn keep(kept: &mut Option<Bytes>, offered: &Option<Bytes>)
     ensures { kept.new ≡ offered.now }
 {
@@ -264,7 +265,7 @@ fn keep(kept: &mut Option<Bytes>, offered: &Option<Bytes>)
     }
 }
 
-/// Makes a copy of these bytes what is kept.
+/// Replaces the kept bytes by a copy of these.
 fn keep_bytes(kept: &mut Option<Bytes>, bytes: &Bytes)
     ensures { kept.new ≡ Some bytes.now }
 {
@@ -274,7 +275,7 @@ fn keep_bytes(kept: &mut Option<Bytes>, bytes: &Bytes)
     }
 }
 
-/// Writes these bytes over those that are there.
+/// Writes these bytes over the old ones.
 pub(crate) fn write_over(place: &mut Bytes, bytes: &Bytes)
     ensures { place.new ≡ bytes.now }
 {
@@ -284,7 +285,7 @@ pub(crate) fn write_over(place: &mut Bytes, bytes: &Bytes)
     prove!(fits);
 }
 
-/// Keeps nothing. Nothing is written where nothing is kept.
+/// Clears the kept bytes, and writes only if there are some.
 fn forget(kept: &mut Option<Bytes>)
     ensures { kept.new ≡ None }
 {
@@ -293,7 +294,7 @@ fn forget(kept: &mut Option<Bytes>)
     }
 }
 
-/// Returns a side on which nothing was done yet.
+/// Returns an idle side.
 fn silent_side() -> Side
     ensures { result ≡ silent_side }
 {
@@ -304,7 +305,7 @@ fn silent_side() -> Side
     }
 }
 
-/// Returns what a node sends that has done nothing yet.
+/// Returns two idle sides.
 fn silent_both() -> Sides
     ensures { result ≡ silent_sides }
 {
@@ -314,7 +315,7 @@ fn silent_both() -> Sides
     }
 }
 
-/// Forgets all that was done.
+/// Clears all sides.
 fn clear_sides(sides: &mut Vec<Sides>)
     ensures { sides.new.items ≡ replicate (length sides.old.items) silent_sides }
 {
@@ -323,7 +324,7 @@ fn clear_sides(sides: &mut Vec<Sides>)
     }
 }
 
-/// Returns what so many nodes send that have done nothing yet.
+/// Returns the idle sides of so many nodes.
 fn silent_sides(alloc: Global, count: usize) -> Result<Vec<Sides>, AllocError>
     ensures { IfOk result (λ sides. sides.items ≡ replicate count silent_sides) }
 {

@@ -1,4 +1,4 @@
-//! Which window begins a cycle.
+//! The first window of a cycle.
 
 ghost use Rattle.std.specs.Prelude.{◌≡◌};
 ghost use Rattle.fr_bus.specs.Windows.{opens_cycle};

@@ -1,4 +1,4 @@
--- The moment that the code keeps is the one that the entries give, with one entry more.
+-- The moment that the code keeps is the one that follows from the entries, with one entry more.
 use Rattle.std.proofs.Common.{◌≡◌, ℕ, ◌+◌, ◌*◌, ◌≤◌, Bool, true, false, cond}
 use Rattle.std.proofs.Common.{List, [], ◌∷◌, ◌++◌, length, Option, Some, None}
 use Rattle.std.proofs.Common.{refl, sym, ap, ◌∙◌, arith, leb}
@@ -37,7 +37,7 @@ pub sightings-snoc : (s : State) (before : List Entry) (e : Entry)
     → sightings_in s (before ++ e ∷ []) ≡ sightings_in s before ++ sightings_at s before e
 sightings-snoc s before e = each_after-snoc (sightings_at s) before e
 
--- ---- an entry that fetches nothing
+-- ---- an entry other than a fetch
 
 IsMoment-same : (p : Parameters) (before after : List Entry) (last : Option Moment)
     → last_window after ≡ last_window before → last_fetch after ≡ last_fetch before
@@ -99,7 +99,7 @@ module _ (p : Parameters) (before : List Entry) (last : Option Moment) (number :
   one_moment (Fetch w a b) = fetch_moment p before last number w a b here h
   one_moment (Observe window a b) = none (Observe window a b) refl refl refl
 
--- ---- what is seen then
+-- ---- the observations of the window
 
 time_same : (p : Parameters) (before : List Entry) (m : Moment) → m.place ≡ place_in_round p m.window
     → m.rounds ≡ rounds p before → time_of p before m.window ≡ time_at p m

@@ -1,4 +1,4 @@
--- The frame that is valid in a slot is the one that the bytes are read as, and what takes it is what a window brings.
+-- The valid frame in a slot is the one that the bytes spell, and its receivers are those of the window.
 use Rattle.std.proofs.Common.{◌≡◌, ℕ, ◌++◌, List, [], Option, Some, None, Bool, true, false, if◌then◌else◌, ap, refl}
 use Rattle.std.proofs.Common.{◌∙◌}
 use Rattle.std.specs.Option.{option_and_then, option_or}
@@ -26,7 +26,7 @@ use Rattle.fr_status.specs.Forms.{Seen}
 use Rattle.fr_status.specs.declared.seen.Seen.TheVariants.{Silence, Own, Conflict, Noise, Overrun, Bytes}
 use Rattle.fr_status.specs.Status.{frame_in, passed, passes}
 
--- a frame that is right for a slot, where one came
+-- a frame that is right for a slot, if one came
 right : (b : Bool) (f : Fields) → option_or (if b then Some f else None) (Some f) ≡ Some f
 right true f = refl
 right false f = refl
@@ -37,7 +37,7 @@ valid_read p cycle None read = refl
 valid_read p cycle (Some s) None = refl
 valid_read p cycle (Some s) (Some f) = right (passes p cycle s f) f
 
--- the frame that came, where the slot is right for it
+-- the frame that came, if the slot is right for it
 abbrev pub frame_on : Parameters → Opportunity → Channel → Seen → Option Fields
 frame_on p w channel seen = option_and_then (λ s. frame_in p w.cycle s channel seen) (slot_of w channel)
 
@@ -55,7 +55,7 @@ seen_read p w channel takers (Bytes bytes) handed =
     (valid_read p w.cycle (slot_of w channel) (decoded channel bytes.items))
 
 module _ (all : Bool) (s : State) (m : Moment) (a b : Seen) where
-  -- the line as the code writes it is that of the sighting
+  -- the line that the code writes is that of the observation
   pub line_same : (channel : Channel) (came_a came_b : Bool) (told : Channel) (seen : Seen) (word : List ℕ)
       (frame : Option Fields)
       → came_a ≡ is_some (data_frame_seen s.params m.window A a)

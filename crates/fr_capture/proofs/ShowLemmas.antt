@@ -1,4 +1,4 @@
--- What has been written of the sightings so far, some of it handed on and the rest in a piece.
+-- The text of the observations so far: some of it was handed to the writer, and the rest is in a piece.
 use Rattle.std.proofs.Common.{◌≡◌, ℕ, ◌+◌, ◌<◌, ◌≤◌}
 use Rattle.std.proofs.Common.{List, [], ◌∷◌, ◌++◌, length, take, get_or, Option, Some, None, Result, Ok, Err}
 use Rattle.std.proofs.Common.{refl, sym, ap, subst, ◌∙◌, arith, append_assoc, append-nil, inl, inr}
@@ -22,7 +22,7 @@ use Rattle.fr_capture.specs.Sightings.{Sighting, sightings_at, sightings_in}
 use Rattle.fr_capture.proofs.MomentLemmas.{one_moment, seen_same, sightings-snoc, few_rounds}
 use Rattle.fr_journal.specs.Forms.{Entry}
 
--- of so many entries what is seen has been written, after the heading
+-- after the heading, the observations of the first `count` entries have been written
 pub record IsShown (form : Form) (s : State) (entries : List Entry) (count : ℕ) (start now : Option (List ℕ))
     (piece : List ℕ)
     (last : Option Moment) : Type 0 where
@@ -103,7 +103,7 @@ module _ (form : Form) (s : State) (entries : List Entry) (start : Option (List 
   shown_rounds count most now piece last h few = few_rounds s.params (take count entries) last most h.moment_is
       (omega (arith, length-take count entries))
 
--- ---- a trace that is accepted, and what is written of it
+-- ---- the output for an accepted trace
 
 abbrev IsWritingFault : Option (List ℕ) → Option (List ℕ) → TraceError → Type 0
 IsWritingFault old new e = (e ≡ error.Write) ⊎ ((e ≡ error.Memory) × Keeps old new)
@@ -161,7 +161,7 @@ ends_at text rest old new s (Err (error.WrongAnswer n)) stops told refused =
 ends_at text rest old new s (Err error.Truncated) stops told refused =
     absurd (no_other old new error.Truncated tt refused)
 
--- what is read of a trace that is accepted
+-- the bytes of an accepted trace that are read
 pub ends_form : (text rest old new : Option (List ℕ)) (s : State) (r : Result (Unit {0}) TraceError)
     → Stops text rest (Ok tt) → Understands text (Ok s)
     → IfErr r (IsWritingFault old new) → Ends text rest r
@@ -169,7 +169,7 @@ ends_form None rest old new s r stops told refused = tt
 ends_form (Some text) None old new s r stops told refused = stops
 ends_form (Some text) (Some rest) old new s r stops told refused = ends_at text rest old new s r stops told refused
 
--- an error of writing is of no line
+-- an error of writing names no line
 line_of_writing : (text : List ℕ) (old new : Option (List ℕ)) (e : TraceError) → IsWritingFault old new e
     → NamesItsLine e text
 line_of_writing text old new e (inl is) = subst (λ (x : TraceError). NamesItsLine x text) (sym is) tt

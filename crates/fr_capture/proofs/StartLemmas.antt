@@ -1,4 +1,4 @@
--- Where a window begins, by the layout of the cycle.
+-- The start of a window, by the layout of the cycle.
 use Rattle.std.proofs.Common.{◌≡◌, ℕ, ◌<◌, ◌≤◌, Option, Some, None, refl, sym, ap, subst, ◌∙◌, arith, inl, inr}
 use Rattle.std.proofs.lemmas.Bool.{cases_lt}
 use Rattle.std.proofs.Math.Nat.{mul-le-mul_left}
@@ -10,7 +10,7 @@ use Rattle.fr_timing.specs.Division.{start_at, place_at}
 use Rattle.fr_timing.specs.Layout.{IsAt}
 use Rattle.fr_timing.proofs.LayoutLemmas.{started_found, started_only, located_only, located_none}
 
--- what is reported of a start is what it is by its definition
+-- a start that is computed is the one of the definition
 pub start_same : (p : Parameters) (x : Place) (answer : Option ℕ) → IfSome answer (λ m. IsAt p m x)
     → ((m : ℕ) → IsAt p m x → answer ≡ Some m) → answer ≡ start_at p x
 start_same p x (Some m) found only = sym (started_only p x (start_at p x) refl m found)
@@ -32,7 +32,7 @@ start_below p lawful x (Some m) found = elim (cases_lt m p.cycle_mt)
     clash behind = let none = (located_none p lawful m (place_at p m) refl).1 behind in let some =
         located_only p m (place_at p m) refl x found in let e = sym none ∙ ap is_some some in cc
 
--- a time of so many rounds is short of what 32 bits hold in seconds
+-- a time after at most this many rounds is below 2^32 seconds
 pub few_time : (rounds length place : ℕ) → rounds ≤ 1000000 → length ≤ 1280000 → place < 2 ^ 32
     → rounds * length + place < 2 ^ 32 * 1000000
 few_time rounds length place few short fits =

@@ -1,4 +1,4 @@
--- What takes a frame, and its words, step by step.
+-- The receivers of a frame and their words, step by step.
 use Rattle.std.proofs.Common.{◌≡◌, ℕ, ◌+◌, Bool, true, false, cond, ◌||◌, List, [], ◌∷◌, ◌++◌, Option}
 use Rattle.std.proofs.Common.{Result, Ok, Err, refl, sym, ap, subst, ◌∙◌}
 use Rattle.std.specs.Prelude.{codes, is_some, IfOk, OnOk}
@@ -49,7 +49,7 @@ pub any-append : (xs ys : List Taker) → is_any (xs ++ ys) ≡ (is_any xs || is
 any-append [] ys = refl
 any-append (x ∷ xs) ys = refl
 
--- where those that are left are written too, all are
+-- once the receivers that are left are written, all are written
 pub record IsGoing (first : Bool) (all : List Taker) (old now : Option (List ℕ)) (any : Bool)
     (left : List Taker) : Type 0 where
   pub then_all : (new : Option (List ℕ)) → Appends now new (after_commas any left)
@@ -106,7 +106,7 @@ any_both any then xs ys then_is =
     ap (λ (b : Bool). b || is_any ys) then_is ∙ sym (or_assoc any (is_any xs) (is_any ys)) ∙ ap (λ (b : Bool). any || b)
     (sym (any-append xs ys))
 
--- ---- the words of all
+-- ---- the words of all receivers
 
 pub word_is : (ts : List Taker) → is_any ts ≡ true → after_commas false ts ≡ takers_word ts
 word_is [] is = absurd cc
@@ -131,7 +131,7 @@ module _ (p : Parameters) (w : Opportunity) (a b : Seen) where
       λ i. taker_if (takes_is p w a b channel line i) (taker.Buffer number) ++ buffers_is channel (number + 1) lines i
 
 module _ (p : Parameters) (plan : Plan) (w : Opportunity) (a b : Seen) where
-  -- the receivers, where it is known whether data frames came
+  -- the receivers, if it is known whether data frames came
   pub takers_is : (came_a came_b : Bool) → came_a ≡ is_some (data_frame_seen p w A a)
       → came_b ≡ is_some (data_frame_seen p w B b) → (channel : Channel)
       → takers_by plan w came_a came_b channel ≡ takers_of p plan w a b channel
@@ -140,7 +140,7 @@ module _ (p : Parameters) (plan : Plan) (w : Opportunity) (a b : Seen) where
       ∙ (λ i. buffers_is p w a b channel 0 plan.buffers i ++ taker_if
       (queue_is p w a b plan channel plan.queue i) taker.Queue)
 
--- ---- what is answered
+-- ---- the results
 
 pub any_answered : {E : Type 0} (r : Result Bool E) (any then : Bool) (xs ys ts : List Taker) →
     then ≡ (any || is_any xs) → (xs ++ ys) ≡ ts

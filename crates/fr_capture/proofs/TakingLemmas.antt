@@ -1,4 +1,4 @@
--- Whether a frame is taken, where it is known whether data frames came.
+-- The receivers of a frame, if it is known whether data frames came.
 use Rattle.std.proofs.Common.{◌≡◌, Bool, true, false, cond, ◌&&◌, Option, Some, None, refl}
 use Rattle.std.specs.Prelude.{is_some, option_map}
 use Rattle.std.specs.Option.{option_or}

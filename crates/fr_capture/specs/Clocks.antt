@@ -1,5 +1,5 @@
--- The window fetched last with its time, one entry after another, as the code goes along a journal. That it is what
--- `Moments` says stands in the proofs.
+-- The window fetched last with its time, entry by entry, as the code goes along a journal. The proofs show that it
+-- agrees with `Moments`.
 use Rattle.std.specs.Prelude.{◌≡◌, ℕ, ◌+◌, ◌*◌, ◌≤◌, List, [], ◌∷◌, Option, Some, None, nat_le}
 use Rattle.std.specs.Prelude.{if◌then◌else◌}
 use Rattle.fr_capture.specs.declared.moment.Moment.{Moment}
@@ -17,7 +17,7 @@ use Rattle.fr_status.specs.Forms.{Seen}
 abbrev pub time_at : Parameters → Moment → ℕ
 time_at p m = m.rounds * round_length p + m.place
 
--- the rounds that are over at a window of this place
+-- the rounds that are completed at a window of this place
 abbrev pub rounds_at : ℕ → Option Moment → ℕ
 rounds_at place None = 0
 rounds_at place (Some m) = if nat_le place m.place then m.rounds + 1 else m.rounds
@@ -26,7 +26,7 @@ abbrev pub moment_of : Parameters → Opportunity → ℕ → Option Moment → 
 moment_of p w number last =
     record { window = w; entry = number; rounds = rounds_at (place_in_round p w) last; place = place_in_round p w }
 
--- after the entry of this number
+-- the moment after the entry of this number
 abbrev pub moment_after : Parameters → Option Moment → ℕ → Entry → Option Moment
 moment_after p last number (Commit task buffer payload) = last
 moment_after p last number (Withdraw task buffer of) = last
@@ -35,7 +35,7 @@ moment_after p last number (Pop task from) = last
 moment_after p last number (Fetch window a b) = Some (moment_of p window number last)
 moment_after p last number (Observe window a b) = last
 
--- what is seen of an entry after that
+-- the observation of an entry after that
 abbrev pub sighting_at : State → Moment → Seen → Seen → Channel → Sighting
 sighting_at s m a b channel = sighting s (time_at s.params m) (Some m.entry) m.window a b channel
 
@@ -51,12 +51,12 @@ seen_after s last (Pop task from) = []
 seen_after s last (Fetch window a b) = []
 seen_after s last (Observe window a b) = in_moment s last a b
 
--- no more rounds are over than this
+-- at most this number of rounds is completed
 abbrev pub HasRounds : ℕ → Option Moment → Type 0
 HasRounds most None = Unit {0}
 HasRounds most (Some m) = m.rounds ≤ most
 
--- a moment is what the entries before give
+-- the moment is the one that follows from the entries before
 abbrev pub IsMoment : Parameters → List Entry → Option Moment → Type 0
 IsMoment p before None = (last_window before ≡ None) × (rounds p before ≡ 0)
 IsMoment p before (Some m) =

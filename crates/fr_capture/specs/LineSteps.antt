@@ -1,5 +1,5 @@
--- A line as the code writes it, where the valid frame and what came may be known. That it is what `Table` says stands
--- in the proofs.
+-- A line as the code writes it, if the valid frame and the data frames may be known. The proofs show that it agrees
+-- with `Table`.
 use Rattle.std.specs.Prelude.{ℕ, Bool, List, [], ◌++◌, Option, Some, if◌then◌else◌}
 use Rattle.std.specs.Option.{option_or}
 use Rattle.arrayvec.specs.ArrayVec.{ArrayVec}
@@ -19,7 +19,7 @@ use Rattle.fr_slots.specs.Windows.{slot_of}
 use Rattle.fr_status.specs.Forms.{Seen}
 use Rattle.fr_status.specs.declared.seen.Seen.TheVariants.{Silence, Own, Conflict, Noise, Overrun, Bytes}
 
--- the end of the line, where it may be known which frame the bytes are
+-- the end of the line, if the frame that the bytes spell may be known
 abbrev pub seen_by : Channel → List Taker → Seen → Option (ArrayVec ℕ) → Option Fields → List ℕ
 seen_by channel takers Silence handed known = line_text (no_words takers)
 seen_by channel takers Own handed known = own_text channel takers handed
@@ -29,7 +29,7 @@ seen_by channel takers Overrun handed known = line_text (no_words takers)
 seen_by channel takers (Bytes bytes) handed known =
     content_text (refusal channel bytes.items) (option_or known (decoded channel bytes.items)) takers bytes.items
 
--- the line, where data frames came on A and on B or not, and the word is known
+-- the line, if it is known whether data frames came on A and on B, and the word is known
 abbrev pub line_by : Bool → State → Moment → Bool → Bool → Channel → Seen → List ℕ → Option Fields → List ℕ
 line_by all s m a b channel seen word known =
     if is_told all (slot_of m.window channel) seen

@@ -1,5 +1,5 @@
--- When the windows of a journal were. The time is counted in microseconds from the start of the round of 64 cycles in
--- which the first window was, and a macrotick is one of them (project-defined).
+-- The times of a journal's windows. The time is counted in microseconds from the start of the round of 64 cycles of the
+-- first window, and a macrotick is one microsecond (project-defined).
 use Rattle.std.specs.Prelude.{ℕ, ◌+◌, ◌*◌, nat_le, Bool, false, List, [], length, Option, Some, None}
 use Rattle.std.specs.Prelude.{unwrap_or}
 use Rattle.fr_journal.specs.Forms.{Entry}
@@ -15,11 +15,11 @@ use Rattle.std.specs.Prelude.{if◌then◌else◌}
 
 -- ---- in the cycle
 
--- where a window begins: with its static slot, or with its minislot
+-- the place where a window begins: its static slot, or its minislot
 abbrev pub place_of : Opportunity → Place
 place_of w = if is_static w then Static (unwrap_or w.a 1) 0 else Minislot w.minislot 0
 
--- the macrotick of the cycle at which it begins; no cluster's window lacks one
+-- the macrotick of the cycle at which it begins; each window of a cluster has one
 abbrev pub start_of : Parameters → Opportunity → ℕ
 start_of p w = unwrap_or (start_at p (place_of w)) 0
 
@@ -41,7 +41,7 @@ fetched before (Pop task from) = None
 fetched before (Fetch window a b) = Some window
 fetched before (Observe window a b) = None
 
--- the window that was fetched last; the one that an observe closes
+-- the window that was fetched last; an observe closes this one
 abbrev pub last_window : List Entry → Option Opportunity
 last_window entries = last_after fetched [] entries
 
@@ -57,8 +57,8 @@ fetch_number before (Observe window a b) = None
 abbrev pub last_fetch : List Entry → Option ℕ
 last_fetch entries = last_after fetch_number [] entries
 
--- A window of the next round: since the numbers of windows rise, one that isn't later in its round than the window
--- before it can't be of the same.
+-- A window of the next round. The numbers of windows rise, so a window that isn't later in its round than the one
+-- before can't be of the same round.
 abbrev pub is_not_later : Parameters → Opportunity → Option Opportunity → Bool
 is_not_later p w None = false
 is_not_later p w (Some before) = nat_le (place_in_round p w) (place_in_round p before)
@@ -71,10 +71,10 @@ begins_round p before (Pop task from) = false
 begins_round p before (Fetch window a b) = is_not_later p window (last_window before)
 begins_round p before (Observe window a b) = false
 
--- how many rounds are over
+-- the number of completed rounds
 abbrev pub rounds : Parameters → List Entry → ℕ
 rounds p entries = count_after (begins_round p) [] entries
 
--- when the window was that was fetched last
+-- the time of the window that was fetched last
 abbrev pub time_of : Parameters → List Entry → Opportunity → ℕ
 time_of p entries w = rounds p entries * round_length p + place_in_round p w

@@ -1,4 +1,4 @@
--- The classic capture format: a file header, and then the records of what was seen (project-defined). Numbers are
+-- The classic capture format: a file header, and then the records of the observations (project-defined). Numbers are
 -- spelled with their lowest byte first.
 use Rattle.std.specs.Prelude.{ℕ, ◌-◌, ◌/◌, ◌%◌, Bool, List, [], ◌∷◌, ◌++◌, length, take, Option, Some, None}
 use Rattle.std.specs.Prelude.{if◌then◌else◌}
@@ -26,16 +26,15 @@ long_number n = bytes_low_first 0 4 n
 abbrev pub magic : ℕ
 magic = 0xA1B2C3D4
 
--- that of FlexRay among the kinds of links
+-- the number of FlexRay among the link types
 abbrev pub link_type : ℕ
 link_type = 210
 
--- no record is longer: two bytes of measurement header, and as many as the longest frame has
+-- the length of the longest record: two bytes of measurement header, and the bytes of the longest frame
 abbrev pub longest_record : ℕ
 longest_record = 264
 
--- the mark, version 2.4, no difference of time zones, no statement of accuracy, the length of the longest record, the
--- link
+-- the mark, version 2.4, no time zone offset, no accuracy, the length of the longest record, the link type
 abbrev pub file_header : List ℕ
 file_header =
     long_number magic ++ short_number 2 ++ short_number 4 ++ long_number 0 ++ long_number 0
@@ -43,14 +42,13 @@ file_header =
 
 -- ---- a record
 
--- the first byte of the measurement header: its highest bit is set on channel B, and the others say that this is a
--- frame
+-- the first byte of the measurement header: its highest bit is set on channel B, and the others mark a frame
 abbrev pub channel_mark : Channel → ℕ
 channel_mark A = 0x01
 channel_mark B = 0x81
 
--- The second byte: why the bytes are no frame, if they are none. A frame whose end isn't where its header says, and
--- bytes that are too few for any, end in a wrong place.
+-- The second byte: the reason why the bytes are no frame, if they are none. A frame whose end isn't at the place that
+-- its header gives, and bytes that are too few for a frame, have a wrong end.
 abbrev pub error_flags : Option DecodeError → ℕ
 error_flags None = 0
 error_flags (Some FrameCrc) = 0x10
@@ -58,8 +56,7 @@ error_flags (Some HeaderCrc) = 0x08
 error_flags (Some LengthMismatch) = 0x04
 error_flags (Some TooShort) = 0x04
 
--- Header and payload, without the three bytes of the trailer. Where no one can say which bytes are the trailer, all of
--- them.
+-- Header and payload, without the three bytes of the trailer; all bytes if it isn't known which bytes are the trailer.
 abbrev pub captured_bytes : Option DecodeError → List ℕ → List ℕ
 captured_bytes (Some LengthMismatch) bytes = bytes
 captured_bytes (Some TooShort) bytes = bytes
@@ -69,7 +66,7 @@ captured_bytes error bytes = take (length bytes - 3) bytes
 abbrev pub packet : Channel → Option DecodeError → List ℕ → List ℕ
 packet channel error bytes = channel_mark channel ∷ error_flags error ∷ captured_bytes error bytes
 
--- seconds and microseconds, how many bytes are captured, and how many there were
+-- seconds and microseconds, the number of captured bytes, and the number of bytes on the channel
 unfoldable pub record_header : ℕ → ℕ → List ℕ
 record_header time count =
     long_number (time / 1000000) ++ long_number (time % 1000000) ++ long_number count ++ long_number count
@@ -78,13 +75,13 @@ abbrev pub record_with : ℕ → Channel → Option DecodeError → List ℕ →
 record_with time channel error bytes = record_header time (length (packet channel error bytes))
     ++ packet channel error bytes
 
--- the controller's own frame, where its fetch handed one to the bus
+-- the controller's own frame, if its fetch handed one to the bus
 abbrev pub own_record : ℕ → Channel → Option (ArrayVec ℕ) → List ℕ
 own_record time channel None = []
 own_record time channel (Some bytes) = record_with time channel (refusal channel bytes.items) bytes.items
 
--- Of bytes that came there is a record, and with `own` of what the controller sent, where it was seen alone. Of what
--- has no bytes there is none, and of several transmissions at once nobody knows what was seen.
+-- Received bytes have a record. With `own`, a frame of the controller that was alone on the channel has one too.
+-- Observations without bytes have none, and neither has a conflict, whose bytes are unknown.
 abbrev pub record_seen : Bool → ℕ → Channel → Seen → Option (ArrayVec ℕ) → List ℕ
 record_seen own time channel Silence handed = []
 record_seen own time channel Own handed = if own then own_record time channel handed else []

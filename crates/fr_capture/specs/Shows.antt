@@ -1,4 +1,4 @@
--- What a command does that reads a trace and shows what was seen in it.
+-- The result of a command that reads a trace and shows its observations.
 use Rattle.std.specs.Prelude.{ℕ, List, ◌++◌, Option, Some, None, Result, Ok, Err, ◌⊎◌}
 use Rattle.std.specs.Io.KnownBytes.{Keeps, Appends}
 use Rattle.std.specs.List.{flat_map}
@@ -24,7 +24,7 @@ abbrev pub shown : Form → Parameters → Sighting → List ℕ
 shown (Capture own) p s = record_of own s
 shown (Table all) p s = line_if_told all p s
 
--- of the first entries of an interface
+-- the text of the first entries of an interface
 abbrev pub shown_of : Form → State → List Entry → List ℕ
 shown_of form s entries = heading form ++ flat_map (shown form s.params) (sightings_in s entries)
 
@@ -34,8 +34,8 @@ text_of form s = shown_of form s s.entries
 
 -- ---- a command
 
--- The text is one of a legal interface, of which this is written, or the writer failed at that. Or nothing is written,
--- and the text is refused by its first line at fault, or memory ran out, or the reader failed.
+-- The text is one of a legal interface, whose output is written, or the writer failed at that. Or nothing is written:
+-- the text is refused by its first line at fault, or memory ran out, or the reader failed.
 abbrev pub Shows : (State → List ℕ) → Option (List ℕ) → Option (List ℕ) → Option (List ℕ) → Result (Unit {0}) TraceError
     → Type 0
 Shows written text old new (Ok x) = (s : State) × IsTextOf s text × IsLegalInterface s × Appends old new (written s)
@@ -48,12 +48,12 @@ Shows written text old new (Err e) = IsRefusedBy e text × Keeps old new
 abbrev pub IsAccepted : List ℕ → Type 0
 IsAccepted text = (s : State) × IsTextOf s (Some text) × IsLegalInterface s
 
--- As an audit reads. Memory may also be refused for what is written, once all is accepted.
+-- It reads as an audit does. Memory may also run out for the output, once the whole text is accepted.
 abbrev pub EndsAt : List ℕ → List ℕ → Result (Unit {0}) TraceError → Type 0
 EndsAt text rest (Err Memory) = StopsAt text rest (Err Memory) ⊎ (StopsAtEnd text rest × IsAccepted text)
 EndsAt text rest r = StopsAt text rest r
 
--- the same of a reader, where its bytes are known
+-- the same for a reader whose bytes are known
 abbrev pub Ends : Option (List ℕ) → Option (List ℕ) → Result (Unit {0}) TraceError → Type 0
 Ends None rest r = Unit {0}
 Ends (Some text) None r = ⊥

@@ -1,4 +1,4 @@
--- What a controller saw: on each channel of each window that it observed, with where and when it saw it.
+-- The observations of a controller: on each channel of each window that it observed, with time and place.
 use Rattle.std.specs.Prelude.{ℕ, List, [], ◌∷◌, Option, Some, None}
 use Rattle.std.specs.Option.{option_and_then}
 use Rattle.arrayvec.specs.ArrayVec.{ArrayVec}
@@ -16,8 +16,9 @@ use Rattle.fr_slots.specs.History.{each_after}
 use Rattle.fr_slots.specs.Windows.{Opportunity, slot_of}
 use Rattle.fr_status.specs.Forms.{Seen}
 
--- What was seen on a channel: when the window began, its cycle count, the slot that the channel had open, if any, what
--- the fetch of the window had handed to the bus there, if anything, and what took the frame that came.
+-- An observation on a channel: the start of the window, its cycle count, and the slot that the channel had open, if
+-- any. It also has the frame that the fetch of the window handed to the bus there, if any, and the receivers of the
+-- frame that came.
 pub record Sighting : Type 0 where
   pub time : ℕ
   pub cycle : ℕ
@@ -27,7 +28,7 @@ pub record Sighting : Type 0 where
   pub handed : Option (ArrayVec ℕ)
   pub takers : List Taker
 
--- what the fetch of this number handed to the bus on the channel
+-- the frame that the fetch of this number handed to the bus on the channel
 abbrev pub handed_by : State → Option ℕ → Channel → Option (ArrayVec ℕ)
 handed_by s fetch channel = option_and_then (λ number. bytes_handed s number channel) fetch
 
@@ -43,12 +44,12 @@ sighting_with s time fetch w channel seen takers =
       takers = takers;
     }
 
--- of what was seen on channels A and B of a window, that on one of them
+-- of the observations on channels A and B of a window, that on one of them
 abbrev pub sighting : State → ℕ → Option ℕ → Opportunity → Seen → Seen → Channel → Sighting
 sighting s time fetch w a b channel =
     sighting_with s time fetch w channel (seen_on channel a b) (takers_of s.params s.plan w a b channel)
 
--- in a window, channel A before B; a legal journal observes in no other
+-- in a window, channel A before B; a legal journal observes only in a window
 abbrev pub in_window : State → List Entry → Option Opportunity → Seen → Seen → List Sighting
 in_window s before None a b = []
 in_window s before (Some w) a b =
@@ -63,7 +64,7 @@ sightings_at s before (Pop task from) = []
 sightings_at s before (Fetch window a b) = []
 sightings_at s before (Observe window a b) = in_window s before (last_window before) a b
 
--- those of the first entries of an interface, in their order, and all of them
+-- the observations of the first entries of an interface in order, and of all entries
 abbrev pub sightings_in : State → List Entry → List Sighting
 sightings_in s entries = each_after (sightings_at s) [] entries
 

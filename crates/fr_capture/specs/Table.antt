@@ -1,4 +1,4 @@
--- The table of what was seen: the names of the columns, and a line for each sighting that is reported
+-- The table of observations: the names of the columns, and a line for each observation that is listed
 -- (project-defined).
 use Rattle.std.specs.Prelude.{ℕ, Bool, true, ◌&&◌, List, [], ◌∷◌, ◌++◌, codes, Option, Some, None, is_some}
 use Rattle.std.specs.Prelude.{option_map, if◌then◌else◌}
@@ -32,19 +32,19 @@ bit_word status =
     if status.valid then codes "valid" else if status.content then codes "content"
     else if status.syntax then codes "syntax" else absent
 
--- there is none where the channel had no slot
+-- the word is a dash if the channel had no slot
 abbrev pub status_word : Option SlotStatus → List ℕ
 status_word None = absent
 status_word (Some status) = bit_word status
 
--- why the bytes are no frame
+-- the reason why the bytes are no frame
 abbrev pub error_word : DecodeError → List ℕ
 error_word TooShort = codes "short"
 error_word LengthMismatch = codes "length"
 error_word HeaderCrc = codes "header"
 error_word FrameCrc = codes "frame"
 
--- of bytes the word of the slot's status, and of all else what was seen
+-- for bytes the word of the slot's status, and for all other observations their own word
 abbrev pub seen_word : Parameters → ℕ → Option ℕ → Channel → Seen → List ℕ
 seen_word p cycle slot channel Silence = codes "silence"
 seen_word p cycle slot channel Own = codes "own"
@@ -56,19 +56,19 @@ seen_word p cycle slot channel (Bytes bytes) =
 
 -- ---- the end of a line
 
--- what a frame says, and what took it
+-- the fields of a frame, and its receivers
 abbrev pub frame_words : Fields → List Taker → List (List ℕ)
 frame_words f takers = absent ∷ decimal f.id ∷ indicators f ∷ takers_word takers ∷ hex_text f.payload ∷ []
 
--- why bytes are no frame, and the bytes as they came
+-- the reason why bytes are no frame, and the bytes as they came
 abbrev pub bytes_words : DecodeError → List Taker → List ℕ → List (List ℕ)
 bytes_words error takers bytes = error_word error ∷ absent ∷ absent ∷ takers_word takers ∷ hex_text bytes ∷ []
 
--- where there are no bytes
+-- the words of a line without bytes
 abbrev pub no_words : List Taker → List (List ℕ)
 no_words takers = absent ∷ absent ∷ absent ∷ takers_word takers ∷ absent ∷ []
 
--- bytes are a frame, or there is a cause why they are none
+-- the bytes are a frame, or there is a reason why they are none
 unfoldable pub content_text : Option DecodeError → Option Fields → List Taker → List ℕ → List ℕ
 content_text error (Some f) takers bytes = line_text (frame_words f takers)
 content_text (Some error) None takers bytes = line_text (bytes_words error takers bytes)
@@ -77,12 +77,12 @@ content_text None None takers bytes = []
 abbrev pub bytes_text : Channel → List Taker → List ℕ → List ℕ
 bytes_text channel takers bytes = content_text (refusal channel bytes) (decoded channel bytes) takers bytes
 
--- the controller's own frame, where its fetch handed one to the bus
+-- the controller's own frame, if its fetch handed one to the bus
 abbrev pub own_text : Channel → List Taker → Option (ArrayVec ℕ) → List ℕ
 own_text channel takers None = line_text (no_words takers)
 own_text channel takers (Some bytes) = bytes_text channel takers bytes.items
 
--- the bytes that came, or what the controller sent, where either was seen alone
+-- the bytes that came, or the frame that the controller sent, if either was alone on the channel
 abbrev pub seen_text : Channel → List Taker → Seen → Option (ArrayVec ℕ) → List ℕ
 seen_text channel takers Silence handed = line_text (no_words takers)
 seen_text channel takers Own handed = own_text channel takers handed
@@ -97,7 +97,7 @@ abbrev pub first_words : ℕ → ℕ → Option ℕ → Channel → List ℕ →
 first_words time cycle slot channel word =
     decimal time ∷ decimal cycle ∷ optional_number slot ∷ letter_of channel ∷ word ∷ []
 
--- what stands before the end of a line
+-- the part of a line before its end
 abbrev pub first_text : ℕ → ℕ → Option ℕ → Channel → List ℕ → List ℕ
 first_text time cycle slot channel word = words_joined (first_words time cycle slot channel word) ++ (32 ∷ [])
 
@@ -106,7 +106,8 @@ line_of p s =
     first_text s.time s.cycle s.slot s.channel (seen_word p s.cycle s.slot s.channel s.seen)
     ++ seen_text s.channel s.takers s.seen s.handed
 
--- Bytes that came have a line. With `all` the rest has one too, but for silence on a channel that had no slot.
+-- Received bytes have a line. With `all` each other observation has one too, except silence on a channel that had no
+-- slot.
 abbrev pub is_told : Bool → Option ℕ → Seen → Bool
 is_told all slot Silence = all && is_some slot
 is_told all slot Own = all

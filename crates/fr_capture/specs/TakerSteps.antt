@@ -1,4 +1,4 @@
--- What is taken and written step by step, as the code goes. That it is what `Takers` says stands in the proofs.
+-- The receivers and their words step by step, as the code goes. The proofs show that they agree with `Takers`.
 use Rattle.std.specs.Prelude.{ℕ, ◌+◌, Bool, true, false, List, [], ◌∷◌, ◌++◌}
 use Rattle.fr_capture.specs.declared.takers.Taker.{Taker}
 use Rattle.fr_capture.specs.declared.takers.Taker.TheVariants as taker
@@ -9,13 +9,13 @@ use Rattle.fr_slots.specs.declared.plan.Buffer.{Buffer}
 use Rattle.fr_slots.specs.Plans.{Plan}
 use Rattle.fr_slots.specs.Windows.{Opportunity}
 
--- those of the buffers that take it, from this number on
+-- the buffers that store the frame, from this number on
 abbrev pub buffers_by : Opportunity → Bool → Bool → Channel → ℕ → List Buffer → List Taker
 buffers_by w a b channel number [] = []
 buffers_by w a b channel number (line ∷ lines) =
     taker_if (takes_by w a b channel line) (taker.Buffer number) ++ buffers_by w a b channel (number + 1) lines
 
--- the buffers, and then the queue
+-- the buffers, and then the receive FIFO
 abbrev pub takers_by : Plan → Opportunity → Bool → Bool → Channel → List Taker
 takers_by plan w a b channel =
     buffers_by w a b channel 0 plan.buffers ++ taker_if (queue_takes_by plan w a b channel plan.queue) taker.Queue

@@ -1,5 +1,5 @@
--- What took a frame: the receive buffers and the queue of the node that saw it (chapter 9; the queue, and channel A
--- before B, are project-defined).
+-- The receivers of a frame: the receive buffers and the receive FIFO of the node that observed it (chapter 9; the
+-- receive FIFO, and channel A before B, are project-defined).
 use Rattle.std.specs.Prelude.{ℕ, ◌+◌, Bool, true, false, List, [], ◌∷◌, ◌++◌, codes, if◌then◌else◌}
 use Rattle.std.specs.Fmt.{decimal}
 use Rattle.fr_capture.specs.declared.takers.Taker.{Taker}
@@ -14,7 +14,7 @@ use Rattle.fr_slots.specs.Plans.{Plan}
 use Rattle.fr_slots.specs.Windows.{Opportunity}
 use Rattle.fr_status.specs.Forms.{Seen}
 
--- ---- all that take it
+-- ---- all receivers
 
 abbrev pub taker_if : Bool → Taker → List Taker
 taker_if takes taker = if takes then taker ∷ [] else []
@@ -26,8 +26,8 @@ buffers_from p w a b channel number (line ∷ lines) =
     taker_if (buffer_takes p w a b channel line) (taker.Buffer number)
     ++ buffers_from p w a b channel (number + 1) lines
 
--- of what was seen in the window on channels A and B, the buffers that take what came on one of them, and then the
--- queue
+-- of the observations in the window on channels A and B, the buffers that store the frame of one of them, and then the
+-- receive FIFO
 abbrev pub takers_of : Parameters → Plan → Opportunity → Seen → Seen → Channel → List Taker
 takers_of p plan w a b channel =
     buffers_from p w a b channel 0 plan.buffers
@@ -39,7 +39,7 @@ abbrev pub taker_word : Taker → List ℕ
 taker_word (taker.Buffer number) = codes "b" ++ decimal number
 taker_word taker.Queue = codes "queue"
 
--- each after a comma, but for the first where none was before it
+-- each after a comma, except the first if none was before it
 unfoldable pub after_commas : Bool → List Taker → List ℕ
 after_commas any [] = []
 after_commas any (t ∷ ts) = (if any then codes "," else []) ++ taker_word t ++ after_commas true ts

@@ -1,5 +1,5 @@
--- Whether a receive buffer or a queue takes a frame that its node saw (chapter 9; the queue, and channel A before B,
--- are project-defined).
+-- A receive buffer or a receive FIFO stores a frame that its node observed (chapter 9; the receive FIFO, and channel A
+-- before B, are project-defined).
 use Rattle.std.specs.Prelude.{Bool, false, ◌&&◌, Option, Some, None, is_some}
 use Rattle.fr_journal.specs.Arrivals.{is_for_queue}
 use Rattle.fr_journal.specs.declared.entry.Arrival.{Arrival}
@@ -17,8 +17,8 @@ abbrev pub is_from : Channel → Option Arrival → Bool
 is_from channel None = false
 is_from channel (Some arrival) = is_channel arrival.origin.channel channel
 
--- The buffer takes what was seen on the channel: what came there is what the window brings to it, whatever the number
--- of the entry is.
+-- The buffer stores the frame that was observed on the channel: it is the frame that the window brings to the buffer,
+-- for each number of the entry.
 abbrev pub buffer_takes : Parameters → Opportunity → Seen → Seen → Channel → Buffer → Bool
 buffer_takes p w a b channel line = is_receive line.mode && is_from channel (arrival_in p line.filter 0 a b w)
 

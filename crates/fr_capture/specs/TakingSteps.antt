@@ -1,5 +1,5 @@
--- Whether what came is taken, by whether data frames came and not by what they are. That it is what `Taking` says
--- stands in the proofs.
+-- A frame is stored, by the presence of data frames and not by their content. The proofs show that this agrees with
+-- `Taking`.
 use Rattle.std.specs.Prelude.{Bool, false, ◌&&◌, Option, Some, None, if◌then◌else◌}
 use Rattle.fr_journal.specs.Arrivals.{is_for_queue}
 use Rattle.fr_slots.specs.declared.channel.Channel.{Channel}
@@ -9,7 +9,7 @@ use Rattle.fr_slots.specs.declared.plan.Queue.{Queue}
 use Rattle.fr_slots.specs.Plans.{admits_window, is_receive, Plan}
 use Rattle.fr_slots.specs.Windows.{Opportunity}
 
--- whether a receive buffer takes what came on the channel, where a data frame came on A or not, and on B or not
+-- a receive buffer stores the frame of the channel, if a data frame came on A or not, and on B or not
 abbrev pub takes_by : Opportunity → Bool → Bool → Channel → Buffer → Bool
 takes_by w a b A line = is_receive line.mode && (a && admits_window line.filter w A)
 takes_by w a b B line =

@@ -1,4 +1,4 @@
-//! What a capture has of what was seen on a channel.
+//! The record of an observation on a channel in a capture.
 
 ghost use Rattle.std.specs.Prelude.{◌≡◌, ◌<◌, ◌≤◌, ◌^◌, ◌*◌, Some};
 ghost use Rattle.fr_capture.specs.Clocks.{time_at};
@@ -15,7 +15,7 @@ use fr_status::seen::Seen;
 use std::io;
 use std::io::Write;
 
-/// Writes the record of the controller's own frame, where its fetch handed one to the bus.
+/// Writes the record of the controller's own frame, if its fetch handed one to the bus.
 fn write_own<W: Write>(
     writer: &mut W,
     time: u64,
@@ -31,7 +31,7 @@ fn write_own<W: Write>(
     }
 }
 
-/// Writes the record of what was seen on the channel in the window fetched last, where it has one.
+/// Writes the record of the observation on the channel in the window fetched last, if it has one.
 pub(crate) fn write_captured<W: Write>(
     writer: &mut W,
     own: bool,

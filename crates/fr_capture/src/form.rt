@@ -1,18 +1,20 @@
-//! In which form it is shown what was seen.
+//! The forms in which observations are shown.
 
-/// The form in which it is shown what was seen (project-defined).
+/// The form in which observations are shown (project-defined).
 #[derive(Clone, Copy, PartialEq, Eq)]
 pub enum Form {
-    /// A capture in the classic format of `libpcap`, with link type 210, which is FlexRay's: a record for all bytes
-    /// that came.
+    /// A capture in the classic format of `libpcap`, with a record for all bytes that came.
+    ///
+    /// Its link type is 210 (FlexRay).
     Capture {
-        /// The frames that the controller saw as its own have records too.
+        /// The frames that the controller observed as its own also have records.
         own: bool,
     },
     /// A table with a line for all bytes that came, under the names of its columns.
     Table {
-        /// All else that was seen has lines too: own frames, conflicts, noise, overruns, and silence where the channel
-        /// had a slot.
+        /// All other observations also have lines.
+        ///
+        /// They are own frames, conflicts, noise, overruns, and silence if the channel had a slot.
         all: bool,
     },
 }

@@ -1,4 +1,4 @@
-//! What a table has of what was seen in a window.
+//! The lines of a window's observations in a table.
 
 ghost use Rattle.std.specs.Prelude.{◌≡◌, ◌≤◌, ◌++◌, is_some, option_map, Some};
 ghost use Rattle.std.specs.Option.{option_and_then};
@@ -27,19 +27,20 @@ use fr_status::status::lent_status_of;
 use std::io;
 use std::io::Write;
 
-/// What is reported of a channel of a window.
+/// The words of an observation on a channel of a window.
 #[derive(Drop)]
 struct Told<'a> {
     channel: Channel,
     seen: &'a Seen,
-    /// The word for what was seen.
+    /// The word for the observation.
     word: &'static str,
     /// The valid frame, if one came.
     frame: Option<LentFrame<'a>>,
 }
 
-/// Returns the word of the status of a slot in which this was seen, and the frame that came there, if a valid one did;
-/// a channel without a slot has neither.
+/// Returns the word of a slot's status, and the valid frame that came in the slot, if any.
+///
+/// A channel without a slot has neither.
 fn status_told<'a>(
     params: &Params,
     window: &Window,
@@ -60,7 +61,7 @@ fn status_told<'a>(
     }
 }
 
-/// Returns the word for what was seen, where this is that of the slot's status.
+/// Returns the word for the observation, given the word of the slot's status.
 #[tactic(auto, unfolding(fr_status::specs::Status::status_in))]
 fn word_of(
     params: &Params,
@@ -83,7 +84,7 @@ fn word_of(
     }
 }
 
-/// Returns what is reported of a channel on which this was seen.
+/// Returns the words of an observation on a channel.
 fn told_of<'a>(params: &Params, window: &Window, channel: Channel, seen: &'a Seen) -> Told<'a>
     ensures channel { result.channel ≡ channel }
     ensures seen { result.seen.now ≡ seen.now }
@@ -111,7 +112,7 @@ fn is_data(frame: &Option<LentFrame<'_>>) -> bool
     }
 }
 
-/// Returns whether what was seen has a line.
+/// Returns whether the observation has a line.
 fn is_told(all: bool, slot: Option<SlotId>, seen: &Seen) -> bool
     ensures { result ≡ is_told all slot seen.now }
 {
@@ -122,7 +123,7 @@ fn is_told(all: bool, slot: Option<SlotId>, seen: &Seen) -> bool
     }
 }
 
-/// Writes the end of the line of the controller's own frame, where its fetch handed one to the bus.
+/// Writes the end of the line of the controller's own frame, if its fetch handed one to the bus.
 fn write_own<W: Write>(
     writer: &mut W,
     channel: Channel,
@@ -137,7 +138,7 @@ fn write_own<W: Write>(
     }
 }
 
-/// Writes the end of the line of what was seen, where the fetch of the window is the entry of this number.
+/// Writes the end of the line of an observation, given the number of the entry that fetched its window.
 fn write_told<W: Write>(
     writer: &mut W,
     interface: &Interface,
@@ -161,8 +162,9 @@ fn write_told<W: Write>(
     }
 }
 
-/// Writes the line of what was seen on a channel of the window fetched last, where it has one, and where data frames
-/// came as this says.
+/// Writes the line of an observation on a channel of the window fetched last, if it has one.
+///
+/// The receivers follow from the data frames that came, which are given.
 fn write_line<'a, W: Write>(
     writer: &mut W,
     all: bool,
@@ -192,7 +194,7 @@ fn write_line<'a, W: Write>(
     write_told(writer, interface, moment.entry, &takers, told)
 }
 
-/// Writes the lines of what was seen on channels A and B in the window fetched last.
+/// Writes the lines of the observations on channels A and B in the window fetched last.
 pub(crate) fn write_lines<W: Write>(
     writer: &mut W,
     all: bool,

@@ -1,4 +1,4 @@
-//! When the windows of a journal were.
+//! The times of a journal's windows.
 
 ghost use Rattle.std.specs.Prelude.{◌≡◌, ℕ, ◌<◌};
 ghost use Rattle.fr_capture.specs.Clocks.{moment_after, rounds_at, HasRounds};
@@ -12,19 +12,19 @@ use fr_slots::window::Window;
 use fr_timing::cycle::start_of;
 use fr_timing::place::Place;
 
-/// A window, and when it began (project-defined).
+/// A window and its start (project-defined).
 #[derive(Clone, Copy)]
 pub struct Moment {
     pub window: Window,
     /// The number of the entry that fetched it, from 0.
     pub entry: u32,
-    /// How many rounds of 64 cycles are over.
+    /// The number of completed rounds of 64 cycles.
     pub rounds: u32,
-    /// How far the window's first macrotick is from the start of its round.
+    /// The distance of the window's first macrotick from the start of its round, in macroticks.
     pub place: u32,
 }
 
-/// Returns where a window begins in the cycle.
+/// Returns the place in the cycle where a window begins.
 fn place_of(window: &Window) -> Place
     ensures { result ≡ place_of window.now }
 {
@@ -46,14 +46,14 @@ fn place_of(window: &Window) -> Place
 /// 0 for a window that the parameters don't have.
 pub fn start_of_window(params: &Params, window: &Window) -> u32
     ensures value { result ≡ start_of params.now window.now }
-    // It is the macrotick at which the layout has the window's place.
+    // The layout has the window's place at this macrotick.
     ensures layout { (macrotick : ℕ) → IsAt params.now macrotick (place_of window.now) → result ≡ macrotick }
     ensures below { result < 20000 }
 {
     start_of(params, place_of(window)).unwrap_or(0)
 }
 
-/// Returns how far a window's first macrotick is from the start of its round of 64 cycles.
+/// Returns the distance of a window's first macrotick from the start of its round of 64 cycles.
 fn place_in_round(params: &Params, window: &Window) -> u32
     ensures { result ≡ place_in_round params.now window.now }
 {
@@ -61,8 +61,9 @@ fn place_in_round(params: &Params, window: &Window) -> u32
     u32::from(window.cycle.number()) * cycle_mt + start_of_window(params, window)
 }
 
-/// Returns how many rounds are over at a window of this place, after the last one. Since the numbers of windows rise,
-/// one that isn't later in its round than the one before is of the next.
+/// Returns the number of rounds that are completed at a window of this place, after the last one.
+///
+/// The numbers of windows rise. So a window that isn't later in its round than the one before is of the next round.
 fn rounds_at(place: u32, last: &Option<Moment>) -> u32
     requires { HasRounds 1000000 last.now }
     ensures { result ≡ rounds_at place last.now }
@@ -102,7 +103,7 @@ impl Moment {
     ghost use Rattle.std.specs.Prelude.{◌≡◌, ◌<◌, ◌≤◌, ◌*◌, ◌^◌};
     ghost use Rattle.fr_capture.specs.Clocks.{time_at};
 
-    /// Microseconds from the start of the first round, of which a macrotick takes one.
+    /// Returns the time in microseconds from the start of the first round. A macrotick takes one microsecond.
     pub fn time(&self, params: &Params) -> u64
         requires { self.now.rounds ≤ 1000000 }
         ensures value { result ≡ time_at params.now self.now }

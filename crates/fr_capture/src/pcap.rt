@@ -11,15 +11,17 @@ use fr_slots::channel::Channel;
 use std::io;
 use std::io::Write;
 
-/// What a capture begins with: the mark, version 2.4, no difference of time zones, no statement of accuracy, the length
-/// of the longest record, and the link type of FlexRay, each with its lowest byte first.
+/// The file header of a capture.
+///
+/// It has the mark, version 2.4, no time zone offset, no accuracy, the length of the longest record, and the link type
+/// of FlexRay. Each number has its lowest byte first.
 const FILE_HEADER: [u8; 24] = [
     0xd4, 0xc3, 0xb2, 0xa1, 2, 0, 4, 0, 0, 0, 0, 0, 0, 0, 0, 0, 8, 1, 0, 0, 210, 0, 0, 0,
 ];
 
-/// Writes what a capture begins with (project-defined).
+/// Writes the file header of a capture (project-defined).
 ///
-/// Fails where the writer fails, and then a part of it may have gone out.
+/// Fails if the writer fails. Then a part of it may have gone out.
 pub fn write_file_header<W: Write>(writer: &mut W) -> io::Result<()>
     ensures { Writes W.contents writer.old writer.new result file_header }
 {
@@ -36,7 +38,7 @@ fn channel_mark(channel: Channel) -> u8
     }
 }
 
-/// Returns the byte of the measurement header that says why bytes are no frame.
+/// Returns the byte of the measurement header that has the reason why bytes are no frame.
 fn error_flags(error: Option<DecodeError>) -> u8
     ensures { result ≡ error_flags error }
 {
@@ -48,7 +50,7 @@ fn error_flags(error: Option<DecodeError>) -> u8
     }
 }
 
-/// Returns the bytes without the trailer, or all of them where it can't be told which those are.
+/// Returns the bytes without the trailer, or all bytes if it isn't known which bytes are the trailer.
 fn captured_bytes(error: Option<DecodeError>, bytes: &[u8]) -> &[u8]
     ensures { result.now ≡ captured_bytes error bytes.entry.now }
 {
@@ -60,7 +62,7 @@ fn captured_bytes(error: Option<DecodeError>, bytes: &[u8]) -> &[u8]
     }
 }
 
-/// Writes what a record begins with.
+/// Writes the header of a record.
 fn write_record_header<W: Write>(writer: &mut W, time: u64, count: u32) -> io::Result<()>
     requires { time < 2 ^ 32 * 1000000 }
     ensures { Writes W.contents writer.old writer.new result (record_header time count) }
@@ -72,10 +74,10 @@ fn write_record_header<W: Write>(writer: &mut W, time: u64, count: u32) -> io::R
     writer.write_all(&count.to_le_bytes())
 }
 
-/// Writes the record of bytes that were on the channel at this time, in microseconds from the start of the capture
-/// (project-defined). Its seconds are a number of four bytes.
+/// Writes the record of bytes that were on the channel at this time (project-defined).
 ///
-/// Fails where the writer fails, and then a part of it may have gone out.
+/// The time is in microseconds from the start of the capture. Its seconds are a number of four bytes. Fails if the
+/// writer fails. Then a part of the record may have gone out.
 pub fn write_record<W: Write>(
     writer: &mut W,
     time: u64,

@@ -30,13 +30,13 @@ use std::alloc::Global;
 use std::io;
 use std::io::{Read, Write};
 
-/// So many bytes are worth a write.
+/// The number of bytes that are handed to the writer at once.
 const ENOUGH: usize = 65_536;
 
-/// The room for these, and for what the entry with which they are enough has beyond them.
+/// The room for `ENOUGH` bytes, and for the rest of the entry that completes them.
 const ROOM: usize = ENOUGH + 4096;
 
-/// Writes what all sightings come after.
+/// Writes the heading of all observations.
 fn write_heading<W: Write>(writer: &mut W, form: Form) -> io::Result<()>
     ensures { Writes W.contents writer.old writer.new result (heading form) }
 {
@@ -46,7 +46,7 @@ fn write_heading<W: Write>(writer: &mut W, form: Form) -> io::Result<()>
     }
 }
 
-/// Writes what was seen in the window fetched last, on channel A and then on B.
+/// Writes the observations in the window fetched last, on channel A and then on B.
 fn write_seen<W: Write>(
     writer: &mut W,
     form: Form,
@@ -69,7 +69,7 @@ fn write_seen<W: Write>(
     }
 }
 
-/// Writes what an entry shows, after the window fetched last.
+/// Writes the observations of an entry, after the window fetched last.
 fn write_entry<W: Write>(
     writer: &mut W,
     form: Form,
@@ -90,7 +90,7 @@ fn write_entry<W: Write>(
     }
 }
 
-/// Hands a piece on to the writer, and leaves it empty.
+/// Hands a piece to the writer, and leaves it empty.
 fn hand_on<W: Write>(writer: &mut W, piece: &mut Vec<u8>) -> io::Result<()>
     ensures written { OnOk result (Appends (W.contents writer.old) (W.contents writer.new) piece.old.items) }
     ensures empty { OnOk result (piece.new.items ≡ []) }
@@ -100,7 +100,7 @@ fn hand_on<W: Write>(writer: &mut W, piece: &mut Vec<u8>) -> io::Result<()>
     Ok(())
 }
 
-/// Writes what was seen, a piece after another.
+/// Writes the observations, piece by piece.
 fn write_pieces<W: Write>(
     writer: &mut W,
     form: Form,
@@ -126,10 +126,10 @@ fn write_pieces<W: Write>(
     hand_on(writer, piece)
 }
 
-/// Writes what a controller saw, in this form: its capture, or its table (project-defined).
+/// Writes the observations of a controller in this form, as a capture or a table (project-defined).
 ///
-/// Refused with `Memory` where memory for the first piece is refused, and then nothing is written; and with `Write`
-/// where the writer fails, and then some of it may have been written.
+/// Returns `Memory` if an allocation for the first piece fails; nothing is written then. Returns `Write` if the writer
+/// fails; a part of the output may then have been written.
 pub fn write_form<W: Write>(
     alloc: Global,
     form: Form,
@@ -149,25 +149,25 @@ pub fn write_form<W: Write>(
     }
 }
 
-/// Reads a trace to its end, and writes what was seen in it, in this form (project-defined).
+/// Reads a trace to its end, and writes its observations in this form (project-defined).
 ///
-/// Refused with the error of the first line at fault, at which it stops reading; with `Read` where the reader fails;
-/// with `Memory` where memory is refused; and with `Write` where the writer fails. On every error but `Write` nothing
-/// is written; after `Write` some of it may have been written.
+/// Returns the error of the first line at fault, at which it stops reading; `Read` if the reader fails; `Memory` if an
+/// allocation fails; and `Write` if the writer fails. Nothing is written on an error other than `Write`. After `Write`
+/// a part of the output may have been written.
 pub fn show_trace<R: Read, W: Write>(
     alloc: Global,
     form: Form,
     reader: &mut R,
     writer: &mut W,
 ) -> Result<(), TraceError>
-    // What is accepted is a text of a legal interface, whose sightings are written in order, and nothing else.
+    // An accepted text is a text of a legal interface, whose observations are written in order.
     ensures found { Shows (text_of form) (R.remaining reader.old) (W.contents writer.old)
         (W.contents writer.new) result }
     // It reads in pieces of at most 4096 bytes, and none after the one that has the fault.
     ensures read { Ends (R.remaining reader.old) (R.remaining reader.new) result }
     // The line that an error names is that of the byte with which the first fault shows.
     ensures line { IfSome (R.remaining reader.old) (λ text. LineIsNamed result text) }
-    // A text of a legal interface is not refused, in whichever version.
+    // A text of a legal interface is accepted in each version.
     ensures only { (s : State) → IsLegalInterface s → IsSomeAnd (R.remaining reader.old) (λ text. IsTraceOf s text)
         → IsNotRefused result }
 {

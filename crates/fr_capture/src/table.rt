@@ -50,7 +50,7 @@ pub(crate) fn status_word(status: &SlotStatus) -> &'static str
     }
 }
 
-/// Returns the word of why bytes are no frame.
+/// Returns the word of the reason why bytes are no frame.
 fn error_word(error: DecodeError) -> &'static str
     ensures { result.now ≡ error_word error }
 {
@@ -62,7 +62,7 @@ fn error_word(error: DecodeError) -> &'static str
     }
 }
 
-/// Writes what stands in a line before its end: when and where it was seen, and the word for it.
+/// Writes the part of a line before its end: time and place of the observation, and its word.
 pub(crate) fn write_first<W: Write>(
     writer: &mut W,
     time: u64,
@@ -78,7 +78,7 @@ pub(crate) fn write_first<W: Write>(
     write!(writer, " {channel} {word} ")
 }
 
-/// Writes the words of a frame that stand before what took it.
+/// Writes the words of a frame before its receivers.
 fn write_fields<W: Write>(writer: &mut W, frame: &LentFrame<'_>) -> io::Result<()>
     ensures { Writes W.contents writer.old writer.new result
         (words_joined (absent ∷ decimal frame.now.id ∷ indicators frame.now ∷ []) ++ (32 ∷ [])) }
@@ -120,7 +120,7 @@ fn write_bytes<W: Write>(
     writer.write_all(b"\n")
 }
 
-/// Writes the end of a line where there are no bytes.
+/// Writes the end of a line without bytes.
 pub(crate) fn write_nothing<W: Write>(writer: &mut W, takers: &Takers<'_>) -> io::Result<()>
     ensures { Writes W.contents writer.old writer.new result (line_text (no_words takers.now)) }
 {
@@ -129,7 +129,7 @@ pub(crate) fn write_nothing<W: Write>(writer: &mut W, takers: &Takers<'_>) -> io
     writer.write_all(b" -\n")
 }
 
-/// Writes the end of a line: what a frame says, or why there is none.
+/// Writes the end of a line: the fields of a frame, or the reason why there is none.
 #[tactic(auto, unfolding(crate::specs::Table::content_text))]
 pub(crate) fn write_read<W: Write>(
     writer: &mut W,
@@ -147,7 +147,9 @@ pub(crate) fn write_read<W: Write>(
     }
 }
 
-/// The same, where the frame may be known. The bytes are read here only where it isn't known yet which frame they are.
+/// Writes the end of a line whose frame may be known.
+///
+/// The bytes are decoded only if the frame isn't known yet.
 #[tactic(auto, unfolding(crate::specs::Table::content_text))]
 pub(crate) fn write_known<W: Write>(
     writer: &mut W,

@@ -1,4 +1,4 @@
-//! What took a frame.
+//! The receivers of a frame.
 
 ghost use Rattle.std.specs.Prelude.{◌≡◌, ◌||◌, ◌∷◌, [], false, IfOk};
 ghost use Rattle.fr_capture.specs.Takers.{after_commas, taker_if, takers_word};
@@ -13,16 +13,16 @@ use std::io;
 use std::io::Write;
 use std::marker::Model;
 
-/// What takes a frame (project-defined).
+/// A receiver of a frame (project-defined).
 #[derive(Clone, Copy)]
 pub(crate) enum Taker {
     /// The receive buffer of this number.
     Buffer(usize),
-    /// The receive queue.
+    /// The receive FIFO.
     Queue,
 }
 
-/// What takes what came on a channel of a window (project-defined). It is found where it is written.
+/// The receivers of a frame on a channel of a window (project-defined). They are found when they are written.
 #[derive(Drop)]
 pub(crate) struct Takers<'a> {
     pub(crate) plan: &'a NodePlan,
@@ -41,7 +41,7 @@ impl<'a> Model for Takers<'a> {
     ghost view = { λ t. takers_by t.plan.now t.window.now t.came.a t.came.b t.channel };
 }
 
-/// Writes a receiver, after a comma where one was written before.
+/// Writes a receiver, after a comma if one was written before.
 #[tactic(auto, unfolding(crate::specs::Takers::after_commas))]
 fn write_taker<W: Write>(writer: &mut W, any: bool, taker: Taker) -> io::Result<()>
     ensures { Writes W.contents writer.old writer.new result (after_commas any (taker ∷ [])) }
@@ -53,7 +53,7 @@ fn write_taker<W: Write>(writer: &mut W, any: bool, taker: Taker) -> io::Result<
     }
 }
 
-/// Writes a receiver, if it is one, and says whether any was written by then.
+/// Writes a receiver, if it is one, and returns whether any was written by then.
 #[tactic(auto, unfolding(crate::specs::Takers::after_commas))]
 fn write_if<W: Write>(writer: &mut W, any: bool, takes: bool, taker: Taker) -> io::Result<bool>
     ensures text { Writes W.contents writer.old writer.new result (after_commas any (taker_if takes taker)) }
@@ -67,7 +67,7 @@ fn write_if<W: Write>(writer: &mut W, any: bool, takes: bool, taker: Taker) -> i
     }
 }
 
-/// Writes the buffers that take what came on the channel, and says whether there were any.
+/// Writes the buffers that store the frame of the channel, and returns whether there were any.
 fn write_buffers<W: Write>(
     writer: &mut W,
     lines: &[Buffer],
@@ -87,7 +87,8 @@ fn write_buffers<W: Write>(
     Ok(any)
 }
 
-/// Writes the buffers that take what came on the channel, and the queue if it does, and says whether there were any.
+/// Writes the buffers that store the frame of the channel, and the receive FIFO if it does. Returns whether there were
+/// any.
 fn write_any<W: Write>(
     writer: &mut W,
     plan: &NodePlan,
@@ -104,7 +105,9 @@ fn write_any<W: Write>(
     write_if(writer, any, takes, Taker::Queue)
 }
 
-/// Writes what took what came: the buffers and the queue, with commas between them, or a dash.
+/// Writes the receivers of the frame with commas between them, or a dash.
+///
+/// They are the buffers and the receive FIFO.
 pub(crate) fn write_takers<W: Write>(writer: &mut W, takers: &Takers<'_>) -> io::Result<()>
     ensures { Writes W.contents writer.old writer.new result (takers_word takers.now) }
 {

@@ -1,4 +1,4 @@
-//! Whether a receive buffer or a queue takes what came.
+//! Tests of receive buffers and receive FIFOs for the frames of a window.
 
 ghost use Rattle.std.specs.Prelude.{◌≡◌};
 ghost use Rattle.std.specs.List.{list_any};
@@ -9,17 +9,18 @@ use fr_slots::channel::Channel;
 use fr_slots::plan::{Buffer, NodePlan, Queue};
 use fr_slots::window::Window;
 
-/// Whether a valid data frame came in a window on channel A, and whether one came on B.
+/// The presence of a valid data frame on each channel of a window.
 #[derive(Clone, Copy)]
 pub struct Came {
-    /// Whether one came on channel A.
+    /// True if one came on channel A.
     pub a: bool,
-    /// Whether one came on channel B.
+    /// True if one came on channel B.
     pub b: bool,
 }
 
-/// Returns whether this line is a receive buffer that takes what came on the channel (chapter 9; channel A before B is
-/// project-defined).
+/// Returns whether this line is a receive buffer that stores the frame of the channel.
+///
+/// The rule is that of chapter 9; channel A before B is project-defined.
 pub fn takes(window: &Window, came: Came, channel: Channel, line: &Buffer) -> bool
     ensures { result ≡ takes_by window.now came.a came.b channel line.now }
 {
@@ -45,7 +46,7 @@ fn is_taken(lines: &[Buffer], window: &Window, channel: Channel) -> bool
     lines.iter().any(|line| takes_window(window, channel, line))
 }
 
-/// Returns whether the queue, and no receive buffer, is for what comes in the window on the channel.
+/// Returns whether the receive FIFO, and no receive buffer, is for the window on the channel.
 fn is_for_queue(plan: &NodePlan, queue: &Queue, window: &Window, channel: Channel) -> bool
     ensures { result ≡ is_for_queue plan.now queue.now window.now channel }
 {
@@ -67,8 +68,9 @@ fn came_in(came: Came, channel: Channel) -> bool
     }
 }
 
-/// Returns whether the node has a queue that takes what came on the channel: it admits the slot there, and no receive
-/// buffer does (project-defined).
+/// Returns whether the node has a receive FIFO that stores the frame of the channel (project-defined).
+///
+/// It admits the slot there, and no receive buffer does.
 pub fn queue_takes(plan: &NodePlan, window: &Window, came: Came, channel: Channel) -> bool
     ensures { result ≡ queue_takes_by plan.now window.now came.a came.b channel plan.now.queue }
 {

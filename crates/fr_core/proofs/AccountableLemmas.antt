@@ -1,4 +1,4 @@
--- What an owner offers in its static slots is what its account gives.
+-- The offers of an owner in its static slots are those of its account.
 use Rattle.std.proofs.Common.{◌≡◌, ℕ, ◌*◌, ◌%◌, Bool, true, false, not, cond, ◌&&◌, ◌||◌, List, [], ◌∷◌, ◌++◌}
 use Rattle.std.proofs.Common.{replicate, Option, Some, None, refl, sym, ap, subst, ◌∙◌, option_map, slice_get}
 use Rattle.std.specs.Prelude.{◌==◌, nat_le, is_some}
@@ -54,7 +54,7 @@ transmitter_same plan w channel slot cycle is timed =
     ∙ ap (λ (o : Option ℕ). position (λ (b : Buffer). transmits b && admits_slot b.filter (cycle % 64) channel o)
     plan.buffers) (is ∙ sym (turn_slot slot cycle channel))
 
--- ---- who owns
+-- ---- owners
 
 owner_line : (owned : List Own) (slot : ℕ) (channel : Channel) (cycle : ℕ) → is_owned owned slot channel cycle ≡ true
     → is_some (ownership owned slot channel cycle) ≡ true
@@ -66,7 +66,7 @@ owner_line owned slot channel cycle e =
     ap (λ (o : Option ℕ). is_some (option_and_then (slice_get owned) o)) found.at ∙ ap is_some
     (slice_get-get_or owned found.place own first.0)
 
--- an owner offers what is ready, or a null frame
+-- an owner offers the commit that is ready, or a null frame
 offers : (plan : Plan) (before : List Entry) (w : Opportunity) (channel : Channel) (slot : ℕ) → is_static w ≡ true
     → slot_of w channel ≡ Some slot → is_owned plan.owned slot channel w.cycle ≡ true
     → offered plan before w channel ≡ data_or Null (option_and_then (ready_in plan before) (transmitter plan w channel))
@@ -125,7 +125,7 @@ module _ (p : Parameters) (plan : Plan) (before : List Entry) (w : Opportunity) 
   frame_cases (Some number) l e = ap (λ (f : Fields). Some f) (data_same number) ∙ ap
       (λ (x : Option (List ℕ)). Some (frame_by p plan (turn_of slot cycle) channel slot x)) (sym e)
 
--- ---- what the transmitter has ready, and its account
+-- ---- the commit that the transmitter has ready, and its account
 
 static_on : (p : Parameters) (w : Opportunity) (channel : Channel) (slot : ℕ) → is_static w ≡ true
     → slot_of w channel ≡ Some slot → window_fits p w ≡ true → is_static_slot p slot ≡ true
@@ -165,9 +165,8 @@ module _ (p : Parameters) (plan : Plan) (before : List Entry) (w : Opportunity) 
   of_transmitter None e = refl
   of_transmitter (Some k) e = of_buffer k (buffer_at plan k) refl e
 
--- what the node offers in each window of a static slot that it owns in the window's cycle is what its account gives,
--- where the windows before
--- it were timed
+-- The node's offer in each window of a static slot that it owns in the window's cycle is the one of its account, if the
+-- windows before it were timed.
 abbrev pub IsAccountable : State → Type 0
 IsAccountable s = (before after : List Entry) (w : Opportunity) (a b : Offered) (channel : Channel) (slot cycle : ℕ)
     → s.entries ≡ before ++ Fetch w a b ∷ after

@@ -47,7 +47,7 @@ use Rattle.fr_status.specs.Forms.{Seen}
 
 -- ---- the node that changes, and the others
 
--- the nodes but one stand as they did
+-- all nodes but one are unchanged
 record Others (w w' : WorldState) (n : ℕ) : Type 0 where
   pub interfaces : (k : ℕ) → k ≢ n → interface_at w' k ≡ interface_at w k
   pub carried : (k : ℕ) → k ≢ n → carried_at w' k ≡ carried_at w k
@@ -136,7 +136,7 @@ keeps_faults w n s few a within step =
     let e = set-get_or w.carried n Idle in
     rw e at (keeps_station w n s (carried_at w n) few a within step)
 
--- the agreement of a node with what it carries
+-- the agreement of a node with its carried data
 carrying : {n : ℕ} {i : State} {c c' : Carried} {v : BusView} → c ≡ c' → NodeAgrees n i c v → NodeAgrees n i c' v
 carrying {n = n} {i = i} {v = v} e a = subst (λ (c : Carried). NodeAgrees n i c v) e a
 

@@ -1,4 +1,4 @@
--- What is seen in a guarded static slot depends on its owner's account, mute and babble and on the corrupt bit alone.
+-- Observations in a guarded static slot depend only on its owner's account, mute and babble and on the corrupt bit.
 use Rattle.std.proofs.Common.{◌≡◌, ℕ, Bool, true, false, cond, ◌||◌, List, [], ◌∷◌, ◌++◌}
 use Rattle.std.proofs.Common.{Option, Some, refl, sym, ap, subst, ◌∙◌, slice_get, ◌≤◌, ◌<◌, arith, inl}
 use Rattle.std.proofs.Common.{inr, ◌⊎◌}
@@ -48,7 +48,7 @@ any_more test (y ∷ xs) x e = first (test y) (any_more test xs x) e
     first true deeper h = inl refl
     first false deeper h = deeper h
 
--- a number that was fetched is no higher than the last
+-- a fetched number is at most the last one
 pub record IsAtMostLast (number : ℕ) (last : Option ℕ) : Type 0 where
   pub highest : ℕ
   pub is : last ≡ Some highest

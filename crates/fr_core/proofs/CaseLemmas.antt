@@ -13,11 +13,11 @@ pub both_rest : (p q : Bool) → (p && q) ≡ true → q ≡ true
 both_rest true q e = e
 both_rest false q e = absurd (let none : ⊥ = cc in none)
 
--- a test can't both pass and fail
+-- a test doesn't both pass and fail
 pub differ : {X : Type 0} {b : Bool} → b ≡ true → b ≡ false → X
 differ p q = let e : true ≡ false = sym p ∙ q in absurd (let none : ⊥ = cc in none)
 
--- what is kept by a test
+-- the value that a test keeps
 pub kept : {X : Type 0} (b : Bool) (o : Option X) (y : X) → cond b o None ≡ Some y → o ≡ Some y
 kept true o y e = e
 kept false o y e = absurd (let none : ⊥ = cc in none)

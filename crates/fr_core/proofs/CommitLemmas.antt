@@ -1,4 +1,4 @@
--- An event adds to the commits of each interface just what is accepted there.
+-- An event adds exactly the accepted commits to each interface.
 use Rattle.std.proofs.Common.{◌≡◌, ℕ, ◌+◌, ◌<◌, Bool, true, false, cond, eqb, ◌&&◌, List, length, refl, sym, ap}
 use Rattle.std.proofs.Common.{◌∙◌, arith, Option, Some, None, get_or, set, inl, inr, get_or-set_same, get_or-set_other}
 use Rattle.std.proofs.Common.{◌≢◌, subst, ltb-true}
@@ -21,7 +21,7 @@ use Rattle.fr_journal.specs.Forms.{Entry}
 use Rattle.fr_journal.specs.declared.entry.Entry.TheVariants as entries
 use Rattle.fr_slots.specs.Windows.{Opportunity}
 
--- how many commits the interface of the node took
+-- the number of commits at the node's interface
 abbrev counted : WorldState → ℕ → ℕ
 counted w m = commits_of (interface_at w m)
 
@@ -44,7 +44,7 @@ entered_here w n m e there same =
     (ap commits_of (get_or-set_same w.interfaces n (with_entry (interface_at w n) e) no_interface there) ∙ one_more
     (interface_at w n) e)
 
--- or another
+-- the node is another one
 entered_there : (w : WorldState) (n m : ℕ) (e : Entry) → m ≢ n → entered w n e m ≡ counted w m
 entered_there w n m e other = ap commits_of (get_or-set_other w.interfaces n m
     (with_entry (interface_at w n) e) no_interface other)
@@ -115,7 +115,7 @@ known_node : (t : Bool) (refusal : Option StepError) → cond t refusal (Some Un
 known_node true refusal is = refl
 known_node false refusal is = absurd (cc)
 
--- the node of an accepted event is there
+-- the node of an accepted event exists
 there_is : (w : WorldState) (n : ℕ) (refusal : Option StepError) → if_node w n refusal ≡ None → n < length w.interfaces
 there_is w n refusal free = ltb-true n (length w.interfaces) (known_node (has_node w n) refusal free)
 

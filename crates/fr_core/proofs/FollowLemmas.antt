@@ -29,7 +29,7 @@ follows_as w n i s same a =
       sees = a.sees;
     })
 
--- what a controller carries is all that its interface is ahead of the record or behind it
+-- a controller carries everything by which its interface is ahead of the record or behind it
 pub world_follows : (w : WorldState) → IsWorld w → (n : ℕ) (s : State) → slice_get w.interfaces n ≡ Some s
     → Follows w.bus.cluster.params w.bus.sealed n s
 world_follows w kept n s at =

@@ -1,4 +1,4 @@
--- What a journal handed to the bus as a data frame is a commit of it.
+-- Each data frame that a journal handed to the bus is one of its commits.
 use Rattle.std.proofs.Common.{◌≡◌, ℕ, zero, suc, ◌*◌, ◌%◌, ◌≤◌, ◌<◌, ◌^◌, Bool, true, false, cond, List}
 use Rattle.std.proofs.Common.{[], ◌∷◌, ◌++◌, length, replicate, Option, Some, None, refl, sym, ap, subst, ◌∙◌, arith}
 use Rattle.std.proofs.Common.{slice_get}
@@ -38,7 +38,7 @@ use Rattle.fr_slots.specs.History.{AllAfter}
 use Rattle.fr_slots.specs.Parameters.{Parameters, IsParameters}
 use Rattle.fr_slots.specs.Windows.{Opportunity, IsInRange, IsSlotOrNone, slot_of}
 
--- ---- the commit that is offered
+-- ---- the offered commit
 
 -- an entry of the journal is this commit
 pub record IsCommitAt (entries : List Entry) (number : ℕ) : Type 0 where
@@ -106,7 +106,7 @@ pub offered_is_commit : (plan : Plan) (entries : List Entry) (w : Opportunity) (
     → offered plan entries w channel ≡ Data number → IsCommitAt entries number
 offered_is_commit plan entries w channel number e = in_slot plan entries w channel number (slot_of w channel) e
 
--- ---- the frame that is handed over
+-- ---- the frame that is handed to the bus
 
 slot_fits : (w : Opportunity) (channel : Channel) (slot : ℕ) → IsInRange w → slot_of w channel ≡ Some slot
     → slot < 2 ^ 11
@@ -141,7 +141,7 @@ same_frame g f channel bytes is e decodes =
     same_some g f (sym (encoded_is_decoded g channel is) ∙ ap (λ (x : ArrayVec ℕ). decoded channel x.items) same
     ∙ decodes)
 
--- a data frame among what was handed over is a commit's
+-- a data frame that was handed to the bus is a commit's
 pub record IsDataOf (entries : List Entry) (o : Offered) (f : Fields) : Type 0 where
   pub commit : ℕ
   pub offer_is : o ≡ Data commit
@@ -176,7 +176,7 @@ module _ (p : Parameters) (plan : Plan) (entries : List Entry) (w : Opportunity)
 
 -- ---- the fetch
 
--- the entry is a fetch, and hands this over
+-- the entry is a fetch, and hands these frames to the bus
 pub record IsFetchOf (s : State) (before : List Entry) (e : Entry) (h : Handed) : Type 0 where
   pub window : Opportunity
   pub a : Offered
@@ -209,7 +209,7 @@ fetch_in s before (Fetch w a b) h k e = record {
       only_one _ h k e;
 }
 
--- what is handed over at some place, a fetch hands over
+-- a fetch hands over the frames at each place
 pub fetch_of : (s : State) (k : ℕ) (h : Handed) → slice_get (fetched s) k ≡ Some h
     → IsCutAt (λ before e. IsFetchOf s before e h) [] s.entries
 fetch_of s k h e =
@@ -270,7 +270,7 @@ payloads_before entries before rest cut all number =
     (λ x is. entry_at [] entries number x all (ap (λ (l : List Entry). slice_get l number) cut
     ∙ get-append before rest number x is))
 
--- ---- a data frame that was handed over
+-- ---- a data frame that was handed to the bus
 
 -- the fetch at this place offers this commit
 at_fetch : (s : State) (channel : Channel) (f : Fields) (before after : List Entry) (w : Opportunity) (a b : Offered)
@@ -293,7 +293,7 @@ at_fetch s channel f before after w a b cut d m =
       earlier = slice_get_within before d.commit (Commit m.task m.buffer m.payload) m.at;
     }
 
--- an entry of a lawful journal that hands over a data frame on the channel
+-- an entry of a lawful journal that hands a data frame to the bus on the channel
 at_entry : (s : State) (h : Handed) (channel : Channel) (bytes : ArrayVec ℕ) (f : Fields) (before after : List Entry)
     (e : Entry) → IsLegalInterface s → s.entries ≡ before ++ e ∷ after
     → IsFetchOf s before e h → handed_on channel h ≡ Some bytes → decoded channel bytes.items ≡ Some f

@@ -1,4 +1,4 @@
--- A babbling node is harmless in guarded static slots: from the record's law, the lists of the interfaces and their
+-- A babbling node is harmless in guarded static slots, by the record's law, the lists of the interfaces and their
 -- accounts.
 use Rattle.std.proofs.Common.{◌≡◌, ◌<◌, ℕ, ◌+◌, ◌*◌, ◌-◌, ◌%◌, Bool, true, false, cond, ◌&&◌, List, [], ◌∷◌, ◌++◌}
 use Rattle.std.proofs.Common.{length, Option, Some, None, refl, sym, ap, ◌∙◌, arith, slice_get}
@@ -42,7 +42,7 @@ use Rattle.fr_slots.specs.Plans.{Plan}
 use Rattle.fr_slots.specs.Windows.{Opportunity, slot_of, is_static}
 use Rattle.fr_status.specs.declared.seen.Seen.TheVariants.{Own, Overrun, Bytes}
 
--- what is seen depends on a window by its being static alone
+-- an observation depends on a window only by its being static
 seen_static : (p : Parameters) (w x : Opportunity) (c : Option ℕ) (n : ℕ) (ts : List Sent) → is_static w ≡ true
     → is_static x ≡ true → seen_of p w c n ts ≡ seen_of p x c n ts
 seen_static p w x c n [] e f = refl
@@ -75,7 +75,7 @@ owner_in d node slot w channel (Some plan) is static guarded e =
     watched true false o a b h = differ b refl
     watched false q o a b h = differ a refl
 
--- a node that passes in a guarded static slot owns it in the window's cycle
+-- a node whose transmission passes in a guarded static slot owns it in the window's cycle
 passing_owns : (d : Description) (node slot : ℕ) (w : Opportunity) (channel : Channel) → is_static w ≡ true
     → is_guarded d.guard channel ≡ true → slot_of w channel ≡ Some slot
     → passes d node w channel ≡ true → IsOwner d w.cycle slot channel node
@@ -83,7 +83,7 @@ passing_owns d node slot w channel static guarded is e =
     owner_in d node slot w channel (slice_get d.plans node) refl static guarded
     (ap (passes_in d w channel (slice_get d.plans node)) (sym is) ∙ e)
 
--- where no node owns the slot, none passes
+-- if no node owns the slot, none passes
 none_passes : (d : Description) (node slot : ℕ) (w : Opportunity) (channel : Channel) → is_static w ≡ true
     → is_guarded d.guard channel ≡ true → slot_of w channel ≡ Some slot
     → ((owner : ℕ) → IsOwner d w.cycle slot channel owner → ⊥) → (b : Bool) → passes d node w channel ≡ b → b ≡ false
@@ -91,7 +91,7 @@ none_passes d node slot w channel static guarded is nobody false e = refl
 none_passes d node slot w channel static guarded is nobody true e =
     absurd (nobody node (passing_owns d node slot w channel static guarded is e))
 
--- ---- what is recorded of the owner
+-- ---- the record of the owner
 
 -- the owner's recorded transmissions are its recorded offer, its mute and its babble
 recorded_own : (d : Description) (r : Recorded) (channel : Channel) (owner slot : ℕ) (o : IsOutcome d r)
@@ -111,7 +111,7 @@ recorded_own d r channel owner slot o within is passing =
     (sym (ap (offer_in channel owner) o.sent_is ∙ offer_of_station d r.window channel owner 0 owner o.stations start
     there))
 
--- with the fetch that handed the offer over
+-- the same, with the fetch that handed the offer to the bus
 by_fetch : (d : Description) (r : Recorded) (s : State) (channel : Channel) (owner slot cycle : ℕ)
     (before after : List Entry) (e : Entry) → IsCluster d → IsOutcome d r → IsAccountable s
     → owner < length d.plans → is_static r.window ≡ true → is_guarded d.guard channel ≡ true
@@ -156,7 +156,7 @@ by_fetch d r s channel owner slot cycle before after e cluster o accounts within
           (all_passed channel l)) recorded;
     }
 
--- each node sees in a guarded static slot what the owner's account gives, or silence
+-- each node observes in a guarded static slot what the owner's account gives, or silence
 pub harmless : (d : Description) (cycles : ℕ) (interfaces : List State) (rs : List Recorded) → IsCluster d
     → AllAfter (IsRecorded d cycles) [] rs
     → ((n : ℕ) (s : State) → slice_get interfaces n ≡ Some s → IsLegalInterface s)

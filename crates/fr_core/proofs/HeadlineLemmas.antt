@@ -21,7 +21,7 @@ headline w lawful accounted run one_sender kept = record {
   harmless = world_harmless w kept run lawful;
 }
 
--- the same, where the interfaces and the bus were lent
+-- the same, if the interfaces and the bus were lent
 pub headline_of : (w : WorldState) (lent : List State) (bus : BusState) → lent ≡ w.interfaces → bus ≡ w.bus
     → All IsLegalInterface lent → All AreAccounted lent → IsRun bus
     → OneSenderEach bus.cluster bus.sealed → IsWorld w → Headline w

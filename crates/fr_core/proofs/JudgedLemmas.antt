@@ -15,7 +15,7 @@ use Rattle.fr_guardian.specs.Guarding.{passes}
 use Rattle.fr_schedule.specs.Descriptions.{Description}
 use Rattle.fr_slots.specs.Windows.{Opportunity}
 
--- the fate is the one that the guardian gives, or a mute
+-- the fate is the guardian's, or a mute
 abbrev pub is_judged : Fate → Bool → Bool
 is_judged Passed let_pass = let_pass
 is_judged Blocked let_pass = not let_pass
@@ -24,7 +24,7 @@ is_judged Muted let_pass = true
 abbrev pub is_judged_in : Description → Opportunity → Sent → Bool
 is_judged_in d w t = is_judged t.fate (passes d t.node w t.channel)
 
--- each recorded fate, mutes aside, is the one that the cluster's guardians give
+-- each recorded fate is a mute, or that of the cluster's guardians
 abbrev pub AreJudged : Description → List Recorded → Type 0
 AreJudged d rs = (k : ℕ) (r : Recorded) → slice_get rs k ≡ Some r → list_all (is_judged_in d r.window) r.sent ≡ true
 

@@ -1,4 +1,4 @@
--- What an account leaves over is what the buffer has ready.
+-- The remainder of an account is the commit that the buffer has ready.
 use Rattle.std.proofs.Common.{◌≡◌, ℕ, Bool, true, false, cond, ◌&&◌, ◌||◌, List, [], ◌∷◌, ◌++◌, Option, Some, None}
 use Rattle.std.proofs.Common.{refl, sym, ap, ◌∙◌, option_map}
 use Rattle.std.specs.Prelude.{◌==◌, is_some}
@@ -24,9 +24,9 @@ use Rattle.fr_slots.specs.History.{AllAfter, each_after, last_after}
 use Rattle.fr_slots.specs.Windows.{Opportunity}
 use Rattle.fr_slots.proofs.HistoryLemmas.{each_after-snoc, AllAfter-induction}
 
--- ---- what a journal leaves a buffer
+-- ---- a buffer after a journal
 
--- the payload of the commit that is ready, and whether the last commit is pending
+-- the payload of the commit that is ready, and a flag for a pending last commit
 abbrev pub left_by : Mode → ℕ → List Entry → Left
 left_by m k es = record { payload = option_map (payload_of es) (ready m k es); pending = is_some (pending_commit k es) }
 
@@ -51,7 +51,7 @@ module _ (m : Mode) (k : ℕ) (es : List Entry) where
       let waits : is_some (pending_commit k all) ≡ true = ap is_some (pending-new k es (Commit task j payload) here) in
       λ i. record { payload = paid i; pending = waits i }
 
-  -- an entry that neither sends the last commit nor takes it back
+  -- an entry that neither sends nor withdraws the last commit
   left_same : (e : Entry) → is_commit_on k e ≡ false → ((number : ℕ) → last_commit k es ≡ Some number
       → sends number e ≡ false)
       → ((number : ℕ) → last_commit k es ≡ Some number → takes_back number e ≡ false)
@@ -97,7 +97,7 @@ module _ (k : ℕ) (es : List Entry) (w : Opportunity) (x y : Offered) where
       (λ number is. or_first (sends number (Fetch w x y)) false
       (sent number (pending_is_ready m k number es sending is)))
 
-  -- a fetch that sends what is ready, and no other last commit
+  -- a fetch that sends the ready commit, and no other last commit
   left_sent : (m : Mode) → is_receive m ≡ false → ((number : ℕ) → ready m k es ≡ Some number
       → sends number (Fetch w x y) ≡ true)
       → ((number : ℕ) → last_commit k es ≡ Some number → sends number (Fetch w x y) ≡ true → ready m k es ≡ Some number)
@@ -131,8 +131,8 @@ left_after-append b k now (turns cycle ∷ xs) ys = left_after-append b k (cond 
 
 module _ (plan : Plan) (slot k : ℕ) (b : Buffer) (at : buffer_at plan k ≡ Some b)
     (of_slot : is_buffer_of slot (Some b) ≡ true) (sends_it : is_receive b.mode ≡ false) where
-  -- a window of the slot in a cycle that the buffer admits sends what is ready, and no other last commit; any other
-  -- window doesn't send the last commit
+  -- A window of the slot in a cycle that the buffer admits sends the ready commit, and no other last commit. Any other
+  -- window doesn't send the last commit.
   abbrev pub Takes : Bool → List Entry → Entry → Type 0
   Takes true before e =
       ((number : ℕ) → ready b.mode k before ≡ Some number → sends number e ≡ true)
@@ -157,12 +157,12 @@ module _ (plan : Plan) (slot k : ℕ) (b : Buffer) (at : buffer_at plan k ≡ So
   more es e = ap (left_after b k empty) (each_after-snoc (kept_at plan slot) es e) ∙ left_after-append b k empty
       (account plan slot es) (kept_at plan slot es e)
 
-  -- the buffer is of the slot
+  -- the buffer is for the slot
   known : (j : ℕ) → (j == k) ≡ true → is_buffer_of slot (buffer_at plan j) ≡ true
   known j here = ap (λ (i : ℕ). is_buffer_of slot (buffer_at plan i)) (eqb-true j k here) ∙ ap (is_buffer_of slot) at
       ∙ of_slot
 
-  -- what is kept of other buffers changes nothing
+  -- the kept entries of other buffers change nothing
   other_kept : (t : Bool) (one : Kept) (now : Left) → left_after b k now (one ∷ []) ≡ now
       → left_after b k now (cond t (one ∷ []) []) ≡ now
   other_kept true one now is = is
@@ -184,7 +184,7 @@ module _ (plan : Plan) (slot k : ℕ) (b : Buffer) (at : buffer_at plan k ≡ So
       ∙ even
       ∙ sym (left_same b.mode k es (Commit task j payload) here (λ number last. refl) (λ number last. refl))
 
-  -- a withdraw on another buffer takes no commit on this one back
+  -- a withdraw on another buffer doesn't withdraw a commit on this one
   not_taken : (es : List Entry) (task j number : ℕ) (of : Option ℕ) (taken : Bool)
       → takes_back number (Withdraw task j of) ≡ taken → of ≡ pending_commit j es → (j == k) ≡ false
       → last_commit k es ≡ Some number → taken ≡ false
@@ -226,7 +226,7 @@ module _ (plan : Plan) (slot k : ℕ) (b : Buffer) (at : buffer_at plan k ≡ So
   fetch_even es w x y true t even = ap (sent_out b) even ∙ sym (left_sent k es w x y b.mode sends_it t.0 t.1)
   fetch_even es w x y false t even = even ∙ sym (left_same b.mode k es (Fetch w x y) refl t (λ number last. refl))
 
-  -- an entry of which nothing is kept, and that changes nothing
+  -- an entry that isn't kept, and changes nothing
   same_even : (es : List Entry) (e : Entry) → kept_at plan slot es e ≡ [] → is_commit_on k e ≡ false
       → ((number : ℕ) → sends number e ≡ false) → ((number : ℕ) → takes_back number e ≡ false)
       → IsEven es → IsEven (es ++ e ∷ [])
@@ -254,7 +254,7 @@ module _ (plan : Plan) (slot k : ℕ) (b : Buffer) (at : buffer_at plan k ≡ So
   even_all : (es : List Entry) → AllAfter IsTaking [] es → IsEven es
   even_all es all = AllAfter-induction IsTaking IsEven [] es start even_step all
 
-  -- what the account leaves over is the payload of the commit that the buffer has ready
+  -- the remainder of the account is the payload of the commit that the buffer has ready
   pub left_over_is : (es : List Entry) → AllAfter IsTaking [] es
       → left_over b k (account plan slot es) ≡ option_map (payload_of es) (ready b.mode k es)
   left_over_is es all = ap (λ (l : Left). l.payload) (even_all es all)

@@ -1,4 +1,4 @@
--- What is seen as bytes in a fault-free slot is the owner's offer.
+-- Bytes that are observed in a fault-free slot are the owner's offer.
 use Rattle.std.proofs.Common.{◌≡◌, ℕ, Bool, true, false, not, cond, ◌&&◌, ◌||◌, List, [], ◌∷◌, length, Option, Some}
 use Rattle.std.proofs.Common.{None, refl, sym, ap, ◌∙◌}
 use Rattle.std.specs.List.{list_all, list_any}
@@ -50,7 +50,7 @@ seen_of-bytes p w n (t ∷ []) bytes e =
     }
 seen_of-bytes p w n (t ∷ u ∷ ts) bytes e = not_bytes (list_any (is_of n) (t ∷ u ∷ ts)) bytes e
 
--- ---- it is the owner's offer
+-- ---- the owner's offer
 
 pub same_channel : (c d : Channel) → is_channel c d ≡ true → c ≡ d
 same_channel A A e = refl
@@ -66,7 +66,7 @@ offer_if_clean true true true muted o c e = absurd (let none : ⊥ = cc in none)
 offer_if_clean true false babble muted o c e = c
 offer_if_clean false on babble muted o c e = o
 
--- a muted one is another's
+-- a muted transmission is another's
 other_if_muted : (own on babble : Bool) → on ≡ true → not ((own && on) && (babble || true)) ≡ true → own ≡ false
 other_if_muted false on babble c e = refl
 other_if_muted true true true c e = absurd (let none : ⊥ = cc in none)
@@ -129,7 +129,7 @@ module _ (d : Description) (w : Opportunity) (channel : Channel) (owner : ℕ) (
       (both_rest (is_clean channel owner u) (list_all (is_clean channel owner) us) clean))
       e
 
-  -- what a node sees as bytes there is the owner's offer
+  -- bytes that a node observes there are the owner's offer
   pub seen_offer : (p : Parameters) (n : ℕ) (r : Recorded) (bytes : ArrayVec ℕ)
       → list_all (is_judged_in d w) r.sent ≡ true → list_all (is_clean channel owner) r.sent ≡ true
       → corrupt_on r channel ≡ None → seen_by p r channel n ≡ Bytes bytes → offer_in channel owner r.sent ≡ Some bytes

@@ -1,4 +1,4 @@
--- Each event keeps the agreement of the node that it is of.
+-- Each event keeps the agreement of its node.
 use Rattle.std.proofs.Common.{◌≡◌, ℕ, ◌-◌, Bool, true, false, cond, List, [], ◌∷◌, ◌++◌, length, map, Option, Some}
 use Rattle.std.proofs.Common.{None, refl, sym, ap, subst, ◌∙◌, arith, length-append, option_map, slice_get}
 use Rattle.std.specs.Prelude.{◌==◌, option_to_list}
@@ -38,7 +38,7 @@ use Rattle.fr_slots.specs.Windows.{Opportunity, slot_of}
 use Rattle.fr_slots.proofs.HistoryLemmas.{each_after-snoc}
 use Rattle.fr_status.specs.Forms.{Seen}
 
--- ---- lists with one more
+-- ---- lists with one more item
 
 pub fetched-more : (s : State) (e : Entry) → fetched (with_entry s e) ≡ fetched s ++ handed_at s.params s.plan s.entries
     e
@@ -60,14 +60,14 @@ sight_same : {w x : Opportunity} {a c b d : Seen} → w ≡ x → a ≡ c → b 
     → ◌≡◌ {A = List Sight} (sight_of a b w ∷ []) (sight_of c d x ∷ [])
 sight_same p q r = cc
 
--- ---- what the host does
+-- ---- calls of the host
 
 same_after : (before : Option (Option Opportunity)) (o : Option Opportunity)
     → option_and_then (λ (w : Option Opportunity). w) before ≡ o
     → option_and_then (λ (w : Option Opportunity). w) (option_or None before) ≡ o
 same_after before o e = e
 
--- an entry that hands over nothing and sees nothing, as all entries of the host
+-- an entry that hands nothing over and observes nothing, as all entries of the host
 pub agrees_host : (n : ℕ) (i : State) (c : Carried) (v : BusView) (e : Entry)
     → handed_at i.params i.plan i.entries e ≡ [] → sight_at i.entries e ≡ [] → window_mark i.entries e ≡ None
     → NodeAgrees n i c v → NodeAgrees n (with_entry i e) c v
@@ -109,7 +109,7 @@ bytes_kept slot channel (Some f) =
     (λ none. let h : ⊥ = omega (arith, length-encoded f channel, none) in h) in
     ap (λ (b : Bool). cond b None (Some (record { items = encoded f channel }))) some
 
--- what a frame of an offer is spelled by is recorded as it is
+-- the encoded frame of an offer is recorded unchanged
 offer_kept : (channel : Channel) (slot : Option ℕ) (g : ℕ → Option Fields)
     → recordable slot (bytes_of channel (option_and_then g slot)) ≡ bytes_of channel (option_and_then g slot)
 offer_kept channel None g = refl
@@ -237,7 +237,7 @@ agrees_observe n i w number x y v a = record {
   turn = observe_turn v.phase w x y v.opened v.station.put v.station.taken a.turn;
 }
 
--- ---- Inject: a fault changes neither what was put nor what was taken
+-- ---- Inject: a fault changes neither puts nor takes
 
 inject_ahead : (c : Carried) (v : BusView) (s : Station) → s.a.offer ≡ v.station.a.offer → s.b.offer ≡ v.station.b.offer
     → ahead c (record v { station = s }) ≡ ahead c v
@@ -278,7 +278,7 @@ agrees_inject n i c v s on_a on_b put taken a = record {
       (subst (λ (b : Bool). Turn c v.phase v.opened v.station.put b) (sym taken) a.turn);
 }
 
--- ---- Advance: all have taken, so all are idle or hold what they took
+-- ---- Advance: all have taken, so all are idle or hold their observations
 
 pub record IsReady (c : Carried) (v w : BusView) (n : ℕ) : Type 0 where
   pub same_ahead : ahead c w ≡ ahead c v

@@ -1,4 +1,4 @@
--- In a guarded static slot the owner's transmissions alone are seen, and they are what its station has.
+-- In a guarded static slot only the owner's transmissions are observed, and they are those of its station.
 use Rattle.std.proofs.Common.{◌≡◌, ℕ, zero, suc, ◌+◌, ◌<◌, Bool, true, false, cond, ◌&&◌, List, [], ◌∷◌, ◌++◌, length}
 use Rattle.std.proofs.Common.{Option, Some, None, refl, sym, ap, ◌∙◌, arith}
 use Rattle.std.specs.Prelude.{◌==◌, slice_index_or}
@@ -32,11 +32,11 @@ use Rattle.fr_status.specs.declared.seen.Seen.TheVariants.{Silence}
 abbrev is_own : Channel → ℕ → Sent → Bool
 is_own channel node t = is_of node t && is_channel t.channel channel
 
--- ---- of all that passed, the owner's
+-- ---- the owner's transmissions among all that passed
 
 module _ (d : Description) (w : Opportunity) (channel : Channel) (owner : ℕ)
     (alone : (other : ℕ) → passes d other w channel ≡ true → other ≡ owner) where
-  -- what passed on the channel is the owner's
+  -- a transmission that passed on the channel is the owner's
   passed_is_own : (u : Sent) (on : Bool) (f : Fate) → is_channel u.channel channel ≡ on → u.fate ≡ f
       → is_judged_in d w u ≡ true → is_own channel owner u ≡ false → (on && is_passed f) ≡ false
   passed_is_own u false f on_is is judged other = refl
@@ -66,7 +66,7 @@ module _ (d : Description) (w : Opportunity) (channel : Channel) (owner : ℕ)
       (list_all (is_judged_in d w) us) judged)
       (passed_own us (both_rest (is_judged_in d w u) (list_all (is_judged_in d w) us) judged))
 
--- what each node sees is what the owner's transmissions alone give
+-- each node's observation is the one that the owner's transmissions alone give
 pub seen_alone : (d : Description) (p : Parameters) (r : Recorded) (channel : Channel) (owner : ℕ)
     → ((other : ℕ) → passes d other r.window channel ≡ true → other ≡ owner)
     → list_all (is_judged_in d r.window) r.sent ≡ true → (n : ℕ)
@@ -75,7 +75,7 @@ pub seen_alone : (d : Description) (p : Parameters) (r : Recorded) (channel : Ch
 seen_alone d p r channel owner alone judged n = ap (seen_of p r.window (corrupt_on r channel) n)
     (passed_own d r.window channel owner alone r.sent judged)
 
--- ---- nothing passes where nobody owns
+-- ---- without an owner nothing passes
 
 none_step : (d : Description) (w : Opportunity) (channel : Channel) (u : Sent) (on : Bool) (f : Fate)
     → ((node : ℕ) → passes d node w channel ≡ false) → is_channel u.channel channel ≡ on
@@ -200,9 +200,9 @@ own_from d w channel n start (suc k) (s ∷ ss) e within =
     (own_node d w channel n start s false (ne_eqb start n (λ same. let none : ⊥ = omega (arith, e, same) in none)))
     ∙ own_from d w channel n (start + 1) k ss (omega (arith, e)) (omega (arith, within))
 
--- ---- with the offer that the record has
+-- ---- the owner's transmissions, with the recorded offer
 
--- an offer without bytes is none
+-- an offer without bytes is no offer
 same_transmission : (node : ℕ) (c : Channel) (babble : Bool) (fate : Fate) (o : Option (ArrayVec ℕ))
     → transmission node c babble fate (if_bytes o) ≡ transmission node c babble fate o
 same_transmission node c babble fate None = refl

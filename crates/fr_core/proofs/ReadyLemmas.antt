@@ -1,4 +1,4 @@
--- What a transmit buffer has ready, and whether its last commit is pending, with one more entry.
+-- The ready commit of a transmit buffer, and its pending last commit, with one more entry.
 use Rattle.std.proofs.Common.{◌≡◌, ◌<◌, ℕ, ◌+◌, Bool, true, false, not, cond, ◌&&◌, ◌||◌, List, [], ◌∷◌, ◌++◌, drop}
 use Rattle.std.proofs.Common.{length, Option, Some, None, refl, sym, ap, subst, ◌∙◌, arith, option_map}
 use Rattle.std.specs.Prelude.{IfSome}
@@ -35,7 +35,7 @@ or_rest : (p q : Bool) → q ≡ true → (p || q) ≡ true
 or_rest true q e = refl
 or_rest false q e = e
 
--- ---- whether a commit is pending
+-- ---- pending commits
 
 pending_then : (s w c x y : Bool) → is_pending (fate_by (s || x) (w || y) (c || false)) ≡
     (is_pending (fate_by s w c) && not (x || y))
@@ -50,7 +50,7 @@ pending_then false false false false true = refl
 pending_then false false false false false = refl
 
 module _ (k : ℕ) (es : List Entry) (e : Entry) where
-  -- the entry sends the commit of this number, or takes it back
+  -- the entry sends or withdraws the commit of this number
   abbrev pub ends : ℕ → Bool
   ends number = sends number e || takes_back number e
 
@@ -78,7 +78,7 @@ module _ (k : ℕ) (es : List Entry) (e : Entry) where
       ap (option_and_then (if_pending k (es ++ e ∷ []))) (last_commit-commit k es e on)
       ∙ ap (λ (l : List Entry). cond (is_pending (fate_of k (length es) l)) (Some (length es)) None) (drop-next es e [])
 
-  -- what is neither a commit on the buffer nor ends the last one
+  -- an entry that neither is a commit on the buffer nor ends the last one
   pub pending-same : is_commit_on k e ≡ false → ((number : ℕ) → last_commit k es ≡ Some number → ends number ≡ false)
       → pending_commit k (es ++ e ∷ []) ≡ pending_commit k es
   pending-same off unended = ap (option_and_then (if_pending k (es ++ e ∷ []))) (last_commit-other k es e off) ∙ by_last
@@ -92,7 +92,7 @@ module _ (k : ℕ) (es : List Entry) (e : Entry) where
           (still_pending number within off ∙ ap (λ (b : Bool). pending_at k es number && not b) (h number refl)
           ∙ and_true (pending_at k es number))
 
-  -- what ends a pending commit leaves none
+  -- an entry that ends a pending commit leaves none
   pub pending-gone : is_commit_on k e ≡ false → ((number : ℕ) → pending_commit k es ≡ Some number → ends number ≡ true)
       → pending_commit k (es ++ e ∷ []) ≡ None
   pending-gone off ended = ap (option_and_then (if_pending k (es ++ e ∷ []))) (last_commit-other k es e off) ∙ by_last
@@ -109,7 +109,7 @@ module _ (k : ℕ) (es : List Entry) (e : Entry) where
           by_test true is = ap not (h number (ap (λ (t : Bool). cond {A = Option ℕ} t (Some number) None) is))
           by_test false is = refl
 
--- ---- what is ready is the last commit
+-- ---- the ready commit is the last commit
 
 pub ready_is_last : (m : Mode) (k number : ℕ) (es : List Entry) → ready m k es ≡ Some number
     → last_commit k es ≡ Some number
@@ -125,7 +125,7 @@ pending_is_ready mode.State k number es sending is =
     let parts = pending_is k es number is in held-some k es number parts.0 (pending_stands k es number parts.1)
 pending_is_ready mode.Receive k number es sending is = absurd (let none : ⊥ = cc in none)
 
--- its payload stands
+-- its payload is unchanged
 pub paid-same : (k : ℕ) (es : List Entry) (e : Entry) (o : Option ℕ)
     → ((number : ℕ) → o ≡ Some number → last_commit k es ≡ Some number)
     → option_map (payload_of (es ++ e ∷ [])) o ≡ option_map (payload_of es) o
@@ -134,7 +134,7 @@ paid-same k es e (Some number) last =
     ap Some (payload_of-front es e number (subst (λ (o : Option ℕ). IfSome o (λ j. j < length es)) (last number refl)
     (last_commit-below k es)))
 
--- ---- what is ready with one more entry
+-- ---- the ready commit with one more entry
 
 module _ (k : ℕ) (es : List Entry) (e : Entry) where
   pub ready-new : (m : Mode) → is_receive m ≡ false → is_commit_on k e ≡ true
@@ -144,7 +144,7 @@ module _ (k : ℕ) (es : List Entry) (e : Entry) where
   ready-new mode.Receive sending on = absurd (let none : ⊥ = cc in none)
 
   module _ (off : is_commit_on k e ≡ false) where
-    -- what neither sends the last commit nor takes it back
+    -- an entry that neither sends nor withdraws the last commit
     pub ready-same : (m : Mode) → ((number : ℕ) → last_commit k es ≡ Some number → sends number e ≡ false)
         → ((number : ℕ) → last_commit k es ≡ Some number → takes_back number e ≡ false)
         → ready m k (es ++ e ∷ []) ≡ ready m k es
@@ -154,7 +154,7 @@ module _ (k : ℕ) (es : List Entry) (e : Entry) where
         (λ number last sent. differ sent (unsent number last))
     ready-same mode.Receive unsent untaken = refl
 
-    -- what takes the pending commit back leaves nothing
+    -- an entry that withdraws the pending commit leaves nothing
     pub ready-taken : (m : Mode) (number : ℕ) → ((j : ℕ) → sends j e ≡ false) → pending_commit k es ≡ Some number
         → takes_back number e ≡ true → ready m k (es ++ e ∷ []) ≡ None
     ready-taken mode.Event number unsent pending taken =

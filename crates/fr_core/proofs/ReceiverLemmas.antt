@@ -1,4 +1,4 @@
--- From a fault-free slot receivers hold what the owner committed: from the lists of the interfaces alone.
+-- Frames that receivers hold from a fault-free slot are commits of its owner, by the lists of the interfaces alone.
 use Rattle.std.proofs.Common.{◌≡◌, ℕ, true, List, [], ◌∷◌, ◌++◌, length, map, take, Option, Some}
 use Rattle.std.proofs.Common.{None, refl, sym, ap, ◌∙◌, inl, inr, slice_get, option_map}
 use Rattle.std.specs.Prelude.{option_to_list}
@@ -38,9 +38,9 @@ use Rattle.fr_status.specs.Forms.{Seen}
 use Rattle.fr_status.specs.declared.seen.Seen.TheVariants.{Silence, Own, Conflict, Noise, Overrun, Bytes}
 use Rattle.fr_status.specs.Status.{passes as fits_slot, passed, frame_in}
 
--- ---- a data frame was seen as bytes
+-- ---- a data frame was observed as bytes
 
--- these bytes were seen, and are the frame's
+-- these bytes were observed, and are the frame's
 pub record IsSpelledBy (channel : Channel) (seen : Seen) (f : Fields) : Type 0 where
   pub bytes : ArrayVec ℕ
   pub seen_is : seen ≡ Bytes bytes
@@ -78,13 +78,13 @@ with_data_is (Some g) f e =
     let same : g ≡ f = same_some g f (kept g.has_data (Some g) f e) in
     (ap Some same, ap (λ (x : Fields). x.has_data) (sym same) ∙ kept_if g.has_data (Some g) f e)
 
--- ---- a sight of the journal
+-- ---- an observation of the journal
 
 take-after : {X : Type 0} (xs ys : List X) → take (length xs) (xs ++ ys) ≡ xs
 take-after [] ys = refl
 take-after (x ∷ xs) ys = ap (λ (l : List _). x ∷ l) (take-after xs ys)
 
--- an observe after these entries is among the sights, at this place
+-- an observe after these entries is among the observations, at this place
 sight_here : (entries before after : List Entry) (number : ℕ) (x y : Seen) (w : Opportunity)
     → entries ≡ before ++ Observe number x y ∷ after → open_window before ≡ Some w
     → slice_get (each_after sight_at [] entries) (length (each_after sight_at [] before)) ≡ Some (sight_of x y w)
@@ -105,14 +105,14 @@ seen_there p n r x y w B e = ap (λ (s : Sight). s.b) e
 
 -- ---- the recorded window
 
--- the record has the window, with what the node saw in it
+-- the record has the window, with the node's observation in it
 record IsRecordedSight (p : Parameters) (rs : List Recorded) (n : ℕ) (x y : Seen) (w : Opportunity) : Type 0 where
   place : ℕ
   recorded : Recorded
   at : slice_get rs place ≡ Some recorded
   value : sights_of p n recorded ≡ sight_of x y w
 
--- what an observe saw is what the record has of the window
+-- the observation of an observe is the one that the record has of the window
 sight_is_recorded : (p : Parameters) (rs : List Recorded) (n : ℕ) (mine : State) → Follows p rs n mine
     → (before after : List Entry) (number : ℕ) (x y : Seen) (w : Opportunity)
     → mine.entries ≡ before ++ Observe number x y ∷ after → open_window before ≡ Some w
@@ -129,7 +129,7 @@ sight_is_recorded p rs n mine follows before after number x y w cut opened =
 
 -- ---- the owner
 
--- the owner of a fault-free slot passes there
+-- the owner's transmissions pass in a fault-free slot
 owner_is_let : (d : Description) (r : Recorded) (channel : Channel) (owner : ℕ) → IsFaultlessAt d r channel owner
     → passes d owner r.window channel ≡ true
 owner_is_let d r channel owner f = owner_passes d owner r.window channel f.owned.plan f.slot f.owned.at f.slot_is
@@ -140,7 +140,7 @@ pub handed_is_offered : (owner : ℕ) (r : Recorded) (channel : Channel)
 handed_is_offered owner r A = refl
 handed_is_offered owner r B = refl
 
--- bytes that a node saw in a fault-free slot, and that are a data frame, are what the owner handed over
+-- a data frame that a node observed in a fault-free slot is one that the owner handed to the bus
 from_owner : (d : Description) (rs : List Recorded) (n owner k : ℕ) (theirs : State) (r : Recorded) (channel : Channel)
     (bytes : ArrayVec ℕ) (f : Fields)
     → IsCluster d → AreJudged d rs → IsLegalInterface theirs → Follows d.params rs owner theirs
@@ -159,7 +159,7 @@ from_owner d rs n owner k theirs r channel bytes f cluster judged lawful follows
     hands_over theirs k (offers_of owner r) channel bytes f lawful there
     (handed_is_offered owner r channel ∙ offer) decodes has_data
 
--- ---- what is held
+-- ---- held frames
 
 held_in : (s : State) (b : Option Buffer) (a : Arrival) → option_and_then (received_in s) b ≡ Some a
     → IsSeenIn s.params s.entries a
@@ -171,7 +171,7 @@ pub holds_is_seen : (s : State) (a : Arrival) → Holds s a → IsSeenIn s.param
 holds_is_seen s a (inl h) = held_in s (buffer_at s.plan h.0) a h.1
 holds_is_seen s a (inr h) = queued_is_seen s.params s.plan h.0 (h.0).capacity h.1 s.entries a h.3
 
--- a frame that an observe saw is in a recorded window, and where its slot was fault-free there, it is the owner's
+-- an observed frame is in a recorded window, and if its slot was fault-free there, it is the owner's
 received_from : (d : Description) (interfaces : List State) (rs : List Recorded) (n : ℕ) (mine : State) (a : Arrival)
     → IsCluster d → AreJudged d rs
     → ((k : ℕ) (s : State) → slice_get interfaces k ≡ Some s → IsLegalInterface s)

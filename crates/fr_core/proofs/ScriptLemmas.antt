@@ -1,4 +1,4 @@
--- One entry further along a journal, beside the scripts.
+-- One more entry of a journal, beside the scripts.
 use Rattle.std.proofs.Common.{◌≡◌, ◌<◌, ◌≤◌, ℕ, zero, suc, ◌+◌, true, cond, List, [], ◌∷◌, length, set, Option, Some}
 use Rattle.std.proofs.Common.{None, refl, sym, ap, subst, ◌∙◌, arith, take, get_or, inl, inr}
 use Rattle.std.specs.Prelude.{slice_get, option_to_list, replicate, ◌==◌, IfSome}
@@ -61,7 +61,7 @@ in_replicate y (suc m) (suc k) x at = in_replicate y m k x at
 new_course : (task : ℕ) (x : Course) → slice_get new_courses task ≡ Some x → record { deeds = 0; agrees = true } ≡ x
 new_course task x at = in_replicate _ most_tasks task x at
 
--- ---- whose deed an entry is
+-- ---- the task of an entry
 
 own_task : {X : Type 0} (t : ℕ) (d : X) → cond (t == t) (Some d) None ≡ Some d
 own_task t d = ap (λ b. cond b (Some d) None) (eq-eqb t t refl)
@@ -222,7 +222,7 @@ module _ (s : State) (scripts : List Scripted) (n : ℕ) where
       (courses_on k xs e done (get_or xs place x) y far at is
       (subst (λ m. slice_get xs m ≡ Some (get_or xs place x)) same there) next)
 
-  -- ---- all that was done
+  -- ---- all executed calls
 
   whole : (task : ℕ) (x : Course) → IsCourse s scripts n task (length s.entries) x
       → IsWhole scripts n task (deeds_of s task) x
@@ -281,7 +281,7 @@ module _ (scripts : List Scripted) (n task : ℕ) (deeds : List Deed) (x : Cours
     missing = λ none. sym all.as_many ∙ ap length (are.missing none);
   }
 
--- the first task that differs by the courses is the first that differs by what was done
+-- the first task that differs by the courses is the first that differs by its executed calls
 pub task_found : (scripts : List Scripted) (n : ℕ) (deeds : ℕ → List Deed) (xs : List Course) (r : Option ℕ)
     → length xs ≡ most_tasks
     → ((task : ℕ) (x : Course) → slice_get xs task ≡ Some x → IsWhole scripts n task (deeds task) x)
@@ -311,7 +311,7 @@ whole_new : (scripts : List Scripted) (n task : ℕ) (x : Course) → slice_get 
 whole_new scripts n task x at = subst (IsWhole scripts n task []) (new_course task x at)
     (record { as_many = refl; fits = (λ yes j below. absurd (omega (arith, below)), λ all. refl) })
 
--- a node that isn't there did nothing
+-- a node that doesn't exist executed no call
 pub task_found_new : (scripts : List Scripted) (n : ℕ) (xs : List Course) (r : Option ℕ) → xs ≡ new_courses
     → FindsTask (SuitsAt scripts n xs) r
     → FindsTask (λ task. AreScripts scripts n task []) r

@@ -1,4 +1,4 @@
--- A window that a static transmit buffer admits sends what it has ready, so the account leaves over what is ready.
+-- A window that a static transmit buffer admits sends its ready commit, so the account's remainder is that commit.
 use Rattle.std.proofs.Common.{◌≡◌, ◌<◌, ℕ, ◌%◌, Bool, true, false, cond, ◌&&◌, ◌||◌, List, [], ◌∷◌, ◌++◌, Option}
 use Rattle.std.proofs.Common.{Some, None, refl, sym, ap, subst, ◌∙◌, slice_get, get_or, option_map}
 use Rattle.std.specs.Prelude.{◌==◌, nat_le}
@@ -37,7 +37,7 @@ use Rattle.fr_slots.specs.Numbers.{IsSlot}
 use Rattle.fr_slots.specs.Windows.{Opportunity, IsInRange, IsSlotOrNone, slot_of, is_static}
 use Rattle.fr_slots.proofs.FaultlessLemmas.{position_from-none}
 
--- ---- the first that passes
+-- ---- the first item that passes
 
 pub record IsFound {X : Type 0} (test : X → Bool) (xs : List X) : Type 0 where
   pub place : ℕ
@@ -89,7 +89,7 @@ sends_on number w x y plan before B e f is = or_rest (is_data_of number x) (is_d
 
 module _ (p : Parameters) (plan : Plan) (k : ℕ) (b : Buffer) (at : buffer_at plan k ≡ Some b)
     (static : is_static_slot p b.filter.slot ≡ true) (transmitting : transmits b ≡ true) (one : HasOneSender plan) where
-  -- the buffer is the one that transmits where it admits
+  -- the buffer is the one that transmits in the slots that it admits
   transmits_there : (w : Opportunity) (channel : Channel) → w.cycle < 64 → IsSlot b.filter.slot
       → slot_of w channel ≡ Some b.filter.slot → includes b.filter.channels channel ≡ true
       → cycle_admitted b.filter.cycles w.cycle ≡ true → transmitter plan w channel ≡ Some k
@@ -125,7 +125,7 @@ module _ (p : Parameters) (plan : Plan) (k : ℕ) (b : Buffer) (at : buffer_at p
       ∙ ap (λ (o : Option Buffer). data_or otherwise (option_and_then (λ (x : Buffer). ready x.mode k before) o)) at
       ∙ ap (data_or otherwise) ready_is
 
-  -- a window that takes the commit sends it
+  -- a window that uses up the commit sends it
   sent : (before : List Entry) (w : Opportunity) (x y : Offered) (number cycle : ℕ) → IsLegalFetch p plan before w x y
       → IsInRange w
       → (is_window_of b.filter.slot w ≡ true → cycle % 64 ≡ w.cycle)
@@ -185,7 +185,7 @@ module _ (p : Parameters) (plan : Plan) (k : ℕ) (b : Buffer) (at : buffer_at p
       all_take (before ++ e ∷ []) es legal.1 ranges.1 timed.1,
     )
 
-    -- in a legal journal the account leaves over the payload that the buffer has ready
+    -- in a legal journal the account's remainder is the payload that the buffer has ready
     pub account_is_ready : (es : List Entry) → AllAfter (IsLegal p plan) [] es
         → AllAfter (λ (b : List Entry) (e : Entry). IsEntry e) [] es → AllAfter (IsTimed b.filter.slot) [] es
         → left_over b k (account plan b.filter.slot es) ≡ option_map (payload_of es) (ready b.mode k es)

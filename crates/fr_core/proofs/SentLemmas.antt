@@ -1,4 +1,4 @@
--- What holds of each transmission that a station can give holds of all that are sent in a window.
+-- A property of each transmission that a station can give holds for all transmissions in a window.
 use Rattle.std.proofs.Common.{◌≡◌, ◌<◌, ◌≤◌, ℕ, ◌+◌, Bool, true, false, cond, List, [], ◌∷◌, ◌++◌, length}
 use Rattle.std.proofs.Common.{Option, Some, None, refl, arith}
 use Rattle.std.specs.Prelude.{◌==◌}

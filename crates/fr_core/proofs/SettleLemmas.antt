@@ -1,4 +1,4 @@
--- Searches over nodes and tasks, and what differs first.
+-- Searches over nodes and tasks, and the first difference.
 use Rattle.std.proofs.Common.{◌≡◌, ◌<◌, ◌≤◌, ◌↔◌, ℕ, ◌+◌, Bool, true, false, ◌&&◌, ◌||◌, List, Option, Some, None, ◌⊎◌}
 use Rattle.std.proofs.Common.{refl, sym, ap, subst, ◌∙◌, arith, inl, inr}
 use Rattle.std.specs.Prelude.{slice_get, nat_lt, ◌==◌, IsTrue, if◌then◌else◌}
@@ -50,7 +50,7 @@ found_task P number node task same before few first = (
   first,
 )
 
--- ---- one node further
+-- ---- one more node
 
 places_on : (P : ℕ → ℕ → Type 0) (number node : ℕ) (found : Option (ℕ × ℕ)) (here : Option ℕ) → node ≡ number
     → number ≤ last_node
@@ -125,7 +125,7 @@ module _ (p : Parameters) (is : List State) (rs : List Recorded) (scripts : List
         (scripts_found is scripts node found.task here.scripts));
   }
 
--- ---- of two kinds that which comes first
+-- ---- the first of two kinds
 
 before_told : (a b c d : ℕ) → (nat_lt a b || (a == b && nat_lt c d)) ≡ true → (a < b) ⊎ ((a ≡ b) × (c ≤ d))
 before_told a b c d told = by_first (nat_lt a b) refl told
@@ -210,6 +210,6 @@ offers_found d is rs a b =
     (λ n k handed fated. record { offers = handed; fates = fated }) (λ n k offered. offered.offers)
     (λ n k offered. offered.fates) a b
 
--- of all nodes that may be
+-- each possible node
 pub each_node : (P : ℕ → Type 0) → ((n : ℕ) → n < last_node + 1 → P n) → EachNode P
 each_node P all = λ n few. all n (omega (arith, few))

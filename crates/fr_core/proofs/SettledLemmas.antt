@@ -1,4 +1,4 @@
--- What a cross-check tells: the windows of lists that agree, where a first failure stands, and what a world gives.
+-- The result of a cross-check: the windows of lists that agree, the place of a first failure, and a world's own result.
 use Rattle.std.proofs.Common.{◌≡◌, ◌<◌, ◌≤◌, ℕ, zero, suc, Bool, true, false, not, ◌&&◌, ◌||◌, List, [], ◌∷◌, ◌++◌}
 use Rattle.std.proofs.Common.{length, map, Option, Some, None, refl, sym, ap, subst, ◌∙◌, arith, get_or, inl, inr}
 use Rattle.std.specs.Prelude.{slice_get, option_map, option_to_list, nat_lt, ◌==◌, Result, Ok, Err, IfSome, OnOk}
@@ -95,7 +95,7 @@ shown_windows : (p : Parameters) (n : ℕ) (rs : List Recorded)
 shown_windows p n [] = refl
 shown_windows p n (r ∷ rs) = ap (λ l. r.window ∷ l) (shown_windows p n rs)
 
--- lists that are the record's have its windows
+-- lists that are the record's have the record's windows
 same_windows : (p : Parameters) (n : ℕ) (rs : List Recorded) (s : State) → fetched s ≡ map (offers_of n) rs
     → observed s ≡ map (sights_of p n) rs → HasWindows rs s
 same_windows p n rs s fetches sees = record {
@@ -103,7 +103,7 @@ same_windows p n rs s fetches sees = record {
   observes = sym (observed_windows s) ∙ ap (map (λ (x : Sight). x.window)) sees ∙ shown_windows p n rs;
 }
 
--- ---- a first failure stands within the record
+-- ---- a first failure is within the record
 
 fetched_long : (rs : List Recorded) (s : State) → HasWindows rs s → length (fetched s) ≡ length rs
 fetched_long rs s h =
@@ -176,7 +176,7 @@ few_windows rs s h =
     in
     omega (arith, same, few_after fetches_at one_fetch [] s.entries)
 
--- ---- what follows from an agreement
+-- ---- consequences of an agreement
 
 planned_few : (p : Parameters) (s : State) (o : Option State) (plans : List Plan) (n : ℕ) → o ≡ Some s
     → ArePlanned p o (slice_get plans n) → n < length plans

@@ -1,5 +1,5 @@
--- What a cross-check gives beside the agreement: the senders and the receivers of the record are those of the cluster,
--- whatever cluster the bus was made with.
+-- Further results of a cross-check: the senders and the receivers of the record are those of the cluster, for a bus
+-- that was made with any cluster.
 use Rattle.std.proofs.Common.{◌≡◌, ◌<◌, ◌≤◌, ℕ, Bool, true, false, not, ◌&&◌, ◌||◌, List, [], ◌∷◌, length, Some, refl}
 use Rattle.std.proofs.Common.{ap, subst, ◌∙◌, arith, ◌+◌}
 use Rattle.std.specs.Prelude.{slice_get, nat_lt, ◌==◌, Result, Ok, Err, OnOk, All}

@@ -1,4 +1,4 @@
--- Which windows take the commit of a static transmit buffer: those that it admits.
+-- The windows that use up the commit of a static transmit buffer are those that it admits.
 use Rattle.std.proofs.Common.{◌≡◌, ℕ, ◌%◌, Bool, true, false, not, cond, ◌&&◌, ◌||◌, List, [], ◌∷◌, ◌++◌, length}
 use Rattle.std.proofs.Common.{Option, Some, None, refl, sym, ap, subst, ◌∙◌, slice_get, inl, inr, ◌⊎◌}
 use Rattle.std.specs.Prelude.{◌==◌, nat_le}
@@ -110,7 +110,7 @@ in_slot plan es w channel number (Some slot) e =
     (kept (may_begin plan w channel) (option_and_then (ready_in plan es) (transmitter plan w channel)) number
     (data_is (owns plan w channel slot) (commit_offered plan es w channel) number e))
 
--- ---- what the buffer admits
+-- ---- admitted slots
 
 pub record Admits (f : Filter) (w : Opportunity) (channel : Channel) : Type 0 where
   pub slot_is : slot_of w channel ≡ Some f.slot
@@ -170,7 +170,7 @@ slot_on_a : (w : Opportunity) (channel : Channel) (slot : ℕ) → IsInRange w �
 slot_on_a w A slot range static is = is
 slot_on_a w B slot range static is = range.window_is.static_same (eqb-true w.minislot 0 static) ∙ is
 
--- ---- a window that sends the last commit takes it
+-- ---- a window that sends the last commit uses it up
 
 either : (p q : Bool) → p ≡ false → q ≡ false → (p || q) ≡ false
 either false q e f = f
@@ -209,7 +209,7 @@ module _ (p : Parameters) (plan : Plan) (k : ℕ) (b : Buffer) (at : buffer_at p
   unsent_on before w channel number cycle o true is same range fits timed last none =
       differ (takes before w channel number cycle range fits timed last (sym same ∙ data_of number o is)) none
 
-  -- a window that doesn't take the last commit doesn't send it
+  -- a window that doesn't use up the last commit doesn't send it
   pub unsent : (before : List Entry) (w : Opportunity) (x y : Offered) (number cycle : ℕ)
       → IsLegalFetch p plan before w x y → IsInRange w
       → (is_window_of b.filter.slot w ≡ true → cycle % 64 ≡ w.cycle) → last_commit k before ≡ Some number

@@ -91,7 +91,7 @@ journal_timed p plan slot n sofar (r ∷ rs) before (Fetch w a b ∷ es) same is
 
 -- ---- the fetch of a recorded window
 
--- what was given before a cut stands before all the rest
+-- a value given before a cut is given before all the rest
 cut_given : {A : Type 0} (give : List Entry → Entry → List A) (entries inner : List Entry) (here : Entry)
     (after : List Entry) (out : List A) → entries ≡ inner ++ here ∷ after
     → each_after give [] entries ≡ out → each_after give [] inner ++
@@ -99,7 +99,7 @@ cut_given : {A : Type 0} (give : List Entry → Entry → List A) (entries inner
 cut_given give entries inner here after out cut is = sym (each_after-cut give [] inner here after) ∙ sym
     (ap (each_after give []) cut) ∙ is
 
--- the entry that fetched the window, and those before it, whose windows are timed
+-- the entry that fetched the window, and the entries before it, whose windows are timed
 pub record IsWindowFetched (node : ℕ) (s : State) (r : Recorded) : Type 0 where
   pub before : List Entry
   pub fetch : Entry

@@ -21,9 +21,9 @@ use Rattle.fr_slots.specs.History.{AllAfter}
 use Rattle.fr_slots.specs.Parameters.{Parameters}
 use Rattle.fr_slots.specs.Windows.{Opportunity, is_static, static_window}
 
--- ---- when windows come
+-- ---- the times of windows
 
--- where this many cycles have begun, the cycle of a static window that is next is its run cycle's
+-- if this many cycles have begun, the cycle of the next window, if it is static, is its run cycle's
 abbrev pub IsOnTime : ℕ → Opportunity → Type 0
 IsOnTime begun w = is_static w ≡ true → w.cycle ≡ ((begun + (cond (opens_cycle w) 1 0)) - 1) % 64
 
@@ -52,7 +52,7 @@ IsTimed slot before (Pop task from) = Unit {0}
 IsTimed slot before (Fetch w a b) = is_window_of slot w ≡ true → run_cycle (before ++ Fetch w a b ∷ []) % 64 ≡ w.cycle
 IsTimed slot before (Observe number a b) = Unit {0}
 
--- ---- lists with one more
+-- ---- lists with one more item
 
 fold_more : {X Y : Type 0} (f : Y → X → Y) (y : Y) (xs : List X) (x : X) → fold f y (xs ++ x ∷ []) ≡ f (fold f y xs) x
 fold_more f y [] x = refl
@@ -97,7 +97,7 @@ at_static number begun statics w some e =
     subst (IsOnTime begun) (same_some later w e)
     (λ still. ap (λ n. n % 64) (none_more begun) ∙ ap (λ (b : Bool). ((begun + cond b 1 0) - 1) % 64) (sym other))
 
--- what is found in a range that starts after 0 isn't 0
+-- a number found in a range that starts after 0 isn't 0
 found_after : (test : ℕ → Bool) (start n m : ℕ) → 1 ≤ start → find test (range_with_len start n) ≡ Some m → 1 ≤ m
 found_after test start zero m least e = absurd (let none : ⊥ = cc in none)
 found_after test start (suc n) m least e = here (test start) (find test (range_with_len (start + 1) n))

@@ -1,4 +1,4 @@
--- The mute and the babble that a record tells of an owner.
+-- The mute and the babble of an owner, by the record.
 use Rattle.std.proofs.Common.{◌≡◌, ℕ, Bool, true, false, cond, List, [], ◌∷◌, ◌++◌, length, Option, Some, None, refl}
 use Rattle.std.proofs.Common.{sym}
 use Rattle.std.proofs.Common.{ap, ◌∙◌}
@@ -79,7 +79,7 @@ module _ (owner : ℕ) (channel : Channel) where
   told_again mute None babble = babbles_again babble
   told_again mute (Some bytes) babble = offered_again mute bytes babble (length bytes.items == 0) refl
 
-  -- what is recorded of an owner is its offer, with the mute and the babble that the record tells
+  -- an owner's record is its offer, with the recorded mute and babble
   pub told : (sent : List Sent) (mute : Bool) (offer babble : Option (ArrayVec ℕ))
       → sent ≡ of_owner owner channel mute offer babble
       → sent ≡ of_owner owner channel (mute_of sent) offer (babble_of sent)

@@ -1,4 +1,4 @@
--- One entry further along a journal, beside the record.
+-- One more entry of a journal, beside the record.
 use Rattle.std.proofs.Common.{◌≡◌, Bool, true, false, ◌&&◌, ◌<◌, ◌≤◌, ◌↔◌, ℕ, zero, suc, ◌+◌, List, [], ◌∷◌, ◌++◌}
 use Rattle.std.proofs.Common.{length, map, Option, Some, None, refl, sym, ap, subst, ◌∙◌, arith, take, drop}
 use Rattle.std.proofs.Common.{append_assoc, inl, inr}
@@ -64,7 +64,7 @@ same_places (x ∷ xs) (y ∷ ys) same =
 
 -- ---- searches
 
--- those before this place, and this place
+-- the places before this one, and this place
 pub next_below : (P : ℕ → Type 0) (Same : Type 0) (place : ℕ) (o r : Option ℕ) → (Same → P place) → (P place → Same)
     → FindsBelow place P o → FindsNext Same place o r → FindsBelow (place + 1) P r
 next_below P Same place (Some j) r to from first next = subst (FindsBelow (place + 1) P) (sym next) first
@@ -80,14 +80,14 @@ next_below P Same place None (Some j) to from below next =
       before = λ m few. below m (omega (arith, few, is));
     }
 
--- a test in place of what it tells
+-- a test in place of its fact
 pub next_told : (P : Type 0) (b : Bool) (place : ℕ) (o r : Option ℕ) → (IsTrue b ↔ P) → FindsNext (IsTrue b) place o r
     → FindsNext P place o r
 next_told P b place (Some j) r told next = next
 next_told P b place None None told next = told.0 next
 next_told P b place None (Some j) told next = (next.0, λ holds. next.1 (told.1 holds))
 
--- ---- what entries give
+-- ---- the values of entries
 
 module _ {X A : Type 0} (f : List X → X → List A) where
   nil : each_after f [] [] ≡ []
@@ -101,7 +101,7 @@ module _ {X A : Type 0} (f : List X → X → List A) where
       ap (each_after f []) (take_more xs k x within ∙ ap (λ y. take k xs ++ y ∷ []) (get_or_from_slice_get xs k x x at))
       ∙ each_after-snoc f (take k xs) x
 
-  -- all of them are the first ones, and more
+  -- the values of all entries are the first ones, and more
   rest : (before xs : List X) → (more : List A) × (each_after f [] (before ++ xs) ≡ each_after f [] before ++ more)
   rest before [] = ([], ap (each_after f []) (append-nil before) ∙ sym (append-nil (each_after f [] before)))
   rest before (x ∷ xs) =
@@ -131,7 +131,7 @@ module _ {X A : Type 0} (f : List X → X → List A) where
       pub as_many_on : length (each_after f [] (take (k + 1) xs)) ≡ place + 1
       as_many_on = ap length one_more ∙ length-append (each_after f [] (take k xs)) (y ∷ []) ∙ ap (λ m. m + 1) many
 
-      -- what the entry gives stands at the place of all that entries give
+      -- the value of the entry is at its place among those of all entries
       pub stands : slice_get (each_after f [] xs) place ≡ Some y
       stands =
           let more = some_rest xs (k + 1) in

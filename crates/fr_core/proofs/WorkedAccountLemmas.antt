@@ -1,4 +1,4 @@
--- An owner's account, its babble and its mute, and what is fault-free, worked out.
+-- An owner's account, its babble and its mute, and fault-free slots, worked out.
 use Rattle.std.proofs.Common.{◌≡◌, ℕ, Bool, true, false, cond, List, [], ◌∷◌, ◌++◌, Option, Some, None, refl}
 use Rattle.std.specs.List.{list_all}
 use Rattle.arrayvec.specs.ArrayVec.{ArrayVec}
@@ -38,7 +38,7 @@ one_word = record {
   words_per_minislot = 5;
 }
 
--- a buffer of slot 1 on channel A in the even cycles
+-- a buffer for slot 1 on channel A in the even cycles
 abbrev even_cycles : Mode → ℕ → Buffer
 even_cycles m slot = record {
   mode = m;
@@ -47,7 +47,7 @@ even_cycles m slot = record {
   preamble = false;
 }
 
--- buffer 0 is of slot 1, and buffer 1 of slot 2
+-- buffer 0 is for slot 1, and buffer 1 for slot 2
 abbrev planned : Mode → Plan
 planned m = record (empty_plan 1 0 0 8 8) {
   owned = record {
@@ -72,7 +72,7 @@ journal =
 abbrev kept : List Kept
 kept = commits 0 (0 ∷ 1 ∷ []) ∷ commits 0 (0 ∷ 2 ∷ []) ∷ turns 0 ∷ commits 0 (0 ∷ 3 ∷ []) ∷ turns 1 ∷ []
 
--- commits on another slot's buffer, windows of another slot and what was seen aren't kept
+-- commits on another slot's buffer, windows of another slot and observations aren't kept
 pub an_account_keeps_commits_and_windows_of_its_slot : account (planned mode.Event) 1 journal ≡ kept
 unfolding each_after
 an_account_keeps_commits_and_windows_of_its_slot = refl
@@ -87,7 +87,7 @@ sent_in_cycle m cycle kept = data_sent (frame_by_account one_word (planned m) 1 
 abbrev third : Option (List ℕ)
 third = Some (0 ∷ 3 ∷ [])
 
--- cycle 1 isn't admitted, so cycle 2 has the third commit, and cycle 4 has it in state mode alone
+-- cycle 1 isn't admitted, so cycle 2 has the third commit, and cycle 4 has it only in state mode
 pub an_event_commit_is_sent_in_one_admitted_cycle :
     sent_in_cycle mode.Event 1 kept ∷ sent_in_cycle mode.Event 2 kept ∷ sent_in_cycle mode.Event 4
     (kept ++ turns 2 ∷ [])
@@ -95,8 +95,8 @@ pub an_event_commit_is_sent_in_one_admitted_cycle :
     ≡ None ∷ third ∷ None ∷ third ∷ None ∷ []
 an_event_commit_is_sent_in_one_admitted_cycle = refl
 
--- a commit that cycle 0 sends, a withdraw that finds none pending, one on another slot's buffer, and a commit that is
--- withdrawn
+-- a commit that cycle 0 sends, a withdraw that finds none pending, a withdraw on another slot's buffer, and a commit
+-- that is withdrawn
 abbrev journal_with_withdraws : List Entry
 journal_with_withdraws =
     Commit 0 0 (0 ∷ 1 ∷ []) ∷ Fetch (static_window 0 0 1) (Data 0) Nothing ∷ Observe 0 Owns Silence
@@ -112,14 +112,14 @@ pub an_account_keeps_withdraws_on_its_slot : account (planned mode.State) 1 jour
 unfolding each_after
 an_account_keeps_withdraws_on_its_slot = refl
 
--- in state mode a sent commit stands, and a withdrawn one leaves nothing, also not the one before it
+-- in state mode a sent commit stays, and a withdrawn one leaves nothing, not even the commit before it
 pub a_withdraw_takes_a_pending_commit_alone :
     sent_in_cycle mode.State 2 sent_first ∷ sent_in_cycle mode.Event 2 sent_first
     ∷ sent_in_cycle mode.State 2 then_withdrawn ∷ sent_in_cycle mode.Event 2 then_withdrawn ∷ []
     ≡ Some (0 ∷ 1 ∷ []) ∷ None ∷ None ∷ None ∷ []
 a_withdraw_takes_a_pending_commit_alone = refl
 
--- a window of cycle 1, which isn't admitted, leaves the third commit pending, so a withdraw takes it
+-- a window of cycle 1, which isn't admitted, leaves the third commit pending, so a withdraw withdraws it
 pub a_commit_is_pending_until_an_admitted_cycle :
     sent_in_cycle mode.State 2 (kept ++ withdraws 0 ∷ []) ∷ sent_in_cycle mode.Event 2 (kept ++ withdraws 0 ∷ [])
     ∷ sent_in_cycle mode.State 4 (kept ++ turns 2 ∷ withdraws 0 ∷ []) ∷ []
@@ -167,7 +167,7 @@ babbled = record { items = 0x55 ∷ [] }
 abbrev owner_sent : Bool → Option (ArrayVec ℕ) → List Sent
 owner_sent mute babble = of_owner 0 A mute (Some sample) babble
 
--- what node 1 and the owner see
+-- the observations of node 1 and of the owner
 abbrev both_see : Option ℕ → List Sent → List Seen
 both_see corrupt sent =
     seen_of one_word (turn_of 1 0) corrupt 1 (all_passed A sent) ∷ seen_of one_word (turn_of 1 0) corrupt 0
@@ -184,19 +184,19 @@ a_muted_owner_that_babbles_is_seen_to_babble = refl
 pub a_muted_owner_is_silent : both_see None (owner_sent true None) ≡ Silence ∷ Silence ∷ []
 a_muted_owner_is_silent = refl
 
--- bit 1 of the offer is turned, and a bit after its end isn't there
+-- bit 1 of the offer is flipped, and a bit after its end has no effect
 pub a_corrupt_bit_is_turned_in_the_offer_alone :
     both_see (Some 1) (owner_sent false None) ++ both_see (Some 24) (owner_sent false None)
     ≡ Bytes (record { items = 0x60 ∷ 0x01 ∷ 0x01 ∷ [] }) ∷ Owns ∷ Bytes sample ∷ Owns ∷ []
 a_corrupt_bit_is_turned_in_the_offer_alone = refl
 
--- the record tells both
+-- the record has both
 pub a_record_tells_mute_and_babble :
     (mute_of (owner_sent true (Some babbled)) ≡ true) × (babble_of (owner_sent true (Some babbled)) ≡ Some babbled)
     × (mute_of (owner_sent false None) ≡ false) × (babble_of (owner_sent false None) ≡ None)
 a_record_tells_mute_and_babble = (refl, refl, refl, refl)
 
--- ---- what is fault-free
+-- ---- fault-free slots
 
 -- node 1 babbles too, and is blocked, and the owner is muted on channel B
 abbrev beside : List Sent

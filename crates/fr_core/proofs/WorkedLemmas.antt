@@ -87,14 +87,14 @@ steps_come_in_their_order = refl
 abbrev sealed : WorldState
 sealed = led opening (first_half 0 ++ first_half 1 ++ first_half 2 ++ Seal ∷ [])
 
--- an idle controller finds no window to offer in once the window is sealed
+-- an idle controller finds no open window once the window is sealed
 pub a_look_after_the_seal_is_refused_by_the_bus :
     refusals sealed (second_half 0 ++ Look 0 ∷ Look 3 ∷ Inject (Mute 3 A) ∷ [])
     ≡ None ∷ None ∷ Some (Bus NotCollecting) ∷ Some UnknownNode ∷ Some (Bus NoNode) ∷ []
 unfolding last_after
 a_look_after_the_seal_is_refused_by_the_bus = refl
 
--- all are between two windows once all have observed
+-- all controllers are between two windows once all have observed
 pub all_have_observed :
     (list_all is_between (led sealed (second_half 0 ++ second_half 1)).carried ≡ false)
     × (list_all is_between (led sealed (second_half 0 ++ second_half 1 ++ second_half 2)).carried ≡ true)

@@ -1,4 +1,4 @@
--- What every world keeps is kept by each event.
+-- Each event keeps the properties of every world.
 use Rattle.std.proofs.Common.{◌≡◌, ℕ, List, [], ◌∷◌, length, map, refl, sym, ap, ◌∙◌, Option, Some, None}
 use Rattle.std.proofs.Common.{length-set}
 use Rattle.std.specs.Prelude.{Result, Ok, Err}

@@ -1,4 +1,5 @@
--- The account of a static slot: what its owner's own journal says of what it sends there (project-defined).
+-- The account of a static slot: the entries of its owner's journal that decide the owner's transmissions there
+-- (project-defined).
 use Rattle.std.specs.Prelude.{◌≡◌, ℕ, ◌+◌, ◌-◌, ◌%◌, ◌==◌, Bool, true, false, ◌&&◌, List, [], ◌∷◌, ◌++◌, take, count_by}
 use Rattle.std.specs.Prelude.{slice_get, Option, Some, None, if◌then◌else◌}
 use Rattle.std.specs.List.{filter}
@@ -28,7 +29,7 @@ use Rattle.fr_slots.specs.Plans.{Plan, buffer_at}
 use Rattle.fr_slots.specs.Windows.{Opportunity, slot_of, is_static, static_window}
 use Rattle.fr_status.specs.declared.seen.Seen.TheVariants.{Silence}
 
--- ---- what an account keeps of a journal
+-- ---- the entries of a journal that an account keeps
 
 -- a commit of this payload on a buffer of the slot, a withdraw on one, or a window of the slot in a run cycle
 pub data Kept : Type 0 where
@@ -40,7 +41,7 @@ abbrev pub is_slot_at : ℕ → Option ℕ → Bool
 is_slot_at slot None = false
 is_slot_at slot (Some s) = s == slot
 
--- a static window of the slot, which both channels have
+-- a static window of the slot, which is on both channels
 abbrev pub is_window_of : ℕ → Opportunity → Bool
 is_window_of slot w = is_static w && is_slot_at slot w.a
 
@@ -56,7 +57,7 @@ begins_cycle_at (Pop task from) = false
 begins_cycle_at (Fetch w a b) = opens_cycle w
 begins_cycle_at (Observe number a b) = false
 
--- the run cycle of the window that was fetched last: how many windows of static slot 1 there were, less one
+-- the run cycle of the window that was fetched last: the number of windows of static slot 1, less one
 abbrev pub run_cycle : List Entry → ℕ
 run_cycle entries = count_by begins_cycle_at entries - 1
 
@@ -71,7 +72,7 @@ kept_at plan slot before (Fetch w a b) =
     if is_window_of slot w then turns (run_cycle (before ++ Fetch w a b ∷ [])) ∷ [] else []
 kept_at plan slot before (Observe number a b) = []
 
--- the commits and withdraws on the node's transmit buffers of the slot, and its windows, these as run cycles
+-- the commits and withdraws on the node's transmit buffers of the slot, and the run cycles of its windows
 abbrev pub account : Plan → ℕ → List Entry → List Kept
 account plan slot entries = each_after (kept_at plan slot) [] entries
 
@@ -82,7 +83,7 @@ is_event mode.Event = true
 is_event mode.State = false
 is_event mode.Receive = false
 
--- what an account leaves a buffer: the payload that it offers, and whether the last kept commit on it is still pending
+-- a buffer after an account: the payload that it offers, and a flag for a pending last commit
 pub record Left : Type 0 where
   pub payload : Option (List ℕ)
   pub pending : Bool
@@ -90,15 +91,15 @@ pub record Left : Type 0 where
 abbrev pub empty : Left
 empty = record { payload = None; pending = false }
 
--- a commit is offered, and is pending
+-- a new commit is offered, and is pending
 abbrev pub given : List ℕ → Left
 given payload = record { payload = Some payload; pending = true }
 
--- a withdraw that finds the last commit pending leaves nothing to offer, and any other changes nothing
+-- a withdraw that finds the last commit pending leaves no offer, and any other withdraw changes nothing
 abbrev pub taken_back : Left → Left
 taken_back now = if now.pending then empty else now
 
--- a window of a cycle that the buffer admits sends the last commit, and in event mode takes it
+-- A window of a cycle that the buffer admits sends the last commit. In event mode the commit is then used up.
 abbrev pub sent_out : Buffer → Left → Left
 sent_out b now = record { payload = if is_event b.mode then None else now.payload; pending = false }
 
@@ -106,7 +107,7 @@ sent_out b now = record { payload = if is_event b.mode then None else now.payloa
 abbrev pub is_turn_of : Buffer → ℕ → Bool
 is_turn_of b cycle = cycle_admitted b.filter.cycles (cycle % 64)
 
--- what is left after all that is kept
+-- the buffer after all kept entries
 abbrev pub left_after : Buffer → ℕ → Left → List Kept → Left
 left_after b buffer now [] = now
 left_after b buffer now (commits k payload ∷ rest) =
@@ -115,14 +116,14 @@ left_after b buffer now (withdraws k ∷ rest) = left_after b buffer (if k == bu
 left_after b buffer now (turns cycle ∷ rest) =
     left_after b buffer (if is_turn_of b cycle then sent_out b now else now) rest
 
--- the payload of the last kept commit on the buffer, unless a window took it or a withdraw found it pending
+-- the payload of the last kept commit on the buffer, unless a window used it up or a withdraw found it pending
 abbrev pub left_over : Buffer → ℕ → List Kept → Option (List ℕ)
 left_over b buffer kept = (left_after b buffer empty kept).payload
 
 abbrev pub left_over_in : Plan → List Kept → ℕ → Option (List ℕ)
 left_over_in plan kept buffer = option_and_then (λ b. left_over b buffer kept) (buffer_at plan buffer)
 
--- the window of the slot in a run cycle, whatever its number is
+-- the window of the slot in a run cycle, with any number
 abbrev pub turn_of : ℕ → ℕ → Opportunity
 turn_of slot cycle = static_window 0 (cycle % 64) slot
 
@@ -134,26 +135,26 @@ frame_by p plan w channel slot (Some payload) = record (null_frame p plan w chan
   payload = payload;
 }
 
--- The frame that the owner of a slot offers in a run cycle, by the account before its fetch: what is left over on the
--- buffer that admits the slot there, else a null frame.
+-- The frame that the owner of a slot offers in a run cycle, by the account before its fetch. It is the remaining
+-- payload on the buffer that admits the slot there, otherwise a null frame.
 abbrev pub frame_by_account : Parameters → Plan → ℕ → Channel → ℕ → List Kept → Fields
 frame_by_account p plan slot channel cycle kept =
     frame_by p plan (turn_of slot cycle) channel slot
     (option_and_then (left_over_in plan kept) (transmitter plan (turn_of slot cycle) channel))
 
--- ---- what is seen by the account
+-- ---- observations by the account
 
 -- the node's transmissions on the channel
 abbrev pub own : Channel → ℕ → List Sent → List Sent
 own channel node sent = filter (λ (t : Sent). is_of node t && is_channel t.channel channel) sent
 
--- an owner's offer, with the mute of it, and its babble: the guardian lets both pass
+-- an owner's offer with its mute, and its babble; the guardian passes both
 abbrev pub of_owner : ℕ → Channel → Bool → Option (ArrayVec ℕ) → Option (ArrayVec ℕ) → List Sent
 of_owner owner channel mute offer babble =
     transmission owner channel false (fate_of mute true) offer
     ++ transmission owner channel true (fate_of false true) babble
 
--- whether the offer among an owner's transmissions is muted
+-- the offer among an owner's transmissions is muted
 abbrev pub mute_of : List Sent → Bool
 mute_of [] = false
 mute_of (t ∷ ts) = if t.babble then mute_of ts else is_muted t.fate
@@ -163,15 +164,15 @@ abbrev pub babble_of : List Sent → Option (ArrayVec ℕ)
 babble_of [] = None
 babble_of (t ∷ ts) = if t.babble then Some t.bytes else babble_of ts
 
--- an owner's transmissions by the account before its fetch, with the mute and the babble among those recorded of it
+-- an owner's transmissions, by the account before its fetch and by its recorded mute and babble
 abbrev pub sent_by_account : State → ℕ → Channel → ℕ → ℕ → List Entry → List Sent → List Sent
 sent_by_account s owner channel slot cycle before mine =
     of_owner owner channel (mute_of mine)
     (bytes_of channel (Some (frame_by_account s.params s.plan slot channel cycle (account s.plan slot before))))
     (babble_of mine)
 
--- The owner fetched the recorded window. What is recorded of it on the channel is what it sent by its account before
--- that fetch, and each node sees there what that alone gives, without any other transmission.
+-- The owner fetched the recorded window. Its recorded transmissions on the channel are those of its account before that
+-- fetch. Each node observes there what these alone give, without any other transmission.
 pub record IsSeenByAccount (p : Parameters) (r : Recorded) (cycle : ℕ) (s : State) (owner : ℕ) (channel : Channel)
     (slot : ℕ) : Type 0 where
   pub before : List Entry
@@ -185,12 +186,12 @@ pub record IsSeenByAccount (p : Parameters) (r : Recorded) (cycle : ℕ) (s : St
       ≡ seen_of p (turn_of slot cycle) (corrupt_on r channel) n
       (all_passed channel (sent_by_account s owner channel slot cycle before (own channel owner r.sent)))
 
--- the run cycle of the window at this place of a record: how many windows of static slot 1 there were, less one
+-- the run cycle of the window at this place of a record: the number of windows of static slot 1, less one
 abbrev pub recorded_cycle : List Recorded → ℕ → ℕ
 recorded_cycle rs k = cycles_begun (take (k + 1) rs) - 1
 
--- A babbling node is harmless in guarded static slots: where the slot has an owner in the window's cycle, each node
--- sees what the owner's account gives, and where it has none, silence.
+-- A babbling node is harmless in guarded static slots. If the slot has an owner in the window's cycle, each node's
+-- observation follows from the owner's account. If it has none, each node observes silence.
 pub record IsHarmless (d : Description) (interfaces : List State) (rs : List Recorded) : Type 0 where
   pub owned : (k owner slot : ℕ) (r : Recorded) (s : State) (channel : Channel)
       → slice_get rs k ≡ Some r → slice_get interfaces owner ≡ Some s
@@ -222,16 +223,16 @@ before_fetch number (e ∷ es) = if is_fetch_of number e then [] else e ∷ befo
 abbrev pub account_at : State → ℕ → ℕ → List Kept
 account_at s slot number = account s.plan slot (before_fetch number s.entries)
 
--- in two recorded windows of a slot the owner's account before its fetch, its mute, its babble and the bit to be turned
--- are the same
+-- Two recorded windows of a slot have the same account of the owner before its fetch, the same mute and babble of the
+-- owner, and the same bit to be flipped.
 pub record IsSamePart (slot owner : ℕ) (channel : Channel) (r t : Recorded) (mine theirs : State) : Type 0 where
   pub accounts : account_at mine slot r.window.number ≡ account_at theirs slot t.window.number
   pub mutes : mute_of (own channel owner r.sent) ≡ mute_of (own channel owner t.sent)
   pub babbles : babble_of (own channel owner r.sent) ≡ babble_of (own channel owner t.sent)
   pub corrupts : corrupt_on r channel ≡ corrupt_on t channel
 
--- where these are the same in two runs of one cluster, for a guarded static slot in a run cycle, each node sees the
--- same there, whatever else the nodes committed, babbled or lost, and whatever the windows' numbers are
+-- If these are the same in two runs of one cluster, for a guarded static slot in a run cycle, each node observes the
+-- same there. Commits, babbles and mutes of other nodes, and the windows' numbers, have no effect.
 abbrev pub AreAlike : Description → List State → List Recorded → List State → List Recorded → Type 0
 AreAlike d interfaces rs others ts = (k j owner slot : ℕ) (r t : Recorded) (mine theirs : State) (channel : Channel)
     → slice_get rs k ≡ Some r → slice_get ts j ≡ Some t

@@ -1,4 +1,4 @@
--- How journals, the record and what controllers carry agree in every world (project-defined).
+-- The agreement of journals, the record and the data that controllers carry, in every world (project-defined).
 use Rattle.std.specs.Prelude.{◌≡◌, ℕ, ◌-◌, ◌<◌, Bool, true, false, List, [], ◌∷◌, ◌++◌, length, map, slice_get}
 use Rattle.std.specs.Prelude.{Option, Some, None, if◌then◌else◌}
 use Rattle.arrayvec.specs.ArrayVec.{ArrayVec}
@@ -19,7 +19,7 @@ use Rattle.fr_slots.specs.Windows.{Opportunity, slot_of}
 use Rattle.fr_status.specs.Forms.{Seen}
 use Rattle.fr_status.specs.declared.seen.Seen.TheVariants.{Silence}
 
--- ---- the bus as one node meets it
+-- ---- the bus, as one node sees it
 
 pub record BusView : Type 0 where
   pub params : Parameters
@@ -37,7 +37,7 @@ view_for b n = record {
   station = station_at b n;
 }
 
--- ---- what is under way
+-- ---- the step under way
 
 abbrev pub last_of : List Recorded → Option Recorded
 last_of rs = slice_get rs (length rs - 1)
@@ -46,14 +46,14 @@ abbrev pub sight_in : Parameters → Channel → ℕ → Option Recorded → See
 sight_in p channel node None = Silence
 sight_in p channel node (Some r) = seen_by p r channel node
 
--- what a node sees of the window that was recorded last
+-- a node's observation in the last recorded window
 abbrev pub last_seen : Parameters → List Recorded → Channel → ℕ → Seen
 last_seen p rs channel node = sight_in p channel node (last_of rs)
 
 abbrev pub handed_as : Opportunity → Option (ArrayVec ℕ) → Option (ArrayVec ℕ) → Handed
 handed_as w a b = record { window = w; a = a; b = b }
 
--- what was fetched and isn't recorded yet
+-- the offers that were fetched and aren't recorded yet
 abbrev pub ahead : Carried → BusView → List Handed
 ahead Idle v = []
 ahead (Knows w) v = []
@@ -61,7 +61,7 @@ ahead (Offers w offer) v = handed_as w offer.a offer.b ∷ []
 ahead (Waits w) v = if collects v.phase then handed_as w v.station.a.offer v.station.b.offer ∷ [] else []
 ahead (Took w a b) v = []
 
--- what is recorded and wasn't observed yet
+-- the observation that is recorded and wasn't observed yet
 abbrev pub behind : ℕ → Carried → BusView → List Sight
 behind n Idle v = []
 behind n (Knows w) v = []
@@ -70,7 +70,7 @@ behind n (Waits w) v = if collects v.phase then []
     else sight_of (last_seen v.params v.sealed A n) (last_seen v.params v.sealed B n) w ∷ []
 behind n (Took w a b) v = sight_of a b w ∷ []
 
--- the window that the controller's interface has open
+-- the window that is open at the controller's interface
 abbrev pub open_of : Carried → Option Opportunity
 open_of Idle = None
 open_of (Knows w) = None
@@ -78,7 +78,7 @@ open_of (Offers w offer) = Some w
 open_of (Waits w) = Some w
 open_of (Took w a b) = Some w
 
--- ---- where a controller may stand in each phase
+-- ---- the steps that may be due in each phase
 
 abbrev pub Turn : Carried → Phase → Option Opportunity → Bool → Bool → Type 0
 Turn Idle Collect opened put taken = (put ≡ false) × (taken ≡ false)
@@ -97,9 +97,9 @@ Turn (Took w a b) Collect opened put taken = (put ≡ false) × (taken ≡ false
 Turn (Took w a b) InSealed opened put taken = taken ≡ true
 Turn (Took w a b) Finished opened put taken = Unit {0}
 
--- ---- what can be recorded
+-- ---- recordable offers
 
--- an offer stands only where the window has a slot, and has bytes: the record keeps it as it is
+-- an offer exists only if the window has a slot, and it has bytes: the record keeps it unchanged
 pub record AreRecordable (w : Opportunity) (a b : Option (ArrayVec ℕ)) : Type 0 where
   pub on_a : recordable (slot_of w A) a ≡ a
   pub on_b : recordable (slot_of w B) b ≡ b
@@ -113,9 +113,9 @@ CarriesLawful (Took w a b) s = Unit {0}
 
 -- ---- the agreement
 
--- One node's journal agrees with the record, but for at most one step that its controller carries: what it fetched is
--- what the record has of the node, and what may be under way; what it observed, with what may still be carried, is what
--- the record lets the node see.
+-- One node's journal agrees with the record, except for at most one step that its controller carries. Its fetches are
+-- the node's offers in the record, and the offer that may be under way. Its observes, with the observation that may be
+-- carried, are the observations that the record gives the node.
 pub record NodeAgrees (n : ℕ) (i : State) (c : Carried) (v : BusView) : Type 0 where
   pub fetches : fetched i ≡ map (offers_of n) v.sealed ++ ahead c v
   pub sees : observed i ++ behind n c v ≡ map (sights_of v.params n) v.sealed
@@ -131,10 +131,10 @@ pub record Agreement (w : WorldState) : Type 0 where
   pub a_station_each : length w.interfaces ≡ length w.bus.stations
   pub each : (n : ℕ) → n < length w.bus.stations → AgreesAt w n
 
--- ---- what every world keeps
+-- ---- the properties of every world
 
--- Its interfaces are, but for their journals, those of its cluster's nodes, each has a controller, and all journals
--- agree with the record.
+-- The interfaces are those of the cluster's nodes, except for their journals. Each node has a controller, and all
+-- journals agree with the record.
 pub record IsWorld (w : WorldState) : Type 0 where
   pub configured : map without_entries w.interfaces ≡ map (new_interface w.bus.cluster.params) w.bus.cluster.plans
   pub a_controller_each : length w.interfaces ≡ length w.carried

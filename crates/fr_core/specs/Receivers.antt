@@ -1,4 +1,4 @@
--- From a fault-free slot receivers hold what its owner committed (project-defined).
+-- Frames that receivers hold from a fault-free slot are commits of its owner (project-defined).
 use Rattle.std.specs.Prelude.{◌≡◌, ◌<◌, ℕ, not, Bool, true, false, ◌&&◌, ◌||◌, ◌⊎◌, List, take, slice_get}
 use Rattle.std.specs.Prelude.{Some, None}
 use Rattle.std.specs.List.{list_all}
@@ -39,12 +39,12 @@ is_muted Passed = false
 is_muted Blocked = false
 is_muted Muted = true
 
--- this isn't a babble or a muted offer of the node on the channel
+-- the transmission isn't a babble or a muted offer of the node on the channel
 abbrev pub is_clean : Channel → ℕ → Sent → Bool
 is_clean channel node t = not ((is_of node t && is_channel t.channel channel) && (t.babble || is_muted t.fate))
 
--- The recorded window has a static slot, guarded on the channel, which in its cycle is this owner's, and there is
--- neither a fault of the owner in it nor a corrupt bit. Other nodes may have faults there.
+-- The recorded window has a static slot, guarded on the channel, that this node owns in its cycle. There is no fault of
+-- the owner in it, and no corrupt bit. Other nodes may have faults there.
 pub record IsFaultlessAt (d : Description) (r : Recorded) (channel : Channel) (owner : ℕ) : Type 0 where
   pub static : is_static r.window ≡ true
   pub guarded : is_guarded d.guard channel ≡ true
@@ -54,23 +54,23 @@ pub record IsFaultlessAt (d : Description) (r : Recorded) (channel : Channel) (o
   pub clean : list_all (is_clean channel owner) r.sent ≡ true
   pub whole : corrupt_on r channel ≡ None
 
--- ---- what is held
+-- ---- held frames
 
--- the receive buffer of this number, or a place of the node's queue, holds the frame
+-- the receive buffer of this number, or a place of the node's receive FIFO, holds the frame
 abbrev pub Holds : State → Arrival → Type 0
 Holds s a =
     ((buffer : ℕ) × (received_by s buffer ≡ Some a))
     ⊎ ((q : Queue) × (k : ℕ) × (s.plan.queue ≡ Some q)
     × (slice_get (queue_content q.capacity (moves s.params s.plan q s.entries)) k ≡ Some a))
 
--- ---- what was handed over
+-- ---- frames handed to the bus
 
 abbrev pub offered_on : Channel → Offered → Offered → Offered
 offered_on A a b = a
 offered_on B a b = b
 
--- the journal has a fetch of the window with the data of a commit on the channel, and the frame has the payload of that
--- commit, which stands before the fetch
+-- The journal has a fetch of the window with the data of a commit on the channel. The frame has the payload of that
+-- commit, which comes before the fetch.
 pub record HandsOver (s : State) (window : Opportunity) (channel : Channel) (frame : Fields) : Type 0 where
   pub fetch : ℕ
   pub a : Offered
@@ -85,8 +85,8 @@ pub record HandsOver (s : State) (window : Opportunity) (channel : Channel) (fra
 
 -- ---- the receivers' clause
 
--- The window in which the journal saw the frame is recorded, and where its slot was fault-free there, the frame is what
--- its owner handed over.
+-- The window in which the journal observed the frame is recorded. If its slot was fault-free there, the frame is the
+-- one that its owner handed to the bus.
 pub record IsReceived (d : Description) (interfaces : List State) (rs : List Recorded) (mine : State)
     (a : Arrival) : Type 0 where
   pub place : ℕ
@@ -96,7 +96,7 @@ pub record IsReceived (d : Description) (interfaces : List State) (rs : List Rec
   pub of_owner : (owner : ℕ) (theirs : State) → slice_get interfaces owner ≡ Some theirs
       → IsFaultlessAt d recorded a.origin.channel owner → HandsOver theirs recorded.window a.origin.channel a.frame
 
--- each frame that a receive buffer or the queue of a node holds is received so
+-- each frame in a receive buffer or the receive FIFO of a node is received in this way
 abbrev pub Receivers : Description → List State → List Recorded → Type 0
 Receivers d interfaces rs = (n : ℕ) (mine : State) (a : Arrival) → slice_get interfaces n ≡ Some mine → Holds mine a
     → IsReceived d interfaces rs mine a

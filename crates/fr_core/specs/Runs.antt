@@ -40,14 +40,14 @@ is_commit_at n Advance = false
 abbrev pub commits_by : ℕ → Event → Answer → ℕ
 commits_by n event answer = if is_commit_at n event && is_ok answer then 1 else 0
 
--- how many of the events are commits at the node, and were accepted
+-- the number of accepted commits at the node among the events
 unfoldable pub commits_accepted : ℕ → List Event → List Answer → ℕ
 commits_accepted n [] answers = 0
 commits_accepted n (event ∷ events) [] = 0
 commits_accepted n (event ∷ events) (answer ∷ answers) = commits_by n event answer + commits_accepted n events answers
 
--- The events lead from `old` to `new`, so many of them are accepted, each interface took as many commits as there are
--- accepted commits at its node, and the cluster is the same.
+-- The events lead from `old` to `new`, and so many of them are accepted. Each interface has as many further commits as
+-- there are accepted commits at its node, and the cluster is the same.
 pub record IsRunOf (old : WorldState) (events : List Event) (accepted : ℕ) (new : WorldState) : Type 0 where
   pub answers : List Answer
   pub steps : StepsAll old events answers new

@@ -1,4 +1,4 @@
--- The fields of `Script` as what is scripted.
+-- The fields of `Script` as `Scripted`.
 use Rattle.fr_core.specs.declared.script.Script.TheInside.{Inside}
 use Rattle.fr_core.specs.Scripts.{Scripted}
 

@@ -1,4 +1,4 @@
--- What a task did, by the journal of its node, and whether that is its script (project-defined).
+-- The executed calls of a task, by the journal of its node, and their equality with its script (project-defined).
 use Rattle.std.specs.Prelude.{◌≡◌, ℕ, ◌==◌, Bool, true, false, ◌&&◌, List, [], length, slice_get, Option, Some, None}
 use Rattle.std.specs.Prelude.{IfSome, option_to_list, if◌then◌else◌}
 use Rattle.std.specs.List.{list_any}
@@ -16,22 +16,22 @@ use Rattle.fr_journal.specs.declared.entry.Origin.{Origin}
 use Rattle.fr_journal.specs.Held.{frame_named}
 use Rattle.fr_slots.specs.History.{each_after}
 
--- what a task of a node is to do, line by line
+-- the calls that a task of a node is to make, line by line
 pub record Scripted : Type 0 where
   pub node : ℕ
   pub task : ℕ
   pub lines : List Line
 
--- ---- what a task did
+-- ---- executed calls
 
 abbrev pub deed : Action → Reply → Deed
 deed action answer = record { action = action; answer = answer }
 
--- the answer that names where a frame comes from: that frame, or nothing
+-- the reply with the frame of this origin, or without a frame
 abbrev pub frame_reply : State → Option Origin → Reply
 frame_reply s from = Frame (option_and_then (frame_named s.params s.entries) from)
 
--- the action of an entry of the host, of this number, with its answer
+-- the executed call of this entry of the host, with its answer
 abbrev pub deed_in : State → ℕ → ℕ → Entry → Option Deed
 deed_in s task number (Commit t buffer payload) =
     if t == task then Some (deed (action.Commit buffer payload) (Committed (record { task = t; entry = number })))
@@ -47,7 +47,7 @@ deed_in s task number (Observe window a b) = None
 abbrev pub deed_at : State → ℕ → List Entry → Entry → List Deed
 deed_at s task before e = option_to_list (deed_in s task (length before) e)
 
--- all that the task did, in order
+-- all executed calls of the task, in order
 abbrev pub deeds_of : State → ℕ → List Deed
 deeds_of s task = each_after (deed_at s task) [] s.entries
 
@@ -55,18 +55,18 @@ abbrev pub deeds_in : Option State → ℕ → List Deed
 deeds_in None task = []
 deeds_in (Some s) task = deeds_of s task
 
--- a node that isn't there did nothing
+-- a node that doesn't exist executed no call
 abbrev pub deeds_at : List State → ℕ → ℕ → List Deed
 deeds_at is n task = deeds_in (slice_get is n) task
 
 -- ---- scripts
 
--- the line is what was done, in whatever cycle, and where it has an answer, that is the one that was given
+-- the line is the executed call, in any cycle, and the line's answer, if it has one, is the call's
 pub record IsLine (line : Line) (d : Deed) : Type 0 where
   pub action_is : line.action ≡ d.action
   pub answer_is : IfSome line.answer (λ answer. answer ≡ d.answer)
 
--- the lines are what was done, one by one
+-- the lines are the executed calls, one by one
 pub record AreLines (lines : List Line) (deeds : List Deed) : Type 0 where
   pub as_many : length lines ≡ length deeds
   pub each : (k : ℕ) (line : Line) (d : Deed) → slice_get lines k ≡ Some line → slice_get deeds k ≡ Some d
@@ -75,14 +75,14 @@ pub record AreLines (lines : List Line) (deeds : List Deed) : Type 0 where
 abbrev pub is_for : ℕ → ℕ → Scripted → Bool
 is_for n task script = script.node == n && script.task == task
 
--- the script, if it is the task's, has the lines that the task did
+-- the script, if it is for the task, has the task's executed calls as its lines
 abbrev pub IsScript : List State → ℕ → ℕ → Scripted → Type 0
 IsScript is n task script = is_for n task script ≡ true → AreLines script.lines (deeds_at is n task)
 
 abbrev pub IsScriptAt : List State → List Scripted → ℕ → ℕ → ℕ → Type 0
 IsScriptAt is scripts n task k = IfSome (slice_get scripts k) (IsScript is n task)
 
--- each script that is given for the task has the lines that the task did, and without a script it did nothing
+-- each script for the task has the task's executed calls as its lines, and a task without a script executed none
 pub record ScriptAgrees (is : List State) (scripts : List Scripted) (n task : ℕ) : Type 0 where
   pub given : (k : ℕ) → IsScriptAt is scripts n task k
   pub missing : list_any (is_for n task) scripts ≡ false → deeds_at is n task ≡ []

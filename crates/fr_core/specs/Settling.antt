@@ -1,4 +1,4 @@
--- What a cross-check of a cluster, interfaces, a record and scripts answers (project-defined).
+-- The answer of a cross-check of a cluster, interfaces, a record and scripts (project-defined).
 use Rattle.std.specs.Prelude.{◌≡◌, ℕ, ◌<◌, ◌≤◌, nat_lt, Bool, true, not, ◌&&◌, ◌||◌, List, [], length, map}
 use Rattle.std.specs.Prelude.{slice_get, Option, Some, None, option_to_list, Result, Ok, Err}
 use Rattle.std.specs.List.{list_all}
@@ -29,7 +29,7 @@ use Rattle.fr_slots.specs.Parameters.{Parameters}
 use Rattle.fr_slots.specs.Plans.{Plan}
 use Rattle.fr_slots.specs.Windows.{Opportunity}
 
--- ---- the first that fails
+-- ---- the first failure
 
 -- the least number at which this fails
 pub record IsFirst (P : ℕ → Type 0) (n : ℕ) : Type 0 where
@@ -43,14 +43,14 @@ EachNode P = (n : ℕ) → n ≤ last_node → P n
 abbrev pub EachTask : (ℕ → Type 0) → Type 0
 EachTask P = (task : ℕ) → task ≤ last_task → P task
 
--- of an interface that may not be there
+-- the property holds for an interface, if it exists
 abbrev pub IfThere : Option State → (State → Type 0) → Type 0
 IfThere None P = Unit {0}
 IfThere (Some s) P = P s
 
 -- ---- plans
 
--- interface and node are both there, with the same parameters and the same plan, or neither is
+-- interface and node both exist, with the same parameters and the same plan, or neither does
 abbrev pub ArePlanned : Parameters → Option State → Option Plan → Type 0
 ArePlanned p None None = Unit {0}
 ArePlanned p (Some s) (Some plan) = (s.params ≡ p) × (s.plan ≡ plan)
@@ -74,7 +74,7 @@ fetched_window (Pop task from) = None
 fetched_window (Fetch window a b) = Some window
 fetched_window (Observe number a b) = None
 
--- the window that an entry observed, where this one is open before it
+-- the window that an entry observed, if this window is open before it
 abbrev pub observed_window : Option Opportunity → Entry → Option Opportunity
 observed_window opened (Commit task buffer payload) = None
 observed_window opened (Withdraw task buffer of) = None
@@ -96,7 +96,7 @@ windows_fetched s = each_after fetches_at [] s.entries
 abbrev pub windows_observed : State → List Opportunity
 windows_observed s = each_after observes_at [] s.entries
 
--- both are the record's
+-- both lists of windows are the record's
 pub record HasWindows (rs : List Recorded) (s : State) : Type 0 where
   pub fetches : windows_fetched s ≡ windows_of rs
   pub observes : windows_observed s ≡ windows_of rs
@@ -106,13 +106,13 @@ WindowsAgree is rs n = IfThere (slice_get is n) (HasWindows rs)
 
 -- ---- offers and fates
 
--- the fate is what the guardian gives, or a mute
+-- the fate is the guardian's, or a mute
 abbrev pub is_due : Fate → Bool → Bool
 is_due Passed let_pass = let_pass
 is_due Blocked let_pass = not let_pass
 is_due Muted let_pass = true
 
--- a transmission of the node is of a node of the cluster, and has the fate that the cluster's guardians give, or a mute
+-- a transmission of the node is of a node of the cluster, and its fate is a mute or that of the cluster's guardians
 abbrev pub is_right : Description → ℕ → Opportunity → Sent → Bool
 is_right d n w t = not (is_of n t) || (nat_lt n (length d.plans) && is_due t.fate (passes d n w t.channel))
 
@@ -123,7 +123,7 @@ are_right d n r = list_all (is_right d n r.window) r.sent
 abbrev pub IsFatedAt : Description → List Recorded → ℕ → ℕ → Type 0
 IsFatedAt d rs n k = (r : Recorded) → slice_get rs k ≡ Some r → are_right d n r ≡ true
 
--- what the node handed to the bus there is what the record has of it
+-- the offers that the node handed to the bus there are those of the record
 abbrev pub IsHandedAt : List Recorded → ℕ → ℕ → State → Type 0
 IsHandedAt rs n k s = slice_get (fetched s) k ≡ slice_get (map (offers_of n) rs) k
 
@@ -134,12 +134,12 @@ pub record IsOfferedAt (d : Description) (rs : List Recorded) (n : ℕ) (s : Opt
 abbrev pub OffersAgree : Description → List State → List Recorded → ℕ → Type 0
 OffersAgree d is rs n = (k : ℕ) → IsOfferedAt d rs n (slice_get is n) k
 
--- ---- what was seen
+-- ---- observations
 
 abbrev pub IsShownAt : Parameters → List Recorded → ℕ → ℕ → State → Type 0
 IsShownAt p rs n k s = slice_get (observed s) k ≡ slice_get (map (sights_of p n) rs) k
 
--- what the node saw in the window at this place is what the record lets it see there
+-- the node's observation in the window at this place is the one that the record gives
 abbrev pub IsSeenAt : Description → List Recorded → ℕ → Option State → ℕ → Type 0
 IsSeenAt d rs n s k = IfThere s (IsShownAt d.params rs n k)
 
@@ -163,7 +163,7 @@ pub record Agrees (d : Description) (is : List State) (rs : List Recorded) (give
 
 -- ---- the answer
 
--- the first window of the record at whose place this fails has this number
+-- this number is that of the first window of the record at whose place the property fails
 pub record IsFirstWindow (rs : List Recorded) (P : ℕ → Type 0) (number : ℕ) : Type 0 where
   pub place : ℕ
   pub first : IsFirst P place
@@ -171,8 +171,8 @@ pub record IsFirstWindow (rs : List Recorded) (P : ℕ → Type 0) (number : ℕ
   pub is_there : slice_get rs place ≡ Some there
   pub number_is : number ≡ there.window.number
 
--- Each part is tested for all nodes before the next. Where one fails, the least node is named at which it does, and of
--- that node the first window or the least task.
+-- Each part is tested for all nodes before the next. A failure names the least node at which a part fails, and of that
+-- node the first window or the least task.
 abbrev pub Settles : Description → List State → List Recorded → List Scripted → Result Settled SettleError → Type 0
 Settles d is rs scripts (Ok settled) = Agrees d is rs scripts × (settled.windows ≡ length rs)
 Settles d is rs scripts (Err (PlanDiffers n)) = IsFirst (PlansAgree d is) n
@@ -197,7 +197,7 @@ Settles d is rs scripts (Err (ScriptDiffers n task)) =
     × IsFirst (ScriptAgrees is scripts n) task
 Settles d is rs scripts (Err Memory) = ((m : ℕ) → PlansAgree d is m) × EachNode (WindowsAgree is rs)
 
--- ---- what follows
+-- ---- consequences
 
 -- the lists of each interface are those of the record
 abbrev pub EachFollows : Parameters → List State → List Recorded → Type 0
@@ -211,7 +211,7 @@ pub record IsBetweenWindows (d : Description) (is : List State) (b : BusState) :
   pub cluster_is : b.cluster ≡ d
   pub between : list_all is_between carried ≡ true
 
--- all but the scripts agrees, or memory is refused
+-- everything but the scripts agrees, or an allocation fails
 abbrev pub DiffersInScriptsAlone : Result Settled SettleError → Type 0
 DiffersInScriptsAlone (Ok settled) = Unit {0}
 DiffersInScriptsAlone (Err (ScriptDiffers n task)) = Unit {0}

@@ -1,5 +1,5 @@
--- One atomic step of a world (project-defined): which events are refused and why, in the order in which it is tested,
--- what an accepted one is answered, and what it leaves.
+-- One atomic step of a world (project-defined): the refusals of events, in the order of the tests, the reply to an
+-- accepted event, and the world after it.
 use Rattle.std.specs.Prelude.{◌≡◌, ℕ, length, Option, Some, None, option_map, Result, Ok, Err}
 use Rattle.std.specs.Prelude.{slice_set, if◌then◌else◌}
 use Rattle.fr_bus.specs.declared.error.BusError.TheVariants.{NotCollecting, Memory}
@@ -25,7 +25,7 @@ use Rattle.fr_journal.specs.Offers.{frame_offered, bytes_of}
 use Rattle.fr_slots.specs.declared.channel.Channel.TheVariants.{A, B}
 use Rattle.fr_slots.specs.Windows.{Opportunity}
 
--- ---- what changes
+-- ---- changes
 
 abbrev pub with_interface : WorldState → ℕ → State → WorldState
 with_interface w n i = record { interfaces = slice_set w.interfaces n i; bus = w.bus; carried = w.carried }
@@ -36,13 +36,13 @@ with_carried w n c = record { interfaces = w.interfaces; bus = w.bus; carried = 
 abbrev pub with_bus : WorldState → BusState → WorldState
 with_bus w b = record { interfaces = w.interfaces; bus = b; carried = w.carried }
 
--- ---- which step is due
+-- ---- the step that is due
 
 abbrev pub unless_collecting : Option Opportunity → Option StepError
 unless_collecting None = Some (Bus NotCollecting)
 unless_collecting (Some window) = None
 
--- a step is refused where another one is due
+-- a step is refused if another one is due
 abbrev pub look_in_turn : WorldState → Carried → Option StepError
 look_in_turn w Idle = unless_collecting (collecting_of w.bus)
 look_in_turn w (Knows window) = Some WrongTurn
@@ -78,7 +78,7 @@ observe_in_turn w n (Offers window offer) = Some WrongTurn
 observe_in_turn w n (Waits window) = Some WrongTurn
 observe_in_turn w n (Took window a b) = option_map Slot (observe_refusal (interface_at w n) window.number)
 
--- ---- what a controller's step leaves
+-- ---- the world after a controller's step
 
 abbrev pub offer_of : State → Opportunity → Offer
 offer_of s window = record {
@@ -90,7 +90,7 @@ abbrev pub looked : WorldState → ℕ → Option Opportunity → WorldState
 looked w n None = w
 looked w n (Some window) = with_carried w n (Knows window)
 
--- the interface has one more entry, and the controller carries what it handed out
+-- the interface has one more entry, and the controller carries the offer that it handed out
 abbrev pub fetched : WorldState → ℕ → Carried → WorldState
 fetched w n Idle = w
 fetched w n (Knows window) =
@@ -101,7 +101,7 @@ fetched w n (Offers window offer) = w
 fetched w n (Waits window) = w
 fetched w n (Took window a b) = w
 
--- the bus has what the controller carried
+-- the bus has the offer that the controller carried
 abbrev pub put_on_bus : WorldState → ℕ → Carried → WorldState
 put_on_bus w n Idle = w
 put_on_bus w n (Knows window) = w
@@ -109,7 +109,7 @@ put_on_bus w n (Offers window offer) = with_carried (with_bus w (put_done w.bus 
 put_on_bus w n (Waits window) = w
 put_on_bus w n (Took window a b) = w
 
--- the controller carries what the bus lets it see
+-- the controller carries its observation from the bus
 abbrev pub taken : WorldState → ℕ → Carried → WorldState
 taken w n Idle = w
 taken w n (Knows window) = w
@@ -118,7 +118,7 @@ taken w n (Waits window) =
     with_carried (with_bus w (take_done w.bus n)) n (Took window (seen_last w.bus A n) (seen_last w.bus B n))
 taken w n (Took window a b) = w
 
--- the interface has one more entry, with what the controller carried
+-- the interface has one more entry, with the observation that the controller carried
 abbrev pub observed : WorldState → ℕ → Carried → WorldState
 observed w n Idle = w
 observed w n (Knows window) = w
@@ -129,7 +129,7 @@ observed w n (Took window a b) =
 
 -- ---- events
 
--- an unknown node is refused before all else
+-- an unknown node is refused before everything else
 abbrev pub if_node : WorldState → ℕ → Option StepError → Option StepError
 if_node w n refusal = if has_node w n then refusal else Some UnknownNode
 
@@ -168,7 +168,7 @@ step_reply w (Inject fault) = Done
 step_reply w Seal = Done
 step_reply w Advance = Done
 
--- one call, that controller's carried state, and nothing else
+-- the effect of one call and of that controller's carried data, and nothing else
 abbrev pub step_done : WorldState → Event → WorldState
 step_done w (Commit n task buffer payload) =
     with_interface w n (with_entry (interface_at w n) (entries.Commit task buffer payload))
@@ -186,19 +186,18 @@ step_done w (Inject fault) = with_bus w (inject_done w.bus fault)
 step_done w Seal = with_bus w (sealed_now w.bus)
 step_done w Advance = with_bus w (advanced w.bus)
 
--- a seal may want memory where it is otherwise lawful
+-- the allocation of a seal that is otherwise lawful may fail
 abbrev pub Refuses : Event → StepError → Option StepError → Type 0
 Refuses Seal (Bus Memory) found = found ≡ None
 Refuses event e found = found ≡ Some e
 
--- An event is accepted where nothing refuses it, is then answered its reply and does its one step; a refused one
--- changes nothing.
+-- An event without a refusal is accepted: it gets its reply and takes its one step. A refused event changes nothing.
 abbrev pub Steps : WorldState → Event → Result Reply StepError → WorldState → Type 0
 Steps old event (Ok reply) new =
     (step_refusal old event ≡ None) × (reply ≡ step_reply old event) × (new ≡ step_done old event)
 Steps old event (Err e) new = Refuses event e (step_refusal old event) × (new ≡ old)
 
--- the answer that stands where an event without one was accepted
+-- the reply to an accepted event that has none of its own
 abbrev pub answered : Reply → Result (Unit {0}) StepError → Result Reply StepError
 answered reply (Ok done) = Ok reply
 answered reply (Err e) = Err e
@@ -207,6 +206,6 @@ abbrev pub with_window : Result Opportunity StepError → Result Reply StepError
 with_window (Ok window) = Ok (Window window)
 with_window (Err e) = Err e
 
--- the event, of which the answer isn't told
+-- the event without its reply
 abbrev pub Applies : WorldState → Event → Result (Unit {0}) StepError → WorldState → Type 0
 Applies old event outcome new = Steps old event (answered (step_reply old event) outcome) new

@@ -1,4 +1,4 @@
--- How far a walk along the journal of a node has come, beside the record and the scripts, and what it found.
+-- The progress of a walk along the journal of a node, beside the record and the scripts, and its findings.
 use Rattle.std.specs.Prelude.{◌≡◌, ℕ, ◌+◌, ◌<◌, ◌≤◌, ◌==◌, nat_lt, ◌↔◌, IsTrue, Bool, true, false, ◌&&◌, ◌||◌}
 use Rattle.std.specs.Prelude.{if◌then◌else◌, List, [], length, map, take, replicate, slice_get}
 use Rattle.std.specs.Prelude.{Option, Some, None, option_map, IfSome}
@@ -34,17 +34,17 @@ use Rattle.fr_slots.specs.Windows.{Opportunity}
 
 -- ---- searches
 
--- none fails, or this is the first that does
+-- none fails, or this is the first that fails
 abbrev pub Finds : (ℕ → Type 0) → Option ℕ → Type 0
 Finds P None = (n : ℕ) → P n
 Finds P (Some n) = IsFirst P n
 
--- none fails below the number, or this is the first that does
+-- none fails below the number, or this is the first that fails
 abbrev pub FindsBelow : ℕ → (ℕ → Type 0) → Option ℕ → Type 0
 FindsBelow upto P None = (n : ℕ) → n < upto → P n
 FindsBelow upto P (Some n) = IsFirst P n
 
--- what was found before a place is still found after it, and otherwise the place itself where it fails
+-- an earlier finding is kept; otherwise the place itself is found, if it fails
 abbrev pub FindsNext : Type 0 → ℕ → Option ℕ → Option ℕ → Type 0
 FindsNext Same place (Some k) next = next ≡ Some k
 FindsNext Same place None None = Same
@@ -54,28 +54,28 @@ abbrev pub FindsTask : (ℕ → Type 0) → Option ℕ → Type 0
 FindsTask P None = EachTask P
 FindsTask P (Some task) = (task ≤ last_task) × IsFirst P task
 
--- of the nodes below the number, the first node that fails, and of that node the first place
+-- among the nodes below the number, the first node that fails, and its first place
 abbrev pub FindsPlaceBelow : ℕ → (ℕ → ℕ → Type 0) → Option (ℕ × ℕ) → Type 0
 FindsPlaceBelow upto P None = (n : ℕ) → n < upto → (k : ℕ) → P n k
 FindsPlaceBelow upto P (Some found) =
     (found.0 ≤ last_node) × IsFirst (λ n. (k : ℕ) → P n k) found.0 × IsFirst (P found.0) found.1
 
--- of all nodes
+-- the same for all nodes
 abbrev pub FindsPlace : (ℕ → ℕ → Type 0) → Option (ℕ × ℕ) → Type 0
 FindsPlace P found = FindsPlaceBelow (last_node + 1) P found
 
--- of the nodes below the number, the first node that fails, and of that node the first task
+-- among the nodes below the number, the first node that fails, and its first task
 abbrev pub FindsScriptBelow : ℕ → (ℕ → ℕ → Type 0) → Option (ℕ × ℕ) → Type 0
 FindsScriptBelow upto P None = (n : ℕ) → n < upto → EachTask (P n)
 FindsScriptBelow upto P (Some found) = IsFirst (λ n. EachTask (P n)) found.0 × IsFirst (P found.0) found.1
 
--- what was found of a node before, and otherwise what is found of this one
+-- an earlier finding, or the finding of this node
 abbrev pub found_or : Option (ℕ × ℕ) → ℕ → Option ℕ → Option (ℕ × ℕ)
 found_or (Some found) node here = Some found
 found_or None node None = None
 found_or None node (Some here) = Some (node, here)
 
--- none fails, or this is the least node that does
+-- none fails, or this is the least node that fails
 abbrev pub FindsLeast : (ℕ → Type 0) → Option ℕ → Type 0
 FindsLeast P None = (n : ℕ) → P n
 FindsLeast P (Some n) = (n ≤ last_node) × IsFirst P n
@@ -84,13 +84,13 @@ abbrev pub lesser_node : Option ℕ → ℕ → ℕ
 lesser_node None n = n
 lesser_node (Some least) n = if nat_lt n least then n else least
 
--- what was found before this place, unless the node found here is a lesser one
+-- the finding before this place, unless the node found here is a lesser one
 abbrev pub or_lesser : Option (ℕ × ℕ) → Option ℕ → ℕ → Option (ℕ × ℕ)
 or_lesser found None place = found
 or_lesser None (Some here) place = Some (here, place)
 or_lesser (Some found) (Some here) place = if nat_lt here found.0 then Some (here, place) else Some found
 
--- of the windows before this place, the least node that fails, and of that node the first place
+-- among the windows before this place, the least node that fails, and its first place
 pub record IsLeastBefore (P : ℕ → ℕ → Type 0) (upto : ℕ) (found : ℕ × ℕ) : Type 0 where
   pub few : found.0 ≤ last_node
   pub fails : ¬ P found.0 found.1
@@ -101,7 +101,7 @@ abbrev pub FindsLeastBefore : (ℕ → ℕ → Type 0) → ℕ → Option (ℕ �
 FindsLeastBefore P upto None = (n k : ℕ) → k < upto → P n k
 FindsLeastBefore P upto (Some found) = IsLeastBefore P upto found
 
--- that of the lesser node, and of the same node that of the lesser place
+-- the finding of the lesser node, and for the same node that of the lesser place
 abbrev pub is_before : ℕ × ℕ → ℕ × ℕ → Bool
 is_before x y = nat_lt x.0 y.0 || (x.0 == y.0 && nat_lt x.1 y.1)
 
@@ -110,9 +110,9 @@ earlier None y = y
 earlier (Some x) None = Some x
 earlier (Some x) (Some y) = if is_before y x then Some y else Some x
 
--- ---- what an entry adds
+-- ---- the effect of an entry
 
--- what the fetch of this number handed over, where it opened this window
+-- the offers that the fetch of this number handed to the bus, if it opened this window
 abbrev pub handed_by : State → ℕ → Opportunity → Handed
 handed_by s number window =
     record { window = window; a = bytes_handed s number A; b = bytes_handed s number B }
@@ -122,7 +122,7 @@ is_nothing Nothing = true
 is_nothing Null = false
 is_nothing (Data commit) = false
 
--- the entry handed nothing over on the channel
+-- the entry handed nothing to the bus on the channel
 abbrev pub is_silent : Channel → Entry → Bool
 is_silent channel (Commit task buffer payload) = true
 is_silent channel (Withdraw task buffer of) = true
@@ -131,7 +131,7 @@ is_silent channel (Pop task from) = true
 is_silent channel (Fetch window a b) = is_nothing (offered_on channel a b)
 is_silent channel (Observe number a b) = true
 
--- the window that is open after an entry, where this one is open before it
+-- the window that is open after an entry, if this one is open before it
 abbrev pub opened_after : Option Opportunity → Entry → Option Opportunity
 opened_after opened (Commit task buffer payload) = opened
 opened_after opened (Withdraw task buffer of) = opened
@@ -140,7 +140,7 @@ opened_after opened (Pop task from) = opened
 opened_after opened (Fetch window a b) = Some window
 opened_after opened (Observe number a b) = None
 
--- what an entry saw, where this window is open before it
+-- the observation of an entry, if this window is open before it
 abbrev pub sight_told : Option Opportunity → Entry → Option Sight
 sight_told opened (Commit task buffer payload) = None
 sight_told opened (Withdraw task buffer of) = None
@@ -149,7 +149,7 @@ sight_told opened (Pop task from) = None
 sight_told opened (Fetch window a b) = None
 sight_told opened (Observe number a b) = option_map (sight_of a b) opened
 
--- what the entry of this number did, and for which task
+-- the task and the executed call of the entry of this number
 abbrev pub done_by : State → ℕ → Entry → Option (ℕ × Deed)
 done_by s number (Commit t buffer payload) =
     Some (t, deed (action.Commit buffer payload) (Committed (record { task = t; entry = number })))
@@ -165,20 +165,20 @@ done_by s number (Observe window a b) = None
 abbrev pub window_at : List Recorded → ℕ → Option Opportunity
 window_at rs place = option_map (λ (r : Recorded). r.window) (slice_get rs place)
 
--- How far what the entries give was compared with a list, after so many entries: how many these gave, and the first
--- place at which both differ.
+-- The values that the entries give were compared with a list, after so many entries: the number of these values, and
+-- the first place at which both differ.
 pub record IsCompared {X A : Type 0} (f : List X → X → List A) (xs : List X) (ys : List A) (k place : ℕ)
     (found : Option ℕ) : Type 0 where
   pub as_many : length (each_after f [] (take k xs)) ≡ place
   pub few : place ≤ k
   pub finds : FindsBelow place (λ j. slice_get (each_after f [] xs) j ≡ slice_get ys j) found
 
--- what was found of the fetches among so many entries
+-- the findings of the fetches among so many entries
 pub record AreFetches (s : State) (n : ℕ) (rs : List Recorded) (k : ℕ) (x : Fetches) : Type 0 where
   pub windows : IsCompared fetches_at s.entries (windows_of rs) k x.count x.window
   pub offers : IsCompared (handed_at s.params s.plan) s.entries (map (offers_of n) rs) k x.count x.offer
 
--- what the entry of this number adds
+-- the findings with the entry of this number
 abbrev pub FetchesNext : State → ℕ → List Recorded → ℕ → Fetches → Entry → Fetches → Type 0
 FetchesNext s n rs k x (Commit task buffer payload) y = y ≡ x
 FetchesNext s n rs k x (Withdraw task buffer of) y = y ≡ x
@@ -190,13 +190,13 @@ FetchesNext s n rs k x (Fetch window a b) y =
     × FindsNext (option_map (offers_of n) (slice_get rs x.count) ≡ Some (handed_by s k window)) x.count x.offer y.offer
 FetchesNext s n rs k x (Observe number a b) y = y ≡ x
 
--- what was found of the observes among so many entries
+-- the findings of the observes among so many entries
 pub record AreObserves (p : Parameters) (s : State) (n : ℕ) (rs : List Recorded) (k : ℕ) (x : Observes) : Type 0 where
   pub opened : x.opened ≡ open_window (take k s.entries)
   pub windows : IsCompared observes_at s.entries (windows_of rs) k x.count x.window
   pub sights : IsCompared sight_at s.entries (map (sights_of p n) rs) k x.count x.sight
 
--- what is found with what an entry saw, if it saw something
+-- the findings with the observation of an entry, if it has one
 abbrev pub SightsNext : Parameters → ℕ → List Recorded → Observes → Option Sight → Observes → Type 0
 SightsNext p n rs x None y = (y.count ≡ x.count) × (y.window ≡ x.window) × (y.sight ≡ x.sight)
 SightsNext p n rs x (Some sight) y =
@@ -211,12 +211,12 @@ pub record ObservesNext (p : Parameters) (n : ℕ) (rs : List Recorded) (x : Obs
 
 -- ---- tasks
 
--- the line is there, and is what was done
+-- there is a line, and it is the executed call
 abbrev pub HasLine : Option Line → Deed → Type 0
 HasLine None d = ⊥
 HasLine (Some line) d = IsLine line d
 
--- the script at this place, if it is the task's, has what was done as its line at that place
+-- the script at this place, if it is for the task, has the executed call as its line at that place
 abbrev pub HasLineAt : List Scripted → ℕ → ℕ → ℕ → Deed → ℕ → Type 0
 HasLineAt scripts n task j d k =
     IfSome (slice_get scripts k) (λ script. is_for n task script ≡ true → HasLine (slice_get script.lines j) d)
@@ -225,11 +225,11 @@ HasLineAt scripts n task j d k =
 abbrev pub HaveLines : List Scripted → ℕ → ℕ → ℕ → Deed → Type 0
 HaveLines scripts n task j d = (k : ℕ) → HasLineAt scripts n task j d k
 
--- each script that is given for the task has what it did at this place
+-- each script for the task has the task's executed call at this place
 abbrev pub FitsAt : List Scripted → ℕ → ℕ → List Deed → ℕ → Type 0
 FitsAt scripts n task deeds j = (d : Deed) → slice_get deeds j ≡ Some d → HaveLines scripts n task j d
 
--- how far the task has come beside its scripts after so many entries
+-- the progress of the task beside its scripts after so many entries
 pub record IsCourse (s : State) (scripts : List Scripted) (n task k : ℕ) (x : Course) : Type 0 where
   pub as_many : length (each_after (deed_at s task) [] (take k s.entries)) ≡ x.deeds
   pub few : x.deeds ≤ k
@@ -240,12 +240,12 @@ pub record AreCourses (s : State) (scripts : List Scripted) (n k : ℕ) (xs : Li
   pub as_many : length xs ≡ most_tasks
   pub each : (task : ℕ) (x : Course) → slice_get xs task ≡ Some x → IsCourse s scripts n task k x
 
--- what becomes of a task's course with what it did
+-- the course of a task after this executed call
 pub record CourseNext (scripts : List Scripted) (n task : ℕ) (d : Deed) (x y : Course) : Type 0 where
   pub deeds : y.deeds ≡ x.deeds + 1
   pub agrees : IsTrue y.agrees ↔ (IsTrue x.agrees × HaveLines scripts n task x.deeds d)
 
--- how far the task has come beside its scripts once it did all that it did
+-- the progress of the task beside its scripts after all its executed calls
 pub record IsWhole (scripts : List Scripted) (n task : ℕ) (deeds : List Deed) (x : Course) : Type 0 where
   pub as_many : length deeds ≡ x.deeds
   pub fits : IsTrue x.agrees ↔ ((j : ℕ) → j < x.deeds → FitsAt scripts n task deeds j)
@@ -254,21 +254,21 @@ abbrev pub IsAsLongAt : List Scripted → ℕ → ℕ → ℕ → ℕ → Type 0
 IsAsLongAt scripts n task deeds k =
     IfSome (slice_get scripts k) (λ script. is_for n task script ≡ true → length script.lines ≡ deeds)
 
--- the course of a task that did its scripts
+-- the course of a task that executed its scripts
 pub record Suits (scripts : List Scripted) (n task : ℕ) (x : Course) : Type 0 where
   pub agrees : IsTrue x.agrees
   pub given : (k : ℕ) → IsAsLongAt scripts n task x.deeds k
   pub missing : list_any (is_for n task) scripts ≡ false → x.deeds ≡ 0
 
--- tasks that did nothing
+-- tasks that executed no call
 abbrev pub new_courses : List Course
 new_courses = replicate most_tasks (record { deeds = 0; agrees = true })
 
--- of the task of this number
+-- the same for the task of this number
 abbrev pub SuitsAt : List Scripted → ℕ → List Course → ℕ → Type 0
 SuitsAt scripts n xs task = (x : Course) → slice_get xs task ≡ Some x → Suits scripts n task x
 
--- each script that is given for the task has the lines that it did, and without a script it did nothing
+-- each script for the task has its executed calls as lines, and a task without a script executed none
 pub record AreScripts (scripts : List Scripted) (n task : ℕ) (deeds : List Deed) : Type 0 where
   pub given : (k : ℕ) → IfSome (slice_get scripts k) (λ script. is_for n task script ≡ true
       → AreLines script.lines deeds)
@@ -276,7 +276,7 @@ pub record AreScripts (scripts : List Scripted) (n task : ℕ) (deeds : List Dee
 
 -- ---- nodes
 
--- what is found of a node, whose interface may not be there
+-- the findings of a node, whose interface may not exist
 pub record AreFindings (p : Parameters) (o : Option State) (rs : List Recorded) (given : List Scripted) (n : ℕ)
     (x : Findings) : Type 0 where
   pub windows : IsTrue x.has_windows ↔ IfThere o (HasWindows rs)
@@ -284,12 +284,12 @@ pub record AreFindings (p : Parameters) (o : Option State) (rs : List Recorded) 
   pub sights : Finds (λ k. IfThere o (IsShownAt p rs n k)) x.sight
   pub scripts : FindsTask (λ task. AreScripts given n task (deeds_in o task)) x.task
 
--- of the first nodes, each by its place, this is what is found
+-- the findings of the first nodes, each at its place
 abbrev pub AreFirstFindings : Parameters → List State → List Recorded → List Scripted → List Findings → Type 0
 AreFirstFindings p is rs given xs =
     (n : ℕ) (x : Findings) → slice_get xs n ≡ Some x → AreFindings p (slice_get is n) rs given n x
 
--- what is found of the nodes below the number
+-- the findings of the nodes below the number
 pub record AreDifferences (p : Parameters) (is : List State) (rs : List Recorded) (given : List Scripted) (upto : ℕ)
     (x : Differences) : Type 0 where
   pub windows : FindsBelow upto (WindowsAgree is rs) x.window

@@ -1,4 +1,4 @@
--- What a world is seen as (project-defined).
+-- The view of a world (project-defined).
 use Rattle.std.specs.Prelude.{◌≡◌, ℕ, nat_lt, Bool, true, false, List, [], length, map, replicate, Result, Ok, Err}
 use Rattle.std.specs.Prelude.{slice_index_or}
 use Rattle.fr_bus.specs.declared.error.BusError.{BusError}
@@ -10,7 +10,7 @@ use Rattle.fr_schedule.specs.Descriptions.{Description}
 use Rattle.fr_slots.specs.Parameters.{Parameters}
 use Rattle.fr_slots.specs.Plans.{Plan, empty_plan}
 
--- an interface for each node, the bus, and what each node's controller carries
+-- an interface for each node, the bus, and the data that each node's controller carries
 pub record WorldState : Type 0 where
   pub interfaces : List State
   pub bus : BusState
@@ -32,7 +32,7 @@ no_params = record {
   words_per_minislot = 0;
 }
 
--- what stands for the interface of a node that isn't there
+-- a placeholder for the interface of a node that doesn't exist
 abbrev pub no_interface : State
 no_interface = record { params = no_params; plan = empty_plan 0 0 0 0 0; entries = [] }
 
@@ -45,7 +45,7 @@ interface_at w n = slice_index_or w.interfaces n no_interface
 abbrev pub carried_at : WorldState → ℕ → Carried
 carried_at w n = slice_index_or w.carried n Idle
 
--- a controller that carries no step of a window that it fetched
+-- a controller that has observed every window that it fetched
 abbrev pub is_between : Carried → Bool
 is_between Idle = true
 is_between (Knows window) = true
@@ -66,13 +66,13 @@ opening_world d cycles = record {
   carried = replicate (length d.plans) Idle;
 }
 
--- a failed allocation comes only where the cycles fit
+-- a failed allocation is possible only if the number of cycles is valid
 abbrev pub OpensWorld : Description → ℕ → Result WorldState BusError → Type 0
 OpensWorld d cycles (Ok w) = (cycles_fit cycles ≡ true) × (w ≡ opening_world d cycles)
 OpensWorld d cycles (Err Memory) = cycles_fit cycles ≡ true
 OpensWorld d cycles (Err e) = (cycles_fit cycles ≡ false) × (e ≡ BadCycles)
 
--- ---- but for its journal
+-- ---- interfaces without their journals
 
 abbrev pub without_entries : State → State
 without_entries s = record { params = s.params; plan = s.plan; entries = [] }

@@ -1,4 +1,4 @@
-//! A controller's place in its window, and what it carries from one of its steps to the next.
+//! The place of a controller in its window, and the data that it carries from one of its steps to the next.
 
 ghost use Rattle.std.specs.Prelude.{◌≡◌};
 ghost use Rattle.fr_core.specs.Carried.{Idle};
@@ -9,8 +9,8 @@ use fr_slots::window::Window;
 use fr_status::seen::Seen;
 use std::marker::Model;
 
-/// Which step of a controller is due, and in which window. In each window it looks, fetches, puts, takes and observes,
-/// in this order (project-defined).
+/// The step of a controller that is due, and its window. In each window it looks, fetches, puts, takes and observes, in
+/// this order (project-defined).
 #[derive(Clone, Copy, PartialEq, Eq)]
 pub enum Due {
     Look,
@@ -20,10 +20,10 @@ pub enum Due {
     Observe(Window),
 }
 
-// Moving the offer and the observations took three fifths of a single-threaded run. `Carried` is a definition that
-// contracts cite, since events are specified by it.
-/// A controller: which of its steps is due, and room for what it carries to that step. The offer counts where a put is
-/// due, and the sights where an observe is. They stay in place, so that no room for frames is moved.
+// Moving the offer and the observations took three fifths of a single-threaded run, so they stay in place. `Carried` is
+// a definition that contracts cite, since it specifies events.
+/// A controller: its due step, and room for the data that it carries to that step. The offer counts if a put is due,
+/// and the observations if an observe is due.
 #[derive(Drop)]
 pub(crate) struct Controller {
     pub(crate) due: Due,
@@ -41,7 +41,7 @@ impl Model for Controller {
 }
 
 impl Controller {
-    /// Returns a controller that carries nothing.
+    /// Returns an idle controller.
     pub(crate) fn idle() -> Controller
         ensures { result ≡ Idle }
     {
@@ -53,7 +53,7 @@ impl Controller {
         }
     }
 
-    /// Returns whether the controller is between two windows: it carries no step of a window that it fetched.
+    /// Returns whether the controller has observed every window that it fetched.
     pub(crate) fn is_between(&self) -> bool
         ensures { result ≡ is_between self.now }
     {

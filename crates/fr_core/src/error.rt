@@ -1,22 +1,22 @@
-//! Why an event is refused.
+//! The refusals of events.
 
 use fr_bus::error::BusError;
 use fr_interface::errors::{HostError, SlotError};
 use std::error::Error;
 use std::fmt;
 
-/// Why an event is refused (project-defined).
+/// Reasons to refuse an event (project-defined).
 #[derive(Clone, Copy, Debug, PartialEq, Eq)]
 pub enum StepError {
-    /// The cluster doesn't have the node.
+    /// A node that the cluster doesn't have.
     UnknownNode,
-    /// Another step of the controller is due.
+    /// A controller for which another step is due.
     WrongTurn,
-    /// The interface refuses the call of a task.
+    /// A task's call that the interface refuses.
     Host(HostError),
-    /// The interface refuses the call of its controller.
+    /// A controller's call that the interface refuses.
     Slot(SlotError),
-    /// The bus refuses the call.
+    /// A call that the bus refuses.
     Bus(BusError),
 }
 
@@ -26,7 +26,7 @@ impl fmt::Display for StepError {
 
     ghost output = { λ error. Some (step_error_text error) };
 
-    /// Writes the refusal's name, after whose refusal it is where an interface or the bus refuses the call.
+    /// Writes the refusal's name; for one of an interface or the bus, also its own name.
     fn fmt<W: fmt::Write>(&self, f: &mut fmt::Formatter<W>) -> fmt::Result {
         match self {
             StepError::UnknownNode => write!(f, "UnknownNode"),

@@ -10,14 +10,14 @@ use fr_slots::window::Window;
 /// One atomic step of a cluster: one call of one node's interface, or one of the bus (project-defined).
 #[derive(Drop, PartialEq, Eq)]
 pub enum Event {
-    /// The task gives the payload to the node's transmit buffer of this number (chapter 9).
+    /// The task writes the payload to the node's transmit buffer of this number (chapter 9).
     Commit {
         node: NodeId,
         task: TaskId,
         buffer: u8,
         payload: Payload,
     },
-    /// The task takes back the last commit on the node's transmit buffer of this number, if that is pending.
+    /// The task withdraws the last commit on the node's transmit buffer of this number, if it is pending.
     Withdraw {
         node: NodeId,
         task: TaskId,
@@ -29,40 +29,40 @@ pub enum Event {
         task: TaskId,
         buffer: u8,
     },
-    /// The task takes the oldest frame of the node's receive queue.
+    /// The task pops the oldest frame of the node's receive FIFO.
     Pop {
         node: NodeId,
         task: TaskId,
     },
-    /// The node's controller asks the bus for the open window.
+    /// The node's controller gets the open window from the bus.
     Look(NodeId),
-    /// The node's controller opens that window at its interface, which hands out what the node sends in it.
+    /// The node's controller opens that window at its interface, which hands out the node's offer.
     Fetch(NodeId),
-    /// The node's controller puts that on the bus.
+    /// The node's controller puts that offer on the bus.
     Put(NodeId),
-    /// The node's controller takes from the bus what it sees.
+    /// The node's controller takes its observation from the bus.
     Take(NodeId),
-    /// The node's controller closes the window at its interface, with what it saw.
+    /// The node's controller closes the window at its interface, with its observation.
     Observe(NodeId),
-    /// A fault of the open window.
+    /// A fault is injected in the open window.
     Inject(Fault),
-    /// The bus settles what becomes of each transmission of the open window.
+    /// The bus decides the outcome of each transmission of the open window.
     Seal,
     /// The bus opens the next window, or ends the run.
     Advance,
 }
 
-/// What an accepted event is answered (project-defined).
+/// The reply to an accepted event (project-defined).
 #[derive(Drop, PartialEq, Eq)]
 pub enum Reply {
-    /// Whose commit it is, and which entry of its interface's journal.
+    /// The commit's task, and its entry in the interface's journal.
     Committed(Receipt),
-    /// Which entry of its interface's journal is the commit that was taken back. None where no commit was pending.
+    /// The withdrawn commit's entry in the interface's journal, or none if no commit was pending.
     Withdrawn(Option<u32>),
-    /// The frame that was read or popped. None where the buffer or the queue is empty.
+    /// The frame that was read or popped, or none if the buffer or the receive FIFO is empty.
     Frame(Option<Frame>),
-    /// The window that the controller saw open.
+    /// The window that was open.
     Window(Window),
-    /// Nothing, for all other events.
+    /// The reply to all other events.
     Done,
 }

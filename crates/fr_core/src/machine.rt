@@ -25,7 +25,8 @@ use fr_slots::window::Window;
 use std::alloc::{AllocError, Global};
 use std::marker::Model;
 
-/// An interface for each node, the bus, and what each node's controller carries, with one call for each kind of event.
+/// The state of a world, with one call for each kind of event. It has an interface for each node, the bus, and the data
+/// that each controller carries.
 #[derive(Drop)]
 pub(crate) struct Machine {
     interfaces: Vec<Interface>,
@@ -63,7 +64,7 @@ fn interfaces_of(
     Ok(list)
 }
 
-/// So many controllers that carry nothing.
+/// Returns so many idle controllers.
 fn idle_controllers(alloc: Global, count: usize) -> Result<Vec<Controller>, AllocError>
     ensures { IfOk result (λ list. list.items ≡ replicate count Idle) }
 {
@@ -74,7 +75,7 @@ fn idle_controllers(alloc: Global, count: usize) -> Result<Vec<Controller>, Allo
     Ok(list)
 }
 
-/// Returns the answer to an event that is answered with nothing.
+/// Returns `Done` for an accepted event.
 fn done(outcome: Result<(), StepError>) -> Result<Reply, StepError>
     ensures { result ≡ answered Done outcome }
 {
@@ -90,7 +91,7 @@ impl Machine {
     ghost use Rattle.fr_core.specs.Worlds.{OpensWorld, has_node, is_between};
     ghost use Rattle.fr_core.specs.Steps.{Steps, Applies};
 
-    /// Empty journals, the bus at its first window, and idle controllers.
+    /// Returns the opening state: empty journals, the bus at its first window, and idle controllers.
     pub(crate) fn new(alloc: Global, cluster: &Cluster, cycles: u16) -> Result<Machine, BusError>
         ensures { OpensWorld cluster.now cycles result }
     {
@@ -122,7 +123,7 @@ impl Machine {
         &self.bus
     }
 
-    /// Returns whether no controller carries a step of a window that it fetched.
+    /// Returns whether each controller has observed every window that it fetched.
     pub(crate) fn between_windows(&self) -> bool
         ensures { result ≡ list_all is_between self.now.carried }
     {
@@ -131,7 +132,7 @@ impl Machine {
             .all(|controller| controller.is_between())
     }
 
-    /// Returns the place of the node's interface and controller.
+    /// Returns the index of the node's interface and controller.
     fn place(&self, node: NodeId) -> Result<usize, StepError>
         ensures { result ≡ (if has_node self.now node then Ok node else Err UnknownNode) }
     {
@@ -143,7 +144,7 @@ impl Machine {
         }
     }
 
-    /// Gives a transmit buffer a payload for a task.
+    /// Commits a payload to a transmit buffer for a task.
     fn commit(
         &mut self,
         node: NodeId,
@@ -158,7 +159,7 @@ impl Machine {
         Ok(Reply::Committed(receipt))
     }
 
-    /// Takes back for a task what is pending on a transmit buffer.
+    /// Withdraws the pending commit of a transmit buffer for a task.
     fn withdraw(&mut self, node: NodeId, task: TaskId, buffer: u8) -> Result<Reply, StepError>
         ensures { Steps self.old (event.Withdraw node task buffer) result self.new }
     {
@@ -176,7 +177,7 @@ impl Machine {
         Ok(Reply::Frame(frame))
     }
 
-    /// Takes the oldest frame of the receive queue for a task.
+    /// Pops the oldest frame of the receive FIFO for a task.
     fn pop(&mut self, node: NodeId, task: TaskId) -> Result<Reply, StepError>
         ensures { Steps self.old (event.Pop node task) result self.new }
     {
@@ -185,12 +186,12 @@ impl Machine {
         Ok(Reply::Frame(frame))
     }
 
-    /// Asks the bus for the open window for a controller.
+    /// Gets the open window from the bus for a controller.
     fn look(&mut self, node: NodeId) -> Result<Window, StepError>
         ensures { Steps self.old (event.Look node) (with_window result) self.new }
     {
-        // The node is tested first, then the turn, then the call. So a busy controller that looks is `WrongTurn` in
-        // every phase, and an idle one gets `NotCollecting` from the bus.
+        // The node is tested first, then the turn, then the call. So a busy controller that looks fails with
+        // `WrongTurn` in every phase, and an idle one gets `NotCollecting` from the bus.
         let place = self.place(node)?;
         let controller = &mut self.controllers[place];
         let Due::Look = &controller.due else {
@@ -203,7 +204,7 @@ impl Machine {
         Ok(window)
     }
 
-    /// A controller opens the window at its interface.
+    /// Opens the controller's window at its interface.
     fn fetch(&mut self, node: NodeId) -> Result<(), StepError>
         ensures { Steps self.old (event.Fetch node) (answered Done result) self.new }
     {
@@ -218,7 +219,7 @@ impl Machine {
         Ok(())
     }
 
-    /// A controller puts on the bus what its interface handed out.
+    /// Puts the controller's offer on the bus.
     fn put(&mut self, node: NodeId) -> Result<(), StepError>
         ensures { Steps self.old (event.Put node) (answered Done result) self.new }
     {
@@ -233,7 +234,7 @@ impl Machine {
         Ok(())
     }
 
-    /// A controller takes what it sees.
+    /// Takes the controller's observation from the bus.
     fn take(&mut self, node: NodeId) -> Result<(), StepError>
         ensures { Steps self.old (event.Take node) (answered Done result) self.new }
     {
@@ -249,7 +250,7 @@ impl Machine {
         Ok(())
     }
 
-    /// A controller closes the window at its interface.
+    /// Closes the controller's window at its interface.
     fn observe(&mut self, node: NodeId) -> Result<(), StepError>
         ensures { Steps self.old (event.Observe node) (answered Done result) self.new }
     {
@@ -264,16 +265,16 @@ impl Machine {
         Ok(())
     }
 
-    /// A fault of the open window.
+    /// Injects a fault in the open window.
     fn inject(&mut self, fault: &Fault) -> Result<(), StepError>
         ensures { Steps self.old (event.Inject fault.now) (answered Done result) self.new }
     {
-        // A fault names a node of the bus, so the bus refuses an unknown one.
+        // The bus refuses a fault of an unknown node.
         self.bus.inject(fault.duplicate())?;
         Ok(())
     }
 
-    /// The bus settles the open window.
+    /// Seals the open window.
     fn seal(&mut self) -> Result<(), StepError>
         ensures { Steps self.old event.Seal (answered Done result) self.new }
     {
@@ -281,7 +282,7 @@ impl Machine {
         Ok(())
     }
 
-    /// The bus opens the next window.
+    /// Opens the next window.
     fn advance(&mut self) -> Result<(), StepError>
         ensures { Steps self.old event.Advance (answered Done result) self.new }
     {
@@ -289,7 +290,7 @@ impl Machine {
         Ok(())
     }
 
-    /// One event, with its answer.
+    /// Executes one event, with its answer.
     pub(crate) fn step(&mut self, event: &Event) -> Result<Reply, StepError>
         ensures { Steps self.old event.now result self.new }
     {
@@ -317,7 +318,7 @@ impl Machine {
         }
     }
 
-    /// One event, without its answer.
+    /// Executes one event, without its answer.
     pub(crate) fn apply(&mut self, event: &Event) -> Result<(), StepError>
         ensures { Applies self.old event.now result self.new }
     {

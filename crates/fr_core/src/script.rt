@@ -1,4 +1,4 @@
-//! Scripts: what a task is to do.
+//! Scripts: the calls that a task is to make.
 
 ghost use Rattle.std.specs.Prelude.{◌≡◌};
 ghost use Rattle.std.specs.List.{list_any};
@@ -12,20 +12,20 @@ use std::marker::Model;
 /// One call of a task at its node's interface (chapter 9).
 #[derive(Drop, PartialEq, Eq)]
 pub enum Action {
-    /// It gives the payload to the transmit buffer of this number.
+    /// Writes the payload to the transmit buffer of this number.
     Commit { buffer: u8, payload: Payload },
-    /// It takes back the last commit on the transmit buffer of this number, if that is pending.
+    /// Withdraws the last commit on the transmit buffer of this number, if it is pending.
     Withdraw { buffer: u8 },
-    /// It reads the receive buffer of this number.
+    /// Reads the receive buffer of this number.
     Read { buffer: u8 },
-    /// It takes the oldest frame of the receive queue.
+    /// Pops the oldest frame of the receive FIFO.
     Pop,
 }
 
 impl Action {
     ghost use Rattle.std.specs.Prelude.{◌≡◌};
 
-    /// The same action.
+    /// Returns a copy of the action.
     pub fn duplicate(&self) -> Action
         ensures { result ≡ self.now }
     {
@@ -44,22 +44,22 @@ impl Action {
 /// A line of a script (project-defined).
 #[derive(Drop, PartialEq, Eq)]
 pub struct Line {
-    /// The cycle of the run in which it is to be done, from 0.
+    /// The cycle of the run for the call, from 0.
     pub cycle: u16,
-    /// What is to be done.
+    /// The call.
     pub action: Action,
-    /// How it was answered. None where that isn't known, as before a run.
+    /// The answer, or none if it isn't known, as before a run.
     pub answer: Option<Reply>,
 }
 
-/// What a task of a node is to do, in order (project-defined).
+/// The calls that a task of a node is to make, in order (project-defined).
 #[derive(Drop)]
 pub struct Script {
     /// The node.
     pub node: NodeId,
     /// The task of that node.
     pub task: TaskId,
-    /// What it is to do.
+    /// The calls.
     pub lines: Vec<Line>,
 }
 
@@ -73,7 +73,7 @@ impl Model for Script {
     ghost view = { scripted_in };
 }
 
-/// What a task did, with the answer that it got.
+/// A call that a task executed, with its answer.
 #[derive(Drop, PartialEq, Eq)]
 pub(crate) struct Deed {
     pub action: Action,
@@ -84,7 +84,7 @@ impl Script {
     ghost use Rattle.std.specs.Prelude.{◌≡◌};
     ghost use Rattle.fr_core.specs.Scripts.{is_for};
 
-    /// Returns whether the script is that task's.
+    /// Returns whether the script is for that task.
     pub fn is_for(&self, node: NodeId, task: TaskId) -> bool
         ensures { result ≡ is_for node task self.now }
     {
@@ -92,7 +92,7 @@ impl Script {
     }
 }
 
-/// Returns whether one of the scripts is the task's.
+/// Returns whether one of the scripts is for the task.
 pub fn has_script(scripts: &[Script], node: NodeId, task: TaskId) -> bool
     ensures { result ≡ list_any (is_for node task) scripts.now }
 {

@@ -1,4 +1,4 @@
-//! Whether a cluster, interfaces, a record and scripts agree.
+//! The cross-check of a cluster, interfaces, a record and scripts.
 
 ghost use Rattle.std.specs.Prelude.{◌≡◌, ◌↔◌, ◌<◌, ◌+◌, true, IsTrue, IfSome, OnOk, length, slice_get, option_map};
 ghost use Rattle.std.specs.List.{list_all};
@@ -27,53 +27,54 @@ use std::alloc::Global;
 use std::thread::Threads;
 use thiserror::Error;
 
-/// What a cross-check found that agrees.
+/// The result of a cross-check in which everything agrees.
 #[derive(Clone, Copy, PartialEq, Eq)]
 pub struct Settled {
-    /// How many windows the record has.
+    /// The number of windows of the record.
     pub windows: u32,
 }
 
-/// Why a cross-check fails: what differs, and where (project-defined).
+/// Reasons for a cross-check to fail: the first difference, and its place (project-defined).
 #[derive(Clone, Copy, Debug, PartialEq, Eq, Error)]
 pub enum SettleError {
-    /// The interface of this place hasn't the cluster's parameters and the plan of the node of this number, or only one
-    /// of interface and node is there. It may be the number after the last node.
+    /// A different plan, at this index of interfaces and nodes. The interface doesn't have the cluster's parameters and
+    /// the node's plan, or only one of interface and node exists. The index may be the number after the last node.
     #[error("PlanDiffers {0}")]
     PlanDiffers(usize),
-    /// The windows that the node fetched, or those that it observed, aren't the record's.
+    /// A node that fetched or observed other windows than those of the record.
     #[error("WindowsDiffer {0}")]
     WindowsDiffer(NodeId),
-    /// In the window of this number the node handed other bytes to the bus than the record has of it, or a transmission
-    /// of the node has a fate that the cluster's guardians don't give, or the cluster doesn't have the node.
+    /// A node whose offer in the window of this number differs. It handed other bytes to the bus than the record has
+    /// for it, or a transmission of the node has a fate that the cluster's guardians don't give, or the cluster doesn't
+    /// have the node.
     #[error("OfferDiffers {0} {1}")]
     OfferDiffers(NodeId, u32),
-    /// In the window of this number the node saw something else than the record lets it see.
+    /// A node whose observation in the window of this number differs from that of the record.
     #[error("SeenDiffers {0} {1}")]
     SeenDiffers(NodeId, u32),
-    /// What this task of the node did, by the journal, isn't its script.
+    /// A task of the node whose executed calls, by the journal, aren't its script.
     #[error("ScriptDiffers {0} {1}")]
     ScriptDiffers(NodeId, TaskId),
-    /// Memory is refused.
+    /// An allocation that failed.
     #[error("Memory")]
     Memory,
 }
 
-/// What differs first of each kind that a walk along the journals finds: the first node, and of that node the first
-/// place in the record or the first task.
+/// The first difference of each kind that a walk along the journals finds. It is that of the first node, and of that
+/// node the first place in the record or the first task.
 #[derive(Clone, Copy)]
 pub(crate) struct Differences {
     /// The node whose windows aren't the record's.
     pub window: Option<NodeId>,
-    /// Where a node handed over something else than the record has of it.
+    /// The node and place with an offer that isn't the record's.
     pub offer: Option<(NodeId, usize)>,
-    /// Where a node saw something else than the record lets it see.
+    /// The node and place with an observation that isn't the record's.
     pub sight: Option<(NodeId, usize)>,
-    /// The task that didn't do its scripts.
+    /// The node and task with executed calls that aren't its scripts.
     pub script: Option<(NodeId, TaskId)>,
 }
 
-/// Returns whether interface and node are both there, with the same parameters and the same plan, or neither is.
+/// Returns whether interface and node both exist, with the same parameters and plan, or neither does.
 fn are_planned(params: &Params, interface: Option<&Interface>, plan: Option<&NodePlan>) -> bool
     ensures { IsTrue result
         ↔ ArePlanned params.now (option_map (λ i. i.now) interface.entry) (option_map (λ p. p.now) plan.entry) }
@@ -94,7 +95,7 @@ fn plan_at(plans: &[NodePlan], place: usize) -> Option<&NodePlan>
     plans.get(place)
 }
 
-/// Returns the first place at which interface and node aren't both there with the same parameters and plan.
+/// Returns the first place at which interface and node don't agree in existence, parameters and plan.
 fn other_plan(cluster: &Cluster, interfaces: &[Interface]) -> Option<usize>
     ensures { Finds (PlansAgree cluster.now interfaces.now) result }
 {
@@ -108,7 +109,7 @@ fn other_plan(cluster: &Cluster, interfaces: &[Interface]) -> Option<usize>
     None
 }
 
-/// Returns whether the fate is what the guardian gives, or a mute.
+/// Returns whether the fate is the guardian's, or a mute.
 fn is_due(fate: Fate, let_pass: bool) -> bool
     ensures { result ≡ is_due fate let_pass }
 {
@@ -119,7 +120,7 @@ fn is_due(fate: Fate, let_pass: bool) -> bool
     }
 }
 
-/// Returns whether the transmission is right, if it is the node's.
+/// Returns whether the transmission is right, if the node sent it.
 fn is_right(guardian: &Guardian, node: NodeId, window: &Window, sent: &Sent) -> bool
     ensures { result ≡ is_right guardian.now node window.now sent.now }
 {
@@ -128,7 +129,7 @@ fn is_right(guardian: &Guardian, node: NodeId, window: &Window, sent: &Sent) -> 
             && is_due(sent.fate, guardian.passes(node, window, sent.channel)))
 }
 
-/// Returns the lesser node, or this one where there is no other.
+/// Returns the lesser of two nodes, one of which may be absent.
 fn lesser_node(least: Option<NodeId>, node: NodeId) -> NodeId
     ensures { result ≡ lesser_node least node }
 {
@@ -165,7 +166,7 @@ fn wrong_in(guardian: &Guardian, sealed: &Sealed) -> Option<NodeId>
     wrong_node(guardian, &sealed.window, sealed.sent.as_slice())
 }
 
-/// Returns what was found before this place, unless the node found here is a lesser one.
+/// Returns the earlier finding, unless the node found at this place is a lesser one.
 fn or_lesser(
     found: Option<(NodeId, usize)>,
     here: Option<NodeId>,
@@ -186,7 +187,7 @@ fn or_lesser(
     }
 }
 
-/// Returns the first node with a transmission that isn't right, and the first place at which it has one.
+/// Returns the first node with a transmission that isn't right, and its first such place.
 fn other_fates(guardian: &Guardian, recorded: &[Sealed]) -> Option<(NodeId, usize)>
     ensures { FindsPlace (IsFatedAt guardian.now recorded.now) result }
 {
@@ -197,7 +198,7 @@ fn other_fates(guardian: &Guardian, recorded: &[Sealed]) -> Option<(NodeId, usiz
     found
 }
 
-/// That of the lesser node, and of the same node that of the lesser place.
+/// Returns the finding of the lesser node, and for the same node that of the lesser place.
 fn earlier(one: Option<(NodeId, usize)>, other: Option<(NodeId, usize)>) -> Option<(NodeId, usize)>
     ensures { result ≡ earlier one other }
 {
@@ -255,9 +256,9 @@ fn or_task(
     }
 }
 
-// All numbers that a node can have are looked at, since a record may have a transmission of a node outside the cluster.
-/// Returns what differs first of each kind. Each journal is walked once: those of the first nodes were, which found
-/// these, and all others are walked here.
+// Every number that a node can have is tested, since a record may have a transmission of a node outside the cluster.
+/// Returns the first difference of each kind. The journals of the first nodes were walked, with the findings `first`;
+/// all others are walked here.
 fn find_differences(
     params: &Params,
     interfaces: &[Interface],
@@ -296,7 +297,7 @@ fn number_at(recorded: &[Sealed], place: usize) -> u32
     sealed.window.number
 }
 
-/// Returns the number of windows of the record, which an interface that has them all observed.
+/// Returns the number of windows of the record. One interface observed all of them.
 fn count_windows(interfaces: &[Interface], recorded: &[Sealed]) -> u32
     requires there { 0 < length interfaces.now }
     requires agree { WindowsAgree interfaces.now recorded.now 0 }
@@ -305,11 +306,12 @@ fn count_windows(interfaces: &[Interface], recorded: &[Sealed]) -> u32
     let Some(interface) = interface_at(interfaces, 0) else {
         unreachable!();
     };
+    // For the prover: the clause of this call.
     let _entries = entries_of(interface);
     recorded.len() as u32
 }
 
-/// Returns whether all agrees, and if not what differs first, where this was found of the first nodes.
+/// Cross-checks everything, given the findings of the first nodes.
 fn judge(
     alloc: Global,
     cluster: &Cluster,
@@ -347,12 +349,13 @@ fn judge(
     if let Some(found) = script {
         return Err(SettleError::ScriptDiffers(found.0, found.1));
     }
+    // For the prover: the clause of this call.
     let _params = cluster.params();
     let windows = count_windows(interfaces, recorded);
     Ok(Settled { windows })
 }
 
-/// The same as `settle`, where this was found of the first nodes.
+/// Does the same as `settle`, given the findings of the first nodes.
 fn settle_beside(
     alloc: Global,
     cluster: &Cluster,
@@ -368,36 +371,36 @@ fn settle_beside(
     ensures receivers { OnOk result (Receivers cluster.now interfaces.now bus.now.sealed) }
     ensures between { IsBetweenWindows cluster.now interfaces.now bus.now → DiffersInScriptsAlone result }
 {
-    // The clauses on senders and receivers hold for any bus, since a lock can't give back which bus lay under it.
+    // The clauses on senders and receivers hold for any bus, since a lock can't return the bus that was put in it.
     let recorded = bus.record();
     let answer = judge(alloc, cluster, interfaces, recorded, scripts, first);
+    // For the prover: the clauses of these calls.
     let _params = cluster.params();
     legal::known(interfaces);
     answer
 }
 
-/// Returns whether the interfaces are those of the cluster's nodes, and their journals and the scripts agree with the
-/// record of the bus (project-defined).
+/// Cross-checks a cluster, its nodes' interfaces, the scripts and the record (project-defined).
 ///
-/// Each of these is tested for all nodes before the next, and where one fails the least node is named, and then the
-/// first window or the least task of that node:
+/// Each of these is tested for all nodes before the next. A failure names the least node, and of that node the first
+/// window or the least task.
 ///
-/// - each interface has the cluster's parameters and the plan of the node of its place, and there are as many as
-///   nodes: `PlanDiffers`;
-/// - the windows that a node fetched, and those that it observed, are the record's: `WindowsDiffer`;
-/// - in each window the record has of a node the offers that its journal handed to the bus, and each fate of the node's
-///   transmissions, unless it is a mute, is what the cluster's guardians give; a transmission of a node that the
-///   cluster doesn't have differs too: `OfferDiffers`;
-/// - a node saw in each window what the record lets it see: `SeenDiffers`;
-/// - what a task did, by the journal, is the lines of each script that is given for it, in whatever cycle, with the
-///   answers that these have, and nothing where no script is given: `ScriptDiffers`.
+/// - `PlanDiffers`: each interface has the cluster's parameters and the plan of the node at its place, and there are as
+///   many interfaces as nodes.
+/// - `WindowsDiffer`: the windows that a node fetched, and those that it observed, are the record's.
+/// - `OfferDiffers`: in each window, the record has the offers that the node's journal handed to the bus. The fate of
+///   each of the node's transmissions is a mute, or the one that the cluster's guardians give. There is no transmission
+///   of a node that the cluster doesn't have.
+/// - `SeenDiffers`: a node's observation in each window is the one that the record gives.
+/// - `ScriptDiffers`: a task's executed calls, by the journal, are the lines of each script for it, in any cycle, with
+///   the answers of these lines. A task without a script executed none.
 ///
-/// `Memory` may be answered in place of the last three and of the number of windows, where memory is refused. A world
-/// between two windows settles with its own cluster, interfaces and bus, but for the scripts.
+/// A failed allocation may give `Memory` in place of the last three and of the number of windows. A world between two
+/// windows agrees with its own cluster, interfaces and bus, except for the scripts.
 ///
-/// Where all agrees, no static slot of a channel that the cluster guards carries two senders in the record, and a frame
-/// that a receive buffer or a queue holds from a fault-free slot is one that the slot's owner in that cycle committed
-/// and handed over, whatever cluster the bus was made with.
+/// If everything agrees, each static slot of a channel that the cluster guards carries at most one sender in the
+/// record. A frame from a fault-free slot, in a receive buffer or a receive FIFO, is one that the slot's owner in that
+/// cycle committed and handed to the bus. Both hold for a bus that was made with any cluster.
 pub fn settle(
     alloc: Global,
     cluster: &Cluster,
@@ -414,10 +417,8 @@ pub fn settle(
     settle_beside(alloc, cluster, interfaces, bus, scripts, &[])
 }
 
-/// The same as `settle`, with the same answer, where the journals are walked in as many threads as run beside one
-/// another, if these can be made, and else one after another (project-defined).
-///
-/// Where memory for what the threads find is refused the journals are walked one after another, as `settle` walks them.
+/// Does the same as `settle`, in as many threads as there are cores (project-defined). If threads can't be made, or the
+/// allocation of their findings fails, the journals are walked one after another. The answer is the same.
 pub fn settle_in_threads<R: Threads + Sync>(
     rt: &R,
     alloc: Global,

@@ -1,4 +1,4 @@
-//! What tasks did, beside their scripts.
+//! The executed calls of tasks, compared with their scripts.
 
 ghost use Rattle.std.specs.Prelude.{◌≡◌, ◌↔◌, ◌<◌, ◌+◌, IsTrue, IfSome, Some, slice_get, option_map, ℕ};
 ghost use Rattle.std.specs.Option.{option_copied};
@@ -15,22 +15,22 @@ use fr_journal::entry::Origin;
 use fr_journal::lent::{LentEntry, payload_of};
 use fr_slots::numbers::{NodeId, TASKS, TaskId};
 
-/// How many tasks a node has at most.
+/// The greatest number of tasks of a node.
 const COUNT: usize = TASKS as usize;
 
-/// How far a task has come beside the scripts that are given for it.
+/// The progress of a task beside its scripts.
 #[derive(Clone, Copy)]
 pub(crate) struct Course {
-    /// How much it did.
+    /// The number of calls that it executed.
     pub deeds: usize,
-    /// Whether each of its scripts has that as its first lines.
+    /// True if these calls are the first lines of each of its scripts.
     pub agrees: bool,
 }
 
 /// The courses of all tasks of a node.
 pub(crate) type Courses = [Course; COUNT];
 
-/// Returns the courses of tasks that did nothing.
+/// Returns the courses of tasks that executed no call.
 pub(crate) fn new_courses() -> Courses
     ensures { result ≡ new_courses }
 {
@@ -40,7 +40,7 @@ pub(crate) fn new_courses() -> Courses
     }; COUNT]
 }
 
-/// Returns the answer that names where a frame comes from: that frame, or nothing.
+/// Returns the reply with the frame of this origin, or without a frame.
 fn frame_reply(interface: &Interface, from: Option<Origin>) -> Reply
     ensures { result ≡ frame_reply interface.now from }
 {
@@ -50,7 +50,7 @@ fn frame_reply(interface: &Interface, from: Option<Origin>) -> Reply
     }
 }
 
-/// Returns what the entry of this number did, and for which task, if it is the host's.
+/// Returns the task and the executed call of this entry, if it is the host's.
 fn done_by(interface: &Interface, number: u32, entry: &LentEntry<'_>) -> Option<(TaskId, Deed)>
     requires { HasPayload entry.now }
     ensures { result ≡ done_by interface.now number (whole entry.now) }
@@ -101,8 +101,8 @@ fn is_answer(told: &Option<Reply>, answer: &Reply) -> bool
     }
 }
 
-// A line without an answer takes any. Cycles of lines aren't compared: a world has no steps.
-/// Returns whether the line is what was done.
+// A line without an answer fits any. Cycles of lines aren't compared, since a world has no steps.
+/// Returns whether the line is the executed call.
 fn is_line(line: &Line, deed: &Deed) -> bool
     ensures { IsTrue result ↔ IsLine line.now deed.now }
 {
@@ -116,7 +116,7 @@ fn line_at(lines: &[Line], place: usize) -> Option<&Line>
     lines.get(place)
 }
 
-/// Returns whether the line at this place is there, and is what was done.
+/// Returns whether there is a line at this place and it is the executed call.
 fn has_line(lines: &[Line], place: usize, deed: &Deed) -> bool
     ensures { IsTrue result ↔ HasLine (slice_get lines.now place) deed.now }
 {
@@ -133,7 +133,7 @@ fn script_at(scripts: &[Script], place: usize) -> Option<&Script>
     scripts.get(place)
 }
 
-/// Returns whether the script of this place, if it is the task's, has what was done as its line at this place.
+/// Returns whether this script, if it is for the task, has the executed call as its line at the place.
 fn has_line_at(
     scripts: &[Script],
     given: usize,
@@ -152,9 +152,8 @@ fn has_line_at(
     }
 }
 
-// A walk along the journal goes through all scripts that are given for the task of a host entry, so each journal is
-// walked once.
-/// Returns whether each script of the task has what was done as its line at this place.
+// A walk along the journal goes through all scripts for the task of a host entry, so each journal is walked once.
+/// Returns whether each script for the task has the executed call as its line at the place.
 fn have_lines(scripts: &[Script], node: NodeId, task: TaskId, place: usize, deed: &Deed) -> bool
     ensures { IsTrue result ↔ HaveLines scripts.now node task place deed.now }
 {
@@ -166,7 +165,7 @@ fn have_lines(scripts: &[Script], node: NodeId, task: TaskId, place: usize, deed
     true
 }
 
-/// Returns the course of the task with this deed, where this is the course before it.
+/// Returns the course of the task after this call, from the course before it.
 fn course_past(
     scripts: &[Script],
     node: NodeId,
@@ -184,7 +183,7 @@ fn course_past(
     }
 }
 
-/// The courses with the entry of this number, where these are the courses before it.
+/// Returns the courses after the entry of this number, from the courses before it.
 pub(crate) fn courses_past(
     interface: &Interface,
     node: NodeId,
@@ -206,7 +205,7 @@ pub(crate) fn courses_past(
     courses[place] = course_past(scripts, node, done.0, &done.1, courses[place]);
 }
 
-/// Returns whether the script of this place, if it is the task's, has as many lines.
+/// Returns whether this script, if it is for the task, has as many lines.
 fn is_as_long_at(scripts: &[Script], given: usize, node: NodeId, task: TaskId, deeds: usize) -> bool
     ensures { IsTrue result ↔ IsAsLongAt scripts.now node task deeds given }
 {
@@ -216,7 +215,7 @@ fn is_as_long_at(scripts: &[Script], given: usize, node: NodeId, task: TaskId, d
     }
 }
 
-/// Returns whether each script of the task has as many lines.
+/// Returns whether each script for the task has as many lines.
 fn are_as_long(scripts: &[Script], node: NodeId, task: TaskId, deeds: usize) -> bool
     ensures { IsTrue result ↔ ((k : ℕ) → IsAsLongAt scripts.now node task deeds k) }
 {
@@ -228,17 +227,17 @@ fn are_as_long(scripts: &[Script], node: NodeId, task: TaskId, deeds: usize) -> 
     true
 }
 
-/// Returns whether a task of this course did its scripts; without a script it did nothing.
+/// Returns whether a task of this course executed its scripts, or no call without a script.
 fn suits(scripts: &[Script], node: NodeId, task: TaskId, course: Course) -> bool
     ensures { IsTrue result ↔ Suits scripts.now node task course }
 {
-    // Each script for a task has to be all that the task did. Without a script it has to have done nothing.
+    // Each script for a task must be all the calls that it executed. A task without a script must have executed none.
     course.agrees
         && are_as_long(scripts, node, task, course.deeds)
         && (has_script(scripts, node, task) || course.deeds == 0)
 }
 
-/// Returns the first task that didn't do its scripts, by these courses.
+/// Returns the first task that didn't execute its scripts, by these courses.
 pub(crate) fn other_task(scripts: &[Script], node: NodeId, courses: &Courses) -> Option<TaskId>
     ensures { FindsTask (SuitsAt scripts.now node courses.now) result }
 {

@@ -30,40 +30,40 @@ use std::alloc::Global;
 use std::thread;
 use std::thread::Threads;
 
-/// What is found of a node.
+/// The findings of a node.
 #[derive(Clone, Copy)]
 pub(crate) struct Findings {
-    /// Whether the windows that it fetched, and those that it observed, are the record's.
+    /// True if the windows that it fetched, and those that it observed, are the record's.
     pub has_windows: bool,
-    /// The first place at which what it handed over isn't what the record has of it.
+    /// The first place at which its offer isn't the record's.
     pub offer: Option<usize>,
-    /// The first place at which what it saw isn't what the record lets it see.
+    /// The first place at which its observation isn't the record's.
     pub sight: Option<usize>,
-    /// The first task that didn't do its scripts.
+    /// The first task that didn't execute its scripts.
     pub task: Option<TaskId>,
 }
 
-/// What is found of the fetches of a node.
+/// The findings of the fetches of a node.
 #[derive(Clone, Copy)]
 pub(crate) struct Fetches {
-    /// How many there are.
+    /// The number of fetches.
     pub count: usize,
     /// The first place at which the window isn't the record's.
     pub window: Option<usize>,
-    /// The first place at which what was handed over isn't what the record has of the node.
+    /// The first place at which the offer isn't the record's.
     pub offer: Option<usize>,
 }
 
-/// What is found of the observes of a node.
+/// The findings of the observes of a node.
 #[derive(Clone, Copy)]
 pub(crate) struct Observes {
-    /// How many there are.
+    /// The number of observes.
     pub count: usize,
-    /// The window that is open, if there is one.
+    /// The open window, if there is one.
     pub opened: Option<Window>,
     /// The first place at which the window isn't the record's.
     pub window: Option<usize>,
-    /// The first place at which what was seen isn't what the record lets the node see.
+    /// The first place at which the observation isn't the record's.
     pub sight: Option<usize>,
 }
 
@@ -75,7 +75,7 @@ pub(crate) fn entries_of(interface: &Interface) -> u32
     interface.journal().len()
 }
 
-/// Returns the entry of this number. The walk along a journal gets its entries here, each once.
+/// Returns the entry of this number. A walk along a journal asks for each entry once.
 fn entry_at(interface: &Interface, number: u32) -> Option<LentEntry<'_>>
     ensures entry { option_map whole result ≡ slice_get interface.now.entries number }
     ensures payload { IfSome result HasPayload }
@@ -90,7 +90,7 @@ pub(crate) fn interface_at(interfaces: &[Interface], place: usize) -> Option<&In
     interfaces.get(place)
 }
 
-/// Returns what stands at this place of the record.
+/// Returns the sealed window at this place of the record.
 fn sealed_at(recorded: &[Sealed], place: usize) -> Option<&Sealed>
     ensures { option_map (λ sealed. sealed.now) result ≡ slice_get recorded.now place }
 {
@@ -107,8 +107,7 @@ fn is_window_at(recorded: &[Sealed], place: usize, window: &Window) -> bool
     }
 }
 
-/// Returns the first place at which two lists differ, which are the same or not at this place, where this was found
-/// before it.
+/// Returns the first place at which two lists differ, from the finding before this place.
 fn next_found(found: Option<usize>, place: usize, is_same: bool) -> Option<usize>
     ensures { FindsNext (IsTrue is_same) place found result }
 {
@@ -118,7 +117,7 @@ fn next_found(found: Option<usize>, place: usize, is_same: bool) -> Option<usize
     }
 }
 
-/// Returns whether both are the same bytes, or none.
+/// Returns whether both are the same bytes, or both are none.
 fn are_same(one: &Option<Bytes>, other: Option<&Bytes>) -> bool
     ensures { IsTrue result ↔ (one.now ≡ option_copied other.entry) }
 {
@@ -129,7 +128,7 @@ fn are_same(one: &Option<Bytes>, other: Option<&Bytes>) -> bool
     }
 }
 
-/// Returns whether the entry handed nothing over on the channel.
+/// Returns whether the entry handed nothing to the bus on the channel.
 fn is_silent(entry: &LentEntry<'_>, channel: Channel) -> bool
     ensures { result ≡ is_silent channel (whole entry.now) }
 {
@@ -142,9 +141,9 @@ fn is_silent(entry: &LentEntry<'_>, channel: Channel) -> bool
     }
 }
 
-/// Returns whether this is what the entry of this number handed over on the channel, which is spelled anew.
+/// Returns whether the entry of this number handed this offer to the bus, which is encoded again.
 ///
-/// It isn't inlined, so that an entry that handed nothing over doesn't pay for the room of a frame.
+/// It isn't inlined, so an entry that handed nothing to the bus doesn't pay for the room of a frame.
 #[inline(never)]
 fn is_spelled(interface: &Interface, number: u32, channel: Channel, offered: Option<&Bytes>) -> bool
     ensures { IsTrue result ↔ (bytes_handed interface.now number channel ≡ option_copied offered.entry) }
@@ -152,7 +151,7 @@ fn is_spelled(interface: &Interface, number: u32, channel: Channel, offered: Opt
     are_same(&interface.handed_at(number, channel), offered)
 }
 
-/// Returns whether this is what the entry of this number handed over on the channel.
+/// Returns whether the entry of this number handed this offer to the bus on the channel.
 fn is_handed_on(
     interface: &Interface,
     number: u32,
@@ -170,7 +169,7 @@ fn is_handed_on(
     }
 }
 
-/// Returns whether what the fetch of this number handed over in the window is what the record has of the node.
+/// Returns whether the record has the offers that the fetch of this number handed to the bus.
 fn is_handed(
     interface: &Interface,
     number: u32,
@@ -191,7 +190,7 @@ fn is_handed(
         && is_handed_on(interface, number, entry, Channel::B, on_b)
 }
 
-/// Returns whether that is what the record has of the node at this place.
+/// Returns whether the record has these offers at this place.
 fn is_handed_at(
     interface: &Interface,
     number: u32,
@@ -212,7 +211,7 @@ fn is_handed_at(
     }
 }
 
-/// Returns what is found of the fetches with the entry of this number, where this was found before it.
+/// Returns the findings of the fetches with the entry of this number, from those before it.
 fn fetches_past(
     interface: &Interface,
     node: NodeId,
@@ -238,14 +237,14 @@ fn fetches_past(
     }
 }
 
-/// Returns whether it is of this window.
+/// Returns whether the record's window is this one.
 fn is_of_window(sealed: &Sealed, window: &Window) -> bool
     ensures { IsTrue result ↔ (sealed.now.window ≡ window.now) }
 {
     sealed.window == *window
 }
 
-/// Returns whether the node saw this, on A and on B, by the record.
+/// Returns whether the record gives the node this observation, on A and on B.
 fn is_shown(
     params: &Params,
     node: NodeId,
@@ -260,7 +259,7 @@ fn is_shown(
     sealed.shows(params, Channel::A, node, a) && sealed.shows(params, Channel::B, node, b)
 }
 
-/// Returns whether the record lets the node see this at this place.
+/// Returns whether the record gives the node this observation at this place.
 fn is_shown_at(
     params: &Params,
     node: NodeId,
@@ -280,7 +279,7 @@ fn is_shown_at(
     }
 }
 
-/// Returns what is found of the observes with this entry, where this was found before it.
+/// Returns the findings of the observes with this entry, from those before it.
 fn observes_past(
     params: &Params,
     node: NodeId,
@@ -311,7 +310,7 @@ fn observes_past(
     }
 }
 
-/// Returns the place that was found, or else this one where the record goes on there.
+/// Returns the place that was found, or this one if the record goes on there.
 fn or_rest(found: Option<usize>, place: usize, recorded: &[Sealed]) -> Option<usize>
     ensures { result ≡ option_or found (if nat_lt place (length recorded.now) then Some place else None) }
 {
@@ -334,7 +333,7 @@ fn are_none(one: Option<usize>, other: Option<usize>) -> bool
     one.is_none() && other.is_none()
 }
 
-/// Returns what is found of a node by its journal, which is walked once.
+/// Returns the findings of a node by its journal, which is walked once.
 fn walk(
     interface: &Interface,
     params: &Params,
@@ -374,7 +373,7 @@ fn walk(
     }
 }
 
-/// Returns what is found of the node, by its interface if it is there.
+/// Returns the findings of the node, if its interface exists.
 pub(crate) fn find_at(
     interfaces: &[Interface],
     params: &Params,
@@ -395,7 +394,7 @@ pub(crate) fn find_at(
     }
 }
 
-/// Returns what is found of the node, where this was found of the first nodes.
+/// Returns the findings of the node, given those of the first nodes.
 pub(crate) fn found_at(
     first: &[Findings],
     interfaces: &[Interface],
@@ -413,7 +412,7 @@ pub(crate) fn found_at(
     }
 }
 
-/// Returns what is found of the node of this place.
+/// Returns the findings of the node at this place.
 fn find_in_place(
     place: usize,
     interfaces: &[Interface],
@@ -433,7 +432,7 @@ fn find_in_place(
     )
 }
 
-/// Returns how many threads run beside one another, or as many as there can be nodes where that isn't known.
+/// Returns the number of cores, or the greatest number of nodes if that isn't known.
 fn threads_beside<R: Threads>(rt: &R) -> usize
     ensures { 0 < result }
 {
@@ -443,8 +442,8 @@ fn threads_beside<R: Threads>(rt: &R) -> usize
     }
 }
 
-/// Returns what is found of each node that has an interface, in as many threads as run beside one another, where these
-/// can be made, or of none where memory is refused.
+/// Returns the findings of each node that has an interface, in as many threads as there are cores. If the allocation of
+/// the findings fails, it returns none.
 pub(crate) fn find_in_threads<R: Threads + Sync>(
     rt: &R,
     alloc: Global,

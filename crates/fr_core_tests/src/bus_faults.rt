@@ -1,4 +1,4 @@
-//! A seal for which memory is refused, and what the record has once it came.
+//! A seal in which an allocation may fail, and the record after it.
 
 use crate::steps::{Harm, THREE_NODES, bus_at, offer_of, put_with};
 use fr_bus::bus::Bus;
@@ -14,7 +14,7 @@ const BABBLES: [Harm; 2] = [
     Harm::Babble(2, Channel::B, &[0]),
 ];
 
-/// A transmission of the record.
+/// Returns a transmission of the record.
 fn transmission(
     number: u8,
     channel: Channel,
@@ -31,7 +31,7 @@ fn transmission(
     })
 }
 
-/// Whether the record of the babbled window is as it should be.
+/// Returns whether the record of the babbled window is as expected.
 fn is_recorded(bus: &Bus) -> Result<bool, Fail> {
     let wanted = [
         transmission(1, Channel::A, &DATA_ON_A, false, Fate::Passed)?,
@@ -42,7 +42,7 @@ fn is_recorded(bus: &Bus) -> Result<bool, Fail> {
     Ok(sent_in(bus, 1)? == wanted.as_slice())
 }
 
-/// What was sent in the window of this number.
+/// Returns the transmissions of the window of this number.
 fn sent_in(bus: &Bus, number: usize) -> Result<&[Sent], Fail> {
     Ok(bus.record().get(number).ok_or("no window")?.sent.as_slice())
 }

@@ -90,7 +90,7 @@ const REFUSED: [(Call, Option<BusError>); 36] = [
         Call::Inject(Harm::Mute(0, Channel::A)),
         Some(BusError::NotCollecting),
     ),
-    // What is seen is taken once.
+    // A node takes its observation once.
     (Call::Take(3, 9), Some(BusError::UnknownNode)),
     (Call::Take(0, 9), Some(BusError::WrongWindow)),
     (Call::Take(0, 0), None),

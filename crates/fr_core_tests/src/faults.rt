@@ -1,4 +1,4 @@
-//! Two lists of events that differ by what a faulty node does.
+//! Two lists of events that differ by the faults of one node.
 
 use crate::steps::{Harm, fault_of};
 use crate::worlds::{commit, interface, payload_read, push_window, step_all, three_nodes};
@@ -14,7 +14,7 @@ use std::test::Fail;
 /// A word of payload.
 type Word = Option<[u8; 2]>;
 
-/// The word in node 1's receive buffer, if any.
+/// Returns the word in node 1's receive buffer, if any.
 fn word(world: &mut World, buffer: u8) -> Result<Word, Fail> {
     let payload = payload_read(world, 1, buffer)?;
     Ok(payload.and_then(|payload| match payload.as_slice() {
@@ -23,8 +23,10 @@ fn word(world: &mut World, buffer: u8) -> Result<Word, Fail> {
     }))
 }
 
-/// The faults of node 2 in the window of this number of the first cycle: it babbles in each static slot, and at the
-/// first minislot for two minislots on both channels, so that the cycle has a window less. What it offers on A is lost.
+/// Returns the faults of node 2 in the window of this number of the first cycle.
+///
+/// It babbles in each static slot. At the first minislot it babbles for two minislots on both channels, so that the
+/// cycle has one window less. Its offer on A is muted.
 fn harms_in(window: u32) -> [Harm; 3] {
     let bytes: &'static [u8] = if window == 3 { &[0; 20] } else { &[0] };
     [
@@ -34,8 +36,10 @@ fn harms_in(window: u32) -> [Harm; 3] {
     ]
 }
 
-/// Node 0 commits before each of two cycles, of which the windows up to slot 1 of the second pass. A faulty node 2
-/// commits too, and has its faults in the first four windows and in the last.
+/// Returns the events of two cycles, up to slot 1 of the second one.
+///
+/// Node 0 commits before each cycle. A faulty node 2 commits too, and has its faults in the first four windows and in
+/// the last.
 fn two_cycles(alloc: Global, is_faulty: bool) -> Result<Vec<Event>, Fail> {
     let mut events = Vec::new(alloc);
     events.push(commit(0, &[0x0a, 0x0b])?)?;
@@ -58,7 +62,7 @@ fn two_cycles(alloc: Global, is_faulty: bool) -> Result<Vec<Event>, Fail> {
     Ok(events)
 }
 
-/// The world after such a list of events, each of which has to be accepted.
+/// Returns the world after such a list of events, each of which must be accepted.
 fn world_of(alloc: Global, is_faulty: bool) -> Result<World, Fail> {
     let mut world = three_nodes(alloc)?;
     let events = two_cycles(alloc, is_faulty)?;
@@ -66,7 +70,7 @@ fn world_of(alloc: Global, is_faulty: bool) -> Result<World, Fail> {
     Ok(world)
 }
 
-/// What the node saw on channel A in the last window, with the window's number.
+/// Returns the node's observation on channel A in the last window, with the window's number.
 fn last_seen(world: &World, place: usize) -> Result<(Seen, u32), Fail> {
     let journal = interface(world, place)?.journal();
     let last = journal.len().checked_sub(1).ok_or("no entry")?;

@@ -1,4 +1,4 @@
-//! Outside vectors: CRCs and frames with their bytes.
+//! Vectors from outside: CRCs and frames with their bytes.
 
 use fr_frame::crc::{crc11, crc24, header_crc};
 use fr_frame::decode::{DecodeError, decode, decode_lent};
@@ -9,7 +9,7 @@ use fr_slots::channel::Channel;
 use fr_testing::{DATA_ON_A, DATA_ON_B, cycle, slot};
 use std::test::Fail;
 
-/// A data frame of a slot in a cycle, without any other indicator.
+/// Returns a data frame of a slot in a cycle, without any other indicator.
 fn data_frame(id: u16, payload: &[u8], of: u8) -> Result<Frame, Fail> {
     Ok(Frame {
         preamble: false,
@@ -35,7 +35,7 @@ fn crcs_of_the_digits(rt: HostRuntime) -> Result<(), Fail> {
     Ok(())
 }
 
-/// Whether the frame is spelled for the channel in so many bytes, which begin with these, and read from them again.
+/// Returns whether the frame has this length and these first bytes, and is read from them again.
 fn is_spelled(frame: &Frame, channel: Channel, length: usize, front: &[u8]) -> Result<bool, Fail> {
     let bytes = encode(frame, channel);
     let again = decode(bytes.as_slice(), channel)?;
@@ -97,7 +97,7 @@ fn the_reserved_bit_is_ignored_and_sent_as_0(rt: HostRuntime) -> Result<(), Fail
 #[test]
 fn bytes_that_are_no_frame(rt: HostRuntime) {
     let more_promised: [u8; 8] = [0x20, 0x02, 0x03, 0xc1, 0x40, 0x00, 0x00, 0x00];
-    // Where both the length and the header CRC are wrong, it is the length that is named.
+    // If both the length and the header CRC are wrong, the error is that of the length.
     let both_wrong: [u8; 8] = [0x20, 0x02, 0x03, 0xc0, 0x40, 0x00, 0x00, 0x00];
     let bad_header: [u8; 10] = [0x20, 0x02, 0x03, 0xc0, 0x40, 0x0a, 0x0b, 0xa3, 0x22, 0x17];
     let rows: [(&[u8], Channel, DecodeError); 5] = [

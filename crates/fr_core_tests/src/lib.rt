@@ -1,6 +1,6 @@
-//! The tests of frames, lanes and macroticks, of the sender table and of guardians, of the bus, of the world over
-//! events, and of runs that no scenario can ask for. What a command or a session can show is tried by
-//! `tests/commands`. They stand apart from what they test, since a crate with tests is proved twice.
+//! The tests of frames, lanes, macroticks, the sender table, guardians, the bus, and the world over events. They
+//! include runs that no scenario can request. `tests/commands` tests everything that a command or a session shows. They
+//! stand in a crate of their own, since a crate with tests is proved twice.
 #![tactic(auto)]
 
 #[cfg(test)]

@@ -5,14 +5,15 @@ use fr_slots::params::Params;
 use fr_testing::SMALL_CYCLE;
 use std::test::Fail;
 
-/// As many static slots as there can be, and more minislots than there are dynamic slots.
+/// The largest number of static slots, and more minislots than there are dynamic slots.
 const LAST_SLOT: [i64; 10] = [1023, 2000, 0, 1, 1, 0, 1, 3024, 0, 1];
 
-/// What a lane is asked for: the minislot that opens next, the slot that opens at a minislot, and why more bytes than
-/// a frame has are refused.
+/// The next minislot of a lane, its slot at a minislot, and its refusal of too many bytes.
 type Opened = (Option<u16>, Option<u16>, Option<LaneError>);
 
-/// What a new lane answers where its first slot was closed with so many bytes, if any, and then so many without any.
+/// Returns the answers of a new lane whose first slots were closed.
+///
+/// They are closed with these numbers of bytes, and then this number of slots without any.
 fn answers_of_lane(
     params: [i64; 10],
     sent: &[u16],

@@ -1,4 +1,4 @@
-//! Runs that no command line and no scenario can ask for. All others are tried by `tests/commands`.
+//! Runs that no command line and no scenario can request. `tests/commands` tests all others.
 
 use fr_core::script::Script;
 use fr_runs::check::{RunRefusal, check_run};
@@ -27,7 +27,7 @@ slot_entries = 56
 tasks = 1
 ";
 
-/// The answer to a run of so many cycles with a script without lines for each of these nodes and tasks.
+/// Returns the result of a run with an empty script for each of these nodes and tasks.
 fn answer(alloc: Global, tasks: &[(u8, u8)], cycles: u16) -> Result<Result<(), RunRefusal>, Fail> {
     let cluster = Cluster::from_text(alloc, TWO_NODES)?;
     let mut scripts = Vec::new(alloc);

@@ -1,5 +1,5 @@
-//! Who sends and who passes: in the three-node cluster, also where two of its nodes divide a slot by cycles, and in a
-//! cycle of 1,023 static slots. `tests/commands` has their whole plans.
+//! Senders and guardians: in the three-node cluster, also if two of its nodes divide a slot by cycles, and in a cycle
+//! of 1,023 static slots. `tests/commands` has their whole plans.
 
 use fr_guardian::guardian::Guardian;
 use fr_schedule::cluster::Cluster;
@@ -45,7 +45,7 @@ own = [{slot = 3, channels = \"A\", base = 0, repetition = 2}]
 own = [{slot = 3, channels = \"A\", base = 1, repetition = 2}]
 ";
 
-/// A cycle of 1,023 static slots. Both channels are guarded, as they are where the file doesn't say.
+/// A cycle of 1,023 static slots. Both channels are guarded, which is the default.
 const FULL_CYCLE: &str = "[params]
 static_slots = 1023
 minislots = 10
@@ -59,18 +59,19 @@ idle = 0
 words_per_minislot = 5
 ";
 
-/// The last node sends in the last dynamic slot too, on channel B and in the last cycle.
+/// The last node also sends in the last dynamic slot, on channel B and in the last cycle.
 const LAST_BUFFER: &str =
     "buffer = [{kind = \"event\", slot = 2047, channels = \"B\", base = 63, repetition = 64, words = 1}]\n";
 
-/// The cluster of the one-word cycle with these nodes.
+/// Returns the cluster of the one-word cycle with these nodes.
 fn cluster_of(alloc: Global, nodes: &str) -> Result<Cluster, Fail> {
     let text = format!(in alloc; "{ONE_WORD_CYCLE}{nodes}")?;
     Ok(Cluster::from_text(alloc, text.as_str())?)
 }
 
-/// The cluster of the full cycle. Its 16 nodes own the static slots one after another, each 64 but the last, which has
-/// 63.
+/// Returns the cluster of the full cycle.
+///
+/// Its 16 nodes own the static slots one after another, 64 each, except the last, which has 63.
 fn full_cluster(alloc: Global) -> Result<Cluster, Fail> {
     let mut text = String::new(alloc);
     text.push_str(FULL_CYCLE)?;
@@ -91,7 +92,7 @@ fn full_cluster(alloc: Global) -> Result<Cluster, Fail> {
 /// A cycle, a slot and a channel, and the number of the node that sends there.
 type Sending = (u8, u16, Channel, Option<u8>);
 
-/// The first of these rows where another node sends, if any.
+/// Returns the first of these rows in which another node sends, if any.
 fn sent_otherwise(cluster: &Cluster, rows: &[Sending]) -> Result<Option<Sending>, Fail> {
     for (at, number, channel, wanted) in rows {
         let sender = cluster.sender(cycle(*at)?, slot(*number)?, *channel);
@@ -148,7 +149,7 @@ fn each_slot_of_a_full_cycle_has_its_sender(rt: HostRuntime) -> Result<(), Fail>
     Ok(())
 }
 
-/// The numbers of the nodes that pass in a static slot in a cycle, of all that there can be.
+/// Returns the numbers of the nodes that pass in a static slot in a cycle, of all possible nodes.
 fn passing(
     alloc: Global,
     guardian: &Guardian,
@@ -192,7 +193,7 @@ fn each_slot_of_a_full_cycle_is_open_to_its_owner_alone(rt: HostRuntime) -> Resu
         (960, &[14]),
         (961, &[15]),
         (1023, &[15]),
-        // It isn't static.
+        // Slot 1024 isn't static.
         (1024, &[]),
     ];
     for (number, wanted) in rows {

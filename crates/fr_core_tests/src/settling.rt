@@ -1,5 +1,4 @@
-//! What a cross-check tells of worlds after their first window, of interfaces and a record of different worlds, and of
-//! scripts.
+//! Cross-checks of worlds after their first window, of interfaces and a record of different worlds, and of scripts.
 
 use crate::steps::{Harm, fault_of};
 use crate::worlds::{commit, push_window, step_all, three_node_cluster, three_nodes};
@@ -16,11 +15,11 @@ use fr_trace::trace::write_trace;
 use std::alloc::Global;
 use std::test::Fail;
 
-/// What was committed.
+/// The payload of the commit.
 const COMMITTED: [u8; 2] = [0x0a, 0x0b];
 
-/// A world: the opening one, or one after its first window, before which nothing happened, node 0 committed, or a bit
-/// was turned on channel A.
+/// A world: the opening one, or one after its first window. Before this window nothing happened, node 0 committed, or a
+/// bit was flipped on channel A.
 #[derive(Clone, Copy)]
 enum Kind {
     Opening,
@@ -29,7 +28,7 @@ enum Kind {
     Corrupt,
 }
 
-/// The world of this kind.
+/// Returns the world of this kind.
 fn world_of(alloc: Global, kind: Kind) -> Result<World, Fail> {
     let mut world = three_nodes(alloc)?;
     let mut events = Vec::new(alloc);
@@ -47,7 +46,9 @@ fn world_of(alloc: Global, kind: Kind) -> Result<World, Fail> {
     Ok(world)
 }
 
-/// What a cross-check of these interfaces with the record of that world tells: how many windows, or what differs.
+/// Returns the result of a cross-check of these interfaces with the record of that world.
+///
+/// It is the number of windows, or the difference.
 fn settle_told(
     alloc: Global,
     interfaces: &[Interface],
@@ -59,7 +60,9 @@ fn settle_told(
     Ok(settled.map(|settled| settled.windows))
 }
 
-/// What a cross-check of the interfaces of one world with the record of another tells, without scripts.
+/// Returns the result of a cross-check of one world's interfaces with another's record.
+///
+/// There are no scripts.
 fn told_between(
     alloc: Global,
     interfaces: Kind,
@@ -101,7 +104,7 @@ fn a_settling_tells_what_differs_first(rt: HostRuntime) -> Result<(), Fail> {
     Ok(())
 }
 
-/// The interfaces of these places, each as its trace tells of it again.
+/// Returns the interfaces of these places, each read again from its trace.
 fn told_again(alloc: Global, world: &World, places: &[usize]) -> Result<Vec<Interface>, Fail> {
     let mut interfaces = Vec::new(alloc);
     for place in places {
@@ -113,7 +116,7 @@ fn told_again(alloc: Global, world: &World, places: &[usize]) -> Result<Vec<Inte
     Ok(interfaces)
 }
 
-/// What a cross-check of the interfaces of these places of an idle world tells with its own record.
+/// Returns the result of a cross-check of these interfaces of an idle world with its own record.
 fn told_of_places(alloc: Global, places: &[usize]) -> Result<Result<u32, SettleError>, Fail> {
     let idle = world_of(alloc, Kind::Idle)?;
     let interfaces = told_again(alloc, &idle, places)?;
@@ -134,7 +137,7 @@ fn interfaces_of_other_nodes_differ(rt: HostRuntime) -> Result<(), Fail> {
     Ok(())
 }
 
-/// The script of the one commit of node 0, answered with the entry of this number, where one is given.
+/// Returns the script of the one commit of node 0, with this entry as its answer, if one is given.
 fn script(alloc: Global, entry: Option<u32>) -> Result<Script, Fail> {
     let task = task(0)?;
     let mut lines = Vec::new(alloc);
@@ -153,7 +156,7 @@ fn script(alloc: Global, entry: Option<u32>) -> Result<Script, Fail> {
     })
 }
 
-/// What a cross-check tells of the world in which node 0 committed, where it was to be answered so.
+/// Returns the result of a cross-check after a commit of node 0, with this expected answer.
 fn told_with(alloc: Global, entry: Option<u32>) -> Result<Result<u32, SettleError>, Fail> {
     let sent = world_of(alloc, Kind::Sent)?;
     settle_told(alloc, sent.interfaces(), &sent, &[script(alloc, entry)?])

@@ -1,6 +1,6 @@
-//! The clusters that the bus is tried on, and its calls with the part of the answer that a test looks at.
+//! Clusters for tests of the bus, and its calls, with the part of the answer that a test compares.
 //!
-//! A test that makes its calls through these is proved in little time, since each contract is met here once.
+//! A test that makes its calls through these is proved in little time, since each contract occurs here once.
 
 use fr_bus::bus::Bus;
 use fr_bus::error::BusError;
@@ -13,7 +13,9 @@ use fr_testing::{frame_bytes, node};
 use std::alloc::Global;
 use std::test::Fail;
 
-/// Three static slots of one word, of which nodes 0 and 1 own one each, four minislots, and a guard on channel A.
+/// Three static slots, two of them owned, four minislots, and a guard on channel A.
+///
+/// Static slots have one word. Nodes 0 and 1 own one each.
 pub(crate) const THREE_NODES: &str = "guard = \"A\"
 [params]
 static_slots = 3
@@ -33,13 +35,13 @@ own = [{slot = 2, channels = \"AB\"}]
 [[node]]
 ";
 
-/// The bus of a cluster.
+/// Returns the bus of a cluster.
 pub(crate) fn bus_of(alloc: Global, text: &str, cycles: u16) -> Result<Bus, Fail> {
     let cluster = Cluster::from_text(alloc, text)?;
     Ok(Bus::new(alloc, &cluster, cycles)?)
 }
 
-/// What a fault does: it babbles these bytes, it loses what a node offers, or it flips a bit.
+/// The effect of a fault: it babbles these bytes, it mutes a node's offer, or it flips a bit.
 #[derive(Clone, Copy)]
 pub(crate) enum Harm {
     Babble(u8, Channel, &'static [u8]),
@@ -47,7 +49,7 @@ pub(crate) enum Harm {
     Corrupt(Channel, u16),
 }
 
-/// The fault that does this.
+/// Returns the fault with this effect.
 pub(crate) fn fault_of(harm: Harm) -> Result<Fault, Fail> {
     Ok(match harm {
         Harm::Babble(number, channel, bytes) => Fault::Babble {
@@ -63,8 +65,10 @@ pub(crate) fn fault_of(harm: Harm) -> Result<Fault, Fail> {
     })
 }
 
-/// A call of a bus: the offer of nothing by a node in the window of this number, a fault, the seal, the taking by a
-/// node in the window of this number, and the advance.
+/// A call of a bus.
+///
+/// It is the empty offer of a node in the window of this number, a fault, the seal, the take of a node in the window of
+/// this number, or the advance.
 #[derive(Clone, Copy)]
 pub(crate) enum Call {
     Put(u8, u32),
@@ -74,7 +78,7 @@ pub(crate) enum Call {
     Advance,
 }
 
-/// What the call is refused for.
+/// Returns the refusal of the call.
 pub(crate) fn refusal(bus: &mut Bus, call: Call) -> Result<Option<BusError>, Fail> {
     Ok(match call {
         Call::Put(number, window) => bus.put(node(number)?, window, &nothing()).err(),
@@ -85,12 +89,12 @@ pub(crate) fn refusal(bus: &mut Bus, call: Call) -> Result<Option<BusError>, Fai
     })
 }
 
-/// Nothing on both channels.
+/// Returns an empty offer on both channels.
 pub(crate) fn nothing() -> Offer {
     Offer { a: None, b: None }
 }
 
-/// These bytes on A and these on B.
+/// Returns an offer of these bytes on A and on B.
 pub(crate) fn offer_of(a: &[u8], b: &[u8]) -> Result<Offer, Fail> {
     Ok(Offer {
         a: Some(frame_bytes(a)?),
@@ -98,12 +102,12 @@ pub(crate) fn offer_of(a: &[u8], b: &[u8]) -> Result<Offer, Fail> {
     })
 }
 
-/// The open window.
+/// Returns the open window.
 pub(crate) fn open_window(bus: &Bus) -> Result<Window, Fail> {
     Ok(bus.window().ok_or("no window")?)
 }
 
-/// Node 1 offers this in the open window, and the others nothing.
+/// Puts this offer of node 1 in the open window, and empty offers of the others.
 pub(crate) fn put_all(bus: &mut Bus, offer: &Offer) -> Result<(), Fail> {
     let number = open_window(bus)?.number;
     for n in 0..bus.nodes() {
@@ -116,7 +120,7 @@ pub(crate) fn put_all(bus: &mut Bus, offer: &Offer) -> Result<(), Fail> {
     Ok(())
 }
 
-/// All nodes take what they see, and the next window opens.
+/// Takes the observations of all nodes, and opens the next window.
 fn take_all(bus: &mut Bus) -> Result<(), Fail> {
     let number = open_window(bus)?.number;
     for n in 0..bus.nodes() {
@@ -126,14 +130,14 @@ fn take_all(bus: &mut Bus) -> Result<(), Fail> {
     Ok(())
 }
 
-/// A whole window in which node 1 offers this.
+/// Executes a whole window with this offer of node 1.
 pub(crate) fn window_with(bus: &mut Bus, offer: &Offer) -> Result<(), Fail> {
     put_all(bus, offer)?;
     bus.seal()?;
     take_all(bus)
 }
 
-/// A bus on which so many windows have passed in silence.
+/// Returns a bus on which this number of windows have passed in silence.
 pub(crate) fn bus_at(alloc: Global, text: &str, windows: u32) -> Result<Bus, Fail> {
     let mut bus = bus_of(alloc, text, 1)?;
     for _window in 0..windows {
@@ -142,7 +146,7 @@ pub(crate) fn bus_at(alloc: Global, text: &str, windows: u32) -> Result<Bus, Fai
     Ok(bus)
 }
 
-/// Injects these faults, and all nodes put: node 1 this and the others nothing.
+/// Injects these faults, and puts the offers of all nodes: node 1 this one, and the others empty ones.
 pub(crate) fn put_with(bus: &mut Bus, harms: &[Harm], offer: &Offer) -> Result<(), Fail> {
     for harm in harms {
         bus.inject(fault_of(*harm)?)?;

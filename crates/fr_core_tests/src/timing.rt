@@ -11,26 +11,26 @@ use std::test::Fail;
 /// The small cycle without minislots.
 const WITHOUT_MINISLOTS: [i64; 10] = [3, 0, 1, 20, 5, 4, 6, 70, 1, 4];
 
-/// A cycle with the greatest number of minislots, and of macroticks.
+/// A cycle with the largest number of minislots, and of macroticks.
 const LONGEST: [i64; 10] = [4, 8000, 127, 500, 2, 1000, 1000, 20000, 2, 127];
 
-/// The place of the macrotick in a cycle of these parameters.
+/// Returns the place of the macrotick in a cycle of these parameters.
 fn place_of(params: [i64; 10], macrotick: u32) -> Result<Option<Place>, Fail> {
     Ok(locate(&Params::new(params)?, macrotick))
 }
 
-/// A place in a static slot.
+/// Returns a place in a static slot.
 fn in_static_slot(number: u16, offset: u32) -> Result<Place, Fail> {
     let slot = slot(number)?;
     Ok(Place::Static { slot, offset })
 }
 
-/// A place in a minislot.
+/// Returns a place in a minislot.
 fn in_minislot(number: u16, offset: u32) -> Place {
     Place::Minislot { number, offset }
 }
 
-/// The macrotick that the place of a macrotick names.
+/// Returns the macrotick of the place of a macrotick.
 fn there_and_back(params: &Params, macrotick: u32) -> Option<u32>
     ensures { macrotick < params.now.cycle_mt → result ≡ Some macrotick }
 {

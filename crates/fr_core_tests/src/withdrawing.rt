@@ -1,4 +1,4 @@
-//! A withdraw among the lines of a script, as a cross-check compares it. What withdraws do is tried in sessions.
+//! A withdraw among the lines of a script, in a cross-check. The other tests of withdraws are sessions.
 
 use crate::worlds::{commit, step_all};
 use fr_core::event::{Event, Reply};
@@ -29,7 +29,7 @@ own = [{slot = 1, channels = \"AB\"}]
 buffer = [{kind = \"event\", slot = 1, channels = \"AB\"}]
 ";
 
-/// The world of the cluster once the task committed and withdrew, and a window passed.
+/// Returns the world of the cluster after a commit and a withdraw of the task, and one window.
 fn world_of(alloc: Global, cluster: &Cluster) -> Result<World, Fail> {
     let node = node(0)?;
     let mut world = World::new(alloc, cluster, 1)?;
@@ -54,7 +54,7 @@ fn world_of(alloc: Global, cluster: &Cluster) -> Result<World, Fail> {
     Ok(world)
 }
 
-/// What a cross-check tells of this world, where the withdraw was to be answered so.
+/// Returns the result of a cross-check of this world, with this expected answer of the withdraw.
 fn told_with(alloc: Global, answer: Option<u32>) -> Result<Result<u32, SettleError>, Fail> {
     let cluster = Cluster::from_text(alloc, ONE_NODE)?;
     let world = world_of(alloc, &cluster)?;

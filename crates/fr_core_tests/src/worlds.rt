@@ -1,6 +1,6 @@
-//! The cluster that the world is tried on, and its calls with the part of the answer that a test looks at.
+//! The cluster for tests of the world, and its calls, with the part of the answer that a test compares.
 //!
-//! A test that makes its calls through these is proved in little time, since each contract is met here once.
+//! A test that makes its calls through these is proved in little time, since each contract occurs here once.
 
 use fr_core::event::{Event, Reply};
 use fr_core::world::World;
@@ -11,7 +11,9 @@ use fr_testing::{node, task};
 use std::alloc::Global;
 use std::test::Fail;
 
-/// Three static slots of one word, of which nodes 0 and 1 own one each, four minislots, and a guard on channel A.
+/// Three static slots, two of them owned, four minislots, and a guard on channel A.
+///
+/// Static slots have one word. Nodes 0 and 1 own one each.
 const THREE_NODES: &str = "guard = \"A\"
 [params]
 static_slots = 3
@@ -40,18 +42,18 @@ buffer = [{kind = \"event\", slot = 4, channels = \"A\", words = 1}]
 /// The number of the cluster's nodes.
 pub(crate) const NODES: u8 = 3;
 
-/// The cluster of the three nodes.
+/// Returns the cluster of the three nodes.
 pub(crate) fn three_node_cluster(alloc: Global) -> Result<Cluster, Fail> {
     Ok(Cluster::from_text(alloc, THREE_NODES)?)
 }
 
-/// The opening world of the three nodes, for a run of two cycles.
+/// Returns the opening world of the three nodes, for a run of two cycles.
 pub(crate) fn three_nodes(alloc: Global) -> Result<World, Fail> {
     let cluster = three_node_cluster(alloc)?;
     Ok(World::new(alloc, &cluster, 2)?)
 }
 
-/// The first task of the node gives this to its buffer 0.
+/// Returns the commit of these bytes by the first task of the node to its buffer 0.
 pub(crate) fn commit(number: u8, list: &[u8]) -> Result<Event, Fail> {
     Ok(Event::Commit {
         node: node(number)?,
@@ -61,8 +63,9 @@ pub(crate) fn commit(number: u8, list: &[u8]) -> Result<Event, Fail> {
     })
 }
 
-/// The events of a whole window but for the advance: each node looks, fetches and puts, the window is sealed, and each
-/// node takes and observes.
+/// Appends the events of a whole window, except the advance.
+///
+/// Each node looks, fetches and puts, the window is sealed, and each node takes and observes.
 pub(crate) fn push_window(events: &mut Vec<Event>) -> Result<(), Fail> {
     for number in 0..NODES {
         events.push(Event::Look(node(number)?))?;
@@ -77,7 +80,7 @@ pub(crate) fn push_window(events: &mut Vec<Event>) -> Result<(), Fail> {
     Ok(())
 }
 
-/// Does the events in order. One that is refused fails the test and says why.
+/// Executes the events in order. A refusal fails the test with its reason.
 pub(crate) fn step_all(world: &mut World, events: &[Event]) -> Result<(), Fail> {
     for event in events {
         world.step(event)?;
@@ -85,7 +88,7 @@ pub(crate) fn step_all(world: &mut World, events: &[Event]) -> Result<(), Fail> 
     Ok(())
 }
 
-/// The payload that the node's receive buffer holds, if any, as its first task reads it.
+/// Returns the payload that the node's receive buffer holds, if any, as its first task reads it.
 pub(crate) fn payload_read(
     world: &mut World,
     number: u8,
@@ -102,7 +105,7 @@ pub(crate) fn payload_read(
     }
 }
 
-/// The interface at this place; none fails the test.
+/// Returns the interface at this place. A place without one fails the test.
 pub(crate) fn interface(world: &World, place: usize) -> Result<&Interface, Fail> {
     Ok(world.interfaces().get(place).ok_or("no interface")?)
 }

@@ -1,4 +1,4 @@
--- Lists of passes, each at the place that is its task's number.
+-- Lists of task handles, each at the place of its task's number.
 use Rattle.std.proofs.Common.{◌≡◌, ℕ, ◌+◌, ◌<◌, ◌++◌, ◌∷◌, List, [], length, Some, ap, ◌∙◌, sym, subst, arith}
 use Rattle.std.proofs.Common.{below_more, refl}
 use Rattle.std.proofs.Common.{length-append, get_or}
@@ -9,7 +9,7 @@ use Rattle.std.proofs.lemmas.Option.{slice_get_within, get_or_from_slice_get}
 use Rattle.std.proofs.Math.ListN.{get_or-append}
 use Rattle.std.proofs.Math.Seq.{get_or-append_seam}
 
--- each place has its own number
+-- each element has the number of its place
 abbrev pub AreNumbered : {X : Type 0} → (X → ℕ) → List X → Type 0
 AreNumbered {X} f xs = (k : ℕ) (x : X) → slice_get xs k ≡ Some x → f x ≡ k
 
@@ -29,7 +29,7 @@ all_last {X} P xs ys x all e =
     let whole = subst Q e all in
     subst P (get_or-append_seam xs x [] x) (whole (length xs) x (omega (arith, length-append xs (x ∷ []))))
 
--- the same of what is found at a place
+-- the same for an element that is found at a place
 pub numbered_found : {X : Type 0} (f : X → ℕ) (xs : List X) → ((k : ℕ) (d : X) → k < length xs → f (get_or xs k d) ≡ k)
     → AreNumbered f xs
 numbered_found f xs all k x at = ap f (sym (get_or_from_slice_get xs k x x at)) ∙ all k x (slice_get_within xs k x at)

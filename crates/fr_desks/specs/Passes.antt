@@ -1,8 +1,8 @@
--- What a task's pass is seen as (project-defined).
+-- The state of a task's handle (project-defined).
 use Rattle.std.specs.Prelude.{ℕ}
 
 pub record Pass : Type 0 where
-  -- the task whose calls are made with it
+  -- the task that makes calls with it
   pub task : ℕ
-  -- how many commits were accepted that were made with it
+  -- the number of accepted commits that were made with it
   pub commits : ℕ

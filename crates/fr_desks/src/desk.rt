@@ -30,8 +30,9 @@ use std::marker::Model;
 use std::sync::ledger::{Blank, Ledger};
 use std::sync::{Mutex, Wait};
 
-/// What a task makes its calls with: its number, and its share of the commits, which counts those that were accepted
-/// (project-defined).
+/// The handle with which a task makes its calls (project-defined).
+///
+/// It has the task's number, and its share of the commits, which counts the accepted ones.
 #[derive(Drop)]
 pub struct TaskPass<L: Ledger> {
     task: TaskId,
@@ -47,14 +48,14 @@ impl<L: Ledger> Model for TaskPass<L> {
 }
 
 impl<L: Ledger> TaskPass<L> {
-    /// Returns the task whose calls are made with it.
+    /// Returns the task that makes calls with this handle.
     pub fn task(&self) -> TaskId
         ensures { result ≡ self.now.task }
     {
         self.task
     }
 
-    /// Returns its share, once the task has made all its calls.
+    /// Returns the task's share of the commits, once the task has made all its calls.
     pub fn into_share(self) -> Share<L>
         ensures { result ≡ self.commits }
     {
@@ -63,7 +64,9 @@ impl<L: Ledger> TaskPass<L> {
     }
 }
 
-/// What lies behind a desk's lock: the book counts the interface's commits, and the desk's own share counts none.
+/// The state behind a desk's lock.
+///
+/// The book counts the interface's commits, and the desk's own share counts none.
 #[derive(Drop)]
 struct Counted<L: Ledger> {
     interface: Interface,
@@ -73,10 +76,10 @@ struct Counted<L: Ledger> {
     ghost unused: { own ≡ 0 },
 }
 
-// A lock gives back a value of which only the type is known. So the clauses about the value stand in these private
+// The lock returns a value of which only the type is known. So the clauses about the value stand in these private
 // functions.
 impl<L: Ledger> Counted<L> {
-    /// Returns the interface's commit. One that is accepted is posted with the share.
+    /// Makes the interface's commit. An accepted commit is posted with the share.
     fn commit(
         &mut self,
         task: TaskId,
@@ -97,14 +100,14 @@ impl<L: Ledger> Counted<L> {
             book,
             ..
         } = self;
-        // A journal is short enough for the book to have room.
+        // For the prover: the clause of this call.
         let _entries = interface.journal().len();
         let receipt = interface.commit(task, buffer, payload)?;
         post(book, share);
         Ok(receipt)
     }
 
-    /// Returns the interface's withdraw. It is no commit, so nothing is posted.
+    /// Makes the interface's withdraw. It is no commit, so nothing is posted.
     fn withdraw(&mut self, task: TaskId, buffer: u8) -> Result<Option<u32>, HostError>
         ensures refusal { result_err result ≡ withdraw_refusal self.old.interface task buffer }
         ensures answer { IfOk result (λ of. of ≡ pending_commit buffer self.old.interface.entries) }
@@ -115,7 +118,7 @@ impl<L: Ledger> Counted<L> {
         self.interface.withdraw(task, buffer)
     }
 
-    /// Returns the interface's read.
+    /// Makes the interface's read.
     fn read(&mut self, task: TaskId, buffer: u8) -> Result<Option<Frame>, HostError>
         ensures refusal { result_err result ≡ read_refusal self.old.interface task buffer }
         ensures answer { IfOk result (λ frame. frame ≡ option_map frame_of (received_by self.old.interface buffer)) }
@@ -127,7 +130,7 @@ impl<L: Ledger> Counted<L> {
         self.interface.read(task, buffer)
     }
 
-    /// Returns the interface's pop.
+    /// Makes the interface's pop.
     fn pop(&mut self, task: TaskId) -> Result<Option<Frame>, HostError>
         ensures refusal { result_err result ≡ pop_refusal self.old.interface task }
         ensures answer { IfOk result (λ frame. frame ≡ option_map frame_of (oldest_of self.old.interface)) }
@@ -139,7 +142,7 @@ impl<L: Ledger> Counted<L> {
         self.interface.pop(task)
     }
 
-    /// The interface's fetch.
+    /// Makes the interface's fetch.
     fn fetch_into(&mut self, window: &Window, offer: &mut Offer) -> Result<(), SlotError>
         ensures refusal { result_err result ≡ fetch_refusal self.old.interface window.now }
         ensures bytes_a { OnOk result (offer.new.a ≡ bytes_of channel.A
@@ -155,7 +158,7 @@ impl<L: Ledger> Counted<L> {
         self.interface.fetch_into(window, offer)
     }
 
-    /// The interface's observe.
+    /// Makes the interface's observe.
     fn observe(&mut self, number: u32, a: &Seen, b: &Seen) -> Result<(), SlotError>
         ensures refusal { result_err result ≡ observe_refusal self.old.interface number }
         ensures accepted { OnOk result
@@ -166,11 +169,10 @@ impl<L: Ledger> Counted<L> {
     }
 }
 
-/// A node's desk, where the node's tasks and its controller make their calls, each under the one lock
-/// (project-defined).
+/// A node's host interface behind a lock, for its tasks and its controller (project-defined).
 ///
-/// Whenever the lock is free the interface is legal, and a book beside it counts its commits. Which calls were made,
-/// and in which order, is reported by the journal of the interface that `close` gives back.
+/// When the lock is free, the interface is legal, and a book beside it counts its commits. The journal of the interface
+/// that `close` returns has the calls in their order.
 #[derive(Drop)]
 pub struct Desk<L: Ledger> {
     node: NodeId,
@@ -178,10 +180,11 @@ pub struct Desk<L: Ledger> {
 }
 
 impl<L: Ledger> Desk<L> {
-    /// Returns the desk of a node over its interface, whose journal is empty, and a pass for each task, in their order.
+    /// Returns the desk of a node over its interface, and a handle for each task, in their order.
     ///
-    /// The blank is the ledger's, cut into a part for the desk and one for each task. The node is the one for which
-    /// the desk's calls pass a gate. Refused where memory for the passes is refused, and the interface is then lost.
+    /// The journal of the interface is empty. The blank is the ledger's, cut into a part for the desk and one for each
+    /// task. The desk's calls pass a gate under the name of this node. Fails if an allocation fails; the interface is
+    /// then lost.
     pub fn open(
         alloc: Global,
         blank: Blank,
@@ -218,9 +221,9 @@ impl<L: Ledger> Desk<L> {
         Ok((desk, passes))
     }
 
-    /// Returns the interface's commit, as the pass's task. One that is accepted is counted in the pass.
+    /// Makes the interface's commit for the handle's task. The handle counts an accepted commit.
     ///
-    /// It is refused as the interface's is.
+    /// It is refused as the interface's commit is.
     pub fn commit<R: Wait, G: Gate>(
         &self,
         rt: &R,
@@ -243,9 +246,10 @@ impl<L: Ledger> Desk<L> {
         answer
     }
 
-    /// Returns the interface's withdraw, as the pass's task: the number of the commit that was taken back, or none.
+    /// Makes the interface's withdraw for the handle's task. Returns the number of the withdrawn commit, or none.
     ///
-    /// It is refused as the interface's is. The pass counts the commit still, which is withdrawn and not undone.
+    /// It is refused as the interface's withdraw is. The handle still counts the commit, which is withdrawn and not
+    /// undone.
     pub fn withdraw<R: Wait, G: Gate>(
         &self,
         rt: &R,
@@ -264,9 +268,9 @@ impl<L: Ledger> Desk<L> {
         answer
     }
 
-    /// Returns the interface's read, as the pass's task.
+    /// Makes the interface's read for the handle's task.
     ///
-    /// It is refused as the interface's is. A frame that it answers has its data flag, and an ID of 1 to 2047.
+    /// It is refused as the interface's read is. A returned frame has its data flag, and an ID of 1 to 2047.
     pub fn read<R: Wait, G: Gate>(
         &self,
         rt: &R,
@@ -286,9 +290,9 @@ impl<L: Ledger> Desk<L> {
         answer
     }
 
-    /// Returns the interface's pop, as the pass's task.
+    /// Makes the interface's pop for the handle's task.
     ///
-    /// It is refused as the interface's is. A frame that it answers has its data flag, and an ID of 1 to 2047.
+    /// It is refused as the interface's pop is. A returned frame has its data flag, and an ID of 1 to 2047.
     pub fn pop<R: Wait, G: Gate>(
         &self,
         rt: &R,
@@ -307,7 +311,7 @@ impl<L: Ledger> Desk<L> {
         answer
     }
 
-    /// Returns the interface's fetch, as the node's controller. It is refused as the interface's is.
+    /// Makes the interface's fetch for the node's controller. It is refused as the interface's fetch is.
     pub fn fetch<R: Wait, G: Gate>(
         &self,
         rt: &R,
@@ -319,7 +323,7 @@ impl<L: Ledger> Desk<L> {
         Ok(offer)
     }
 
-    /// The same, in place of an offer that is there, which stays as it was where the fetch is refused.
+    /// Makes the same fetch into an existing offer, which stays unchanged if the fetch is refused.
     pub fn fetch_into<R: Wait, G: Gate>(
         &self,
         rt: &R,
@@ -336,7 +340,7 @@ impl<L: Ledger> Desk<L> {
         answer
     }
 
-    /// The interface's observe, as the node's controller. It is refused as the interface's is.
+    /// Makes the interface's observe for the node's controller. It is refused as the interface's observe is.
     pub fn observe<R: Wait, G: Gate>(
         &self,
         rt: &R,
@@ -356,7 +360,7 @@ impl<L: Ledger> Desk<L> {
 
     /// Returns the interface, the book of its commits and the desk's own share, which counts none.
     ///
-    /// Each commit was sent, overwritten or withdrawn or is pending.
+    /// Each commit was sent, overwritten or withdrawn, or is pending.
     pub fn close(self) -> (Interface, Book<L>, Share<L>)
         ensures counted { result.1 ≡ commits_of result.0 }
         ensures unused { result.2 ≡ 0 }
@@ -368,6 +372,7 @@ impl<L: Ledger> Desk<L> {
             book,
             own,
         } = lock.into_inner();
+        // For the prover: the clause of this call.
         let _journal = interface.journal();
         (interface, book, own)
     }

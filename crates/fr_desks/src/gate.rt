@@ -1,45 +1,50 @@
-//! Points that threads pass, at which one may be held.
+//! Points of calls at which a thread may be held.
 
 use fr_slots::numbers::{NodeId, TaskId};
 
-/// Who makes a call (project-defined).
+/// The caller (project-defined).
 #[derive(Clone, Copy, PartialEq, Eq)]
 pub enum Actor {
     /// This task of the node.
     Task(NodeId, TaskId),
     /// The node's controller.
     Controller(NodeId),
-    /// Whoever moves the bus on.
+    /// The thread that moves the bus on.
     Bus,
 }
 
-/// Where a call stands (project-defined).
+/// The state of a call (project-defined).
 #[derive(Clone, Copy, PartialEq, Eq)]
 pub enum Side {
-    /// It has not asked for its lock.
+    /// It hasn't asked for its lock.
     Before,
-    /// It holds its lock, and has not begun its work.
+    /// It holds its lock, and hasn't begun its work.
     Inside,
-    /// It has given its lock back, and not answered.
+    /// It has released its lock, and hasn't returned.
     After,
 }
 
 /// A point that each call passes (project-defined).
 #[derive(Clone, Copy, PartialEq, Eq)]
 pub struct Point {
-    /// Who makes the call.
+    /// The caller.
     pub actor: Actor,
-    /// Where the call stands.
+    /// The state of the call.
     pub side: Side,
 }
 
-/// What calls pass, so that tests can hold one until another has come far enough (project-defined).
+/// A gate that calls pass (project-defined).
+///
+/// A test can hold one call there until another has come far enough.
 pub trait Gate {
-    /// Is passed Before, Inside and After each call of a desk, and Before and After each seal of a wire. It may wait.
+    /// Passes the point.
+    ///
+    /// It is called Before, Inside and After each call of a desk, and Before and After each seal of a wire. It may
+    /// wait.
     fn pass(&self, point: Point);
 }
 
-/// A gate that holds nobody (project-defined).
+/// A gate that never waits (project-defined).
 #[derive(Clone, Copy)]
 pub struct OpenGate;
 

@@ -1,24 +1,24 @@
-//! How far the open window has come, told beside a wire's lock.
+//! The stage of the open window, kept beside the lock of the bus.
 
 use std::sync::atomic::{AtomicU32, Ordering};
 
-/// How far the open window has come.
+/// The stage of the open window.
 #[derive(Clone, Copy)]
 pub(crate) enum Stage {
-    /// It collects, and not all have put.
+    /// It collects, and not all nodes have put.
     Collecting,
-    /// It collects, and all have put.
+    /// It collects, and all nodes have put.
     AllPut,
-    /// It is sealed, and not all have taken.
+    /// It is sealed, and not all nodes have taken.
     Sealed,
-    /// It is sealed, and all have taken.
+    /// It is sealed, and all nodes have taken.
     AllTaken,
     /// The run is over, or the wire was stopped.
     Over,
 }
 
 impl Stage {
-    /// Returns the stage of this number, as `as` numbers them.
+    /// Returns the stage of this number, in the numbering of `as`.
     fn of(number: u32) -> Stage {
         match number {
             0 => Stage::Collecting,
@@ -29,29 +29,32 @@ impl Stage {
         }
     }
 
-    /// Returns whether a look, a put or an inject needn't wait: the open window collects, or nothing waits any more.
+    /// Returns whether a next, a put or an inject needn't wait.
+    ///
+    /// This holds if the open window collects, or the run is over.
     pub(crate) fn lets_offer(self) -> bool {
         !matches!(self, Stage::Sealed | Stage::AllTaken)
     }
 
-    /// Returns whether a seal needn't wait: all have put, or nothing waits any more.
+    /// Returns whether a seal needn't wait: all nodes have put, or the run is over.
     pub(crate) fn lets_seal(self) -> bool {
         matches!(self, Stage::AllPut | Stage::Over)
     }
 
-    /// Returns whether a take needn't wait: the open window is sealed, or nothing waits any more.
+    /// Returns whether a take needn't wait: the open window is sealed, or the run is over.
     pub(crate) fn lets_take(self) -> bool {
         !matches!(self, Stage::Collecting | Stage::AllPut)
     }
 
-    /// Returns whether an advance needn't wait: all have taken, or nothing waits any more.
+    /// Returns whether an advance needn't wait: all nodes have taken, or the run is over.
     pub(crate) fn lets_advance(self) -> bool {
         matches!(self, Stage::AllTaken | Stage::Over)
     }
 }
 
-// Calls look here up to 400 times before they go for the lock, so that early calls don't take it from due ones.
-/// The stage that was told last. It may be told late, so it decides nothing: each call asks again under the lock.
+// Calls poll the hint before they take the lock, so that early calls don't take it from due ones.
+/// The stage that was stored last. It may be stored late, so it decides nothing: each call tests the stage again under
+/// the lock.
 #[derive(Drop)]
 pub(crate) struct Hint {
     stage: AtomicU32,
@@ -65,12 +68,12 @@ impl Hint {
         }
     }
 
-    /// Tells the stage, for calls that look.
+    /// Stores the stage, for calls that poll.
     pub(crate) fn tell(&self, stage: Stage) {
         self.stage.store(stage as u32, Ordering::Release);
     }
 
-    /// Returns the stage that was told last.
+    /// Returns the stage that was stored last.
     pub(crate) fn stage(&self) -> Stage {
         Stage::of(self.stage.load(Ordering::Acquire))
     }

@@ -1,17 +1,17 @@
-//! Desks and a wire: a node's interface and the bus, each behind a lock of its own, for threads that share them.
+//! A node's host interface (`Desk`) and the bus (`Wire`), each behind a lock of its own, for threads that share them.
 //!
 //! ```text
-//! let (desk, mut passes) = Desk::<L>::open(alloc, blank, node, interface)?; // a pass for each task of the node
+//! let (desk, mut passes) = Desk::<L>::open(alloc, blank, node, interface)?; // a handle for each task of the node
 //! desk.commit(rt, &gate, &mut passes[0], buffer, &payload)?; // one call of the interface, under its lock
 //! let (interface, book, own) = desk.close(); // the book counts the interface's commits
 //!
 //! let wire = Wire::new(bus);
-//! while let Some(window) = wire.next(rt, node)? {} // each call waits until its phase is there
+//! while let Some(window) = wire.next(rt, node)? {} // each call waits for its phase
 //! let bus = wire.close();
 //! ```
 //!
-//! A chapter in parentheses is one of the FlexRay Protocol Specification 2.1, revision A, whose rule it is.
-//! *(project-defined)* marks a rule of this project's own, which says nothing of the standard.
+//! A chapter in parentheses is one of the FlexRay Protocol Specification 2.1, revision A.
+//! *(project-defined)* marks a rule of this project, and makes no claim about the standard.
 //!
 //! # Definitions
 //!

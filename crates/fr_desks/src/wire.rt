@@ -1,4 +1,4 @@
-//! The bus behind one lock, and what waits for its phases.
+//! The bus behind one lock, and the calls that wait for its phases.
 
 ghost use Rattle.std.specs.Prelude.{◌≡◌, ◌<◌, ◌≤◌, ◌⊎◌, ℕ, nat_lt, length, IfOk, IfErr};
 ghost use Rattle.fr_bus.specs.declared.error.BusError.TheVariants as bus;
@@ -21,36 +21,42 @@ use std::thread;
 use std::time::Clock;
 use thiserror::Error;
 
-/// How often a call that isn't due looks again, and lets other threads run in between, before it sleeps. A window takes
-/// some ten microseconds, and to be woken takes as long.
+/// The number of times that a call yields and polls again before it sleeps.
+///
+/// A window takes some ten microseconds, and so does the wake-up of a thread.
 const LOOKS: u32 = 400;
 
-// Nodes yield after each look: with 100 looks in a row runs took 5 to 7 % longer, and with 20,000 for the bus up to
-// twice as long.
-/// How often the calls that move the bus on look in a row before they let other threads run, which takes a microsecond
-/// or two: all nodes wait for them.
+// Nodes yield after each poll. With 100 polls in a row, runs took 5 to 7 % longer. With 20,000 for the bus, they took
+// up to twice as long.
+/// The number of polls in a row of the calls that move the bus on, before they yield to other threads.
+///
+/// They take a microsecond or two. All nodes wait for these calls.
 const LOOKS_IN_A_ROW: u32 = 2_000;
 
 // With 0.1 ms the run of the car took 1.5 times as long on one core.
-/// The most time, in microseconds, that other threads of the run take before a call looks again. Another process that
-/// is let run keeps the core for a slice of some milliseconds, so a longer pause shows that the cores are shared.
+/// The longest pause, in microseconds, that other threads of the run cause between two polls.
+///
+/// Another process that runs instead keeps the core for a slice of some milliseconds. So a longer pause shows that the
+/// cores are shared.
 const LONG_PAUSE: u128 = 500;
 
-/// How many calls that aren't due sleep at once after the first long pause. To be woken costs a call less than a slice
-/// of another process.
+/// The number of calls that aren't due and sleep at once after the first long pause.
+///
+/// The wake-up of a call costs less than a slice of another process.
 const SLEEPS: u32 = 64;
 
-/// The most calls that sleep at once after a long pause, however many there were.
+/// The largest number of calls that sleep at once after a long pause, after any number of long pauses.
 const MOST_SLEEPS: u32 = 65_536;
 
-/// A pause that isn't long takes off one part in so many of the calls that sleep at once after the next long one.
+/// The divisor of the relief: each short pause lowers `next_sleeps` by `next_sleeps / RELIEF`.
 const RELIEF: u32 = 8;
 
-/// Of so many takes one reads the clock while no pause was long. Where each wait reads it, a run of sixteen nodes takes
-/// 3 to 5 % longer.
+/// The number of takes of which one reads the clock while no pause was long.
+///
+/// If each wait reads the clock, a run of sixteen nodes takes 3 to 5 % longer.
 const TIMED_TAKES: u32 = 8;
 
-/// Why a call of a wire is refused (project-defined).
+/// Reasons to refuse a call of a wire (project-defined).
 #[derive(Clone, Copy, Debug, PartialEq, Eq, Error)]
 pub enum WireError {
     /// The bus refuses the call.
@@ -61,7 +67,7 @@ pub enum WireError {
     Stopped,
 }
 
-/// What lies behind a wire's lock.
+/// The state behind a wire's lock.
 #[derive(Drop)]
 struct Wired {
     bus: Bus,
@@ -69,7 +75,7 @@ struct Wired {
 }
 
 impl Wired {
-    /// Returns how far the open window has come.
+    /// Returns the stage of the open window.
     fn stage(&self) -> Stage {
         if self.stopped {
             return Stage::Over;
@@ -84,16 +90,16 @@ impl Wired {
     }
 }
 
-/// What some calls wait for.
+/// A signal for which some calls wait.
 #[derive(Drop)]
 struct Signal {
-    /// How often these calls look in a row.
+    /// The number of polls in a row of these calls.
     looks: u32,
     sleepers: Condvar,
 }
 
 impl Signal {
-    /// Returns a signal for which nobody waits yet, of calls that look so often in a row.
+    /// Returns a signal without waiting calls, for calls with this number of polls in a row.
     fn new(looks: u32) -> Signal {
         Signal {
             looks,
@@ -101,12 +107,12 @@ impl Signal {
         }
     }
 
-    /// Wakes all that sleep.
+    /// Wakes all calls that sleep.
     fn give(&self) {
         self.sleepers.notify_all();
     }
 
-    /// Looks at the hint until the call is due by what it tells, some times in a row. Says whether it was.
+    /// Polls the hint some times in a row. Returns whether the call was due by it.
     fn looks_due<F: Fn(Stage) -> bool>(&self, hint: &Hint, is_due: &F) -> bool
         requires { F.IsAlwaysCallable is_due.now }
     {
@@ -118,8 +124,9 @@ impl Signal {
         false
     }
 
-    /// Lets other threads run until the call is due by the hint, for a while, and not where other processes take the
-    /// cores.
+    /// Yields to other threads until the call is due by the hint, for a while.
+    ///
+    /// A call returns earlier if other processes take the cores.
     fn look_out<R: Clock, F: Fn(Stage) -> bool>(
         &self,
         rt: &R,
@@ -140,7 +147,7 @@ impl Signal {
         }
     }
 
-    /// Lets other threads run until the call is due by the hint, for a while.
+    /// Yields to other threads until the call is due by the hint, for a while.
     fn look_on<F: Fn(Stage) -> bool>(&self, hint: &Hint, is_due: &F)
         requires { F.IsAlwaysCallable is_due.now }
     {
@@ -152,7 +159,7 @@ impl Signal {
         }
     }
 
-    /// The same until a pause is long.
+    /// Does the same, but returns after a long pause.
     fn look_by_clock<R: Clock, F: Fn(Stage) -> bool>(
         &self,
         rt: &R,
@@ -179,17 +186,17 @@ impl Signal {
     }
 }
 
-/// How calls rest where other processes take the cores.
+/// The state of calls that sleep at once because other processes take the cores.
 #[derive(Drop)]
 struct Rest {
-    /// How many more calls sleep at once.
+    /// The number of further calls that sleep at once.
     sleeps: AtomicU32,
-    /// How many calls sleep at once after the next long pause.
+    /// The number of calls that sleep at once after the next long pause.
     next_sleeps: AtomicU32,
 }
 
 impl Rest {
-    /// Returns the rest of calls that had no long pause yet.
+    /// Returns the state before any long pause.
     fn new() -> Rest {
         Rest {
             sleeps: AtomicU32::new(0),
@@ -197,7 +204,7 @@ impl Rest {
         }
     }
 
-    /// Returns whether a call that isn't due sleeps at once, and counts it.
+    /// Returns whether a call that isn't due sleeps at once, and counts this call.
     fn sleeps_at_once(&self) -> bool {
         let left = self.sleeps.load(Ordering::Relaxed);
         if left > 0 {
@@ -211,7 +218,7 @@ impl Rest {
         self.next_sleeps.load(Ordering::Relaxed) > SLEEPS
     }
 
-    /// Has the next calls sleep at once, and twice as many after the next long pause.
+    /// Lets the next calls sleep at once, and twice as many after the next long pause.
     fn sleep_more(&self) {
         let sleeps = self.next_sleeps.load(Ordering::Relaxed);
         self.sleeps.store(sleeps, Ordering::Relaxed);
@@ -219,7 +226,7 @@ impl Rest {
         self.next_sleeps.store(more, Ordering::Relaxed);
     }
 
-    /// Has fewer calls sleep at once after the next long pause.
+    /// Lets fewer calls sleep at once after the next long pause.
     fn sleep_less(&self) {
         let sleeps = self.next_sleeps.load(Ordering::Relaxed);
         if sleeps > SLEEPS {
@@ -229,7 +236,7 @@ impl Rest {
     }
 }
 
-/// Returns the time since some start, in microseconds, and 0 where the clock can't be read.
+/// Returns the time since some start in microseconds, or 0 if the clock can't be read.
 fn microseconds<R: Clock>(rt: &R) -> u128 {
     match rt.monotonic() {
         Ok(time) => time.as_micros(),
@@ -237,22 +244,22 @@ fn microseconds<R: Clock>(rt: &R) -> u128 {
     }
 }
 
-/// The bus, where controllers and whoever moves it on make their calls, each under the one lock (project-defined).
+/// The bus behind a lock, for the controllers and the thread that moves it on (project-defined).
 ///
-/// Whenever the lock is free the bus is one that its own calls lead to: no static slot of a guarded channel carries two
-/// senders. Each call waits until its phase is there, and never once the run is over. After `stop` each answers
-/// `Stopped`. A look, put or take of a node that the cluster doesn't have waits for nothing. Contracts see a wire as
-/// the number of the cluster's nodes.
+/// When the lock is free, the bus is one to which its own calls lead: no static slot of a guarded channel carries two
+/// senders. Each call waits for its phase, but not once the run is over. After `stop`, each call returns `Stopped`. A
+/// next, put or take of a node that the cluster doesn't have never waits. In contracts, a wire is the number of the
+/// cluster's nodes.
 #[derive(Drop)]
 pub struct Wire {
     nodes: u8,
     lock: Mutex<Wired>,
-    // Two condition variables wake no thread for the event of another.
-    /// A window opened or was sealed, or the wire was stopped.
+    // With two condition variables, an event wakes no thread that waits for the other event.
+    /// The signal that a window opened or was sealed, or the wire was stopped.
     for_nodes: Signal,
-    /// All have put or taken, or the wire was stopped.
+    /// The signal that all nodes have put or taken, or the wire was stopped.
     for_bus: Signal,
-    /// How far the open window has come, for calls that look before they go for the lock.
+    /// The stage of the open window, for calls that poll before they take the lock.
     hint: Hint,
     rest: Rest,
 }
@@ -288,10 +295,11 @@ impl Wire {
         node.number() < self.nodes
     }
 
-    // It is given a function and is compiled for each call. An enum of calls went through a jump table and cost a tenth
+    // It takes a function and is compiled for each call. An enum of calls went through a jump table and cost a tenth
     // more instructions.
-    /// Returns the bus under its lock, once the call is due at the stage that the window has come to. A call that is
-    /// timed tells whether other processes take the cores.
+    /// Returns the bus under its lock, once the call is due at the stage of the window.
+    ///
+    /// A timed call finds out whether other processes take the cores.
     fn ready<R: Wait + Clock, F: Fn(Stage) -> bool>(
         &self,
         rt: &R,
@@ -316,9 +324,9 @@ impl Wire {
         }
     }
 
-    /// Returns the open window, once it collects, and `None` once the run is over.
+    /// Returns the open window once it collects, or `None` once the run is over.
     ///
-    /// Refused with `Stopped`, and with `Bus(UnknownNode)` at once for a node that the cluster doesn't have.
+    /// Returns `Stopped`, or at once `Bus(UnknownNode)` for a node that the cluster doesn't have.
     pub fn next<R: Wait + Clock>(&self, rt: &R, node: NodeId) -> Result<Option<Window>, WireError>
         ensures known { IfOk result (λ window. node < self.now) }
         ensures refused { IfErr result (λ e. (e ≡ refusal.Stopped)
@@ -338,7 +346,7 @@ impl Wire {
         }
     }
 
-    /// The bus's put, once the open window collects. Refused with `Stopped`, and as the bus's is.
+    /// Makes the bus's put, once the open window collects. Returns `Stopped`, or the error of the bus.
     pub fn put<R: Wait + Clock>(
         &self,
         rt: &R,
@@ -365,7 +373,7 @@ impl Wire {
         answer.map_err(|error| WireError::Bus(error))
     }
 
-    /// The bus's inject, once the open window collects. Refused with `Stopped`, and as the bus's is.
+    /// Makes the bus's inject, once the open window collects. Returns `Stopped`, or the error of the bus.
     pub fn inject<R: Wait + Clock>(&self, rt: &R, fault: Fault) -> Result<(), WireError> {
         // A fault of an unknown node waits for its phase, too.
         let mut wired = self.ready(rt, &self.for_nodes, false, |stage| stage.lets_offer())?;
@@ -373,8 +381,9 @@ impl Wire {
         answer.map_err(|error| WireError::Bus(error))
     }
 
-    /// The bus's seal, once all have put. Refused with `Stopped`, and as the bus's is.
+    /// Makes the bus's seal, once all nodes have put. Returns `Stopped`, or the error of the bus.
     ///
+    /// It passes the gate before it waits, and before it returns.
     /// It passes the gate before it waits, and before it answers.
     pub fn seal<R: Wait + Clock, G: Gate>(&self, rt: &R, gate: &G) -> Result<(), WireError> {
         pass(gate, Actor::Bus, Side::Before);
@@ -383,7 +392,7 @@ impl Wire {
         answer
     }
 
-    /// The bus's seal, once all have put.
+    /// Makes the bus's seal, once all nodes have put.
     fn seal_all<R: Wait + Clock>(&self, rt: &R) -> Result<(), WireError> {
         let mut wired = self.ready(rt, &self.for_bus, true, |stage| stage.lets_seal())?;
         let answer = wired.bus.seal();
@@ -395,7 +404,7 @@ impl Wire {
         answer.map_err(|error| WireError::Bus(error))
     }
 
-    /// Returns the bus's take, once the open window is sealed. Refused with `Stopped`, and as the bus's is.
+    /// Makes the bus's take, once the open window is sealed. Returns `Stopped`, or the error of the bus.
     pub fn take<R: Wait + Clock>(
         &self,
         rt: &R,
@@ -407,8 +416,9 @@ impl Wire {
         Ok((a, b))
     }
 
-    /// The same as `take`, with what the node sees on channel A and on B written over `a` and `b`, bytes over those
-    /// that are there. Refused as `take` is.
+    /// Makes the same take, and replaces `a` and `b` by the observations on channels A and B.
+    ///
+    /// Bytes are written over the bytes that are there. It is refused as `take` is.
     pub fn take_into<R: Wait + Clock>(
         &self,
         rt: &R,
@@ -437,7 +447,7 @@ impl Wire {
         answer.map_err(|error| WireError::Bus(error))
     }
 
-    /// The bus's advance, once all have taken. Refused with `Stopped`, and as the bus's is.
+    /// Makes the bus's advance, once all nodes have taken. Returns `Stopped`, or the error of the bus.
     pub fn advance<R: Wait + Clock>(&self, rt: &R) -> Result<(), WireError> {
         let mut wired = self.ready(rt, &self.for_bus, true, |stage| stage.lets_advance())?;
         let answer = wired.bus.advance();
@@ -453,7 +463,7 @@ impl Wire {
         answer.map_err(|error| WireError::Bus(error))
     }
 
-    /// From now on each call answers `Stopped`, those that wait at once. The bus stays as it is.
+    /// Stops the wire: from now on each call returns `Stopped`, waiting calls at once. The bus stays unchanged.
     pub fn stop<R: Wait>(&self, rt: &R) {
         let mut wired = self.lock.lock(rt);
         wired.stopped = true;
@@ -470,6 +480,7 @@ impl Wire {
     {
         let Wire { lock, .. } = self;
         let Wired { bus, stopped: _ } = lock.into_inner();
+        // For the prover: the clause of this call.
         bus.known();
         bus
     }

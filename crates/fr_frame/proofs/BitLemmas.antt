@@ -70,7 +70,7 @@ xor_by_feedback true w p n shifted e = ap (xor_bits (bits_of w p)) e ∙ sym (bi
     (xor_comm p n)
 xor_by_feedback false w p n shifted e = e
 
--- The register of a number: its top bit and the message's decide whether the polynomial is xored in.
+-- The register as a number: its top bit and the message's bit decide if the polynomial is xored in.
 pub stepped-bits_of : (w p r : ℕ) (bit : Bool) →
     stepped (bits_of (suc w) p) (bits_of (suc w) r) bit
     ≡ bits_of (suc w) (cond (differ (bit_test r w) bit) (bit_xor (r % 2 ^ w * 2) p) (r % 2 ^ w * 2))
@@ -85,7 +85,7 @@ digit_value zero place h = omega arith
 digit_value (suc zero) place h = omega arith
 digit_value (suc (suc d)) place h = absurd (omega arith)
 
--- a number is what its bits spell
+-- a number is the one that its bits spell
 pub number_of-bits_of : (w n : ℕ) → number_of (bits_of w n) ≡ n % 2 ^ w
 unfolding bits_of number_of
 number_of-bits_of zero n = sym (mod-one n)

@@ -1,4 +1,4 @@
--- The bits that a header CRC covers, as code puts them together.
+-- The bits that a header CRC covers, as the code joins them.
 use Rattle.std.proofs.Common.{◌≡◌, ℕ, ◌+◌, ◌*◌, ◌/◌, ◌%◌, ◌^◌, ◌≤◌, ◌<◌, Bool, true, false, cond, List, [], ◌∷◌, ◌++◌}
 use Rattle.std.proofs.Common.{length, refl, sym, ap, subst, ◌∙◌, arith, bit_or, lit≤}
 use mir.Val.{bool_byte}
@@ -8,7 +8,7 @@ use Rattle.fr_frame.specs.Payload.{IsPayload}
 use Rattle.fr_frame.specs.Spelling.{covered}
 use Rattle.fr_frame.proofs.NumberLemmas.{or_is, bits_of-joined, bits_of-digit}
 
--- the number that a conversion makes of a bool
+-- the number that a bool converts to
 pub digit_is : (bit : Bool) → bool_byte bit ≡ cond bit 1 0
 digit_is true = refl
 digit_is false = refl
@@ -30,14 +30,14 @@ bits_of-digits a b =
     ∙ ap (λ (t : List Bool). t ++ bits_of 1 (cond b 1 0)) (bits_of-digit a)
     ∙ ap (λ (t : List Bool). a ∷ t) (bits_of-digit b)
 
--- the same as code joins them, in an integer of `m` bits
+-- the same, as the code joins them in an integer of `m` bits
 pub digits_joined : (m : ℕ) (a b : Bool) (x y : ℕ) → 2 ≤ m → x ≡ cond a 1 0 → y ≡ cond b 1 0
     → bit_or (x * 2 % 2 ^ m) y ≡ digits a b
 digits_joined m a b x y fits x_is y_is =
     ap (λ (n : ℕ). bit_or (n * 2 % 2 ^ m) y) x_is ∙ ap (bit_or (cond a 1 0 * 2 % 2 ^ m)) y_is
     ∙ or_is 1 1 m (cond a 1 0) (cond b 1 0) (digit_fits a) (digit_fits b) fits
 
--- the number that the covered bits spell, of a payload of so many bytes
+-- the number that the covered bits spell, for a payload of so many bytes
 abbrev covered_number : Bool → Bool → ℕ → ℕ → ℕ
 covered_number sync startup id size = (digits sync startup * 2048 + id) * 128 + size / 2
 

@@ -40,7 +40,7 @@ is_equal a b e = eqb-true a b (no_longer_not (eqb a b) e)
     no_longer_not true e = refl
     no_longer_not false e = absurd cc
 
--- what all four tests say of bytes that are granted
+-- the results of all four tests for accepted bytes
 record IsGranted (channel : Channel) (bytes : List ℕ) : Type 0 where
   long : 8 ≤ length bytes
   length_is : length bytes ≡ 8 + 2 * number_at 16 7 bytes
@@ -65,7 +65,7 @@ granted channel bytes e =
 abbrev flag : ℕ → List Bool → Bool
 flag place bits = eqb (number_of (take 1 (drop place bits))) 1
 
--- what is behind the first five bits, in its four parts
+-- the bits after the first five, in four parts
 rest_parts : (rest : List Bool) → rest ≡ ((take 11 rest ++ take 7 (drop 11 rest)) ++ take 11 (drop 18 rest)) ++ drop 29
     rest
 rest_parts rest =
@@ -92,7 +92,7 @@ header_parts (a ∷ b ∷ c ∷ d ∷ e ∷ rest) long =
     (ap (λ (t : List Bool). a ∷ b ∷ c ∷ d ∷ e ∷ t) (rest_parts rest))
 header_parts bits long = absurd (omega arith)
 
--- ---- what is granted is spelled
+-- ---- accepted bytes are spelled
 
 pub length-frame_check : (channel : Channel) (bytes : List ℕ) → length (frame_check channel bytes) ≡ 24
 length-frame_check channel bytes =
@@ -219,7 +219,7 @@ some_is : {T E : Type 0} (refused : Option E) (x y : T) → cond (is_some refuse
 some_is None x y e = cc
 some_is (Some error) x y e = absurd cc
 
--- what is decoded is spelled
+-- a decoded frame is spelled by the bytes
 pub decoded_is_spelled : (f : Fields) (channel : Channel) (bytes : List ℕ) → decoded channel bytes ≡ Some f
     → Spells f channel bytes
 unfolding decoded
@@ -227,7 +227,7 @@ decoded_is_spelled f channel bytes e =
     subst (λ (g : Fields). Spells g channel bytes) (some_is (refusal channel bytes) (fields_of bytes) f e)
     (granted_is_spelled channel bytes (granted channel bytes (if_none (refusal channel bytes) (fields_of bytes) f e)))
 
--- what is spelled is decoded
+-- a spelled frame is decoded
 pub spelled_is_decoded : (f : Fields) (channel : Channel) (bytes : List ℕ) → Spells f channel bytes
     → decoded channel bytes ≡ Some f
 unfolding decoded
@@ -238,14 +238,14 @@ spelled_is_decoded f channel bytes s =
     ap (λ (refused : Option DecodeError). cond (is_some refused) None (Some (fields_of bytes))) none ∙ ap
     (λ (g : Fields). Some g) same
 
--- what is refused isn't decoded
+-- refused bytes aren't decoded
 pub refused_is_none : (error : DecodeError) (channel : Channel) (bytes : List ℕ) → refusal channel bytes ≡ Some error
     → decoded channel bytes ≡ None
 unfolding decoded
 refused_is_none error channel bytes e = ap (λ (refused : Option DecodeError). cond (is_some refused) None
     (Some (fields_of bytes))) e
 
--- ---- a decoder that refuses what is to be refused, and else reads the fields
+-- ---- a decoder that refuses bytes in order, and otherwise reads the fields
 
 pub decoded-from : (channel : Channel) (bytes : List ℕ) (r : Result Fields DecodeError)
     → result_err r ≡ refusal channel bytes → IfOk r (λ f. f ≡ fields_of bytes)

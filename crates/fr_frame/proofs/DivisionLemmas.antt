@@ -86,7 +86,7 @@ length-stepped polynomial (top ∷ register) bit same = by_feedback (differ top 
         (omega (arith, length-append register (false ∷ []))) ∙ omega (arith, length-append register (false ∷ []))
     by_feedback false = omega (arith, length-append register (false ∷ []))
 
--- a bit that goes into the register is one that is divided away
+-- shifting a bit into the register is one step of the division
 pub divided-step : (polynomial register : List Bool) (bit : Bool) (rest : List Bool)
     → length polynomial ≡ length register → 0 < length register
     → divided (true ∷ polynomial) register (bit ∷ rest) ≡ divided (true ∷ polynomial)

@@ -1,4 +1,4 @@
--- The bytes of a frame spell it, and are decoded to it.
+-- The bytes of a frame spell it, and decode to it.
 use Rattle.std.proofs.Common.{◌≡◌, ℕ, zero, suc, ◌+◌, ◌*◌, ◌/◌, ◌%◌, ◌^◌, ◌<◌, ◌≤◌, Bool, false, cond, List, ◌∷◌, ◌++◌}
 use Rattle.std.proofs.Common.{length, Some, refl, sym, ap, ◌∙◌, arith, bit_or, lit≤, length-append}
 use Rattle.std.specs.Int.{byte_at, bytes_high_first}
@@ -86,7 +86,7 @@ encoded_is_canonical f channel is_frame = record {
   reserved_is = refl;
 }
 
--- a frame has bytes, whatever its payload is
+-- every frame has bytes, with any payload
 pub length-encoded : (f : Fields) (channel : Channel) → 8 ≤ length (encoded f channel)
 unfolding encoded
 length-encoded f channel =
@@ -98,12 +98,12 @@ length-encoded f channel =
       length-bytes_high_first 3 (number_of (frame_check channel (checked_bytes f))),
     )
 
--- and they are decoded to it
+-- these bytes decode to the frame
 pub encoded_is_decoded : (f : Fields) (channel : Channel) → IsFrame f → decoded channel (encoded f channel) ≡ Some f
 encoded_is_decoded f channel is_frame = spelled_is_decoded f channel (encoded f channel)
     (encoded_is_canonical f channel is_frame).spelled
 
--- ---- the header as code puts it together
+-- ---- the header as the code joins it
 
 pub header_joined : (f : Fields) (p d c check cycle : ℕ) → p ≡ cond f.preamble 1 0 → d ≡ cond f.has_data 1 0
     → c < 2 ^ 20 → bits_of 20 c ≡ covered f → check < 2 ^ 11 → bits_of 11 check ≡ header_check (bits_of 20 c)

@@ -21,7 +21,7 @@ bits_of-split (suc w) k n =
     (ap (λ (m : ℕ). n / 2 ^ m) (add_comm w k) ∙ sym (shr-shr n k w)) in
     ap (λ (m : ℕ). bits_of m n) more ∙ rw (digit, bits_of-split w k n) refl
 
--- a field behind others
+-- a field after others
 pub bits_of-field : (before count low n : ℕ) → take count (drop before (bits_of (before + (count + low)) n)) ≡ bits_of
     count (n / 2 ^ low)
 bits_of-field before count low n =
@@ -33,7 +33,7 @@ bits_of-field before count low n =
     (length-bits_of before (n / 2 ^ (count + low))))
     ∙ take_at (bits_of count (n / 2 ^ low)) (bits_of low n) count (length-bits_of count (n / 2 ^ low))
 
--- a byte behind a number
+-- a byte after a number
 pub bits_of-byte : (w a b : ℕ) → b < 256 → bits_of (w + 8) (a * 256 + b) ≡ bits_of w a ++ bits_of 8 b
 bits_of-byte w a b h =
     let low : bits_of 8 (a * 256 + b) ≡ bits_of 8 b = sym (bits_of-mod 8 (a * 256 + b)) ∙ ap (bits_of 8)
@@ -68,12 +68,12 @@ number-more_fits i n b small fits below =
     let low : b < 2 ^ (8 * (i + 1)) = omega arith in
     rw whole (or_lt (8 * (i + 1)) (n * 256) b high low)
 
--- what was read is the number that the bits spell
+-- the number read is the one that the bits spell
 pub number-read : (xs : List ℕ) (n : ℕ) → bits_of (8 * length xs) n ≡ bits_of_bytes xs → n < 2 ^ (8 * length xs)
     → number_of (bits_of_bytes xs) ≡ n
 number-read xs n is fits = ap number_of (sym is) ∙ number_of-bits_of (8 * length xs) n ∙ mod-eq_of_lt fits
 
--- a field as code takes it
+-- a field as the code takes it
 pub field-bits : (before count low n : ℕ) (bits : List Bool) → bits_of (before + (count + low)) n ≡ bits
     → take count (drop before bits) ≡ bits_of count (bit_and (n / 2 ^ low) (2 ^ count - 1))
 field-bits before count low n bits e =

@@ -1,4 +1,4 @@
--- One turn of the loops over bits and bytes, and their ends.
+-- One step of the loops over bits and bytes, and their ends.
 use Rattle.std.proofs.Common.{◌≡◌, ℕ, ◌+◌, ◌^◌, ◌<◌, Bool, true, false, List, [], ◌∷◌}
 use Rattle.std.proofs.Common.{◌++◌, length, drop, get_or, refl, sym, ap, ◌∙◌, arith, add-one, drop-cons}
 use Rattle.std.proofs.Common.{append-nil}

@@ -8,7 +8,7 @@ use Rattle.fr_frame.specs.Bits.{bits_of, number_of, bits_of_bytes}
 use Rattle.fr_frame.proofs.BitLemmas.{length-bits_of, bits_of-mod}
 use Rattle.fr_frame.proofs.FieldLemmas.{bits_of-split}
 
--- a number behind another
+-- a number after another
 pub bits_of-joined : (w k a b : ℕ) → b < 2 ^ k → bits_of (w + k) (a * 2 ^ k + b) ≡ bits_of w a ++ bits_of k b
 bits_of-joined w k a b h =
     let low : bits_of k (a * 2 ^ k + b) ≡ bits_of k b = sym (bits_of-mod k (a * 2 ^ k + b)) ∙ ap (bits_of k)
@@ -16,7 +16,7 @@ bits_of-joined w k a b h =
     bits_of-split w k (a * 2 ^ k + b) ∙ ap (λ (x : ℕ). bits_of w x ++ bits_of k (a * 2 ^ k + b)) (shr_high a k b h) ∙ ap
     (λ (t : List Bool). bits_of w a ++ t) low
 
--- the same as code joins them, in an integer of `m` bits
+-- the same, as the code joins them in an integer of `m` bits
 pub or_is : (w k m a b : ℕ) → a < 2 ^ w → b < 2 ^ k → w + k ≤ m → bit_or (a * 2 ^ k % 2 ^ m) b ≡ a * 2 ^ k + b
 or_is w k m a b below h fits = ap (λ (x : ℕ). bit_or x b) (shl_whole a w k m below fits) ∙ or_shifted a k b h
 
@@ -51,7 +51,7 @@ bits_of-number_of (bit ∷ bits) =
     ∙ ap (λ (t : List Bool). t ++ bits_of (length bits) (number_of bits)) (bits_of-digit bit)
     ∙ ap (λ (t : List Bool). bit ∷ t) (bits_of-number_of bits)
 
--- the same, where the length is known
+-- the same, for a known length
 pub bits_of-spelled : (w : ℕ) (bits : List Bool) → length bits ≡ w → bits_of w (number_of bits) ≡ bits
 bits_of-spelled w bits is = ap (λ (m : ℕ). bits_of m (number_of bits)) (sym is) ∙ bits_of-number_of bits
 

@@ -1,4 +1,4 @@
--- What a decoder reads from the header.
+-- The fields that a decoder reads from the header.
 use Rattle.std.proofs.Common.{◌≡◌, ℕ, ◌+◌, ◌-◌, ◌*◌, ◌/◌, ◌^◌, ◌≤◌, ◌<◌, Bool, true, false, eqb, ltb, List, length}
 use Rattle.std.proofs.Common.{take, drop, Some, None, refl, sym, ap, ◌∙◌, arith, bit_and}
 use Rattle.std.proofs.lemmas.List.{length-take, length-drop, take_all, drop-take}
@@ -45,7 +45,7 @@ not_refused channel bytes t1 t2 t3 t4 = rw (t1, t2, t3, t4) refl
 pub long_enough : (n : ℕ) → 8 ≤ n → ltb n 8 ≡ false
 long_enough n h = le-ltb n 8 h
 
--- the code's words are those of the bits
+-- the words that the code computes are those of the bits
 pub words_is : (h : ℕ) (bytes : List ℕ) → bits_of 40 h ≡ bits_of_bytes (take 5 bytes)
     → number_at 16 7 bytes ≡ bit_and (h / 131072) 127
 words_is h bytes e = field-number 16 7 17 h (bits_of_bytes (take 5 bytes)) e
@@ -64,7 +64,7 @@ header_read h bytes long e =
     let five : 40 ≡ 8 * length (take 5 bytes) = omega (arith, length-take 5 bytes) in
     ap (λ (m : ℕ). bits_of m h) five ∙ e
 
--- ---- the four tests, from what the code compares
+-- ---- the four tests, by the code's comparisons
 
 pub length_test : (h : ℕ) (bytes : List ℕ) → bits_of 40 h ≡ bits_of_bytes (take 5 bytes)
     → length bytes ≡ 8 + 2 * bit_and (h / 131072) 127 → eqb (length bytes) (8 + 2 * number_at 16 7 bytes) ≡ true

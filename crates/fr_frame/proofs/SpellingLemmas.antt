@@ -1,4 +1,4 @@
--- Bytes spell one frame at most, and what is spelled is not refused.
+-- Bytes spell at most one frame, and bytes that spell one aren't refused.
 use Rattle.std.proofs.Common.{◌≡◌, ℕ, ◌+◌, ◌-◌, ◌/◌, ◌^◌, ◌<◌, Bool, List, ◌∷◌, ◌++◌, length, take, drop, None, sym, ap}
 use Rattle.std.proofs.Common.{◌∙◌, arith, lit<, length-append}
 use Rattle.std.proofs.lemmas.List.{append_assoc, take_at, drop_at}
@@ -74,7 +74,7 @@ check-at r f =
     ∙ ap (take 11) (drop_at (covered f) (header_check (covered f) ++ bits_of 6 f.cycle) 20 (length-covered f))
     ∙ take_at (header_check (covered f)) (bits_of 6 f.cycle) 11 (length-header_check (covered f))
 
--- the frame ID and what is behind it
+-- the frame ID and the bits after it
 tail_of : Fields → List Bool
 tail_of f = bits_of 7 (length f.payload / 2) ++ (header_check (covered f) ++ bits_of 6 f.cycle)
 
@@ -116,7 +116,7 @@ same_number : (w a b : ℕ) → a < 2 ^ w → b < 2 ^ w → bits_of w a ≡ bits
 same_number w a b below_a below_b e = sym (mod-eq_of_lt below_a) ∙ sym (number_of-bits_of w a) ∙ ap number_of e
     ∙ number_of-bits_of w b ∙ mod-eq_of_lt below_b
 
--- ---- what is spelled is not refused
+-- ---- bytes that spell a frame aren't refused
 
 pub spelled_is_granted : (f : Fields) (channel : Channel) (bytes : List ℕ) → Spells f channel bytes
     → refusal channel bytes ≡ None
@@ -142,7 +142,7 @@ spelled_is_granted f channel bytes s =
     (eq-eqb _ _ (stored ∙ ap (λ (t : List Bool). number_of (header_check t)) (sym covered_bits)))
     (eq-eqb _ _ (ap number_of (ap bits_of_bytes back ∙ s.check_is ∙ ap (frame_check channel) (sym front))))
 
--- ---- bytes spell one frame at most
+-- ---- bytes spell at most one frame
 
 pub spelled_once : (f g : Fields) (channel : Channel) (bytes : List ℕ) → Spells f channel bytes → Spells g channel bytes
     → f ≡ g

@@ -1,4 +1,4 @@
--- The division of a sum of two messages is the sum of their divisions, and so a check can be computed by parts.
+-- The division of a sum of two messages is the sum of their divisions, so a check can be computed by parts.
 use Rattle.std.proofs.Common.{◌≡◌, ℕ, zero, suc, ◌+◌, ◌-◌, ◌≤◌, ◌<◌, Bool, true, false, List, [], ◌∷◌, ◌++◌}
 use Rattle.std.proofs.Common.{length, drop, replicate, refl, sym, ap, ◌∙◌, arith, length-append, length-drop}
 use Rattle.std.proofs.Common.{append-nil}
@@ -56,7 +56,7 @@ xor_bits-zeros_l [] (suc n) same = absurd (omega arith)
 xor_bits-zeros_l (x ∷ xs) zero same = absurd (omega arith)
 xor_bits-zeros_l (x ∷ xs) (suc n) same = rw (differ-false_l x, xor_bits-zeros_l xs n (omega arith)) refl
 
--- a mask onto the front is a mask with zeros after it
+-- a mask at the front is a mask with zeros after it
 pub xor_bits-padded : (mask bits : List Bool) (n : ℕ) → length mask + n ≡ length bits
     → xor_bits (mask ++ replicate n false) bits ≡ xor_front mask bits
 unfolding xor_front
@@ -71,7 +71,7 @@ zeros-append (suc m) n =
     let more : suc m + n ≡ suc (m + n) = omega arith in
     ap (λ (k : ℕ). replicate k false) more ∙ ap (λ (t : List Bool). false ∷ t) (zeros-append m n)
 
--- ---- a mask onto a sum
+-- ---- a mask and a sum
 
 xor_front-sum_l : (mask xs ys : List Bool) → length xs ≡ length ys
     → xor_front mask (xor_bits xs ys) ≡ xor_bits (xor_front mask xs) ys
@@ -108,7 +108,7 @@ length-xor_front [] xs = refl
 length-xor_front (m ∷ mask) [] = refl
 length-xor_front (m ∷ mask) (x ∷ xs) = omega (arith, length-xor_front mask xs)
 
--- a mask that ends before the front does
+-- a mask that is no longer than the front
 pub xor_front-append : (mask xs ys : List Bool) → length mask ≤ length xs
     → xor_front mask (xs ++ ys) ≡ xor_front mask xs ++ ys
 unfolding xor_front
@@ -159,7 +159,7 @@ divide-sum d (suc n) xs ys same =
     ∙ divide-sum d n (divide_once d xs) (divide_once d ys) (length-divide_once d xs ∙ ap (λ (k : ℕ). k - 1) same ∙ sym
     (length-divide_once d ys))
 
--- zeros before a message are divided away
+-- zeros before a message don't change its division
 divide-zeros : (divisor : List Bool) (n : ℕ) (rest : List Bool) → divide divisor n (replicate n false ++ rest) ≡ rest
 unfolding divide divide_once
 divide-zeros d zero rest = refl
@@ -173,7 +173,7 @@ divide-more d (suc m) n bits =
     let more : suc m + n ≡ suc (m + n) = omega arith in
     ap (λ (k : ℕ). divide d k bits) more ∙ divide-more d m n (divide_once d bits)
 
--- ---- what a message leaves of a register that was empty
+-- ---- the register after a message, from an empty register
 
 -- a message of two parts, each with zeros in the other's place
 message-parts : (front back after : List Bool) → front ++ (back ++ after)
@@ -206,7 +206,7 @@ parts_lengths front back after =
       length-replicate (length after) false,
     )
 
--- what follows the front is divided after it
+-- the rest of the message is divided after the front
 divide-parts : (divisor front back after : List Bool) → divide divisor (length front) (front ++ (back ++ after))
     ≡ xor_bits (divide divisor (length front) (front ++
     (replicate (length back) false ++ replicate (length after) false))) (back ++ after)
@@ -248,7 +248,7 @@ left_by-append d w front back =
     (replicate (length front) false ++ (back ++ after)))) high
     ∙ ap (xor_bits (left_by d w (front ++ zeros))) low
 
--- zeros before a message change nothing
+-- zeros before a message don't change the register
 pub left_by-zeros : (divisor : List Bool) (w n : ℕ) (message : List Bool)
     → left_by divisor w (replicate n false ++ message) ≡ left_by divisor w message
 left_by-zeros d w n message =
@@ -269,7 +269,7 @@ stepped_all-divided p register bits same some =
     sym (ap (divided (true ∷ p) register) (sym (append-nil bits)) ∙ divided-bits p register bits [] same some
     ∙ divided-none (true ∷ p) (stepped_all p register bits))
 
--- it is xored onto the front of a message that is as long at the least
+-- the register is xored onto the front of a message that is at least as long
 pub stepped_all-long : (p register bits : List Bool) → length p ≡ length register → 0 < length register
     → length register ≤ length bits
     → stepped_all p register bits ≡ left_by (true ∷ p) (length register) (xor_front register bits)

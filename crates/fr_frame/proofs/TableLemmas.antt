@@ -1,4 +1,4 @@
--- A check by tables: each entry is what the division gives, and a message is divided a byte or more at a time.
+-- A check by tables: each entry is the result of the division, and a message is divided one or more bytes at a time.
 use Rattle.std.proofs.Common.{◌≡◌, ℕ, zero, suc, ◌+◌, ◌*◌, ◌/◌, ◌%◌, ◌^◌, ◌<◌, Bool, true, false, ◌&&◌, eqb, List}
 use Rattle.std.proofs.Common.{[], ◌∷◌, ◌++◌, length, drop, take, get_or, replicate, refl, sym, ap, ◌∙◌, arith, bit_and}
 use Rattle.std.proofs.Common.{length-append, append-nil, lit<, lit≤}
@@ -189,7 +189,7 @@ one_byte_of_zeros : bits_of 8 0 ≡ replicate 8 false
 unfolding bits_of
 one_byte_of_zeros = refl
 
--- the register met with the first four of the next bytes
+-- the register, xored onto the first four of the next bytes
 met_is : (r n : ℕ) (word : List ℕ) → r < 2 ^ 24 → bits_of 32 n ≡ bits_of_bytes word → length word ≡ 4
     → bits_of_bytes (to_be_bytes w32 (bit_xor (r * 256 % 2 ^ 32) n)) ≡ xor_front (bits_of 24 r) (bits_of_bytes word)
 met_is r n word fits n_is four =
@@ -206,7 +206,7 @@ pub word_bits : (n : ℕ) (word : List ℕ) → length word ≡ 4 → ((i : ℕ)
     → n ≡ from_be_bytes w32 word → bits_of 32 n ≡ bits_of_bytes word
 word_bits n word four fits is = sym (bits_of_bytes-high_first 4 n) ∙ ap bits_of_bytes (be_bytes_4 word n four fits is)
 
--- what the entries of two stretches of a message leave is what the stretches leave together
+-- the sum of the entries of two stretches is the register after both together
 pub stretches_add : (divisor : List Bool) (w zeros x y : ℕ) (front back : List ℕ)
     → bits_of w x ≡ left_by divisor w (bits_of_bytes front ++ replicate (8 * (zeros + length back)) false)
     → bits_of w y ≡ left_by divisor w (bits_of_bytes back ++ replicate (8 * zeros) false)
@@ -224,7 +224,7 @@ stretches_add d w zeros x y front back x_is y_is =
     ∙ sym (left_by-append d w (bits_of_bytes front) rest)
     ∙ ap (left_by d w) (sym both)
 
--- the register met with the first four of the next bytes is stepped over all of them
+-- the register, xored onto the first four of the next bytes, is stepped over all of them
 pub register_met : (p r n : ℕ) (front back : List ℕ) → r < 2 ^ 24 → bits_of 32 n ≡ bits_of_bytes front
     → length front ≡ 4
     → left_by (true ∷ bits_of 24 p) 24 (bits_of_bytes (to_be_bytes w32 (bit_xor (r * 256 % 2 ^ 32) n) ++ back))
@@ -245,7 +245,7 @@ register_met p r n front back fits n_is four =
     (omega (arith, wide, first, length-append (bits_of_bytes front) last)))
     ∙ ap (stepped_all (bits_of 24 p) register) (sym both)
 
--- the same of an entry of all these bytes
+-- the same for an entry of all these bytes
 pub block_steps : (p r n x : ℕ) (front back : List ℕ) → r < 2 ^ 24 → bits_of 32 n ≡ bits_of_bytes front
     → length front ≡ 4
     → bits_of 24 x ≡ left_by (true ∷ bits_of 24 p) 24 (bits_of_bytes
@@ -304,7 +304,7 @@ block_at size (suc count) (suc i) bytes default lt =
     block_at size count i (drop size bytes) default (omega arith)
     ∙ ap (take size) (drop-drop (i * size) size bytes ∙ ap (λ (n : ℕ). drop n bytes) more)
 
--- a block that goes into the register is one that is divided away
+-- shifting a block into the register is a block of steps of the division
 pub divided-next_block : (size : ℕ) (p register next : List Bool) (bytes : List ℕ) (i : ℕ) (total : List Bool)
     → length p ≡ length register → 0 < length register
     → next ≡ stepped_all p register (bits_of_bytes (take size (drop (i * size) bytes)))

@@ -10,7 +10,7 @@ use Rattle.fr_frame.specs.Refusal.{refusal}
 abbrev pub payload_of : List ℕ → List ℕ
 payload_of bytes = take (length bytes - 8) (drop 5 bytes)
 
--- what the header and the payload say
+-- the fields of the header, and the payload
 abbrev pub fields_of : List ℕ → Fields
 fields_of bytes = record {
   preamble = flag_at 1 bytes;

@@ -1,4 +1,4 @@
--- What a frame says.
+-- The fields of a frame.
 use Rattle.std.specs.Prelude.{ℕ, ◌^◌, ◌<◌, Bool, List}
 use Rattle.fr_frame.specs.Payload.{IsPayload}
 
@@ -12,7 +12,7 @@ pub record Fields : Type 0 where
   pub payload : List ℕ
   pub cycle : ℕ
 
--- These are the fields of a frame: the frame ID has 11 bits, the cycle count 6, and the payload is one.
+-- The fields are those of a frame: the frame ID has 11 bits, the cycle count has 6, and the payload is one.
 pub record IsFrame (f : Fields) : Type 0 where
   pub id_fits : f.id < 2 ^ 11
   pub cycle_fits : f.cycle < 64

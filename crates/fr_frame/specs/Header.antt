@@ -1,4 +1,4 @@
--- The fields of a header, read from its bits: the first five bytes, whose first bit has place 0.
+-- The fields of a header, read from the bits of the first five bytes. The first bit has place 0.
 use Rattle.std.specs.Prelude.{ℕ, ◌==◌, Bool, List, take, drop}
 use Rattle.fr_frame.specs.Bits.{bits_of_bytes, number_of}
 
@@ -6,7 +6,7 @@ use Rattle.fr_frame.specs.Bits.{bits_of_bytes, number_of}
 abbrev pub bits_at : ℕ → ℕ → List ℕ → List Bool
 bits_at place count bytes = take count (drop place (bits_of_bytes (take 5 bytes)))
 
--- the number that they spell
+-- the number that these bits spell
 abbrev pub number_at : ℕ → ℕ → List ℕ → ℕ
 number_at place count bytes = number_of (bits_at place count bytes)
 

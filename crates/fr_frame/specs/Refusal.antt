@@ -1,4 +1,4 @@
--- What a decoder refuses, in the order in which it looks.
+-- The refusals of a decoder, in the order of its tests.
 use Rattle.std.specs.Prelude.{ℕ, ◌+◌, ◌-◌, ◌*◌, ◌==◌, nat_lt, not, List, length, take, drop, Option, Some, None}
 use Rattle.std.specs.Prelude.{if◌then◌else◌}
 use Rattle.fr_slots.specs.declared.channel.Channel.{Channel}
@@ -8,9 +8,11 @@ use Rattle.fr_frame.specs.Bits.{bits_of_bytes, number_of}
 use Rattle.fr_frame.specs.Crc.{header_check, frame_check}
 use Rattle.fr_frame.specs.Header.{bits_at, number_at}
 
--- Why these bytes are no frame on the channel, if they are none: fewer than the 8 bytes of header and trailer; another
--- number of bytes than these and the header's payload length make; another header CRC than the covered bits have;
--- another frame CRC than the bytes before it have.
+-- The reason to refuse these bytes as a frame on the channel, if there is one:
+-- - fewer than the 8 bytes of header and trailer;
+-- - a number of bytes that differs from these 8 and the payload length in the header;
+-- - a header CRC that differs from that of the covered bits;
+-- - a frame CRC that differs from that of the bytes before it.
 abbrev pub refusal : Channel → List ℕ → Option DecodeError
 refusal channel bytes =
     if nat_lt (length bytes) 8 then Some TooShort

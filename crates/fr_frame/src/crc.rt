@@ -11,23 +11,23 @@ use crate::frame::Frame;
 use crate::tables::{FRAME_TABLES, HEADER_TABLES, entry};
 use fr_slots::channel::Channel;
 
-/// The header CRC's polynomial, without its leading 1.
+/// The polynomial of the header CRC, without its leading 1.
 const HEADER_POLYNOMIAL: u16 = 0x385;
 
-/// The header CRC's register before the first bit.
+/// The register of the header CRC before the first bit.
 const HEADER_INITIAL: u16 = 0x01A;
 
-/// The frame CRC's register before the first byte, on each channel.
+/// The register of the frame CRC before the first byte, on each channel.
 const FRAME_INITIAL_A: u32 = 0xFE_DCBA;
 
 const FRAME_INITIAL_B: u32 = 0xAB_CDEF;
 
-/// Returns the header CRC of these bits, the first bit sent first: 11 bits.
+/// Returns the header CRC of the bits, in the order in which they are sent: 11 bits.
 pub fn crc11(bits: &[bool]) -> u16
     ensures value { result ≡ number_of (header_check bits.now) }
     ensures fits { result < 2 ^ 11 }
 {
-    // The tables are for bytes, and bits are given here, so it goes bit by bit.
+    // The tables are for bytes, so a list of bits is divided bit by bit.
     let mut register = HEADER_INITIAL;
     for bit in bits {
         register = step_header(register, *bit);
@@ -35,7 +35,7 @@ pub fn crc11(bits: &[bool]) -> u16
     register
 }
 
-/// Returns the frame CRC that these bytes have on a channel: 24 bits.
+/// Returns the frame CRC of the bytes on a channel: 24 bits.
 pub fn crc24(bytes: &[u8], channel: Channel) -> u32
     ensures value { result ≡ number_of (frame_check channel bytes.now) }
     ensures bits { bits_of 24 result ≡ frame_check channel bytes.now }
@@ -45,7 +45,7 @@ pub fn crc24(bytes: &[u8], channel: Channel) -> u32
         Channel::A => FRAME_INITIAL_A,
         Channel::B => FRAME_INITIAL_B,
     };
-    // Sixteen bytes go in by sixteen entries at a time, and `step_rest` takes what is left by eight.
+    // Sixteen bytes take sixteen entries at a time; `step_rest` takes the remaining bytes, eight at a time.
     let (sixteens, rest) = bytes.as_chunks::<16>();
     for sixteen in sixteens {
         register = step_sixteen(register, *sixteen);
@@ -53,8 +53,8 @@ pub fn crc24(bytes: &[u8], channel: Channel) -> u32
     step_rest(register, rest)
 }
 
-/// Returns the header CRC of a frame: 11 bits, which check its sync and startup indicators, its frame ID
-/// and the length of its payload.
+/// Returns the header CRC of a frame: 11 bits. It covers the sync and startup indicators, the frame ID and the length
+/// of the payload.
 pub fn header_crc(frame: &Frame) -> u16
     ensures value { result ≡ number_of (header_check (covered frame.now)) }
     ensures fits { result < 2 ^ 11 }
@@ -84,7 +84,7 @@ pub(crate) fn crc_of_header(covered: u32) -> u16
     (header_entry(2, first) ^ header_entry(1, second) ^ header_entry(0, third)) as u16
 }
 
-/// Returns what a byte and so many bytes of zeros after it leave of an empty register of the header CRC.
+/// Returns the header CRC, from an empty register, of a byte and so many bytes of zeros.
 fn header_entry(zeros: usize, byte: u8) -> u32
     requires { zeros < 3 }
     ensures bits { bits_of 11 result ≡ left_by header_divisor 11 (bits_of 8 byte ++ replicate (8 * zeros) false) }
@@ -93,7 +93,7 @@ fn header_entry(zeros: usize, byte: u8) -> u32
     entry(&HEADER_TABLES, zeros, byte)
 }
 
-/// Returns the header CRC's register after one more bit.
+/// Returns the register of the header CRC after one more bit.
 fn step_header(register: u16, bit: bool) -> u16
     requires { register < 2 ^ 11 }
     ensures fits { result < 2 ^ 11 }
@@ -108,7 +108,7 @@ fn step_header(register: u16, bit: bool) -> u16
     }
 }
 
-/// Returns what a byte and so many bytes of zeros after it leave of an empty register of the frame CRC.
+/// Returns the frame CRC, from an empty register, of a byte and so many bytes of zeros.
 fn frame_entry(zeros: usize, byte: u8) -> u32
     requires { zeros < 16 }
     ensures bits { bits_of 24 result ≡ left_by frame_divisor 24 (bits_of 8 byte ++ replicate (8 * zeros) false) }
@@ -117,7 +117,7 @@ fn frame_entry(zeros: usize, byte: u8) -> u32
     entry(&FRAME_TABLES, zeros, byte)
 }
 
-/// The same of four bytes.
+/// Returns the same for four bytes.
 fn frame_entries(zeros: usize, word: [u8; 4]) -> u32
     requires { zeros < 13 }
     ensures bits { bits_of 24 result ≡ left_by frame_divisor 24 (bits_of_bytes word ++ replicate (8 * zeros) false) }
@@ -128,7 +128,7 @@ fn frame_entries(zeros: usize, word: [u8; 4]) -> u32
     front ^ frame_entry(zeros + 1, third) ^ frame_entry(zeros, fourth)
 }
 
-/// The same of eight bytes.
+/// Returns the same for eight bytes.
 fn frame_entries_of_two(zeros: usize, front: [u8; 4], back: [u8; 4]) -> u32
     requires { zeros < 9 }
     ensures bits { bits_of 24 result
@@ -138,7 +138,7 @@ fn frame_entries_of_two(zeros: usize, front: [u8; 4], back: [u8; 4]) -> u32
     frame_entries(zeros + 4, front) ^ frame_entries(zeros, back)
 }
 
-/// Returns the frame CRC's register after sixteen more bytes.
+/// Returns the register of the frame CRC after sixteen more bytes.
 fn step_sixteen(register: u32, bytes: [u8; 16]) -> u32
     requires { register < 2 ^ 24 }
     ensures fits { result < 2 ^ 24 }
@@ -151,7 +151,7 @@ fn step_sixteen(register: u32, bytes: [u8; 16]) -> u32
     front ^ frame_entries_of_two(0, [i, j, k, l], [m, n, o, p])
 }
 
-/// Returns the frame CRC's register after eight more bytes.
+/// Returns the register of the frame CRC after eight more bytes.
 fn step_eight(register: u32, bytes: [u8; 8]) -> u32
     requires { register < 2 ^ 24 }
     ensures fits { result < 2 ^ 24 }
@@ -163,7 +163,7 @@ fn step_eight(register: u32, bytes: [u8; 8]) -> u32
     frame_entries_of_two(0, met.to_be_bytes(), [e, f, g, h])
 }
 
-/// Returns the frame CRC's register after these bytes, which are few.
+/// Returns the register of the frame CRC after these bytes, which are few.
 fn step_rest(register: u32, bytes: &[u8]) -> u32
     requires { register < 2 ^ 24 }
     ensures fits { result < 2 ^ 24 }
@@ -181,7 +181,7 @@ fn step_rest(register: u32, bytes: &[u8]) -> u32
     register
 }
 
-/// Returns the frame CRC's register after one more byte.
+/// Returns the register of the frame CRC after one more byte.
 fn step_byte(register: u32, byte: u8) -> u32
     requires { register < 2 ^ 24 }
     ensures fits { result < 2 ^ 24 }

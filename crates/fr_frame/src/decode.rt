@@ -1,4 +1,4 @@
-//! Frames read from their bytes.
+//! Decoding of frames.
 
 ghost use Rattle.std.specs.Prelude.{◌≡◌, ◌<◌, ◌≤◌, ◌^◌, ◌*◌, length, IfOk};
 ghost use Rattle.std.specs.Result.{result_err, result_ok};
@@ -15,36 +15,36 @@ use fr_slots::channel::Channel;
 use fr_slots::numbers::Cycle;
 use thiserror::Error;
 
-/// Why bytes are no frame on a channel, in the order in which it is tested.
+/// Reasons to refuse bytes as a frame on a channel, in the order of the tests.
 #[derive(Clone, Copy, Debug, PartialEq, Eq, Error)]
 pub enum DecodeError {
-    /// Fewer than 8 bytes, which a header and a trailer have together.
+    /// Fewer than 8 bytes, which header and trailer have together.
     #[error("fewer bytes than a header and a trailer have")]
     TooShort,
-    /// More or fewer bytes than the payload length in the header asks for.
+    /// A number of bytes that differs from the payload length in the header.
     #[error("another length than the header says")]
     LengthMismatch,
-    /// The header CRC isn't that of the header's covered bits.
+    /// A header CRC that differs from that of the covered bits.
     #[error("a wrong header CRC")]
     HeaderCrc,
-    /// The trailer isn't the frame CRC that the bytes before it have on this channel.
+    /// A trailer that differs from the frame CRC of the bytes before it on this channel.
     #[error("a wrong frame CRC")]
     FrameCrc,
 }
 
-/// Returns the frame that the bytes spell on this channel (chapter 4). The reserved bit of the header is
-/// ignored, the payload of a null frame is kept as it came, and a frame ID of 0 is let through.
+/// Returns the frame that the bytes spell on this channel (chapter 4). The reserved bit of the header is ignored. The
+/// payload of a null frame is kept, and a frame ID of 0 is accepted.
 pub fn decode(bytes: &[u8], channel: Channel) -> Result<Frame, DecodeError>
     ensures refused { result_err result ≡ refusal channel bytes.now }
     ensures value { result_ok result ≡ decoded channel bytes.now }
     ensures found { IfOk result (λ f. Spells f channel bytes.now) }
-    // What is spelled so is read.
+    // Every spelling of a frame is decoded.
     ensures only { (f : Fields) → Spells f channel bytes.now → result ≡ Ok f }
 {
     frame_of(lent_from(bytes, channel))
 }
 
-/// The same frame, whose payload stays among the bytes.
+/// Returns the same frame, whose payload stays among the bytes.
 pub fn decode_lent(bytes: &[u8], channel: Channel) -> Result<LentFrame<'_>, DecodeError>
     ensures refused { result_err result ≡ refusal channel bytes.now }
     ensures value { result_ok result ≡ decoded channel bytes.now }
@@ -52,7 +52,7 @@ pub fn decode_lent(bytes: &[u8], channel: Channel) -> Result<LentFrame<'_>, Deco
     lent_from(bytes, channel)
 }
 
-/// Returns what was read, with a payload of its own.
+/// Returns the decoded frame with a payload of its own.
 fn frame_of(read: Result<LentFrame<'_>, DecodeError>) -> Result<Frame, DecodeError>
     ensures { result ≡ read.entry }
 {
@@ -62,7 +62,7 @@ fn frame_of(read: Result<LentFrame<'_>, DecodeError>) -> Result<Frame, DecodeErr
     }
 }
 
-/// The same, with the clauses from which the others follow.
+/// Returns the same frame, with the clauses from which the others follow.
 fn lent_from(bytes: &[u8], channel: Channel) -> Result<LentFrame<'_>, DecodeError>
     ensures refused { result_err result ≡ refusal channel bytes.now }
     ensures read { IfOk result (λ f. f ≡ fields_of bytes.now) }
@@ -96,7 +96,7 @@ fn lent_from(bytes: &[u8], channel: Channel) -> Result<LentFrame<'_>, DecodeErro
     })
 }
 
-/// At most eight bytes as one number, the first byte highest.
+/// Returns at most eight bytes as one number, the first byte highest.
 fn number_from(bytes: &[u8]) -> u64
     requires { length bytes.now ≤ 8 }
     ensures bits { bits_of (8 * length bytes.now) result ≡ bits_of_bytes bytes.now }

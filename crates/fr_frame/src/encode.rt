@@ -1,4 +1,4 @@
-//! Frames written as their bytes.
+//! Encoding of frames.
 
 ghost use Rattle.std.specs.Prelude.{◌≡◌, ◌+◌, ◌<◌, ◌≤◌, ◌++◌, length, false, Some};
 ghost use Rattle.arrayvec.specs.ArrayVec.{array_vec_len};
@@ -12,12 +12,12 @@ use crate::crc::{covered_bits, crc_of_header, crc24};
 use crate::frame::{Bytes, FRAME_BYTES, Frame};
 use fr_slots::channel::Channel;
 
-/// Returns the bytes in which a frame is sent on this channel (chapter 4): 8 and those of its payload,
-/// with the reserved bit 0. Every frame has them, and no memory is taken.
+/// Returns the bytes in which a frame is sent on this channel (chapter 4). They are 8 and those of its payload, with
+/// the reserved bit 0. Every frame has them, and no memory is allocated.
 pub fn encode(frame: &Frame, channel: Channel) -> Bytes
     ensures value { result.items ≡ encoded frame.now channel }
     ensures canonical { SpellsCanonically frame.now channel result.items }
-    // What is decoded is the frame that was encoded.
+    // Decoding gives the frame that was encoded.
     ensures round_trip { decoded channel result.items ≡ Some frame.now }
 {
     let mut bytes = Bytes::new();
@@ -28,7 +28,7 @@ pub fn encode(frame: &Frame, channel: Channel) -> Bytes
     bytes
 }
 
-/// Returns the 40 bits of a frame's header as one number, the reserved bit highest and 0.
+/// Returns the 40 bits of a frame's header as one number; the highest bit is the reserved one, 0.
 fn header_number(frame: &Frame) -> u64
     ensures value { result ≡ number_of (header false frame.now) }
     ensures cycle_fits { frame.now.cycle < cycle_count }
@@ -39,7 +39,7 @@ fn header_number(frame: &Frame) -> u64
     (checked << 11 | u64::from(crc_of_header(covered))) << 6 | u64::from(frame.cycle.number())
 }
 
-/// Appends bytes for which there is room.
+/// Appends bytes, for which there is room.
 fn append(bytes: &mut Bytes, more: &[u8])
     requires { array_vec_len bytes.old + length more.now ≤ FRAME_BYTES }
     ensures { bytes.new.items ≡ bytes.old.items ++ more.now }

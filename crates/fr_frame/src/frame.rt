@@ -8,15 +8,15 @@ use arrayvec::ArrayVec;
 use fr_slots::numbers::Cycle;
 use std::marker::Model;
 
-/// The bytes of a header, and those of the frame CRC that ends a frame (chapter 4).
+/// The bytes of a header, and those of the trailer with the frame CRC (chapter 4).
 pub(crate) const HEADER_BYTES: usize = 5;
 
 pub(crate) const TRAILER_BYTES: usize = 3;
 
-/// The most bytes of a frame (chapter 4).
+/// The greatest length of a frame in bytes (chapter 4).
 pub const FRAME_BYTES: usize = HEADER_BYTES + PAYLOAD_BYTES + TRAILER_BYTES;
 
-/// What is sent on a channel in one slot: at most the bytes of the longest frame.
+/// The bytes that are sent on a channel in one slot: at most those of the longest frame.
 pub type Bytes = ArrayVec<u8, FRAME_BYTES>;
 
 /// Returns a copy of the bytes.
@@ -30,19 +30,18 @@ pub fn duplicate_bytes(bytes: &Bytes) -> Bytes
     copy
 }
 
-/// What a frame says (chapter 4).
+/// The fields of a frame (chapter 4).
 #[derive(Drop, PartialEq, Eq)]
 pub struct Frame {
-    /// The payload preamble indicator, which is carried and not looked at.
+    /// The payload preamble indicator, which is carried and not interpreted.
     pub preamble: bool,
-    /// The null frame indicator: true of a data frame, false where the payload has no valid data.
+    /// The null frame indicator: true for a data frame, false if the payload has no valid data.
     pub has_data: bool,
     /// The sync frame indicator.
     pub sync: bool,
     /// The startup frame indicator.
     pub startup: bool,
-    /// The frame ID, 0 to 2047: the slot in which the frame is sent. No slot has ID 0, but it can
-    /// be spelled.
+    /// The frame ID, 0 to 2047: the slot in which the frame is sent. No slot has ID 0, but it can be spelled.
     pub id: u16,
     /// The payload, also that of a null frame.
     pub payload: Payload,
@@ -80,7 +79,7 @@ impl Model for Frame {
 }
 
 impl Frame {
-    /// Another frame that says the same.
+    /// Returns a copy of the frame.
     pub fn duplicate(&self) -> Frame
         ensures { result ≡ self.now }
     {
@@ -95,7 +94,7 @@ impl Frame {
         }
     }
 
-    /// Returns the frame that is lent, with a payload of its own.
+    /// Returns the lent frame, with a payload of its own.
     pub fn from_lent(lent: &LentFrame<'_>) -> Frame
         ensures { result ≡ lent.now }
     {
@@ -110,7 +109,7 @@ impl Frame {
         }
     }
 
-    /// Makes this the frame that is lent, whose payload is copied over the one before.
+    /// Makes this frame equal to the lent one, whose payload is copied over the old one.
     pub fn replace_by(&mut self, lent: &LentFrame<'_>)
         ensures { self.new ≡ lent.now }
     {

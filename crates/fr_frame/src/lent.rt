@@ -1,17 +1,16 @@
-//! Frames that are read where their bytes lie.
+//! Frames that are read in place, among their bytes.
 
 use fr_slots::numbers::Cycle;
 use std::marker::Model;
 
-// By value a frame was copied ten times from the decoder to the interface. `decode` stays for callers that keep a
-// frame.
-/// A frame as it is read from its bytes, among which its payload stays. So no payload is moved where a frame is looked
-/// at and let go.
+// Passed by value, a frame was copied ten times between the decoder and the interface. `decode` stays for callers that
+// keep a frame.
+/// A frame whose payload stays among the bytes that were decoded. So no payload is copied for a frame that isn't kept.
 #[derive(Drop)]
 pub struct LentFrame<'a> {
-    /// The payload preamble indicator, which is carried and not looked at.
+    /// The payload preamble indicator, which is carried and not interpreted.
     pub preamble: bool,
-    /// The null frame indicator: true of a data frame, false where the payload has no valid data.
+    /// The null frame indicator: true for a data frame, false if the payload has no valid data.
     pub has_data: bool,
     /// The sync frame indicator.
     pub sync: bool,

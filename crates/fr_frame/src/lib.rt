@@ -1,4 +1,4 @@
-//! Frames: what they say, their bytes on a channel, and their two CRCs (chapter 4).
+//! Frames: their fields, their bytes on a channel, and their two CRCs (chapter 4).
 //!
 //! ```text
 //! let payload = Payload::from_slice(&[0x0a, 0x0b])?;
@@ -8,8 +8,8 @@
 //! let again = decode(bytes.as_slice(), Channel::A)?; // the same frame
 //! ```
 //!
-//! A chapter in parentheses is one of the FlexRay Protocol Specification 2.1, revision A, whose rule it is.
-//! *(project-defined)* marks a rule of this project's own, which says nothing of the standard.
+//! A chapter in parentheses is one of the FlexRay Protocol Specification 2.1, revision A.
+//! *(project-defined)* marks a rule of this project, and makes no claim about the standard.
 //!
 //! # Definitions
 //!
@@ -17,9 +17,9 @@
 //!   division.
 //! - `Decoding`, `Refusal`, `Encoding`: the frame that bytes spell; refused bytes; the canonical spelling.
 //!
-//! Modules that go the way of the code, for private functions, with the module that has the meaning:
+//! Modules that follow the steps of the code, for private functions, with the module that has the meaning:
 //!
-//! - `Register`, `Tables`: a register that shifts one bit after another, and tables for whole bytes. Meaning: `Crc`:
+//! - `Register`, `Tables`: a register that shifts in one bit after another, and tables for whole bytes. Meaning: `Crc`,
 //!   long division of a list of bits.
 #![tactic(auto)]
 

@@ -10,21 +10,21 @@ use fr_slots::copies::array_of;
 use std::marker::Model;
 use thiserror::Error;
 
-/// The most bytes of a payload: 127 words of two (chapter 4).
+/// The greatest length of a payload in bytes: 127 two-byte words (chapter 4).
 pub const PAYLOAD_BYTES: usize = 254;
 
-/// Why bytes are no payload.
+/// Reasons to refuse bytes as a payload.
 #[derive(Clone, Copy, Debug, PartialEq, Eq, Error)]
 pub enum FrameError {
     /// More than 254 bytes.
     #[error("a payload of more than 127 words")]
     PayloadTooLong,
-    /// An odd number of bytes, where a payload is counted in words of two.
+    /// An odd number of bytes, since a payload is counted in two-byte words.
     #[error("a payload of an odd number of bytes")]
     OddPayload,
 }
 
-/// The bytes that a frame carries: 0 to 127 words of two bytes (chapter 4).
+/// The payload of a frame: 0 to 127 two-byte words (chapter 4).
 #[derive(Drop, PartialEq, Eq)]
 pub struct Payload {
     bytes: ArrayVec<u8, PAYLOAD_BYTES>,
@@ -57,8 +57,9 @@ impl Default for Payload {
 }
 
 impl Payload {
-    /// Returns the payload of these bytes. It is refused as too long above 254 bytes, and else as odd
-    /// where the bytes make no whole words.
+    /// Returns the payload with these bytes.
+    ///
+    /// Fails with `PayloadTooLong` above 254 bytes, then with `OddPayload` for an odd number of bytes.
     pub fn from_slice(bytes: &[u8]) -> Result<Payload, FrameError>
         ensures refusal { result_err result ≡ payload_refusal bytes.now }
         ensures value { IfOk result (λ p. p ≡ bytes.now) }
@@ -70,7 +71,7 @@ impl Payload {
         }
     }
 
-    /// Returns the payload of so many words of zeros, at most 127.
+    /// Returns a payload of so many words of zeros, at most 127.
     pub fn zeros(words: u16) -> Payload
         requires { words ≤ most_words }
         ensures { result ≡ replicate (2 * words) 0 }
@@ -78,7 +79,7 @@ impl Payload {
         Payload::of(&[0u8; PAYLOAD_BYTES][..2 * usize::from(words)])
     }
 
-    /// Returns the payload of bytes that are known to be one.
+    /// Returns the payload of bytes that are known to be valid.
     pub(crate) fn of(bytes: &[u8]) -> Payload
         requires { IsPayload bytes.now }
         ensures { result ≡ bytes.now }
@@ -88,8 +89,9 @@ impl Payload {
         }
     }
 
-    /// Makes this the payload of these bytes, in the place of those before. Refused as `from_slice` is, and then it is
-    /// what it was.
+    /// Replaces the bytes of the payload.
+    ///
+    /// Fails as `from_slice` does; a refusal leaves the payload unchanged.
     pub fn set_from_slice(&mut self, bytes: &[u8]) -> Result<(), FrameError>
         ensures refusal { result_err result ≡ payload_refusal bytes.now }
         ensures value { OnOk result (self.new ≡ bytes.now) }
@@ -105,14 +107,14 @@ impl Payload {
         Ok(())
     }
 
-    /// Makes this a payload of the same bytes as the other, in the place of those before.
+    /// Replaces the bytes of the payload by those of the other.
     pub fn set_from(&mut self, other: &Payload)
         ensures { self.new ≡ other.now }
     {
         self.replace_by(other.as_slice());
     }
 
-    /// Makes this the payload of bytes that are known to be one.
+    /// Replaces the bytes of the payload by bytes that are known to be valid.
     pub(crate) fn replace_by(&mut self, bytes: &[u8])
         requires { IsPayload bytes.now }
         ensures { self.new ≡ bytes.now }
@@ -123,14 +125,14 @@ impl Payload {
         prove!(fits);
     }
 
-    /// Another payload of the same bytes.
+    /// Returns a copy of the payload.
     pub fn duplicate(&self) -> Payload
         ensures { result ≡ self.now }
     {
         Payload::of(self.as_slice())
     }
 
-    /// Returns the bytes, of which there are an even number, at most 254.
+    /// Returns the bytes, an even number, at most 254.
     pub fn as_slice(&self) -> &[u8]
         ensures value { result.now ≡ self.now }
         ensures is_payload { IsPayload self.now }

@@ -1,11 +1,11 @@
-//! Tables of the CRCs: what a byte leaves, and each number of bytes of zeros after it.
+//! Tables of the CRCs, from an empty register, for each byte and each number of zero bytes after it.
 
 ghost use Rattle.std.specs.Prelude.{ℕ, Bool, true, ◌≡◌, ◌<◌};
 ghost use Rattle.fr_frame.specs.Tables.{are_all};
 
 // The tables are written out, since no constant is computed. The prover computes each of the 4,864 entries by long
 // division.
-/// The header CRC, from an empty register, of each byte with as many bytes of zeros after it as the table's place says.
+/// The header CRC of each byte with 0, 1 or 2 bytes of zeros after it, from an empty register.
 pub(crate) const HEADER_TABLES: [[u32; 256]; 3] = [
     [
         0x000, 0x385, 0x70a, 0x48f, 0x591, 0x614, 0x29b, 0x11e, 0x0a7, 0x322, 0x7ad, 0x428, 0x536,
@@ -75,7 +75,7 @@ pub(crate) const HEADER_TABLES: [[u32; 256]; 3] = [
     ],
 ];
 
-/// The same of the frame CRC.
+/// The frame CRC of each byte with 0 to 15 bytes of zeros after it, from an empty register.
 pub(crate) const FRAME_TABLES: [[u32; 256]; 16] = [
     [
         0x000000, 0x5d6dcb, 0xbadb96, 0xe7b65d, 0x28dae7, 0x75b72c, 0x920171, 0xcf6cba, 0x51b5ce,
@@ -575,7 +575,8 @@ pub(crate) const FRAME_TABLES: [[u32; 256]; 16] = [
     ],
 ];
 
-/// Returns the entry of a byte in the table of so many bytes of zeros. What is tested of each entry holds of this one.
+/// Returns the entry of a byte in the table of so many bytes of zeros. Each test that all entries pass holds for this
+/// one.
 pub(crate) fn entry<const N: usize>(tables: &[[u32; 256]; N], zeros: usize, byte: u8) -> u32
     requires { zeros < N }
     ensures { (test : ℕ → ℕ → ℕ → Bool) → are_all test tables.now ≡ true → test zeros byte result ≡ true }

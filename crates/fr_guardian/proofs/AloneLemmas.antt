@@ -1,4 +1,4 @@
--- In a static slot on a guarded channel the transmissions of one node at most pass.
+-- In a static slot on a guarded channel the transmissions of at most one node pass.
 use Rattle.std.proofs.Common.{◌≡◌, ℕ, zero, suc, ◌%◌, true, false, Bool, not, cond, ◌&&◌, ◌||◌}
 use Rattle.std.proofs.Common.{List, [], ◌∷◌, Option, Some}
 use Rattle.std.proofs.Common.{None, refl, sym, ap, subst, ◌∙◌, slice_get, arith}
@@ -25,7 +25,7 @@ each_at P [] k x each is = absurd (cc)
 each_at P (y ∷ ys) zero x each is = subst P (cc) each.0
 each_at P (y ∷ ys) (suc k) x each is = each_at P ys k x each.1 is
 
--- what a node owns is a static slot
+-- an owned slot is static
 pub static_if_owned : (p : Parameters) (plan : Plan) (slot : ℕ) (channel : Channel) (cycle : ℕ) → IsFaultless p plan
     → is_owned plan.owned slot channel cycle ≡ true → is_static_slot p slot ≡ true
 static_if_owned p plan slot channel cycle h owned =
@@ -59,7 +59,7 @@ passing d w channel (Some plan) (Some slot) static guarded h =
           sym (ap (λ (b : Bool). not b || is_owned plan.owned slot channel w.cycle) watched) ∙ h;
     }
 
--- an owner of a slot in a cycle is its sender then
+-- an owner of a slot in a cycle is its sender in that cycle
 sender_if_owner : (d : Description) → IsCluster d → (cycle node : ℕ) (channel : Channel) (plan : Plan) (slot : ℕ)
     → slice_get d.plans node ≡ Some plan
     → is_owned plan.owned slot channel cycle ≡ true → IsSender d cycle slot channel node
@@ -73,7 +73,7 @@ sender_if_owner d lawful cycle node channel plan slot is owned =
           (list_any (sends_at slot channel cycle) plan.buffers)) static ∙ owned;
     }
 
--- an owner in a cycle of any number owns the slot in the cycle below 64 that has the same lines
+-- the owner in a cycle of any number owns the slot in the cycle below 64 with the same lines
 owned_below : (d : Description) → IsCluster d → (node : ℕ) (plan : Plan) (slot : ℕ) (channel : Channel) (cycle : ℕ)
     → slice_get d.plans node ≡ Some plan
     → is_owned plan.owned slot channel cycle ≡ true → is_owned plan.owned slot channel (cycle % 64) ≡ true

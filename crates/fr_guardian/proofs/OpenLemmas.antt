@@ -1,4 +1,4 @@
--- The macroticks of static slots and of the dynamic segment, and what lies behind them, open or not.
+-- The macroticks of static slots, of the dynamic segment and after it, open or not.
 use Rattle.std.proofs.Common.{◌≡◌, ℕ, ◌+◌, ◌-◌, ◌*◌, ◌/◌, ◌%◌, ◌<◌, ◌≤◌, Bool, true, false, List, [], refl, sym}
 use Rattle.std.proofs.Common.{subst, arith, Option, Some, None, inl, inr}
 use Rattle.std.specs.Prelude.{IfSome}
@@ -24,14 +24,14 @@ use Rattle.fr_guardian.specs.Intervals.{Span, AreMaximalIntervals, run}
 use Rattle.fr_guardian.specs.Guarding.{is_open, IsOpenTo}
 use Rattle.fr_guardian.proofs.SpanLemmas.{AllIn, NoneIn, AreBelow, none_below, closed_below, closed_last}
 
--- the place is known by dividing
+-- the place by division
 at_place : (p : Parameters) → IsParameters p → (m : ℕ) (place : Place) → place_at p m ≡ Some place → IsAt p m place
 at_place p lawful m place is = subst (λ (o : Option Place). IfSome o (λ x. IsAt p m x)) is
     (located_found p lawful m (place_at p m) refl)
 
 -- ---- static slots
 
--- `earlier` static slots lie before the macrotick's
+-- `earlier` static slots lie before the macrotick's slot
 record IsInSlot (p : Parameters) (earlier m : ℕ) : Type 0 where
   below : earlier < p.static_slots
   from : earlier * p.static_mt ≤ m
@@ -75,7 +75,7 @@ slot_closed p guarded owned cycle channel earlier below closed m from before h =
     let opens = subst (λ (x : Place). is_open guarded owned cycle channel (part_of x) ≡ true) same h.opens in
     cc
 
--- ---- the dynamic segment, and what lies behind it
+-- ---- the dynamic segment, and the rest of the cycle
 
 dynamic_place : (p : Parameters) (m : ℕ) → dynamic_start p ≤ m → m < symbol_start p
     → place_at p m ≡ Some (Minislot ((m - dynamic_start p) / p.minislot_mt + 1) ((m - dynamic_start p) % p.minislot_mt))
@@ -88,7 +88,7 @@ pub dynamic_open : (p : Parameters) → IsParameters p → (guarded : Bool) (own
 dynamic_open p lawful guarded owned cycle channel m from before =
     record { place = _; at = at_place p lawful m _ (dynamic_place p m from before); opens = refl }
 
--- a macrotick behind the dynamic segment is in the symbol window, in the network idle time or in no place
+-- a macrotick after the dynamic segment is in the symbol window, in the network idle time or in no place
 data IsBehind (found : Option Place) : Type 0 where
   of_symbol : (offset : ℕ) → found ≡ Some (Symbol offset) → IsBehind found
   of_idle : (offset : ℕ) → found ≡ Some (Idle offset) → IsBehind found
@@ -136,9 +136,9 @@ behind_closed p guarded owned cycle channel m from h =
       | of_none is ↦ absurd (cc)
     ]
 
--- ---- what the loop keeps
+-- ---- the invariant of the loop
 
--- the intervals before `since`, from which on all is open up to `upto`
+-- the intervals before `since`, from which everything is open up to `upto`
 pub record IsFound (p : Parameters) (guarded : Bool) (owned : List Own) (cycle : ℕ) (channel : Channel) (since upto : ℕ)
     (spans : List Span) : Type 0 where
   pub below : AreBelow (IsOpenTo p guarded owned cycle channel) since spans
@@ -274,7 +274,7 @@ or_one : (a b : Bool) → b ≡ true → (a || b) ≡ true
 or_one true b is = refl
 or_one false b is = is
 
--- a line claims no slot but its own
+-- a line claims only its own slot
 other_slot : (own : Own) (slot : ℕ) (channel : Channel) (cycle : ℕ) → (slot ≡ own.slot → ⊥)
     → claims slot channel cycle own ≡ false
 other_slot own slot channel cycle other =
@@ -326,7 +326,7 @@ owned_more owned own cycle channel slots h claimed within = record {
       ];
 }
 
--- whether the slot is open, by the slots that the node owns
+-- an open slot, by the slots that the node owns
 pub open_by_slots : (owned : List Own) (cycle : ℕ) (channel : Channel) (slots : List Bool) (guarded : Bool) (number : ℕ)
     → AreOwnedSlots owned cycle channel slots
     → number < 2048 → (not guarded || get_or slots number false) ≡ is_open guarded owned cycle channel

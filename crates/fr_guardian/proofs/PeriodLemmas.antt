@@ -1,4 +1,4 @@
--- What nodes own comes again after as many cycles as the greatest repetition of their lines.
+-- Ownership repeats after as many cycles as the greatest repetition of the lines.
 use Rattle.std.proofs.Common.{◌≡◌, ℕ, ◌%◌, ◌≤◌, ◌==◌, leb, not, Bool, true, ◌&&◌, ◌||◌, List, [], ◌∷◌}
 use Rattle.std.proofs.Common.{◌++◌, max, refl, sym, ap, ◌∙◌, inl, inr, arith}
 use Rattle.std.specs.List.{list_any, list_all}
@@ -14,7 +14,7 @@ use Rattle.fr_guardian.specs.Periods.{period}
 
 -- ---- repetitions
 
--- what is true of each number of a list is true of one that is in it
+-- a test that each number of a list passes holds for each number in it
 of_each : (test : ℕ → Bool) (n : ℕ) (xs : List ℕ) → list_any (λ x. n == x) xs ≡ true → list_all test xs ≡ true
     → test n ≡ true
 of_each test n [] any all = cc any
@@ -25,7 +25,7 @@ of_each test n (x ∷ xs) any all =
       | inr other ↦ of_each test n xs other later
     ]
 
--- a repetition is a divisor of each that isn't less
+-- a repetition divides each repetition that isn't less
 abbrev divides : ℕ → ℕ → Bool
 divides most r = not (leb r most) || most % r == 0
 
@@ -41,7 +41,7 @@ at_most_64 r is = leb-true r 64 (of_each (λ n. leb n 64) r repetitions is refl)
 pub at_least_1 : (r : ℕ) → is_repetition r ≡ true → 1 ≤ r
 at_least_1 r is = leb-true 1 r (of_each (λ n. leb 1 n) r repetitions is refl)
 
--- ---- what is owned comes again
+-- ---- ownership repeats
 
 -- no line has a greater repetition
 abbrev pub AreWithin : ℕ → List Own → Type 0
@@ -117,7 +117,7 @@ period-append [] ys = sym (max-eq_right (period_some ys))
 period-append (own ∷ xs) ys = ap (max own.cycles.repetition) (period-append xs ys) ∙ max_assoc own.cycles.repetition
     (period xs) (period ys)
 
--- with one line more
+-- with one more line
 pub period_more : (owned : List Own) (own : Own) → period (owned ++ own ∷ []) ≡ max own.cycles.repetition (period owned)
 unfolding period
 period_more owned own = let some = period_some owned in period-append owned (own ∷ []) ∙

@@ -32,7 +32,7 @@ use Rattle.fr_guardian.proofs.PeriodLemmas.{within_period, period-append, within
 use Rattle.fr_guardian.proofs.SpanLemmas.{same_set, none_of}
 use Rattle.fr_timing.specs.Layout.{Part, static_slot, minislot, symbol_window, idle_time, part_of}
 
--- the parts that are open in a cycle are those of each cycle that is some periods later
+-- the open parts of a cycle are those of each cycle some periods later
 same_open : (most : ℕ) → is_repetition most ≡ true → (guarded : Bool) (owned : List Own) → Each IsOwn owned
     → AreWithin most owned
     → (cycle : ℕ) (channel : Channel) (part : Part) → is_open guarded owned (cycle % most) channel part ≡ is_open
@@ -43,7 +43,7 @@ same_open most is guarded owned lawful within cycle channel (minislot number) = 
 same_open most is guarded owned lawful within cycle channel symbol_window = refl
 same_open most is guarded owned lawful within cycle channel idle_time = refl
 
--- what a plan owns is lawful
+-- the owned slots of a plan are lawful
 lines_are : (d : Description) → IsCluster d → (node : ℕ) (plan : Plan) → slice_get d.plans node ≡ Some plan
     → Each IsOwn plan.owned
 lines_are d lawful node plan is = (each_at (IsNode d.params) d.plans node plan lawful.nodes_are is).0.owned_are
@@ -90,7 +90,7 @@ pub no_windows : (d : Description) (node cycle : ℕ) (channel : Channel) → sl
 no_windows d node cycle channel is = none_of (IsOpenMacrotick d node cycle channel)
     (λ n opens. let a = opens.of_node in cc)
 
--- a post that stands for a node
+-- a post of a node
 record IsAtNode (d : Description) (posts : List Post) (node : ℕ) (post : Post) : Type 0 where
   plan_is : slice_get d.plans node ≡ Some post.plan
   post_is : IsPost d post
@@ -184,7 +184,7 @@ pub rows_all : (p : Parameters) (guarded : Bool) (owned : List Own) (channel : C
     → AreFirstRows p guarded owned channel count rows → count ≡ period owned → AreRows p guarded owned channel rows
 rows_all p guarded owned channel count rows h all = record { size = h.size ∙ all; each = h.each }
 
--- ---- the cycles after which the macroticks of all nodes come again
+-- ---- the cycles after which the open macroticks of all nodes repeat
 
 abbrev pub plan_of : Post → Plan
 plan_of post = post.plan

@@ -1,5 +1,5 @@
--- A search by halves finds the interval in which a number lies, and a slot is open to its owner from its first
--- macrotick on.
+-- A binary search finds the interval in which a number lies, and a slot is open to its owner from its first macrotick
+-- on.
 use Rattle.std.proofs.Common.{◌≡◌, ℕ, ◌+◌, ◌-◌, ◌*◌, ◌<◌, ◌≤◌, ◌||◌, leb, nat_lt, not, Bool, true, false, List, length}
 use Rattle.std.proofs.Common.{get_or, ◌&&◌, Option, Some, slice_get}
 use Rattle.std.proofs.Common.{refl, sym, ap, subst, ◌∙◌, inl, inr, arith}
@@ -26,7 +26,7 @@ use Rattle.fr_slots.specs.Windows.{Opportunity, slot_of, is_static}
 use Rattle.fr_slots.proofs.FaultlessLemmas.{faultless}
 use Rattle.fr_guardian.proofs.OpenLemmas.{slot_open, slot_closed}
 
--- ---- intervals that lie apart
+-- ---- intervals that don't touch
 
 module _ (xs : List Span) (not_empty : All (λ (x : Span). x.0 < x.1) xs)
     (apart : AllPairs (λ (x later : Span). x.1 < later.0) xs) where
@@ -117,7 +117,7 @@ within_if_owned p lawful owned cycle channel slot spans answer only_static maxim
     below : is_static_slot p slot ≡ true → slot - 1 < p.static_slots
     below static = let le = leb-true slot p.static_slots static in omega (arith, le, h.slot_is.from_one)
 
--- the answer of the search is what passes
+-- the search finds exactly the transmissions that pass
 pub passes_found : (d : Description) → IsCluster d → (node : ℕ) (w : Opportunity) (channel : Channel) (plan : Plan)
     (slot : ℕ) (spans : List Span) (answer : Bool)
     → slice_get d.plans node ≡ Some plan → slot_of w channel ≡ Some slot

@@ -9,7 +9,7 @@ use Rattle.std.proofs.lemmas.Bool.{cases_lt}
 use Rattle.std.proofs.lemmas.Bool.Decides.{nat_tests}
 use Rattle.fr_guardian.specs.Intervals.{Span, IsCovered, AreMaximalIntervals, run}
 
--- the intervals of the numbers of the set below this one, of which none touches it
+-- the intervals of the numbers of the set below this one; none touches it
 pub record AreBelow (In : ℕ → Type 0) (since : ℕ) (spans : List Span) : Type 0 where
   pub maximal : AreMaximalIntervals (λ n. In n × (n < since)) spans
   pub ended : All (λ span. span.1 < since) spans
@@ -61,7 +61,7 @@ covered_cases xs x n h =
           })
     ]
 
--- one more interval, behind all others
+-- one more interval, after all others
 pushed : (In : ℕ → Type 0) (xs : List Span) (since end : ℕ) → AreBelow In since xs → since < end → AllIn In since end
     → AreMaximalIntervals (λ n. In n × (n < end)) (xs ++ (since, end) ∷ [])
 pushed In xs since end h some inside =
@@ -123,7 +123,7 @@ ended_at xs since end h ordered =
           (subst (λ (ys : List Span). All (λ (x : Span). x.1 ≤ end) ys) (sym (append-nil xs)) before)
     ]
 
--- the same intervals for another bound, where nothing of the set lies between
+-- the same intervals for another bound, if no number of the set lies between
 same_below : (In : ℕ → Type 0) (xs : List Span) (end next : ℕ) → AreMaximalIntervals (λ n. In n × (n < end)) xs
     → end ≤ next → NoneIn In end next
     → AreMaximalIntervals (λ n. In n × (n < next)) xs
@@ -139,7 +139,7 @@ same_below In xs end next h ordered none =
       covers_only = λ n covered. let w = h.covers_only n covered in (w.0, omega (arith, w.1));
     }
 
--- ---- what the loop keeps
+-- ---- the invariant of the loop
 
 pub none_below : (In : ℕ → Type 0) → AreBelow In 0 []
 none_below In =
@@ -153,7 +153,7 @@ none_below In =
       ended = All-nil (λ (x : Span). x.1 < 0);
     }
 
--- behind a part of the set comes one that isn't in it
+-- a part of the set is followed by one that isn't in it
 pub closed_below : (In : ℕ → Type 0) (xs : List Span) (since end next : ℕ) → AreBelow In since xs → since ≤ end
     → AllIn In since end → end < next → NoneIn In end next
     → AreBelow In next (xs ++ run since end)
@@ -165,7 +165,7 @@ closed_below In xs since end next h ordered inside more none =
           (ended_at xs since end h.ended ordered);
     }
 
--- behind the last part nothing is in the set
+-- after the last part no number is in the set
 pub closed_last : (In : ℕ → Type 0) (xs : List Span) (since end : ℕ) → AreBelow In since xs → since ≤ end
     → AllIn In since end → ((n : ℕ) → end ≤ n → In n → ⊥)
     → AreMaximalIntervals In (xs ++ run since end)

@@ -1,4 +1,4 @@
--- The fields of `Guardian` as the cluster's description, and what they hold.
+-- The fields of `Guardian` as the cluster's description, and their contents.
 use Rattle.std.specs.Prelude.{◌≡◌, ℕ, ◌-◌, ◌*◌, ◌%◌, ◌<◌, ◌↔◌, IsTrue, Bool, true, false, List, map}
 use Rattle.std.specs.Prelude.{length, slice_index_or, slice_get, Some, Vec}
 use Rattle.std.specs.declared.alloc.Global.{Global}
@@ -26,14 +26,14 @@ abbrev pub rows_on : Post → Channel → List Row
 rows_on post A = post.a.items
 rows_on post B = post.b.items
 
--- a row for each cycle below the period of what the node owns, with the macroticks that are open to it in that cycle
+-- a row for each cycle of the period of the owned slots, with the open macroticks of that cycle
 pub record AreRows (p : Parameters) (guarded : Bool) (owned : List Own) (channel : Channel)
     (rows : List Row) : Type 0 where
   pub size : length rows ≡ period owned
   pub each : (cycle : ℕ) (row : Row) → slice_get rows cycle ≡ Some row
       → AreMaximalIntervals (IsOpenTo p guarded owned cycle channel) row.items
 
--- these are the intervals of the cycle, where the rows come again and again
+-- these are the intervals of the cycle; the rows repeat
 pub record IsRowAt (rows : List Row) (cycle : ℕ) (spans : List Span) : Type 0 where
   pub row : Row
   pub at : slice_get rows (cycle % length rows) ≡ Some row
@@ -56,12 +56,12 @@ pub record IsLawful (g : Inside) : Type 0 where
   pub cluster : IsCluster (description_in g)
   pub each : All (IsPost (description_in g)) g.posts.items
 
--- the answer says whether the slot is a static one whose first macrotick lies in one of the intervals
+-- the answer is true exactly if the slot is static and its first macrotick lies in one of the intervals
 pub record IsSlotWithin (p : Parameters) (spans : List Span) (slot : ℕ) (answer : Bool) : Type 0 where
   pub slot_is : IsSlot slot
   pub tells : IsTrue answer ↔ ((is_static_slot p slot ≡ true) × IsCovered spans ((slot - 1) * p.static_mt))
 
--- for each number whether it is a slot that the node owns on the channel in the cycle
+-- an answer for each number: it is a slot that the node owns on the channel in the cycle
 pub record AreOwnedSlots (owned : List Own) (cycle : ℕ) (channel : Channel) (slots : List Bool) : Type 0 where
   pub size : length slots ≡ 2048
   pub each : (slot : ℕ) → slot < 2048 → slice_index_or slots slot false ≡ is_owned owned slot channel cycle

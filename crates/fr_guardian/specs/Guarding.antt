@@ -1,5 +1,5 @@
--- What a bus guardian lets pass, and when it is open (chapter 5; that it watches over static slots alone, and which
--- channels are guarded, are project-defined).
+-- The transmissions that a bus guardian passes, and its open macroticks. Chapter 5; that only static slots are guarded,
+-- and the choice of guarded channels, are project-defined.
 use Rattle.std.specs.Prelude.{◌≡◌, ℕ, Bool, true, false, not, ◌&&◌, ◌||◌, List, Option, Some, None, slice_get}
 use Rattle.fr_slots.specs.declared.channel.Channel.{Channel}
 use Rattle.fr_slots.specs.declared.plan.Own.{Own}
@@ -11,15 +11,15 @@ use Rattle.fr_timing.specs.declared.place.Place.{Place}
 use Rattle.fr_timing.specs.Layout.{Part, static_slot, minislot, symbol_window, idle_time, part_of, IsAt}
 use Rattle.fr_schedule.specs.Descriptions.{Description, is_guarded}
 
--- ---- what passes
+-- ---- passing transmissions
 
--- in a static slot on a guarded channel the transmissions of its owner in the window's cycle pass, and everywhere else
--- all do
+-- In a static slot on a guarded channel the transmissions of its owner in the window's cycle pass. Everywhere else all
+-- pass.
 abbrev pub lets_pass : Description → Opportunity → Channel → Plan → ℕ → Bool
 lets_pass d w channel plan slot =
     not (is_static w && is_guarded d.guard channel) || is_owned plan.owned slot channel w.cycle
 
--- nothing passes of a node that the cluster doesn't have, or on a channel without a slot
+-- nothing passes from a node that the cluster doesn't have, or on a channel without a slot
 abbrev pub passes_in : Description → Opportunity → Channel → Option Plan → Option ℕ → Bool
 passes_in d w channel None slot = false
 passes_in d w channel (Some plan) None = false
@@ -37,8 +37,8 @@ PassesAlone d node w channel =
 
 -- ---- the open macroticks of a cycle
 
--- the part is open in the cycle to a node that owns this, where the channel is guarded or not: the static slots that
--- are its own then, or all of them, and the dynamic segment
+-- The part is open to a node with these ownership lines in the cycle: the dynamic segment, and its own static slots. On
+-- a channel without guardians all static slots are open.
 abbrev pub is_open : Bool → List Own → ℕ → Channel → Part → Bool
 is_open guarded owned cycle channel (static_slot slot) = not guarded || is_owned owned slot channel cycle
 is_open guarded owned cycle channel (minislot number) = true
@@ -52,7 +52,7 @@ pub record IsOpenTo (p : Parameters) (guarded : Bool) (owned : List Own) (cycle 
   pub at : IsAt p macrotick place
   pub opens : is_open guarded owned cycle channel (part_of place) ≡ true
 
--- the macrotick of the cycle is open to the node on the channel, and none is to a node that the cluster doesn't have
+-- The macrotick of the cycle is open to the node on the channel. None is open to a node that the cluster doesn't have.
 pub record IsOpenMacrotick (d : Description) (node cycle : ℕ) (channel : Channel) (macrotick : ℕ) : Type 0 where
   pub plan : Plan
   pub of_node : slice_get d.plans node ≡ Some plan

@@ -21,8 +21,8 @@ use fr_slots::window::Window;
 use std::alloc::{AllocError, Global};
 use std::marker::Model;
 
-/// The guardian of one node: the node's plan, and in which macroticks each channel is open to it, for each cycle below
-/// the node's period.
+/// The guardian of one node, with the node's plan and the open macroticks of each channel. They are kept for each cycle
+/// below the node's period.
 #[derive(Drop)]
 struct Post {
     plan: NodePlan,
@@ -30,8 +30,8 @@ struct Post {
     b: Vec<Vec<(u32, u32)>>,
 }
 
-/// The bus guardians of a cluster, one for each node and channel (chapter 5; that they watch over the static slots
-/// alone is project-defined).
+/// The bus guardians of a cluster, one for each node and channel. Chapter 5; that only static slots are guarded is
+/// project-defined.
 #[derive(Drop)]
 pub struct Guardian {
     params: Params,
@@ -52,7 +52,9 @@ impl Model for Guardian {
 }
 
 impl Guardian {
-    /// Returns the guardians of the cluster's nodes. Refused where memory for their open intervals is refused.
+    /// Returns the guardians of the cluster's nodes.
+    ///
+    /// Fails if the allocation of their open intervals fails.
     pub fn new(alloc: Global, cluster: &Cluster) -> Result<Guardian, AllocError>
         ensures { IfOk result (λ guardian. guardian ≡ cluster.now) }
     {
@@ -80,8 +82,8 @@ impl Guardian {
         self.posts.len() as u8
     }
 
-    /// After how many cycles the open macroticks of all nodes come again: the greatest repetition of the ownership
-    /// lines of the cluster, 1 to 64, or 1 where there are none (project-defined).
+    /// Returns the number of cycles after which the open macroticks of all nodes repeat. It is the greatest repetition
+    /// of the ownership lines of the cluster, 1 to 64, or 1 if there are none (project-defined).
     pub fn cycles(&self) -> u8
         ensures value { result ≡ period (all_owned self.now.plans) }
         ensures some { 1 ≤ result }
@@ -93,11 +95,11 @@ impl Guardian {
         cycles_of(self.posts.as_slice())
     }
 
-    /// Returns whether a transmission of the node passes in the window on the channel. In a static slot of a guarded
-    /// channel only those of the slot's owner in the window's cycle pass, so that none does in a cycle in which nobody
-    /// owns it, and everywhere else all do (project-defined).
+    /// Returns whether a transmission of the node passes in the window on the channel (project-defined). In a static
+    /// slot of a guarded channel only those of the slot's owner in the window's cycle pass; in a cycle without an owner
+    /// none passes. Everywhere else all pass.
     ///
-    /// Nothing passes where the window has no slot on the channel, and nothing of a node that the cluster doesn't have.
+    /// Nothing passes if the window has no slot on the channel, or if the cluster doesn't have the node.
     pub fn passes(&self, node: NodeId, window: &Window, channel: Channel) -> bool
         ensures value { result ≡ passes self.now node window.now channel }
         ensures alone { result ≡ true → PassesAlone self.now node window.now channel }
@@ -106,7 +108,7 @@ impl Guardian {
         let (Some(_), Some(slot)) = (post, window.slot(channel)) else {
             return false;
         };
-        // The open intervals of the node in that cycle are halved for the first macrotick of the slot.
+        // A binary search finds the first macrotick of the slot in the node's open intervals of that cycle.
         !is_watched(self.guard, window, channel)
             || is_slot_within(
                 &self.params,
@@ -115,10 +117,10 @@ impl Guardian {
             )
     }
 
-    /// Returns the macroticks of the cycle in which the channel is open to the node, as half-open intervals from the
-    /// first macrotick up to the one after the last, in their order and as long as can be: the dynamic segment, and of
-    /// the static one the slots that it owns in this cycle, or all of it where the channel isn't guarded
-    /// (project-defined).
+    /// Returns the macroticks of the cycle in which the channel is open to the node (project-defined). They are
+    /// half-open intervals, from the first macrotick up to the one after the last, in order and as long as possible.
+    /// They cover the dynamic segment, and of the static segment the slots that the node owns in this cycle. On a
+    /// channel without guardians they cover the whole static segment.
     ///
     /// There are none for a node that the cluster doesn't have.
     pub fn windows(&self, node: NodeId, cycle: Cycle, channel: Channel) -> &[(u32, u32)]
@@ -134,7 +136,7 @@ impl Guardian {
     }
 }
 
-/// Returns the post of the node, if it is one of the cluster's.
+/// Returns the post of the node, if the cluster has the node.
 fn post_at(posts: &[Post], node: NodeId) -> Option<&Post>
     ensures { option_map (λ post. post.now) result ≡ slice_get posts.now node }
 {
@@ -151,7 +153,7 @@ fn rows_on(post: &Post, channel: Channel) -> &[Vec<(u32, u32)>]
     }
 }
 
-/// Returns the intervals of the cycle, which come again after as many cycles as there are rows.
+/// Returns the intervals of the cycle, which repeat after as many cycles as there are rows.
 fn row_at(rows: &[Vec<(u32, u32)>], cycle: Cycle) -> &[(u32, u32)]
     requires { 1 ≤ length rows.now }
     ensures { IsRowAt rows.now cycle result.now }
@@ -159,7 +161,7 @@ fn row_at(rows: &[Vec<(u32, u32)>], cycle: Cycle) -> &[(u32, u32)]
     rows[usize::from(cycle.number()) % rows.len()].as_slice()
 }
 
-/// Returns the greatest repetition of the ownership lines, 1 to 64, or 1 where there are none.
+/// Returns the greatest repetition of the ownership lines, 1 to 64, or 1 if there are none.
 fn period_of(owned: &[Own]) -> u8
     ensures value { result ≡ period owned.now }
     ensures few { result ≤ cycle_count }
@@ -171,7 +173,7 @@ fn period_of(owned: &[Own]) -> u8
     most
 }
 
-/// Returns the greatest repetition of the ownership lines of all posts, 1 to 64, or 1 where there are none.
+/// Returns the greatest repetition of the ownership lines of all posts, or 1 if there are none.
 fn cycles_of(posts: &[Post]) -> u8
     ensures value { result ≡ period (all_owned (map (λ post. post.plan) posts.now)) }
     ensures few { result ≤ cycle_count }
@@ -183,7 +185,7 @@ fn cycles_of(posts: &[Post]) -> u8
     most
 }
 
-/// Returns whether the channel is among the guarded ones.
+/// Returns whether the channel is guarded.
 fn is_guarded(guard: Option<Channels>, channel: Channel) -> bool
     ensures { result ≡ is_guarded guard channel }
 {
@@ -193,7 +195,7 @@ fn is_guarded(guard: Option<Channels>, channel: Channel) -> bool
     }
 }
 
-/// Returns whether the window is a static one, whose channel is among the guarded ones.
+/// Returns whether the window is static and the channel is guarded.
 fn is_watched(guard: Option<Channels>, window: &Window, channel: Channel) -> bool
     ensures { result ≡ (is_static window.now && is_guarded guard channel) }
 {
@@ -238,7 +240,7 @@ fn post_of(alloc: Global, cluster: &Cluster, plan: &NodePlan) -> Result<Post, Al
     })
 }
 
-/// Returns the intervals in which the channel is open to a node that owns this, for each cycle below the node's period.
+/// Returns the open intervals of a node with these ownership lines, for each cycle of its period.
 fn rows_of(
     alloc: Global,
     cluster: &Cluster,
@@ -249,7 +251,7 @@ fn rows_of(
         (λ rows. AreRows cluster.now.params (is_guarded cluster.now.guard channel) owned.now channel rows.items) }
 {
     let mut rows = Vec::new(alloc);
-    // Only as many cycles are kept as differ: one where each line is for every cycle.
+    // Only cycles that differ are kept: one if each line is for every cycle.
     for number in 0..period_of(owned) {
         let cycle = Cycle::from_bits(number);
         rows.push(intervals_in(alloc, cluster, owned, cycle, channel)?)?;
@@ -257,7 +259,7 @@ fn rows_of(
     Ok(rows)
 }
 
-/// Returns the intervals of the cycle in which the channel is open to a node that owns this.
+/// Returns the open intervals of a node with these ownership lines in the cycle.
 fn intervals_in(
     alloc: Global,
     cluster: &Cluster,

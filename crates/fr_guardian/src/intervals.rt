@@ -14,10 +14,10 @@ use fr_slots::plan::Own;
 use fr_timing::segments::segments_of;
 use std::alloc::{AllocError, Global};
 
-/// As many numbers as reach the last slot's.
+/// The least length of an array that has a place for every slot number.
 const SLOTS: usize = LAST_SLOT as usize + 1;
 
-/// For each number whether it is a slot that the node owns on the channel in the cycle.
+/// Returns for each number whether it is a slot that the node owns on the channel in the cycle.
 fn owned_slots(owned: &[Own], cycle: Cycle, channel: Channel) -> [bool; SLOTS]
     ensures { AreOwnedSlots owned.now cycle channel result }
 {
@@ -30,8 +30,8 @@ fn owned_slots(owned: &[Own], cycle: Cycle, channel: Channel) -> [bool; SLOTS]
     slots
 }
 
-/// Returns whether the static slot of this number is open to a node that owns these on the channel, which is guarded or
-/// not.
+/// Returns whether the static slot of this number is open to a node with these slots on the channel. On a channel
+/// without guardians every slot is open.
 fn is_open_slot(guarded: bool, slots: &[bool; SLOTS], number: u16) -> bool
     requires { number < 2048 }
     ensures { result ≡ (not guarded || slice_index_or slots.now number false) }
@@ -49,7 +49,7 @@ fn add(intervals: &mut Vec<(u32, u32)>, start: u32, end: u32) -> Result<(), Allo
     Ok(())
 }
 
-/// Returns whether the macrotick lies in one of the intervals, which are found by halves.
+/// Returns whether the macrotick lies in one of the intervals, by binary search.
 fn is_covered(spans: &[(u32, u32)], macrotick: u32) -> bool
     requires not_empty { All (λ span. span.0 < span.1) spans.now }
     requires apart { AllPairs (λ span later. span.1 < later.0) spans.now }
@@ -59,7 +59,7 @@ fn is_covered(spans: &[(u32, u32)], macrotick: u32) -> bool
     0 < started && macrotick < spans[started - 1].1
 }
 
-/// Returns whether the slot is a static one whose first macrotick lies in one of the intervals.
+/// Returns whether the slot is static and its first macrotick lies in one of the intervals.
 pub fn is_slot_within(params: &Params, spans: &[(u32, u32)], slot: SlotId) -> bool
     requires not_empty { All (λ span. span.0 < span.1) spans.now }
     requires apart { AllPairs (λ span later. span.1 < later.0) spans.now }
@@ -69,9 +69,9 @@ pub fn is_slot_within(params: &Params, spans: &[(u32, u32)], slot: SlotId) -> bo
     params.is_static(slot) && is_covered(spans, start)
 }
 
-/// Returns the macroticks of the cycle in which a channel is open to a node, as half-open intervals: the static slots
-/// that it owns then, or all of them where the channel isn't guarded, and the dynamic segment. Where such parts touch
-/// they are in one interval.
+/// Returns the macroticks of the cycle in which a channel is open to a node, as half-open intervals. They cover the
+/// dynamic segment, and the static slots that the node owns then. On a channel without guardians they cover all static
+/// slots. Parts that touch are in one interval.
 pub fn open_intervals(
     alloc: Global,
     params: &Params,
@@ -86,7 +86,7 @@ pub fn open_intervals(
     let static_mt = u32::from(params.static_mt);
     let slots = owned_slots(owned, cycle, channel);
     let mut intervals = Vec::new(alloc);
-    // where the interval begins that goes on, or would
+    // The start of the current interval, which may still be empty.
     let mut since = 0;
     for earlier in 0..params.static_slots {
         if !is_open_slot(guarded, &slots, earlier + 1) {

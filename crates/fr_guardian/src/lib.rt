@@ -1,4 +1,4 @@
-//! The bus guardians of a cluster's nodes: what they let pass, and in which macroticks of a cycle they are open.
+//! The bus guardians of a cluster's nodes: the transmissions that they pass, and their open macroticks in a cycle.
 //!
 //! ```text
 //! let cluster = Cluster::from_text(alloc, text)?;
@@ -9,13 +9,13 @@
 //! }
 //! ```
 //!
-//! A chapter in parentheses is one of the FlexRay Protocol Specification 2.1, revision A, whose rule it is.
-//! *(project-defined)* marks a rule of this project's own, which says nothing of the standard.
+//! A chapter in parentheses is one of the FlexRay Protocol Specification 2.1, revision A.
+//! *(project-defined)* marks a rule of this project, and makes no claim about the standard.
 //!
 //! # Definitions
 //!
-//! - `Guarding`, `Intervals`, `Periods`: what a guardian passes, and the macroticks of a cycle in which it is open; the
-//!   maximal intervals of a set; the number of cycles after which ownership repeats.
+//! - `Guarding`, `Intervals`, `Periods`: the transmissions that a guardian passes, and its open macroticks in a cycle;
+//!   the maximal intervals of a set; the number of cycles after which ownership repeats.
 #![tactic(auto)]
 
 pub mod guardian;

@@ -1,4 +1,4 @@
--- Each commit of a legal journal is on one buffer of the plan, where it is sent, overwritten, withdrawn or pending.
+-- Each commit of a legal journal is on one buffer of the plan, and is sent, overwritten, withdrawn or pending there.
 use Rattle.std.proofs.Common.{◌≡◌, ℕ, zero, suc, ◌+◌, ◌<◌, ◌≤◌, Bool, true, false, cond, eqb, List, [], ◌∷◌, ◌++◌}
 use Rattle.std.proofs.Common.{length, refl, sym, ap}
 use Rattle.std.proofs.Common.{◌∙◌, arith, Option, Some, None, length-append, inl, inr, ◌≢◌, ne_eqb, get_or}
@@ -23,7 +23,7 @@ use Rattle.fr_slots.specs.Plans.{Plan, buffer_at, Each}
 abbrev digit : Bool → ℕ
 digit b = cond b 1 0
 
--- ---- a buffer's fates are as many as its commits
+-- ---- a buffer has as many fates as commits
 
 one_here : (t : Bool) (f : Fate) → length (cond t (f ∷ []) []) ≡ digit t
 one_here true f = refl
@@ -66,7 +66,7 @@ sum_by-none : (f : ℕ → ℕ) → ((k : ℕ) → f k ≡ 0) → (ns : List ℕ
 sum_by-none f none [] = refl
 sum_by-none f none (n ∷ ns) = omega (arith, sum_by-cons f n ns, none n, sum_by-none f none ns)
 
--- among the numbers from `a` on, the number `k` stands once if it is there
+-- among the numbers from `a` on, the number `k` occurs once, if it is one of them
 one_past : (k a n : ℕ) → k < a → sum_by (λ m. digit (eqb k m)) (range_with_len a n) ≡ 0
 one_past k a zero past = refl
 one_past k a (suc n) past =

@@ -1,4 +1,4 @@
--- What is kept beside the journal answers as the journal does.
+-- The data beside the journal give the journal's answers.
 use Rattle.std.proofs.Common.{◌≡◌, ℕ, zero, suc, ◌+◌, Bool, true, false, cond, List, [], ◌∷◌, length, map, Option, Some}
 use Rattle.std.proofs.Common.{None, refl, sym, ap, ◌∙◌, option_map}
 use Rattle.std.specs.Prelude.{IfSome, slice_get}
@@ -88,7 +88,7 @@ module _ (s : State) (number : ℕ) where
         ∙ sym (ap (option_and_then (tally_in s number)) there ∙ ap
         (λ (t : Bool). cond t None (Some (tally_of number s.entries))) transmits)
 
--- ---- the queue
+-- ---- the receive FIFO
 
 module _ (s : State) (queue : Option Waiting) (is : queue ≡ option_map
     (waiting_of s.params s.plan s.entries) s.plan.queue) where

@@ -1,4 +1,4 @@
--- One element of a list changed, and lists with an element for each buffer.
+-- One changed element of a list, and lists with an element for each buffer.
 use Rattle.std.proofs.Common.{◌≡◌, ℕ, zero, suc, ◌+◌, ◌≤◌, ◌<◌, Bool, true, false, cond, eqb, List, [], ◌∷◌, set}
 use Rattle.std.proofs.Common.{get_or, length, map, Some, refl, sym, ap, subst, ◌∙◌, arith, option_map}
 use Rattle.std.specs.Prelude.{slice_get}
@@ -10,7 +10,7 @@ use Rattle.fr_slots.specs.declared.plan.Buffer.{Buffer}
 use Rattle.fr_slots.specs.declared.plan.Mode.{Mode}
 
 module _ {X : Type 0} where
-  -- a write of what a place holds, changed
+  -- writing the changed element of a place
   pub change_at-set : (f : X → X) (xs : List X) (place : ℕ) (x : X) → place < length xs → x ≡ get_or xs place x
       → set xs place (f x) ≡ change_at f xs place
   change_at-set f [] place x lt is = absurd (omega (arith, lt))
@@ -18,14 +18,14 @@ module _ {X : Type 0} where
   change_at-set f (y ∷ xs) (suc place) x lt is = ap (λ (rest : List X). y ∷ rest)
       (change_at-set f xs place x (omega (arith, lt)) is)
 
-  -- what a place holds
+  -- the element at a place
   pub get-at : (xs : List X) (place : ℕ) (x : X) → place < length xs → x ≡ get_or xs place x
       → slice_get xs place ≡ Some x
   get-at [] place x lt is = absurd (omega (arith, lt))
   get-at (y ∷ xs) zero x lt is = ap (λ (z : X). Some z) (sym is)
   get-at (y ∷ xs) (suc place) x lt is = get-at xs place x (omega (arith, lt)) is
 
-  -- there is no such place
+  -- no such place exists
   pub change_at-past : (f : X → X) (xs : List X) (place : ℕ) → length xs ≤ place → change_at f xs place ≡ xs
   change_at-past f [] place le = refl
   change_at-past f (y ∷ xs) zero le = absurd (omega (arith, le))
@@ -44,7 +44,7 @@ pub each-same : (f g : ℕ → Mode → Transmitter) (number : ℕ) (buffers : L
 each-same f g number [] same = refl
 each-same f g number (b ∷ buffers) same = λ i. same number b.mode i ∷ each-same f g (number + 1) buffers same i
 
--- the same, where only the buffers that are there count
+-- the same, if only the existing buffers count
 pub each-same_there : (f g : ℕ → Mode → Transmitter) (number : ℕ) (buffers : List Buffer)
     → ((place : ℕ) (b : Buffer) → slice_get buffers place ≡ Some b
     → f (number + place) b.mode ≡ g (number + place) b.mode)
@@ -80,7 +80,7 @@ get_each f place buffers =
     get_each_from f 0 place buffers ∙ ap (λ (n : ℕ). option_map (λ (b : Buffer). f n b.mode) (slice_get buffers place))
     here
 
--- the element of one number changed
+-- the element of one number is changed
 abbrev pub changed : (Transmitter → Transmitter) → ℕ → (ℕ → Mode → Transmitter) → ℕ → Mode → Transmitter
 changed c number f n mode = cond (eqb n number) (c (f n mode)) (f n mode)
 
@@ -130,7 +130,7 @@ change_each c f place buffers =
     let here : 0 + place ≡ place = omega arith in
     change_each_from c f 0 place buffers ∙ ap (λ (n : ℕ). each_buffer (changed c n f) 0 buffers) here
 
--- the same for each buffer, whatever its number
+-- the same for each buffer, of any number
 pub each-mapped : (g : Mode → Transmitter) (f : ℕ → Mode → Transmitter) (number : ℕ) (buffers : List Buffer)
     → ((n : ℕ) (mode : Mode) → f n mode ≡ g mode)
     → map (λ (b : Buffer). g b.mode) buffers ≡ each_buffer f number buffers

@@ -32,7 +32,7 @@ pub counters-none : (params : Parameters) → counters_of params [] ≡
 unfolding count_after
 counters-none params = refl
 
--- ---- an entry that has no bit
+-- ---- an entry without a bit
 
 unmoved : (params : Parameters) (channel : Channel) (bit : SlotStatus → Bool) (xs : List Entry) (e : Entry)
     → has_bit bit params channel xs e ≡ false
@@ -63,7 +63,7 @@ bit_of_slot : (bit : SlotStatus → Bool) (params : Parameters) (window : Opport
 bit_of_slot bit params window channel seen None = refl
 bit_of_slot bit params window channel seen (Some slot) = refl
 
--- the five counts with the bits of one status more, if there is one
+-- the five counts with the bits of one more status, if there is one
 abbrev with_told : List ℕ → Option SlotStatus → List ℕ
 with_told counts None = counts
 with_told counts (Some s) = with_bits counts s
@@ -105,7 +105,7 @@ module _ (params : Parameters) (xs : List Entry) (n : ℕ) (a b : Seen) (window 
       both c (Some s) None = refl
       both c (Some s) (Some t) = refl
 
--- ---- room for one slot more
+-- ---- room for one more slot
 
 digit_most : (t : Bool) → cond t 1 0 ≤ 1
 digit_most true = omega arith

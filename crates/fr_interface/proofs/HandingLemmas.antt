@@ -1,4 +1,4 @@
--- What stands at a place of the first entries.
+-- The entry at a place of the first entries.
 use Rattle.std.proofs.Common.{◌≡◌, ℕ, zero, suc, ◌<◌, ◌≤◌, List, [], ◌∷◌, take, None, refl, arith}
 use Rattle.std.specs.Prelude.{slice_get}
 

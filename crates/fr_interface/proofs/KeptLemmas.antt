@@ -1,4 +1,4 @@
--- All that is kept beside the journal, with one entry more that isn't an observed window, and what calls need of it.
+-- The data beside the journal, with one more entry that isn't an observed window, and the facts that calls need.
 use Rattle.std.proofs.Common.{◌≡◌, ℕ, zero, suc, ◌+◌, ◌≤◌, ◌<◌, ◌^◌, Bool, true, false, cond, List, [], ◌∷◌, ◌++◌, take}
 use Rattle.std.proofs.Common.{length, Option, Some, None, refl, sym, ap, subst, ◌∙◌, arith, option_map}
 use Rattle.std.proofs.lemmas.List.{take-append-le, take_all}
@@ -28,7 +28,7 @@ use Rattle.fr_slots.specs.Plans.{Plan, is_receive, buffer_at}
 use Rattle.fr_slots.specs.Windows.{Opportunity}
 use Rattle.fr_status.specs.Forms.{Seen}
 
--- what a write through a loan leaves of a list
+-- a list after a write through a loan
 pub written : {X : Type 0} (n : ℕ) (xs ys : List X) → n ≡ length xs → take n (xs ++ ys) ≡ xs
 written n xs ys is =
     let le : n ≤ length xs = omega (arith, is) in
@@ -66,7 +66,7 @@ module _ (s : State) (number : ℕ) (line : Buffer) (there : buffer_at s.plan nu
   received_line receives = ap (option_and_then (received_in s)) there ∙ ap
       (λ (t : Bool). cond t (held s.params line.filter s.entries) None) receives
 
--- ---- the queue
+-- ---- the receive FIFO
 
 module _ (params : Parameters) (plan : Plan) (xs : List Entry) where
   pub queue-none : (o : Option Queue) → option_map (λ (q : Queue). let w : Waiting =
@@ -80,7 +80,7 @@ module _ (params : Parameters) (plan : Plan) (xs : List Entry) where
   queue-other e still unpopped None = refl
   queue-other e still unpopped (Some q) = ap Some (sym (waiting-other params plan q xs e (still q) unpopped))
 
-  -- what a pop takes
+  -- the frame that a pop removes
   pub front_of : (o : Option Queue) → option_and_then (λ (w : Waiting). slice_get w.frames 0)
       (option_map (waiting_of params plan xs) o) ≡ option_and_then
       (λ (q : Queue). oldest q.capacity (moves params plan q xs)) o
@@ -117,7 +117,7 @@ pub for_some : {T : Type 0} (P : T → Type 0) (o : Option T) → IfSome o P →
 for_some P None h = λ x e. absurd cc
 for_some P (Some y) h = λ x e. let same : y ≡ x = cc in subst P same h
 
--- a pop that is answered by the queue that is there
+-- a pop that the kept receive FIFO answers
 pub pop_queued : (params : Parameters) (plan : Plan) (xs : List Entry) (from : Option Origin) (o : Option Queue)
     → from ≡ option_map origin_of (option_and_then (λ (q : Queue). oldest q.capacity (moves params plan q xs)) o)
     → is_some o ≡ true

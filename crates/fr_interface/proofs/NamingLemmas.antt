@@ -1,4 +1,4 @@
--- A frame that an observe names, by the window that it closes.
+-- A frame of an observe, by the window that it closes.
 use Rattle.std.proofs.Common.{◌≡◌, List, refl}
 use Rattle.fr_journal.specs.Forms.{Entry}
 use Rattle.fr_journal.specs.declared.entry.Entry.TheVariants.{Commit, Withdraw, Read, Pop, Fetch, Observe}

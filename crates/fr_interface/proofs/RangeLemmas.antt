@@ -1,4 +1,4 @@
--- Searches among lines, where nothing is found outside a range, and the range of each slot.
+-- Searches among lines that find nothing outside a range, and the range of each slot.
 use Rattle.std.proofs.Common.{◌≡◌, ℕ, zero, suc, ◌+◌, ◌-◌, ◌≤◌, ◌<◌, Bool, true, false, cond, eqb, ltb, ◌||◌, List, []}
 use Rattle.std.proofs.Common.{◌∷◌, ◌++◌, length, map, take, drop, set, slice_range, Option, Some, None, option_map}
 use Rattle.std.proofs.Common.{refl}
@@ -46,7 +46,7 @@ take_short zero xs = omega arith
 take_short (suc n) [] = omega arith
 take_short (suc n) (x ∷ xs) = omega (arith, take_short n xs)
 
--- ---- a test that passes in a range alone
+-- ---- a test that passes only in a range
 
 -- the test passes at no place outside
 pub record PassesWithin {X : Type 0} (test : X → Bool) (first end : ℕ) (xs : List X) : Type 0 where
@@ -107,7 +107,7 @@ module _ {X : Type 0} (test : X → Bool) where
   pub position-none : (xs : List X) → FailsFrom xs 0 → position test xs ≡ None
   position-none xs h = position_from-zero test xs ∙ sym (from_cut xs zero 0 h)
 
-  -- ---- whether there is one
+  -- ---- an item that passes exists
 
   any_skip : (xs : List X) (first : ℕ) → FailsBefore xs first → list_any test xs ≡ list_any test (drop first xs)
   any_skip xs zero h = refl
@@ -171,7 +171,7 @@ module _ {X : Type 0} (test : X → Bool) where
         let below : place < end - first = omega (arith, low, take_short (end - first) (drop first xs)) in
         get_take (drop first xs) (end - first) place below ∙ get-drop first xs place
 
-    -- what stands at the first place
+    -- the item at the first place
     pub found-within : option_and_then (slice_get part) (position test part) ≡ option_and_then (slice_get xs)
         (position test xs)
     found-within = found_at (position test part) refl ∙ ap (option_and_then (slice_get xs)) (sym position-within)
@@ -239,9 +239,9 @@ ownership-in owned slot channel cycle range is =
     (passes-of (λ (o : Own). o.slot) (claims slot channel cycle) slot range owned is
     (λ o pass. eqb-true o.slot slot (and_parts _ _ (and_parts _ _ pass).0).0))
 
--- ---- a further line
+-- ---- one more line
 
--- a place of a list with one more is one of the list, or the last
+-- a place of a list with one more item is one of the list, or the last
 get_more : {X : Type 0} (xs : List X) (x y : X) (place : ℕ) → slice_get (xs ++ x ∷ []) place ≡ Some y
     → (slice_get xs place ≡ Some y) ⊎ ((place ≡ length xs) × (x ≡ y))
 get_more [] x y zero is = inr (refl, same_some x y is)
@@ -254,7 +254,7 @@ get_more (z ∷ xs) x y (suc place) is = later (get_more xs x y place is)
     later (inl h) = inl h
     later (inr h) = inr (ap suc h.0, h.1)
 
--- what a place holds after a write
+-- the element at a place after a write
 get_written : {X : Type 0} (xs : List X) (at place : ℕ) (x y : X) → slice_get (set xs at x) place ≡ Some y
     → ((place ≡ at) × (x ≡ y)) ⊎ ((place ≡ at → ⊥) × (slice_get xs place ≡ Some y))
 get_written [] at place x y is = absurd (let none : ⊥ = cc in none)
@@ -284,7 +284,7 @@ module _ (slots : List ℕ) (range : LineRange) where
   last_widened true ordered ends = (omega arith, omega arith)
   last_widened false ordered ends = (omega (arith, ordered, ends), omega arith)
 
-  -- the range of the further line's slot
+  -- the range of the new line's slot
   widened-is : (slot : ℕ) → IsRangeOf slot slots range → IsRangeOf slot (slots ++ slot ∷ [])
       (widened range (length slots))
   widened-is slot is =
@@ -301,7 +301,7 @@ module _ (slots : List ℕ) (range : LineRange) where
       by_place place (inr h) = subst (λ (n : ℕ). IsWithin n (widened range (length slots))) (sym h.0)
           (last_widened (eqb range.first range.end) is.ordered is.ends)
 
-  -- the ranges of the others
+  -- the ranges of the other slots
   other-is : (slot other : ℕ) → (other ≡ slot → ⊥) → IsRangeOf other slots range
       → IsRangeOf other (slots ++ slot ∷ []) range
   other-is slot other differs is = record {
@@ -316,7 +316,7 @@ module _ (slots : List ℕ) (range : LineRange) where
       by_place place (inr h) = absurd (differs (sym h.1))
 
 module _ (slots : List ℕ) (ranges : List LineRange) (are : AreRanges slots ranges) (slot : ℕ) where
-  -- with one line more
+  -- with one more line
   pub ranges-more : (range : LineRange) → slice_get ranges slot ≡ Some range
       → AreRanges (slots ++ slot ∷ []) (set ranges slot (widened range (length slots)))
   ranges-more range at = record {
@@ -358,7 +358,7 @@ pub ranges-none : (ranges : List LineRange) → ranges ≡ replicate 2048 (recor
     → AreRanges [] ranges
 ranges-none ranges are = ranges_none ranges 2048 refl are
 
--- the lines before a place, and the one that stands there
+-- the lines before a place, and the line at that place
 taken_more : {X : Type 0} (f : X → ℕ) (xs : List X) (place : ℕ) (x : X) → place < length xs → x ≡ get_or xs place x
     → map f (take (place + 1) xs) ≡ map f (take place xs) ++ f x ∷ []
 taken_more f xs place x lt is = map_more f xs place x lt ∙ ap (λ (y : _). map f (take place xs) ++ f y ∷ []) (sym is)
@@ -415,7 +415,7 @@ module _ (one other : LineRange) (place : ℕ) where
   pub joined-other : IsWithin place other → IsWithin place (joined one other)
   joined-other = joins_other (eqb one.first one.end) (eqb other.first other.end) refl
 
--- ---- what buffers take
+-- ---- frames that buffers store
 
 module _ (window : Opportunity) (channel : Channel) where
   frame_none : (number : ℕ) (b : Buffer) → is_some (frame_on number window channel None b) ≡ false
@@ -433,7 +433,7 @@ module _ (window : Opportunity) (channel : Channel) where
       by_test true some = refl
       by_test false some = absurd (let none : ⊥ = cc in none)
 
-  -- where no frame came
+  -- without a frame
   pub taking-none : (buffers : List Buffer) (frame : Option Fields) → frame ≡ None
       → IsTakingRange buffers window channel frame (record { first = 0; end = 0 })
   taking-none buffers frame is = record {
@@ -443,7 +443,7 @@ module _ (window : Opportunity) (channel : Channel) where
         (ap (λ (f : Option Fields). is_some (frame_on number window channel f b)) is ∙ frame_none number b) some);
   }
 
-  -- where the channel has no slot
+  -- if the channel has no slot
   pub taking-nowhere : (buffers : List Buffer) (frame : Option Fields) → slot_of window channel ≡ None
       → IsTakingRange buffers window channel frame (record { first = 0; end = 0 })
   taking-nowhere buffers frame is = record {
@@ -465,7 +465,7 @@ module _ (window : Opportunity) (channel : Channel) where
   }
 
 module _ (number : ℕ) (window : Opportunity) (a b : Option Fields) where
-  -- the line takes nothing
+  -- the line stores nothing
   abbrev TakesNone : Buffer → Type 0
   TakesNone line = taken_by number window a b line ≡ None
 
@@ -514,7 +514,7 @@ module _ (number : ℕ) (window : Opportunity) (a b : Option Fields) where
         (false_from_ne_true _ (λ some. out (joined-one one other place (of_a.covers number place line there some))))
         (false_from_ne_true _ (λ some. out (joined-other one other place (of_b.covers number place line there some))))
 
-    -- what is stored before the range and behind it
+    -- the frames stored before the range and after it
     pub stored-before : (held : List (Option Arrival)) → stored_all number window a b
         (take (joined one other).first lines) held ≡ held
     stored-before held = stored_skip lines held (joined one other).first

@@ -1,4 +1,4 @@
--- What receive buffers hold, with one more entry.
+-- The content of receive buffers, with one more entry.
 use Rattle.std.proofs.Common.{◌≡◌, ℕ, zero, suc, ◌<◌, Bool, true, false, cond, List, [], ◌∷◌, ◌++◌, take, set, get_or}
 use Rattle.std.proofs.Common.{length, map, Option, Some, None, refl, sym, ap, ◌∙◌, arith}
 use Rattle.std.specs.Option.{option_and_then, option_or}
@@ -39,7 +39,7 @@ same_held : (params : Parameters) (xs : List Entry) (e : Entry) (f : Filter) →
 same_held params xs e f none = last_after-snoc (arrival_at params f) xs e ∙ ap
     (λ (o : Option Arrival). option_or o (held params f xs)) none
 
--- an entry that brings nothing leaves all buffers
+-- an entry without a frame leaves all buffers unchanged
 pub held-other : (params : Parameters) (xs : List Entry) (e : Entry) (lines : List Buffer)
     → ((f : Filter) → arrival_at params f xs e ≡ None)
     → map (held_in params (xs ++ e ∷ [])) lines ≡ map (held_in params xs) lines

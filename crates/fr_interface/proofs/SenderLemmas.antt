@@ -1,4 +1,4 @@
--- What goes out in a window, and the transmit buffers after it.
+-- The frames in a window, and the transmit buffers after it.
 use Rattle.std.proofs.Common.{◌≡◌, ℕ, ◌+◌, Bool, true, false, cond, eqb, ◌||◌, List, [], ◌∷◌, ◌++◌, length}
 use Rattle.std.proofs.Common.{Option, Some, None, refl, sym, ap, subst, ◌∙◌, arith, option_map}
 use Rattle.std.specs.Prelude.{IfSome, IsSomeAnd, slice_get, is_some, unwrap_or}
@@ -38,13 +38,13 @@ use Rattle.fr_slots.specs.Windows.{Opportunity, slot_of}
 
 -- ---- a sender
 
--- the buffer's last commit, which it offers for its mode
+-- the buffer's last commit, which it offers by its mode
 pub record IsSender (plan : Plan) (xs : List Entry) (s : Sender) : Type 0 where
   pub line : Buffer
   pub there : slice_get plan.buffers s.buffer ≡ Some line
   pub offers : ready line.mode s.buffer xs ≡ Some s.commit
 
--- what is ready is the commit that the buffer holds
+-- the ready commit is the one that the buffer holds
 ready_held : (m : Mode) (number : ℕ) (xs : List Entry) (k : ℕ) → ready m number xs ≡ Some k
     → held_commit number xs ≡ Some k
 ready_held mode.Event number xs k e =
@@ -53,7 +53,7 @@ ready_held mode.Event number xs k e =
 ready_held mode.State number xs k e = e
 ready_held mode.Receive number xs k e = absurd cc
 
--- that is the last one, and isn't withdrawn
+-- it is the last one, and isn't withdrawn
 ready_last : (m : Mode) (number : ℕ) (xs : List Entry) (k : ℕ) → ready m number xs ≡ Some k
     → last_commit number xs ≡ Some k
 ready_last m number xs k e = (held_is number xs k (ready_held m number xs k e)).0
@@ -97,7 +97,7 @@ module _ (plan : Plan) (xs : List Entry) where
     offered_where (Some slot) = ap (data_or (cond (owns plan window channel slot) Null Nothing))
         (commit_if (may_begin plan window channel) (transmitter plan window channel))
 
-    -- what is offered in place is what the journal gives
+    -- the offer by the kept data is the one that the journal gives
     pub offered-place : offered_by window channel (owner_on plan window channel)
         (sender_on plan (transmitters plan xs) window channel) ≡ offered plan xs window channel
     offered-place = offered_where (slot_of window channel)
@@ -167,7 +167,7 @@ module _ (plan : Plan) (xs : List Entry) where
         (of_slot window channel (Some slot))
         ∙ ap (frame_of_offer params plan xs window channel slot) (offered_where window channel (Some slot))
 
-    -- the frame that goes out is the one that the journal gives
+    -- the frame by the kept data is the one that the journal gives
     pub frame-place : frame_by params plan (transmitters plan xs) window channel
         (outgoing_on plan (transmitters plan xs) window channel) ≡ frame_offered params plan xs window channel
     frame-place = frame_where (slot_of window channel)
@@ -177,12 +177,12 @@ module _ (plan : Plan) (xs : List Entry) where
     nothing_where None = refl
     nothing_where (Some slot) = refl
 
-    -- where nothing is offered no frame goes out
+    -- without an offer there is no frame
     pub frame-nothing : offered plan xs window channel ≡ Nothing → frame_offered params plan xs window channel ≡ None
     frame-nothing is = ap (λ (o : Offered). option_and_then (λ n. frame_of_offer params plan xs window channel n o)
         (slot_of window channel)) is ∙ nothing_where (slot_of window channel)
 
--- ---- which commits go out
+-- ---- sent commits
 
 abbrev selects : ℕ → Option Sender → Bool
 selects number None = false
@@ -197,7 +197,7 @@ data_of true k = refl
 data_of false k = refl
 
 module _ (plan : Plan) (window : Opportunity) (channel : Channel) where
-  -- where the channel has no slot there is no sender
+  -- if the channel has no slot there is no sender
   sent_where : (k : ℕ) (buffers : List Transmitter) (slot : Option ℕ)
       → is_data_of k (offered_in (option_and_then (line_of plan window channel) slot)
       (sender_in plan buffers window channel slot) slot) ≡ sends_by k (sender_in plan buffers window channel slot)
@@ -214,7 +214,7 @@ module _ (plan : Plan) (window : Opportunity) (channel : Channel) where
       (sender_on plan buffers window channel)
   sent-by k buffers = sent_where k buffers (slot_of window channel)
 
--- ---- which buffer's commit goes out
+-- ---- the buffer of a sent commit
 
 module _ (xs : List Entry) where
   same_number : (n : ℕ) → eqb n n ≡ true
@@ -243,7 +243,7 @@ module _ (xs : List Entry) where
 -- ---- a buffer after a fetch
 
 module _ (plan : Plan) (xs : List Entry) (window : Opportunity) (a b : Offered) (from_a from_b : Option Sender) where
-  -- what both channels send
+  -- the senders of both channels
   pub record IsFetched : Type 0 where
     pub sender_a : IfSome from_a (IsSender plan xs)
     pub sender_b : IfSome from_b (IsSender plan xs)
@@ -253,7 +253,7 @@ module _ (plan : Plan) (xs : List Entry) (window : Opportunity) (a b : Offered) 
   abbrev pub entry : Entry
   entry = Fetch window a b
 
-  -- whether the fetch sends what the buffer holds
+  -- the fetch sends the commit that the buffer holds
   abbrev sends_from : ℕ → Bool
   sends_from number = selects number from_a || selects number from_b
 
@@ -271,7 +271,7 @@ module _ (plan : Plan) (xs : List Entry) (window : Opportunity) (a b : Offered) 
     same number k last = (λ i. selected number k from_a h.sender_a last i || selected number k from_b h.sender_b last i)
         ∙ sym (sent k)
 
-    -- what is sent is a buffer's last commit
+    -- a sent commit is a buffer's last commit
     last_of : (k : ℕ) (o : Option Sender) → IfSome o (IsSender plan xs) → sends_by k o ≡ true
         → (s : Sender) × (last_commit s.buffer xs ≡ Some k)
     last_of k None is sends = absurd cc
@@ -318,7 +318,7 @@ module _ (plan : Plan) (xs : List Entry) (window : Opportunity) (a b : Offered) 
         marks_last_from number (sends_from number) (λ k. sends k entry) (last_commit number xs) None [] xs
         (sym (or_none (last_commit number xs))) (all_only number [] xs refl) (same number)
 
-    -- what goes out isn't withdrawn
+    -- a sent commit isn't withdrawn
     stands_by : (number k : ℕ) → last_commit number xs ≡ Some k → (o : Option Sender) → IfSome o (IsSender plan xs)
         → selects number o ≡ true → withdrawn_at number xs k ≡ false
     stands_by number k last None is selected = absurd cc

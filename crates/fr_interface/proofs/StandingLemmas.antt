@@ -1,4 +1,4 @@
--- What is at hand after one more call, where some history left what was at hand before.
+-- The kept data after one more call, from those of some history.
 use Rattle.std.proofs.Common.{◌≡◌, ℕ, zero, suc, ◌+◌, ◌*◌, ◌≤◌, ◌<◌, ◌^◌, Bool, true, false, cond, List, [], ◌∷◌, ◌++◌}
 use Rattle.std.proofs.Common.{not, length, map, Option, Some, None, refl, sym, ap, subst, ◌∙◌, arith, option_map}
 use Rattle.std.specs.Prelude.{IfSome, IsSomeAnd, count_by, nat_le, slice_get, is_some}
@@ -104,7 +104,7 @@ slot_more xs e slot =
 pub entries-length : (s : State) → entries_before (standing_of s) ≡ length s.entries
 entries-length s = kinds_fill s.entries
 
--- one legal entry more
+-- one more legal entry
 pub legal-more : (s : State) (e : Entry) → IsLegalHistory s → IsEntry e → IsLegal s.params s.plan s.entries e
     → IsLegalHistory (with_entry s e)
 legal-more s e legal entry_is here = record {
@@ -428,7 +428,7 @@ history-observe h s n a b window is entry_is = subst (ObserveGoesOn s n a b wind
       leaves = standing-observe s n a b window is.legal.legal opened;
     })
 
--- ---- what calls need
+-- ---- facts that calls need
 
 pub few_calls : (h : Standing) (s : State) → IsHistory h s → length s.entries + 2 ≤ 2 ^ 32
 few_calls h s is = omega (arith, kinds_fill s.entries, is.host_room, is.slot_room, is.legal.few)
@@ -586,7 +586,7 @@ answer-length h s is = length-place s h.queue (sym (ap (λ (x : Standing). x.que
 pub answer-counters : (h : Standing) (s : State) → IsHistory h s → h.counters ≡ counters_of s.params s.entries
 answer-counters h s is = sym (ap (λ (x : Standing). x.counters) is.leaves)
 
--- ---- the room that a plan gives changes nothing else
+-- ---- the room that a plan gives has no other effect
 
 module _ (p : Plan) (host slot : ℕ) where
   sender-limits : (l : List Transmitter) (w : Opportunity) (channel : Channel)
@@ -633,7 +633,7 @@ module _ (p : Plan) (host slot : ℕ) where
   arrivals-limits number w a b None waiting = refl
   arrivals-limits number w a b (Some q) waiting = refl
 
--- what goes out
+-- the offer of a fetch
 pub answer-outgoing : (h : Standing) (s : State) (window : Opportunity) (channel : Channel) → IsHistory h s
     → outgoing_on h.plan h.transmit window channel ≡ outgoing_in s window channel
 answer-outgoing h s window channel is =
@@ -679,7 +679,7 @@ received_receivable s number are = by_line (buffer_at s.plan number)
     by_line None = tt
     by_line (Some b) = by_test (is_receive b.mode) b.filter
 
--- what a withdraw that isn't refused finds
+-- the commit that an accepted withdraw finds
 pub answer-pending : (h : Standing) (s : State) (task buffer : ℕ) (of : Option ℕ) → IsHistory h s
     → None ≡ withdraw_refused h task buffer → of ≡ pending_at h.transmit buffer → of ≡ pending_commit buffer s.entries
 answer-pending h s task buffer of is none answer = answer ∙ by_line (buffer_at h.plan buffer) refl

@@ -1,4 +1,4 @@
--- What the tests of a fetch and of a commit tell.
+-- The facts that follow from the tests of a fetch and of a commit.
 use Rattle.std.proofs.Common.{◌≡◌, ℕ, ◌+◌, ◌*◌, ◌≤◌, ◌<◌, Bool, true, false, not, cond, ltb, List, length, Option, Some}
 use Rattle.std.proofs.Common.{None, refl}
 use Rattle.std.specs.Prelude.{IfSome, is_some, count_by}
@@ -12,7 +12,7 @@ use Rattle.fr_slots.specs.Faults.{words_of}
 use Rattle.fr_slots.specs.Parameters.{Parameters}
 use Rattle.fr_slots.specs.Windows.{Opportunity, window_fits}
 
--- ---- what the tests of a fetch tell
+-- ---- the tests of a fetch
 
 pub none_from_test : {A : Type 0} (t : Bool) (o : Option A) → t ≡ is_some o → t ≡ false → o ≡ None
 none_from_test t None e f = refl
@@ -22,7 +22,7 @@ pub later_from_test : (number : ℕ) (o : Option ℕ) → is_not_above number o 
 later_from_test number None e = tt
 later_from_test number (Some n) e = leb-false number n e
 
--- what it means that a fetch isn't refused
+-- the facts of an accepted fetch
 pub record IsFetchable (s : State) (window : Opportunity) : Type 0 where
   pub closed : open_window s.entries ≡ None
   pub fits : window_fits s.params window ≡ true
@@ -50,7 +50,7 @@ fetchable s window none =
       room = ltb-false s.plan.slot_entries (count_by is_slot s.entries + 2) tests.3;
     }
 
--- ---- what the tests of a commit tell
+-- ---- the tests of a commit
 
 pub words_from_test : (params : Parameters) (b : Buffer) (payload : List ℕ) → has_words params b payload ≡ true
     → length payload ≡ 2 * words_of params b

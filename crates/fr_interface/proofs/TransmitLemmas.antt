@@ -57,7 +57,7 @@ tally_with t = record {
   withdrawn = t.withdrawn;
 }
 
--- the counts of fates with one more
+-- the counts of fates with one more fate
 abbrev one_added : (Fate → Bool) → List Fate → ℕ → Type 0
 one_added p fs n = count_by p (fs ++ Pending ∷ []) ≡ count_by p fs + n
 
@@ -105,7 +105,7 @@ tally-commit number xs e on unsent untaken =
 
 -- ---- any other entry
 
--- what becomes of a tally where the pending commit is sent, and where it is taken back
+-- the tally after the pending commit is sent, and after it is withdrawn
 abbrev pub tally_sent : Tally → Tally
 tally_sent x = record {
   committed = x.committed;
@@ -128,7 +128,8 @@ tally_taken x = record {
 abbrev pub tally_after : Bool → Tally → Tally
 tally_after t x = cond t (tally_sent x) x
 
--- an entry that is no commit on the buffer, of whose commits it sends the last one, takes it back, or does neither
+-- An entry that isn't a commit on the buffer. Of the buffer's commits it sends the last one, withdraws it, or does
+-- neither.
 pub record IsOther (number : ℕ) (t u : Bool) (xs : List Entry) (e : Entry) : Type 0 where
   pub off : is_commit_on number e ≡ false
   pub sending : MarksLast number 0 t (λ m. sends m e) xs
@@ -217,7 +218,7 @@ module _ (number : ℕ) (xs : List Entry) (e : Entry) where
   tally-other true h = tally-sent false h
   tally-other false h = tally-still h
 
-  -- the commit that is held is the same one, with the same payload
+  -- the held commit is the same one, with the same payload
   pub same_commit : held_commit number (xs ++ e ∷ []) ≡ held_commit number xs
       → option_map (commit_of xs) (held_commit number xs) ≡ option_map (commit_of (xs ++ e ∷ []))
       (held_commit number (xs ++ e ∷ []))
@@ -229,7 +230,7 @@ module _ (number : ℕ) (xs : List Entry) (e : Entry) where
       kept None h = refl
       kept (Some k) h = λ i. Some (record { entry = k; payload = sym (payload_of-front xs e k h) i })
 
--- an entry that neither is a commit on the buffer, nor sends a commit, nor takes back its last one
+-- an entry that neither is a commit on the buffer, nor sends a commit, nor withdraws its last one
 pub transmitter-other : (number : ℕ) (m : Mode) (xs : List Entry) (e : Entry) → is_commit_on number e ≡ false
     → ((k : ℕ) → sends k e ≡ false)
     → MarksLast number 0 false (λ k. takes_back k e) xs → ((k : ℕ) → last_commit number xs ≡ Some k
@@ -317,7 +318,7 @@ module _ (xs : List Entry) (task buffer : ℕ) (of : Option ℕ) (is : of ≡ pe
   abbrev withdrawal : Entry
   withdrawal = Withdraw task buffer of
 
-  -- what is taken back is the buffer's last commit
+  -- a withdrawn commit is the buffer's last commit
   taken_last : (k : ℕ) → takes_back k withdrawal ≡ true → last_commit buffer xs ≡ Some k
   taken_last k taken = found of is taken
     where
@@ -326,7 +327,7 @@ module _ (xs : List Entry) (task buffer : ℕ) (of : Option ℕ) (is : of ≡ pe
       found (Some j) is taken = (pending_is buffer xs j (sym is)).0 ∙ ap (λ (n : ℕ). let o : Option ℕ = Some n in o)
           (eqb-true j k taken)
 
-  -- so it is none of another buffer's commits
+  -- so it isn't a commit of another buffer
   taken_only : (number : ℕ) (before : List Entry) (x : Entry) (rest : List Entry) → xs ≡ before ++ x ∷ rest
       → OnlyLast number (λ k. takes_back k withdrawal) (last_commit number xs) before x
   taken_only number before x rest cut on taken =
@@ -373,7 +374,7 @@ module _ (xs : List Entry) (task buffer : ℕ) (of : Option ℕ) (is : of ≡ pe
       transmitter-other number m xs withdrawal refl (λ k. refl)
       (taking number false (λ k last. sym (untaken_else number other k last))) (untaken_else number other)
 
--- on the buffer itself nothing is pending, or the last commit
+-- on the buffer itself nothing is pending, or its last commit is
 on_none : (xs : List Entry) (task buffer : ℕ) (m : Mode) → pending_commit buffer xs ≡ None
     → after_withdraw (transmitter_of xs buffer m) ≡ transmitter_of (xs ++ Withdraw task buffer None ∷ []) buffer m
 on_none xs task buffer m none =
@@ -452,7 +453,7 @@ pub entry_of-commit : (xs : List Entry) (o : Option ℕ) → option_map (λ (c :
 entry_of-commit xs None = refl
 entry_of-commit xs (Some k) = refl
 
--- what a buffer offers is what the journal gives for its mode
+-- the offer of a buffer is the one that the journal gives for its mode
 pub offer-ready : (xs : List Entry) (number : ℕ) (m : Mode) → offer_of (transmitter_of xs number m) ≡ ready m number xs
 offer-ready xs number mode.Event =
     ap (λ (o : Option ℕ). cond (eqb (count_by is_pending (fates number xs)) 1) o None)
@@ -460,14 +461,14 @@ offer-ready xs number mode.Event =
 offer-ready xs number mode.State = entry_of-commit xs (held_commit number xs)
 offer-ready xs number mode.Receive = refl
 
--- what a withdraw takes back is the journal's pending commit
+-- a withdraw withdraws the journal's pending commit
 pub pending-ready : (xs : List Entry) (number : ℕ) (m : Mode)
     → pending_of (transmitter_of xs number m) ≡ pending_commit number xs
 pending-ready xs number m =
     ap (λ (o : Option ℕ). cond (eqb (count_by is_pending (fates number xs)) 1) o None)
     (entry_of-commit xs (held_commit number xs)) ∙ held_pending-counts number xs
 
--- how many commits a buffer took
+-- the number of commits on a buffer
 few_fates : (number n : ℕ) (xs : List Entry) → length (fates_from number n xs) ≤ length xs
 unfolding fates_from
 few_fates number n [] = omega arith

@@ -1,4 +1,4 @@
--- The receive queue, with one more entry.
+-- The receive FIFO, with one more entry.
 use Rattle.std.proofs.Common.{◌≡◌, ℕ, ◌+◌, ◌-◌, ◌*◌, ◌≤◌, Bool, true, false, cond, ltb, List, [], ◌∷◌, ◌++◌, length}
 use Rattle.std.proofs.Common.{Option, Some, None, refl, sym, ap, subst, ◌∙◌, arith, option_map, length-append}
 use Rattle.std.proofs.Common.{append_assoc, append-nil}
@@ -32,7 +32,7 @@ use Rattle.fr_slots.specs.Plans.{Plan}
 use Rattle.fr_slots.specs.Windows.{Opportunity}
 use Rattle.fr_status.specs.Forms.{Seen}
 
--- ---- after some moves and answered pops
+-- ---- after some moves and pops that returned a frame
 
 abbrev waiting_by : ℕ → ℕ → List Move → Waiting
 waiting_by capacity popped ms = record {
@@ -42,7 +42,7 @@ waiting_by capacity popped ms = record {
       length (arrived ms) - popped - queue_length capacity ms;
 }
 
--- what was popped and what is there had arrived
+-- each popped or waiting frame had arrived
 abbrev IsBalanced : ℕ → ℕ → List Move → Type 0
 IsBalanced capacity popped ms = popped + queue_length capacity ms ≤ length (arrived ms)
 
@@ -119,7 +119,7 @@ module _ (params : Parameters) (plan : Plan) (q : Queue) where
   unfolding each_after
   waiting-none = refl
 
-  -- the popped ones as before, and these moves more
+  -- the earlier popped frames, and these further moves
   same_popped : (xs : List Entry) (e : Entry) (ms : List Move) → moves_at params plan q xs e ≡ ms
       → is_answered_pop e ≡ false
       → waiting_of params plan (xs ++ e ∷ []) q ≡ waiting_by q.capacity (count_by is_answered_pop xs)
@@ -205,7 +205,7 @@ module _ (params : Parameters) (plan : Plan) (q : Queue) where
       ∙ sym (same_popped xs (Observe n a b) (arrive_all
       (queue_arrivals_in params plan q (length xs) a b (open_window xs))) refl refl)
 
-  -- ---- how many arrive
+  -- ---- the number of arrivals
 
   one_at_most : (t : Bool) (o : Option Arrival) → length (cond t (option_to_list o) []) ≤ 1
   one_at_most true None = omega arith
@@ -226,7 +226,7 @@ module _ (params : Parameters) (plan : Plan) (q : Queue) where
             (data_frame_seen params window B b)),
       )
 
-  -- an observe that closes a window brings two frames at most, and its fetch stands before it
+  -- an observe that closes a window has at most two frames, and its fetch comes before it
   open_one : List Entry → ℕ
   open_one xs = cond {A = ℕ} (is_some (open_window xs)) 1 0
 
@@ -300,7 +300,7 @@ module _ (params : Parameters) (plan : Plan) (q : Queue) where
         sum_by-cons (λ x. cond (is_slot x) 1 0) e xs,
       )
 
-  -- fewer were lost than there are entries of the controller, where a window is open
+  -- if a window is open, fewer frames were lost than there are entries of the controller
   pub lost-most : (xs : List Entry) (w : Opportunity) → open_window xs ≡ Some w
       → queue_lost params plan q xs + 1 ≤ count_by is_slot xs
   unfolding open_one

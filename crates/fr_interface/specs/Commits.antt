@@ -1,4 +1,4 @@
--- The commits of an interface, and what became of them (project-defined).
+-- The commits of an interface, and their fates (project-defined).
 use Rattle.std.specs.Prelude.{◌≡◌, ℕ, ◌+◌, Bool, true, false, length, count_by}
 use Rattle.std.specs.List.{sum_by, range_with_len}
 use Rattle.fr_interface.specs.State.{State}
@@ -14,11 +14,11 @@ is_commit (Pop task from) = false
 is_commit (Fetch window a b) = false
 is_commit (Observe window a b) = false
 
--- how many commits the interface took
+-- the number of commits of the interface
 abbrev pub commits_of : State → ℕ
 commits_of s = count_by is_commit s.entries
 
--- how many commits on the buffer are sent, overwritten, pending or withdrawn
+-- the number of commits on the buffer that are sent, overwritten, pending or withdrawn
 abbrev pub met_on : State → ℕ → ℕ
 met_on s buffer =
     (tally_of buffer s.entries).sent
@@ -26,7 +26,7 @@ met_on s buffer =
     + (tally_of buffer s.entries).pending
     + (tally_of buffer s.entries).withdrawn
 
--- the same of all buffers of the plan
+-- the same for all buffers of the plan
 abbrev pub met_of : State → ℕ
 met_of s = sum_by (met_on s) (range_with_len 0 (length s.plan.buffers))
 

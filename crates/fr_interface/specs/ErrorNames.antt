@@ -1,4 +1,4 @@
--- The names of refusals, as they are printed (project-defined).
+-- The printed names of refusals (project-defined).
 use Rattle.std.specs.Prelude.{ℕ, List, codes}
 use Rattle.fr_interface.specs.declared.errors.InterfaceError.{InterfaceError}
 use Rattle.fr_interface.specs.declared.errors.InterfaceError.TheVariants as interface

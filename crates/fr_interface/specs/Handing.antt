@@ -1,4 +1,4 @@
--- What the fetches of a journal handed to the bus, each by the number of its entry (chapters 5 and 9).
+-- The frames that the fetches of a journal handed to the bus, by the numbers of their entries (chapters 5 and 9).
 use Rattle.std.specs.Prelude.{ℕ, List, Option, None, take, slice_get}
 use Rattle.std.specs.Option.{option_and_then}
 use Rattle.arrayvec.specs.ArrayVec.{ArrayVec}
@@ -12,12 +12,12 @@ use Rattle.fr_slots.specs.declared.channel.Channel.TheVariants.{A, B}
 use Rattle.fr_slots.specs.Parameters.{Parameters}
 use Rattle.fr_slots.specs.Plans.{Plan}
 
--- of what stands for the two channels, that of one
+-- the offer on one of the two channels
 abbrev pub offered_on : Channel → Offered → Offered → Offered
 offered_on A a b = a
 offered_on B a b = b
 
--- what an entry handed to the bus on a channel, where these are before it
+-- the bytes that an entry handed to the bus on a channel, with the entries before it
 abbrev pub bytes_in_entry : Parameters → Plan → List Entry → Channel → Entry → Option (ArrayVec ℕ)
 bytes_in_entry params plan before channel (Commit task buffer payload) = None
 bytes_in_entry params plan before channel (Withdraw task buffer of) = None

@@ -1,4 +1,4 @@
--- What the index of a plan keeps.
+-- The properties of a plan's index.
 use Rattle.fr_interface.specs.declared.index.IndexedPlan.TheInside.{Inside}
 use Rattle.fr_interface.specs.Ranges.{AreRanges, buffer_slots, own_slots}
 

@@ -9,7 +9,7 @@ use Rattle.fr_slots.specs.Plans.{IsPlan}
 abbrev pub state_in : Inside → State
 state_in i = record { params = i.state.params; plan = i.state.plan; entries = i.journal.entries }
 
--- The journal has the plan's limits, and is a legal history that leaves what is at hand. The plan is a node's.
+-- The journal has the plan's limits, and is a legal history with the kept data as its result. The plan is a node's.
 pub record IsLawful (i : Inside) : Type 0 where
   pub host_limit : i.journal.host_limit ≡ i.state.plan.host_entries
   pub slot_limit : i.journal.slot_limit ≡ i.state.plan.slot_entries

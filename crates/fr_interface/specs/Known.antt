@@ -1,4 +1,4 @@
--- What an interface keeps beside its journal, and what a journal gives of it.
+-- The data that an interface keeps beside its journal, and their values by a journal.
 use Rattle.std.specs.Prelude.{ℕ, ◌+◌, zero, suc, List, [], ◌∷◌, Option, Some, None, if◌then◌else◌, option_map}
 use Rattle.std.specs.Option.{option_or}
 use Rattle.fr_buffers.specs.declared.transmit.HeldCommit.{HeldCommit}
@@ -35,7 +35,7 @@ opening_of entries = record { window = open_window entries; last = last_number e
 abbrev pub commit_of : List Entry → ℕ → HeldCommit
 commit_of entries entry = record { entry = entry; payload = payload_of entries entry }
 
--- what a journal gives of the transmit buffer of this number and mode
+-- the transmit buffer of this number and mode, by a journal
 abbrev pub transmitter_of : List Entry → ℕ → Mode → Transmitter
 transmitter_of entries number mode =
     record {
@@ -44,7 +44,7 @@ transmitter_of entries number mode =
       tally = tally_of number entries;
     }
 
--- one for each buffer, the first of which has this number
+-- one for each buffer; the first has this number
 abbrev pub each_buffer : (ℕ → Mode → Transmitter) → ℕ → List Buffer → List Transmitter
 each_buffer f number [] = []
 each_buffer f number (b ∷ buffers) = f number b.mode ∷ each_buffer f (number + 1) buffers
@@ -60,7 +60,7 @@ change_at f (x ∷ xs) (suc place) = x ∷ change_at f xs place
 
 -- ---- receive buffers
 
--- what a journal gives of a receive buffer
+-- the content of a receive buffer, by a journal
 abbrev pub held_in : Parameters → List Entry → Buffer → Option Arrival
 held_in params entries b = if is_receive b.mode then held params b.filter entries else None
 
@@ -68,7 +68,7 @@ abbrev pub frame_on : ℕ → Opportunity → Channel → Option Fields → Buff
 frame_on number window channel frame b = if admits_window b.filter window channel
     then option_map (arrival_of number channel) frame else None
 
--- what a receive buffer takes where these data frames came, if any: A's before B's
+-- the frame that a receive buffer stores of these data frames, if any: A's before B's
 abbrev pub taken_by : ℕ → Opportunity → Option Fields → Option Fields → Buffer → Option Arrival
 taken_by number window a b buffer = if is_receive buffer.mode
     then option_or (frame_on number window A a buffer) (frame_on number window B b buffer) else None
@@ -80,9 +80,9 @@ stored_all number window a b (line ∷ lines) [] = []
 stored_all number window a b (line ∷ lines) (h ∷ held) =
     option_or (taken_by number window a b line) h ∷ stored_all number window a b lines held
 
--- ---- the receive queue
+-- ---- the receive FIFO
 
--- what a journal gives of a queue
+-- a receive FIFO, by a journal
 abbrev pub waiting_of : Parameters → Plan → List Entry → Queue → Waiting
 waiting_of params plan entries q =
     record {
@@ -99,7 +99,7 @@ abbrev pub with_arrival : Waiting → Option Arrival → Waiting
 with_arrival w None = w
 with_arrival w (Some a) = with_frame w a
 
--- what a queue holds after a window in which these data frames came, if any: A's before B's
+-- a receive FIFO after a window with these data frames, if any: A's before B's
 abbrev pub with_arrivals : Plan → ℕ → Opportunity → Option Fields → Option Fields → Option Queue → Option Waiting
     → Option Waiting
 with_arrivals plan number window a b None waiting = waiting

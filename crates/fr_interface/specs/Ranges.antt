@@ -1,5 +1,5 @@
--- For each slot a range of places, outside which no line of a list is of the slot. The code looks at the lines of the
--- range alone; what is found there is said by the whole list.
+-- For each slot a range of places that holds all lines of the slot. The code reads only the lines of the range; the
+-- result is defined by the whole list.
 use Rattle.std.specs.Prelude.{◌≡◌, ℕ, ◌+◌, ◌<◌, ◌≤◌, ◌==◌, true, List, length, map, slice_get, Option, Some, is_some}
 use Rattle.std.specs.Prelude.{if◌then◌else◌, min, max}
 use Rattle.fr_frame.specs.Fields.{Fields}
@@ -11,7 +11,7 @@ use Rattle.fr_slots.specs.declared.plan.Own.{Own}
 use Rattle.fr_slots.specs.Numbers.{last_slot}
 use Rattle.fr_slots.specs.Windows.{Opportunity}
 
--- how many slot numbers there are, 0 among them
+-- the number of slot numbers, with 0
 abbrev pub slot_count : ℕ
 slot_count = last_slot + 1
 
@@ -25,7 +25,7 @@ own_slots owned = map (λ o. o.slot) owned
 abbrev pub IsWithin : ℕ → LineRange → Type 0
 IsWithin place range = (range.first ≤ place) × (place < range.end)
 
--- the slot stands at no place outside the range
+-- the slot is at no place outside the range
 pub record IsRangeOf (slot : ℕ) (slots : List ℕ) (range : LineRange) : Type 0 where
   pub ordered : range.first ≤ range.end
   pub ends : range.end ≤ length slots
@@ -36,18 +36,18 @@ pub record AreRanges (slots : List ℕ) (ranges : List LineRange) : Type 0 where
   pub all : length ranges ≡ slot_count
   pub each : (slot : ℕ) (range : LineRange) → slice_get ranges slot ≡ Some range → IsRangeOf slot slots range
 
--- the range and a place behind it
+-- the range up to and with a later place
 abbrev pub widened : LineRange → ℕ → LineRange
 widened range place = record { first = if range.first == range.end then place else range.first; end = place + 1 }
 
--- both ranges, with what lies between
+-- both ranges, with the places between them
 abbrev pub joined : LineRange → LineRange → LineRange
 joined one other =
     if one.first == one.end then other
     else if other.first == other.end then one
     else record { first = min one.first other.first; end = max one.end other.end }
 
--- no buffer outside the range takes this data frame, if it is one, of the window on the channel
+-- no buffer outside the range stores this data frame, if there is one, of the window on the channel
 pub record IsTakingRange (buffers : List Buffer) (window : Opportunity) (channel : Channel) (frame : Option Fields)
     (range : LineRange) : Type 0 where
   pub ordered : range.first ≤ range.end

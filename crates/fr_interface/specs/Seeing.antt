@@ -1,4 +1,4 @@
--- The status of the slot that a channel of a window has, where this was seen (chapter 6).
+-- The status of the slot on a channel of a window, by the observation (chapter 6).
 use Rattle.std.specs.Prelude.{Option, option_map}
 use Rattle.fr_slots.specs.declared.channel.Channel.{Channel}
 use Rattle.fr_slots.specs.Parameters.{Parameters}

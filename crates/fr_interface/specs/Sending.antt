@@ -1,5 +1,4 @@
--- What transmit buffers that stand in place offer in a window, and what goes out (chapter 5; the modes are
--- project-defined).
+-- The offers of given transmit buffers in a window, and their frames (chapter 5; the modes are project-defined).
 use Rattle.std.specs.Prelude.{ℕ, ◌*◌, List, [], replicate, slice_get, Option, Some, None, is_some, true, false}
 use Rattle.std.specs.Prelude.{if◌then◌else◌, option_map, unwrap_or}
 use Rattle.std.specs.Option.{option_and_then}
@@ -34,7 +33,7 @@ sender_in plan buffers window channel (Some slot) =
     if may_begin plan window channel then option_and_then (sender_at buffers) (transmitter plan window channel)
     else None
 
--- what offers a commit in the window on the channel
+-- the buffer and its commit that are offered in the window on the channel
 abbrev pub sender_on : Plan → List Transmitter → Opportunity → Channel → Option Sender
 sender_on plan buffers window channel = sender_in plan buffers window channel (slot_of window channel)
 
@@ -51,11 +50,11 @@ abbrev pub offered_in : Option Own → Option Sender → Option ℕ → Offered
 offered_in own sender None = Nothing
 offered_in own sender (Some slot) = data_or (if is_some own then Null else Nothing) (commit_in sender)
 
--- what the node offers on the channel where this line is the slot's and this offers a commit
+-- the node's offer on the channel, by this ownership line and this sender
 abbrev pub offered_by : Opportunity → Channel → Option Own → Option Sender → Offered
 offered_by window channel own sender = offered_in own sender (slot_of window channel)
 
--- what goes out in the window on the channel
+-- the offer in the window on the channel, with its sender and its ownership line
 abbrev pub outgoing_on : Plan → List Transmitter → Opportunity → Channel → Outgoing
 outgoing_on plan buffers window channel = record {
   sender = sender_on plan buffers window channel;
@@ -63,7 +62,7 @@ outgoing_on plan buffers window channel = record {
   offered = offered_by window channel (owner_on plan window channel) (sender_on plan buffers window channel);
 }
 
--- the same in an interface of this state
+-- the same for an interface of this state
 abbrev pub outgoing_in : State → Opportunity → Channel → Outgoing
 outgoing_in s window channel = outgoing_on s.plan (transmitters s.plan s.entries) window channel
 
@@ -109,7 +108,7 @@ frame_at params plan buffers window channel slot own None =
 frame_at params plan buffers window channel slot own (Some sender) =
     Some (data_frame_by plan buffers window channel slot own sender)
 
--- the frame that goes out where this does
+-- the frame of this offer
 abbrev pub frame_by : Parameters → Plan → List Transmitter → Opportunity → Channel → Outgoing → Option Fields
 frame_by params plan buffers window channel outgoing =
     option_and_then (λ slot. frame_at params plan buffers window channel slot outgoing.own outgoing.sender)
@@ -124,7 +123,7 @@ send_offered b = if is_some (offer_of b) then after_send b else b
 abbrev pub pending_at : List Transmitter → ℕ → Option ℕ
 pending_at buffers number = option_and_then pending_of (slice_get buffers number)
 
--- what is offered has gone out
+-- the transmit buffers after the sender's commit was sent
 abbrev pub after_sender : List Transmitter → Option Sender → List Transmitter
 after_sender buffers None = buffers
 after_sender buffers (Some sender) = change_at send_offered buffers sender.buffer

@@ -1,4 +1,4 @@
--- What an interface has at hand to go on, in place of the calls that led there.
+-- The data that an interface keeps, in place of the calls before.
 use Rattle.std.specs.Prelude.{◌≡◌, ℕ, ◌+◌, ◌^◌, ◌≤◌, nat_le, nat_lt, not, Bool, List, map, Option, Some, None, is_some}
 use Rattle.std.specs.Prelude.{if◌then◌else◌, count_by, option_map, slice_get}
 use Rattle.std.specs.Option.{option_and_then}
@@ -47,7 +47,7 @@ pub record Standing : Type 0 where
   pub queue : Option Waiting
   pub counters : Counters
 
--- what a history leaves at hand
+-- the kept data after a history
 abbrev pub standing_of : State → Standing
 standing_of s = record {
   params = s.params;
@@ -67,11 +67,11 @@ standing_of s = record {
 abbrev pub with_limits : Plan → ℕ → ℕ → Plan
 with_limits p host slot = record p { host_entries = host; slot_entries = slot }
 
--- what is at hand, with a plan that has its room
+-- the kept data, with a plan that has their room
 abbrev pub limited : Standing → Standing
 limited h = record h { plan = with_limits h.plan h.host_limit h.slot_limit }
 
--- a legal history, whatever room its plan gives, if no number of an entry or of what arrived ever lacks room
+-- A legal history for a plan with any room, if the number of every entry and of every arrived frame fits.
 pub record IsLegalHistory (s : State) : Type 0 where
   pub params_are : IsParameters s.params
   pub entries_are : AreEntries s.entries
@@ -84,24 +84,24 @@ pub record Leaves (h : Standing) (s : State) : Type 0 where
   pub slot_room : count_by is_slot s.entries ≤ s.plan.slot_entries
   pub leaves : standing_of s ≡ h
 
--- a legal history that leaves this at hand
+-- a legal history with these kept data as its result
 abbrev pub IsHistory : Standing → State → Type 0
 IsHistory h s = Leaves (limited h) s
 
--- what no call changes
+-- the terms that every call keeps
 pub record KeepsTerms (old new : Standing) : Type 0 where
   pub params : new.params ≡ old.params
   pub plan : new.plan ≡ old.plan
   pub host_limit : new.host_limit ≡ old.host_limit
   pub slot_limit : new.slot_limit ≡ old.slot_limit
 
--- whatever history led there
+-- the property holds for each history that leads there
 abbrev pub ForEachHistory : Standing → (State → Type 0) → Type 0
 ForEachHistory h P = (s : State) → IsHistory h s → P s
 
--- ---- what a call leaves
+-- ---- the kept data after a call
 
--- how many calls there were, which is the number of the next entry
+-- the number of calls, which is the number of the next entry
 abbrev pub entries_before : Standing → ℕ
 entries_before h = h.hosts + h.slots
 
@@ -127,7 +127,7 @@ after_fetch h window from_a from_b = record h {
   transmit = after_sender (after_sender h.transmit from_a) from_b;
 }
 
--- after a window in which this status and these data frames came
+-- after a window with this status and these data frames
 abbrev pub after_observe : Standing → Opportunity → Option SlotStatus → Option SlotStatus → Option Fields
     → Option Fields → Standing
 after_observe h window status_a status_b frame_a frame_b = record h {
@@ -138,7 +138,7 @@ after_observe h window status_a status_b frame_a frame_b = record h {
   counters = with_seen (with_seen h.counters A status_a) B status_b;
 }
 
--- ---- what a call refuses
+-- ---- the refusals of calls
 
 abbrev pub is_full : Standing → Bool
 is_full h = nat_le h.host_limit h.hosts
@@ -189,7 +189,7 @@ fetch_refused h window =
 abbrev pub observe_refused : Standing → ℕ → Option SlotError
 observe_refused h number = unless_open number h.opening.window
 
--- ---- what is answered
+-- ---- the answers of calls
 
 abbrev pub held_at : Standing → ℕ → Option Arrival
 held_at h number = option_and_then (λ a. a) (slice_get h.receive number)

@@ -1,4 +1,4 @@
--- What an interface is seen as, and what its calls refuse.
+-- The view of an interface, and the refusals of its calls.
 use Rattle.std.specs.Prelude.{◌≡◌, ℕ, ◌+◌, ◌*◌, ◌==◌, nat_lt, nat_le, not, Bool, false, List, [], ◌∷◌, ◌++◌, length}
 use Rattle.std.specs.Prelude.{Option, Some, None, is_some, if◌then◌else◌, count_by, option_map}
 use Rattle.std.specs.Option.{option_and_then}
@@ -34,11 +34,11 @@ pub record State : Type 0 where
   pub plan : Plan
   pub entries : List Entry
 
--- one more entry, and all before it
+-- all entries before, and one more
 abbrev pub with_entry : State → Entry → State
 with_entry s e = record { params = s.params; plan = s.plan; entries = s.entries ++ e ∷ [] }
 
--- ---- what every interface keeps
+-- ---- the properties of every interface
 
 -- Every interface is legal: its plan has no fault for its parameters, and its journal is a legal journal of both.
 pub record IsLegalInterface (s : State) : Type 0 where
@@ -62,42 +62,42 @@ source_by s buffer b =
     if is_receive b.mode then option_map (λ a. source.Observed (origin_of a)) (held s.params b.filter s.entries)
     else option_map source.Commit (held_commit buffer s.entries)
 
--- where what a buffer holds comes from
+-- the source of a buffer's content
 abbrev pub source_of : State → ℕ → Option Source
 source_of s buffer = option_and_then (source_by s buffer) (buffer_at s.plan buffer)
 
 abbrev pub tally_in : State → ℕ → Buffer → Option Tally
 tally_in s buffer b = if is_receive b.mode then None else Some (tally_of buffer s.entries)
 
--- what became of the commits on the transmit buffer of this number
+-- the tally of the commits on the transmit buffer of this number
 abbrev pub tally_by : State → ℕ → Option Tally
 tally_by s buffer = option_and_then (tally_in s buffer) (buffer_at s.plan buffer)
 
--- the oldest frame of the receive queue, where there is a queue and it holds one
+-- the oldest frame of the receive FIFO, if there is one
 abbrev pub oldest_of : State → Option Arrival
 oldest_of s = option_and_then (λ q. oldest q.capacity (moves s.params s.plan q s.entries)) s.plan.queue
 
--- how many frames arrived for a receive queue
+-- the number of frames that arrived for a receive FIFO
 abbrev pub arrived_of : State → Queue → ℕ
 arrived_of s q = length (arrived (moves s.params s.plan q s.entries))
 
--- how many pops were answered with a frame
+-- the number of pops that returned a frame
 abbrev pub popped_of : State → ℕ
 popped_of s = count_by is_answered_pop s.entries
 
--- how many frames a receive queue holds
+-- the number of frames in a receive FIFO
 abbrev pub queued_of : State → Queue → ℕ
 queued_of s q = queue_length q.capacity (moves s.params s.plan q s.entries)
 
--- how many frames the node's queue holds
+-- the number of frames in the node's receive FIFO
 abbrev pub length_of : State → Option ℕ
 length_of s = option_map (queued_of s) s.plan.queue
 
--- how many frames the node's queue lost
+-- the number of frames that the node's receive FIFO lost
 abbrev pub lost_of : State → Option ℕ
 lost_of s = option_map (λ q. queue_lost s.params s.plan q s.entries) s.plan.queue
 
--- ---- the entries that calls leave, with what they answer
+-- ---- the entries of calls, with their answers
 
 abbrev pub withdraw_entry : State → ℕ → ℕ → Entry
 withdraw_entry s task buffer = entries.Withdraw task buffer (pending_commit buffer s.entries)
@@ -112,7 +112,7 @@ abbrev pub fetch_entry : State → Opportunity → Entry
 fetch_entry s window =
     entries.Fetch window (offered s.plan s.entries window channel.A) (offered s.plan s.entries window channel.B)
 
--- ---- the refusals, in the order in which they are tested
+-- ---- the refusals, in the order of the tests
 
 abbrev pub is_host_full : State → Bool
 is_host_full s = nat_le s.plan.host_entries (count_by is_host s.entries)

@@ -1,4 +1,4 @@
--- The fields of `InterfaceState` as what is at hand.
+-- The fields of `InterfaceState` as kept data.
 use Rattle.fr_interface.specs.declared.state.InterfaceState.TheInside.{Inside}
 use Rattle.fr_interface.specs.Standing.{Standing, IsHistory}
 use Rattle.fr_interface.specs.State.{State}
@@ -18,6 +18,6 @@ standing_in i = record {
   counters = i.counters;
 }
 
--- some legal history leaves it
+-- the data are those of some legal history
 abbrev pub HasHistory : Inside → Type 0
 HasHistory i = (s : State) × IsHistory (standing_in i) s

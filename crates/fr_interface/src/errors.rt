@@ -1,13 +1,13 @@
-//! Why calls of an interface are refused.
+//! The refusals of calls of an interface.
 
 use std::alloc::AllocError;
 use std::error::Error;
 use std::fmt;
 
-/// Why an interface can't be made.
+/// Reasons to refuse a new interface.
 #[derive(Clone, Copy, Debug, PartialEq, Eq)]
 pub enum InterfaceError {
-    /// There is no memory for its journal.
+    /// A failed allocation of its journal.
     Memory,
 }
 
@@ -15,7 +15,7 @@ impl InterfaceError {
     ghost use Rattle.std.specs.Prelude.{◌≡◌};
     ghost use Rattle.fr_interface.specs.ErrorNames.{interface_error_name};
 
-    /// Returns the refusal's name, as it is printed (project-defined).
+    /// Returns the printed name of the refusal (project-defined).
     pub fn name(self) -> &'static str
         ensures { result.now ≡ interface_error_name self }
     {
@@ -39,22 +39,22 @@ impl fmt::Display for InterfaceError {
 
 impl Error for InterfaceError {}
 
-/// Why a call of the host is refused (project-defined).
+/// Reasons to refuse a call of the host (project-defined).
 #[derive(Clone, Copy, Debug, PartialEq, Eq)]
 pub enum HostError {
-    /// The plan doesn't have the task.
+    /// A task that the plan doesn't have.
     UnknownTask,
-    /// The plan doesn't have the buffer.
+    /// A buffer that the plan doesn't have.
     UnknownBuffer,
-    /// The buffer receives.
+    /// A receive buffer, for a call of a transmit buffer.
     NotTransmit,
-    /// The payload hasn't the length of the buffer.
+    /// A payload with another length than the buffer's.
     WrongLength,
-    /// The journal has no room for a further host entry.
+    /// A journal without room for a further host entry.
     HostFull,
-    /// The buffer transmits.
+    /// A transmit buffer, for a call of a receive buffer.
     NotReceive,
-    /// The plan has no receive queue.
+    /// A plan without a receive FIFO.
     NoQueue,
 }
 
@@ -62,7 +62,7 @@ impl HostError {
     ghost use Rattle.std.specs.Prelude.{◌≡◌};
     ghost use Rattle.fr_interface.specs.ErrorNames.{host_error_name};
 
-    /// Returns the refusal's name, as it is printed (project-defined).
+    /// Returns the printed name of the refusal (project-defined).
     pub fn name(self) -> &'static str
         ensures { result.now ≡ host_error_name self }
     {
@@ -92,20 +92,20 @@ impl fmt::Display for HostError {
 
 impl Error for HostError {}
 
-/// Why a call of the controller is refused (project-defined).
+/// Reasons to refuse a call of the controller (project-defined).
 #[derive(Clone, Copy, Debug, PartialEq, Eq)]
 pub enum SlotError {
-    /// The window that was fetched last isn't observed.
+    /// A fetched window that isn't observed yet.
     NotObserved,
-    /// The window's number isn't above that of the window before.
+    /// A window whose number isn't above that of the window before.
     WindowOrder,
-    /// The journal has room for fewer than two further slot entries.
+    /// A journal without room for two further slot entries.
     SlotFull,
-    /// No window is open.
+    /// An observe without an open window.
     NotFetched,
-    /// Another window is open.
+    /// An observe of another window than the open one.
     WrongWindow,
-    /// The parameters have no such window.
+    /// A window that the parameters don't have.
     BadWindow,
 }
 
@@ -113,7 +113,7 @@ impl SlotError {
     ghost use Rattle.std.specs.Prelude.{◌≡◌};
     ghost use Rattle.fr_interface.specs.ErrorNames.{slot_error_name};
 
-    /// Returns the refusal's name, as it is printed (project-defined).
+    /// Returns the printed name of the refusal (project-defined).
     pub fn name(self) -> &'static str
         ensures { result.now ≡ slot_error_name self }
     {

@@ -1,4 +1,4 @@
-//! What the fetches of a journal handed to the bus.
+//! The frames that the fetches of a journal handed to the bus.
 
 ghost use Rattle.std.specs.Prelude.{◌≡◌, take};
 ghost use Rattle.fr_interface.specs.Handing.{offered_on, bytes_in_entry};
@@ -16,7 +16,7 @@ use fr_slots::numbers::SlotId;
 use fr_slots::params::Params;
 use fr_slots::window::Window;
 
-/// Returns the payload of the commit of this number among the first entries, or none where it isn't one of these.
+/// Returns the payload of the commit of this number among the first entries, or an empty one.
 #[tactic(auto, using(crate::proofs::HandingLemmas::get_take, crate::proofs::HandingLemmas::get_past_take))]
 fn payload_of(journal: &Journal, entries: u32, commit: u32) -> Payload
     ensures { result ≡ payload_of (take entries journal.now.entries) commit }
@@ -47,7 +47,7 @@ fn data_frame_of(
     data_frame_with(plan, window, channel, slot, &own, payload)
 }
 
-/// Returns the frame that this offer is in the window on the channel, after the first entries.
+/// Returns the frame of this offer in the window on the channel, after the first entries.
 fn frame_with(
     params: &Params,
     plan: &IndexedPlan,
@@ -72,7 +72,7 @@ fn frame_with(
     }
 }
 
-/// Of what stands for the two channels, that of one.
+/// Returns the offer on one of the two channels.
 fn offered_on(channel: Channel, a: Offered, b: Offered) -> Offered
     ensures { result ≡ offered_on channel a b }
 {
@@ -82,7 +82,7 @@ fn offered_on(channel: Channel, a: Offered, b: Offered) -> Offered
     }
 }
 
-/// Returns the bytes that the entry handed to the bus on the channel, where so many entries are before it.
+/// Returns the bytes that the entry of this number handed to the bus on the channel.
 pub(crate) fn bytes_in_entry(
     params: &Params,
     plan: &IndexedPlan,

@@ -1,4 +1,4 @@
-//! A plan with an index of its lines, so that no call goes through all of them.
+//! A plan with an index of its lines, so that a call reads only a few of them.
 
 ghost use Rattle.std.specs.Prelude.{◌≡◌, ◌+◌, ◌<◌, ◌≤◌, [], ◌∷◌, ◌++◌, List, ℕ, length, slice_range, IfOk};
 ghost use Rattle.fr_interface.specs.Ranges.{AreRanges, buffer_slots, own_slots, slot_count, widened, joined};
@@ -9,10 +9,10 @@ use fr_slots::plan::{Buffer, NodePlan, Own, Queue};
 use std::alloc::{AllocError, Global};
 use std::marker::Model;
 
-/// How many slot numbers there are, 0 among them, which is no slot.
+/// The number of slot numbers with 0, which is no slot.
 const SLOT_NUMBERS: usize = LAST_SLOT as usize + 1;
 
-/// Places in a list of lines.
+/// A range of places in a list of lines.
 #[derive(Clone, Copy, PartialEq, Eq)]
 pub(crate) struct LineRange {
     /// The first place.
@@ -22,10 +22,10 @@ pub(crate) struct LineRange {
 }
 
 impl LineRange {
-    /// No place.
+    /// The empty range.
     pub(crate) const EMPTY: LineRange = LineRange { first: 0, end: 0 };
 
-    /// Returns the range and a place behind it, with all that lies between.
+    /// Returns the range up to and with a later place.
     fn widened(self, place: u8) -> LineRange
         requires { place < most_lines }
         ensures { result ≡ widened self place }
@@ -41,7 +41,7 @@ impl LineRange {
         }
     }
 
-    /// Returns both ranges, with all that lies between.
+    /// Returns the range of both, with all places between them.
     pub(crate) fn joined(self, other: LineRange) -> LineRange
         ensures { result ≡ joined self other }
     {
@@ -74,7 +74,7 @@ fn empty_ranges(alloc: Global) -> Result<Vec<LineRange>, AllocError>
     Ok(vec![in alloc; LineRange::EMPTY; SLOT_NUMBERS]?)
 }
 
-/// A further line, at this place behind the others, is of the slot.
+/// Adds a line of the slot, at this place after the others.
 fn widen(ranges: &mut Vec<LineRange>, slot: SlotId, place: u8)
     requires all { length ranges.old.items ≡ slot_count }
     requires few { place < most_lines }
@@ -85,7 +85,7 @@ fn widen(ranges: &mut Vec<LineRange>, slot: SlotId, place: u8)
     ranges[number] = ranges[number].widened(place);
 }
 
-/// For each slot the range of its buffers.
+/// Returns for each slot the range of its buffers.
 fn buffer_ranges(alloc: Global, buffers: &[Buffer]) -> Result<Vec<LineRange>, AllocError>
     requires { length buffers.now ≤ most_lines }
     ensures { IfOk result (λ ranges. AreRanges (buffer_slots buffers.now) ranges.items) }
@@ -97,7 +97,7 @@ fn buffer_ranges(alloc: Global, buffers: &[Buffer]) -> Result<Vec<LineRange>, Al
     Ok(ranges)
 }
 
-/// For each slot the range of its ownership lines.
+/// Returns for each slot the range of its ownership lines.
 fn own_ranges(alloc: Global, owned: &[Own]) -> Result<Vec<LineRange>, AllocError>
     requires { length owned.now ≤ most_lines }
     ensures { IfOk result (λ ranges. AreRanges (own_slots owned.now) ranges.items) }
@@ -110,7 +110,7 @@ fn own_ranges(alloc: Global, owned: &[Own]) -> Result<Vec<LineRange>, AllocError
 }
 
 // Without the ranges a short audit takes half as long again.
-/// A plan, and for each slot the range of places outside which no line is of the slot.
+/// A plan, and for each slot a range of places that holds all lines of the slot.
 #[derive(Drop)]
 pub(crate) struct IndexedPlan {
     plan: NodePlan,
@@ -134,7 +134,7 @@ impl IndexedPlan {
     ghost use Rattle.fr_interface.specs.Ranges.{IsRangeOf};
     ghost use Rattle.fr_slots.specs.Plans.{IsPlan, buffer_at};
 
-    /// Returns the plan, of which the index takes two rooms of 4096 bytes.
+    /// Returns the plan with its index, which allocates two blocks of 4096 bytes.
     pub(crate) fn new(alloc: Global, plan: &NodePlan) -> Result<IndexedPlan, AllocError>
         ensures { IfOk result (λ indexed. indexed ≡ plan.now) }
     {
@@ -162,14 +162,14 @@ impl IndexedPlan {
         self.plan.tasks()
     }
 
-    /// Returns the buffer of this number, where the plan has it.
+    /// Returns the buffer of this number, if the plan has it.
     pub(crate) fn buffer(&self, number: u8) -> Option<Buffer>
         ensures { result ≡ buffer_at self.now number }
     {
         self.plan.buffer(number)
     }
 
-    /// Returns the receive queue, where the node has one.
+    /// Returns the receive FIFO, if the node has one.
     pub(crate) fn queue(&self) -> Option<Queue>
         ensures value { result ≡ self.now.queue }
         ensures lawful { IsPlan self.now }
@@ -177,14 +177,14 @@ impl IndexedPlan {
         self.plan.queue()
     }
 
-    /// Returns a range outside which no buffer is of the slot.
+    /// Returns a range that holds all buffers of the slot.
     pub(crate) fn buffer_range(&self, slot: SlotId) -> LineRange
         ensures { IsRangeOf slot (buffer_slots self.now.buffers) result }
     {
         self.buffer_ranges[usize::from(slot.number())]
     }
 
-    /// Returns a range outside which no ownership line is of the slot.
+    /// Returns a range that holds all ownership lines of the slot.
     pub(crate) fn own_range(&self, slot: SlotId) -> LineRange
         ensures { IsRangeOf slot (own_slots self.now.owned) result }
     {

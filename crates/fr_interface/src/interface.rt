@@ -29,16 +29,16 @@ use fr_status::seen::Seen;
 use std::alloc::Global;
 use std::marker::Model;
 
-/// What a fetch hands to the bus: the bytes of a frame for each channel, or nothing.
+/// The frames that a fetch hands to the bus: the bytes of a frame for each channel, or nothing.
 #[derive(Drop, PartialEq, Eq)]
 pub struct Offer {
-    /// What goes out on channel A.
+    /// The bytes for channel A.
     pub a: Option<Bytes>,
-    /// What goes out on channel B.
+    /// The bytes for channel B.
     pub b: Option<Bytes>,
 }
 
-/// Which entry of the journal a commit is, and whose (project-defined).
+/// The entry of a commit in the journal, and its task (project-defined).
 #[derive(Clone, Copy, PartialEq, Eq)]
 pub struct Receipt {
     /// The task that made the commit.
@@ -85,27 +85,26 @@ impl Interface {
     ghost use Rattle.fr_interface.specs.State.{pop_refusal, fetch_refusal, observe_refusal, IsLegalInterface};
     ghost use Rattle.fr_slots.specs.Faults.{plan_fault};
 
-    /// Returns an interface with an empty journal, for which it reserves all the room that the plan asks for.
+    /// Returns an interface with an empty journal, and reserves all the room that the plan asks for.
     ///
-    /// The plan must have no fault for the parameters, as `NodePlan::fault` tells. Refused with `Memory` alone.
+    /// The plan must have no fault by `NodePlan::fault` for the parameters. Fails only with `Memory`.
     pub fn new(alloc: Global, params: &Params, plan: &NodePlan) -> Result<Interface, InterfaceError>
         requires { plan_fault params.now plan.now ≡ None }
         ensures { IfOk result (λ i. i ≡ record { params = params.now; plan = plan.now; entries = [] }) }
     {
-        // All memory is taken here, so no later call is handed an allocator.
+        // All memory is allocated here, so no later call needs an allocator.
         let host = u32::from(plan.host_entries());
         let journal = Journal::with_limits(alloc, host, plan.slot_entries())?;
         let state = InterfaceState::new(alloc, params, plan, host, plan.slot_entries())?;
         Ok(Interface { state, journal })
     }
 
-    /// Gives a transmit buffer a payload for a task (chapter 9). The buffer then holds this commit, in place of the one
-    /// before, and sends it as its mode says.
+    /// Commits a payload to a transmit buffer for a task (chapter 9). The buffer then holds this commit in place of the
+    /// one before, and sends it by its mode.
     ///
-    /// Refused, in this order, with `UnknownTask`, `UnknownBuffer`, `NotTransmit` for a receive buffer,
-    /// `WrongLength` where the payload hasn't the words that the buffer sends by `Buffer::words`: those of
-    /// the cluster's static frames in a static slot, or its own in a dynamic one, and `HostFull` where the journal has
-    /// no room for the commit.
+    /// Fails, in this order, with `UnknownTask`, `UnknownBuffer`, `NotTransmit` for a receive buffer, `WrongLength` if
+    /// the payload doesn't have the length that `Buffer::words` gives, and `HostFull` if the journal has no room for
+    /// the commit. The length is the cluster's in a static slot, and the buffer's own in a dynamic one.
     pub fn commit(
         &mut self,
         task: TaskId,
@@ -122,14 +121,14 @@ impl Interface {
         Ok(Receipt { task, entry })
     }
 
-    /// Takes the last commit on a transmit buffer back for a task, where it is pending, and answers the number of its
-    /// entry; none where no commit is pending (project-defined).
+    /// Withdraws the last commit on a transmit buffer for a task, if it is pending (project-defined). Returns the
+    /// number of that commit's entry, or none if no commit is pending.
     ///
-    /// The buffer is empty after a commit was taken back: it offers nothing, and no commit before that one comes back.
-    /// A commit that was sent stays as it is. A withdraw that finds nothing is accepted, and is an entry too.
+    /// After a commit is withdrawn the buffer is empty: it offers nothing, and no earlier commit comes back. A commit
+    /// that was sent stays. A withdraw without a pending commit is accepted, and is an entry too.
     ///
-    /// Refused, in this order, with `UnknownTask`, `UnknownBuffer`, `NotTransmit` for a receive buffer,
-    /// and `HostFull` where the journal has no room for the withdraw.
+    /// Fails, in this order, with `UnknownTask`, `UnknownBuffer`, `NotTransmit` for a receive buffer, and `HostFull` if
+    /// the journal has no room for the withdraw.
     pub fn withdraw(&mut self, task: TaskId, buffer: u8) -> Result<Option<u32>, HostError>
         ensures refusal { result_err result ≡ withdraw_refusal self.old task buffer }
         ensures answer { IfOk result (λ of. of ≡ pending_commit buffer self.old.entries) }
@@ -141,10 +140,10 @@ impl Interface {
         Ok(of)
     }
 
-    /// Reads a receive buffer for a task (chapter 9): the last valid data frame that the buffer admitted, if any.
+    /// Reads a receive buffer for a task (chapter 9): the last valid data frame that it admitted, if any.
     ///
-    /// Refused, in this order, with `UnknownTask`, `UnknownBuffer`, `NotReceive` for a transmit buffer,
-    /// and `HostFull` where the journal has no room for the read.
+    /// Fails, in this order, with `UnknownTask`, `UnknownBuffer`, `NotReceive` for a transmit buffer, and `HostFull` if
+    /// the journal has no room for the read.
     pub fn read(&mut self, task: TaskId, buffer: u8) -> Result<Option<Frame>, HostError>
         ensures refusal { result_err result ≡ read_refusal self.old task buffer }
         ensures answer { IfOk result (λ frame. frame ≡ option_map frame_of (received_by self.old buffer)) }
@@ -168,10 +167,10 @@ impl Interface {
         Ok(held)
     }
 
-    /// Takes the oldest frame of the receive queue for a task, if the queue holds one (project-defined).
+    /// Pops the oldest frame of the receive FIFO for a task, if there is one (project-defined).
     ///
-    /// Refused, in this order, with `UnknownTask`, `NoQueue` where the plan has no queue, and `HostFull` where the
-    /// journal has no room for the pop. A pop of an empty queue is accepted, and is an entry too.
+    /// Fails, in this order, with `UnknownTask`, `NoQueue` if the plan has no receive FIFO, and `HostFull` if the
+    /// journal has no room for the pop. A pop of an empty receive FIFO is accepted, and is an entry too.
     pub fn pop(&mut self, task: TaskId) -> Result<Option<Frame>, HostError>
         ensures refusal { result_err result ≡ pop_refusal self.old task }
         ensures answer { IfOk result (λ frame. frame ≡ option_map frame_of (oldest_of self.old)) }
@@ -223,13 +222,16 @@ impl Interface {
         }
     }
 
-    /// Opens a window, and hands out what the node sends in it (chapters 5 and 9): on each channel the data frame
-    /// of the transmit buffer that admits the slot, if it offers a commit, else a null frame in a static slot
-    /// that the node owns in the window's cycle, and else nothing.
+    /// Opens a window, and returns the node's frames in it (chapters 5 and 9). On each channel, the frame is the data
+    /// frame of the transmit buffer that admits the slot, if it offers a commit. Otherwise it is a null frame in a
+    /// static slot that the node owns in the window's cycle. Otherwise there is none.
     ///
-    /// Refused, in this order, with `NotObserved` where a fetched window is open, `BadWindow` for a window
-    /// that the parameters don't have, `WindowOrder` for a number that isn't above that of the window
-    /// before, and `SlotFull` where the journal has room for fewer than two further slot entries.
+    /// Fails, in this order:
+    ///
+    /// - `NotObserved`: a fetched window is open,
+    /// - `BadWindow`: the parameters don't have the window,
+    /// - `WindowOrder`: its number isn't above that of the window before,
+    /// - `SlotFull`: the journal has room for fewer than two further slot entries.
     pub fn fetch(&mut self, window: &Window) -> Result<Offer, SlotError>
         ensures refusal { result_err result ≡ fetch_refusal self.old window.now }
         ensures offer_a { IfOk result (λ o. IsHandedOut Channel.A
@@ -248,11 +250,11 @@ impl Interface {
         Ok(offer)
     }
 
-    /// Opens a window, and hands out what the node sends in it, as `fetch` does. The bytes are written over the offer
-    /// that is there, so that no room for frames has to be moved (project-defined).
+    /// Opens a window as `fetch` does, and writes the node's frames to `offer`. Bytes are written over the old ones, so
+    /// that no room for frames is moved (project-defined).
     ///
-    /// Refused as `fetch` is, with `NotObserved`, `BadWindow`, `WindowOrder` and `SlotFull` in this order; the offer
-    /// is then left as it was.
+    /// Fails as `fetch` does, with `NotObserved`, `BadWindow`, `WindowOrder` and `SlotFull` in this order. A refusal
+    /// leaves the offer unchanged.
     pub fn fetch_into(&mut self, window: &Window, offer: &mut Offer) -> Result<(), SlotError>
         ensures refusal { result_err result ≡ fetch_refusal self.old window.now }
         ensures offer_a { OnOk result (IsHandedOut Channel.A
@@ -277,10 +279,10 @@ impl Interface {
         Ok(())
     }
 
-    /// Opens a window as `fetch` does, and answers what the node offers on channel A and on channel B, as the entry has
-    /// it. No frame is spelled, so this is the call for an audit, which has no bus (project-defined).
+    /// Opens a window as `fetch` does, and returns the node's offers on channel A and on channel B. They are the offers
+    /// in the entry. No frame is encoded, so this is the call for an audit, which has no bus (project-defined).
     ///
-    /// Refused as `fetch` is, with `NotObserved`, `BadWindow`, `WindowOrder` and `SlotFull` in this order.
+    /// Fails as `fetch` does, with `NotObserved`, `BadWindow`, `WindowOrder` and `SlotFull` in this order.
     pub fn fetch_offered(&mut self, window: &Window) -> Result<(Offered, Offered), SlotError>
         ensures refusal { result_err result ≡ fetch_refusal self.old window.now }
         ensures offered_a { IfOk result (λ o.
@@ -297,14 +299,14 @@ impl Interface {
         Ok((a.offered, b.offered))
     }
 
-    /// Refuses the window where `fetch` does.
+    /// Fails if `fetch` refuses the window.
     fn check_fetch(&self, window: &Window) -> Result<(), SlotError>
         ensures { result_err result ≡ fetch_refusal self.now window.now }
     {
         self.state.check_fetch(window)
     }
 
-    /// Returns what goes out on the channel, once the window is fetched.
+    /// Returns the node's frame on the channel, once the window is fetched.
     fn outgoing_on(&self, window: &Window, channel: Channel) -> Outgoing
         ensures value { result ≡ outgoing_in self.now window.now channel }
         ensures offered { result.offered ≡ offered self.now.plan self.now.entries window.now channel }
@@ -313,7 +315,7 @@ impl Interface {
         self.state.outgoing_on(window, channel)
     }
 
-    /// Puts the bytes that go out on the channel in the place of those that were there.
+    /// Writes the bytes of the node's frame on the channel over the old ones.
     fn hand_out(
         &self,
         window: &Window,
@@ -330,7 +332,7 @@ impl Interface {
         self.state.hand_out(window, channel, outgoing, bytes)
     }
 
-    /// Appends the fetch of a window that isn't refused, in which this goes out on channels A and B.
+    /// Appends the fetch of a window that isn't refused, with these frames on channels A and B.
     fn push_fetch(&mut self, window: &Window, a: &Outgoing, b: &Outgoing)
         requires accepted { fetch_refusal self.old window.now ≡ None }
         requires outgoing_a { a.now ≡ outgoing_in self.old window.now Channel.A }
@@ -347,9 +349,10 @@ impl Interface {
         });
     }
 
-    /// Closes the window of this number, in which this was seen on channels A and B (chapter 9). It always finds room.
+    /// Closes the window of this number, with the observations on channels A and B (chapter 9). There is always room
+    /// for its entry.
     ///
-    /// Refused with `NotFetched` where no window is open, and then with `WrongWindow` where another is.
+    /// Fails with `NotFetched` if no window is open, then with `WrongWindow` if another one is.
     pub fn observe(&mut self, number: u32, a: &Seen, b: &Seen) -> Result<(), SlotError>
         ensures refusal { result_err result ≡ observe_refusal self.old number }
         ensures accepted { OnOk result (self.new ≡ with_entry self.old (entries.Observe number a.now b.now)) }
@@ -360,44 +363,44 @@ impl Interface {
         Ok(())
     }
 
-    /// Returns where what the buffer holds comes from (chapter 9). None for an empty buffer, and for one that the plan
-    /// doesn't have.
+    /// Returns the source of the buffer's content (chapter 9). Returns none for an empty buffer, and for one that the
+    /// plan doesn't have.
     pub fn held(&self, buffer: u8) -> Option<Source>
         ensures { result ≡ source_of self.now buffer }
     {
         self.state.held(buffer)
     }
 
-    /// Returns what became of the commits on a transmit buffer (project-defined). None for a receive buffer, and for
-    /// one that the plan doesn't have.
+    /// Returns the tally of the commits on a transmit buffer (project-defined). Returns none for a receive buffer, and
+    /// for one that the plan doesn't have.
     pub fn tally(&self, buffer: u8) -> Option<Tally>
         ensures value { result ≡ tally_by self.now buffer }
-        // Each commit met one fate, and at most one is pending.
+        // Each commit has one fate, and at most one commit is pending.
         ensures fates { IfSome result (λ t. t.committed ≡ t.sent + t.overwritten + t.pending + t.withdrawn) }
         ensures one_pending { IfSome result (λ t. t.pending ≤ 1) }
     {
         self.state.tally(buffer)
     }
 
-    /// Returns the frame that a receive buffer holds, and where it comes from (chapter 9). None for an empty buffer,
-    /// for a transmit buffer, and for one that the plan doesn't have.
+    /// Returns the frame in a receive buffer, with its origin (chapter 9). Returns none for an empty buffer, for a
+    /// transmit buffer, and for one that the plan doesn't have.
     pub fn received(&self, buffer: u8) -> Option<Arrival>
         ensures { result ≡ received_by self.now buffer }
     {
-        // This is the answer of `read`, without an entry: a report must not change the journal.
+        // This is the answer of `read` without an entry, since a report must not change the journal.
         self.state.received(buffer)
     }
 
-    /// Returns the valid data frame that the origin names: that of the observe of its number on its channel (chapter
-    /// 9). None where that entry is no observe, or had no such frame there.
+    /// Returns the valid data frame of the origin, an observe and its channel (chapter 9). Returns none if that entry
+    /// isn't an observe, or had no such frame there.
     pub fn frame_at(&self, origin: Origin) -> Option<Frame>
         ensures { result ≡ frame_named self.now.params self.now.entries origin }
     {
         frame_named(self.state.params(), &self.journal, origin)
     }
 
-    /// Returns the bytes that the fetch of this entry handed to the bus on the channel (chapters 5 and 9). None where
-    /// it handed nothing out there, and where that entry is no fetch.
+    /// Returns the bytes that the fetch of this entry handed to the bus on the channel (chapters 5 and 9). Returns none
+    /// if it handed nothing out there, and if that entry isn't a fetch.
     pub fn handed_at(&self, entry: u32, channel: Channel) -> Option<Bytes>
         ensures { result ≡ bytes_handed self.now entry channel }
     {
@@ -412,8 +415,8 @@ impl Interface {
         )
     }
 
-    /// Returns how many frames the receive queue holds, at most its capacity (project-defined). None where the plan has
-    /// no queue.
+    /// Returns the number of frames in the receive FIFO, at most its capacity (project-defined). Returns none if the
+    /// plan has no receive FIFO.
     pub fn queue_len(&self) -> Option<u32>
         ensures value { result ≡ length_of self.now }
         ensures within { IfSome result (λ n. IfSome self.now.plan.queue (λ q. n ≤ q.capacity)) }
@@ -421,26 +424,26 @@ impl Interface {
         self.state.queue_len()
     }
 
-    /// Returns how many frames the receive queue lost since others took their places (project-defined). None where the
-    /// plan has no queue.
+    /// Returns the number of frames that the receive FIFO lost to newer ones (project-defined). Returns none if the
+    /// plan has no receive FIFO.
     pub fn queue_lost(&self) -> Option<u32>
         ensures value { result ≡ lost_of self.now }
-        // What arrived was popped, is still there, or was lost.
+        // Each frame that arrived was popped, is still there, or was lost.
         ensures balance { IfSome result (λ lost. IfSome self.now.plan.queue
             (λ q. arrived_of self.now q ≡ popped_of self.now + queued_of self.now q + lost)) }
     {
         self.state.queue_lost()
     }
 
-    /// Returns how many observed windows had each bit of the slot status on each channel (chapter 6). A channel without
-    /// a slot counts nothing.
+    /// Returns the number of observed windows with each bit of the slot status, by channel (chapter 6). A channel
+    /// without a slot counts nothing.
     pub fn counters(&self) -> Counters
         ensures { result ≡ counters_of self.now.params self.now.entries }
     {
         self.state.counters()
     }
 
-    /// Returns the journal, which holds each accepted call.
+    /// Returns the journal, which has an entry for each accepted call.
     pub fn journal(&self) -> &Journal
         ensures entries { result.now.entries ≡ self.now.entries }
         ensures limits { (result.now.host_limit ≡ self.now.plan.host_entries)
@@ -450,7 +453,7 @@ impl Interface {
         &self.journal
     }
 
-    /// Returns the parameters that the interface was made with.
+    /// Returns the parameters of the cluster.
     pub fn params(&self) -> &Params
         ensures value { result.now ≡ self.now.params }
         ensures legal { IsLegalInterface self.now }
@@ -458,7 +461,7 @@ impl Interface {
         self.state.params()
     }
 
-    /// Returns the plan that the interface was made with.
+    /// Returns the plan of the node.
     pub fn plan(&self) -> &NodePlan
         ensures value { result.now ≡ self.now.plan }
         ensures legal { IsLegalInterface self.now }
@@ -467,19 +470,21 @@ impl Interface {
     }
 }
 
-/// Returns a slot of a window, which is known to be a slot.
+// For the prover: `number` states the range of a slot.
+/// Returns the number of a slot of a window.
 fn slot_number(slot: Option<SlotId>) -> Option<u16>
     ensures { IsSlotOrNone slot }
 {
     slot.map(|slot| slot.number())
 }
 
-/// Returns a copy of the window. Its numbers are read because only a call of theirs tells their ranges, which the
-/// journal asks of an entry.
+// For the prover: the calls on its numbers state the ranges that an entry of the journal needs.
+/// Returns a copy of the window.
 pub(crate) fn kept_window(window: &Window) -> Window
     ensures value { result ≡ window.now }
     ensures fits { IsInRange window.now }
 {
+    // For the prover: the clauses of these calls.
     let _number = window.number;
     let _cycle = window.cycle.number();
     let _a = slot_number(window.a);
@@ -494,35 +499,40 @@ pub(crate) fn has_words(params: &Params, buffer: &Buffer, payload: &Payload) -> 
     payload.as_slice().len() == 2 * usize::from(buffer.words(params))
 }
 
-/// Returns the payload, whose bytes are counted for the same reason as a window's numbers are read.
+// For the prover: counting its bytes states that each is below 256.
+/// Returns the payload.
 pub(crate) fn kept_payload(payload: &Payload) -> &Payload
     ensures value { result.now ≡ payload.now }
     ensures is_payload { IsPayload payload.now }
     ensures bytes { AreBytes payload.now }
 {
+    // For the prover: the clause of this call.
     let _count = count_of(payload.as_slice());
     payload
 }
 
-/// Returns the number of bytes; a slice of bytes tells that each is below 256 only to a function that takes it.
+// For the prover: a slice states that its bytes are below 256 only to a function that takes it.
+/// Returns the number of bytes.
 fn count_of(bytes: &[u8]) -> usize
     ensures { AreBytes bytes.now }
 {
     bytes.len()
 }
 
-/// Returns what was seen, with its bytes counted, as a payload's are.
+// For the prover: counting its bytes states that each is below 256.
+/// Returns the observation.
 pub(crate) fn seen_within(seen: &Seen) -> &Seen
     ensures value { result.now ≡ seen.now }
     ensures fits { IsSeen seen.now }
 {
     if let Seen::Bytes(bytes) = seen {
+        // For the prover: the clause of this call.
         let _count = count_of(bytes.as_slice());
     }
     seen
 }
 
-/// Returns where a frame that arrived comes from.
+/// Returns the origin of a frame that arrived.
 pub(crate) fn origin_in(arrival: &Option<Arrival>) -> Option<Origin>
     ensures value { result ≡ option_map origin_of arrival.now }
     ensures fits { IsOrigin result }

@@ -1,5 +1,5 @@
-//! The calls of a host and of a controller on a journal, and the answers that the journal gives. What
-//! they need is kept beside it, so that no call scans it.
+//! The calls of a host and of a controller on a journal, and the answers that the journal gives. The data for these
+//! answers are kept beside the journal, so that no call scans it.
 //!
 //! ```text
 //! let mut interface = Interface::new(alloc, &params, &plan)?; // of a plan without fault
@@ -9,8 +9,8 @@
 //! let frame = interface.read(task, 1)?; // the last one that buffer 1 admitted
 //! ```
 //!
-//! A chapter in parentheses is one of the FlexRay Protocol Specification 2.1, revision A, whose rule it is.
-//! *(project-defined)* marks a rule of this project's own, which says nothing of the standard.
+//! A chapter in parentheses is one of the FlexRay Protocol Specification 2.1, revision A.
+//! *(project-defined)* marks a rule of this project, and makes no claim about the standard.
 //!
 //! # Definitions
 //!
@@ -18,26 +18,27 @@
 //! - `State`, `Commits`: the state of an interface, its refusals, the invariant; its commits and their fates.
 //! - `Handing`: the bytes that a fetch handed to the bus, by its entry.
 //! - `ErrorNames`: the printed names of refusals.
-//! - `Standing`: what an interface has at hand to go on, in place of the calls that led there.
+//! - `Standing`: the data that an interface keeps in place of the calls before.
 //!
-//! Modules that go the way of the code, for private functions, with the module that has the meaning:
+//! Modules that follow the steps of the code, for private functions, with the module that has the meaning:
 //!
-//! - `Known`, `Seeing`, `Sending`: the data beside a journal, and the frames that it sends. Meaning: `fr_journal`:
-//!   `Fate`, `Offers`, `Held`, `Arrivals`, `Counts`, `OpenWindow`.
-//! - `Ranges`: for each slot a range of places, outside which no line of a plan is for the slot. Meaning: `fr_journal`:
-//!   `Offers`, `Held`, `Arrivals`, over all lines.
+//! - `Known`, `Seeing`, `Sending`: the data beside a journal, and the frames that it sends. Meaning: `Fate`, `Offers`,
+//!   `Held`, `Arrivals`, `Counts` and `OpenWindow` in `fr_journal`.
+//! - `Ranges`: for each slot a range of places that holds all lines of a plan for the slot. Meaning: `Offers`, `Held`
+//!   and `Arrivals` in `fr_journal`, over all lines.
 //!
 //! # Inner workings
 //!
-//! Beside its journal an interface keeps (`state`) for each buffer of the plan a transmit buffer, with tally and last
+//! Beside its journal an interface keeps (`state`), for each buffer of the plan, a transmit buffer with tally and last
 //! commit, or a receive buffer with its last frame. It also keeps the open window (`opening`), the receive FIFO as a
-//! ring, and the status counters. The type says that all these are what the journal gives (`InterfaceFields`,
-//! `IsLawful`). So no call scans the journal, and an old entry is reached by its number. A withdrawn commit isn't kept.
+//! ring, and the status counters. The type states that all these are the ones that the journal gives
+//! (`InterfaceFields`, `IsLawful`). So no call scans the journal, and an old entry is reached by its number. A
+//! withdrawn commit isn't kept.
 //!
-//! - `sending` has the frames that leave transmit buffers, and `offers` spells them.
+//! - `sending` has the frames that leave transmit buffers, and `offers` encodes them.
 //! - `observed` has the effects of an observed window, each frame of which is decoded once.
 //! - `receiving` reads and pops.
-//! - `index` has for each slot of the plan the range of places that its lines are in.
+//! - `index` has for each slot of the plan the range of places of its lines.
 //!
 //! The proofs have a lemma for each kind of entry and each part.
 #![tactic(auto)]

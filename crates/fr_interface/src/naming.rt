@@ -15,7 +15,7 @@ use fr_slots::params::Params;
 use fr_slots::window::Window;
 use fr_status::seen::Seen;
 
-/// Returns the valid data frame that the observe of this number had on this channel, if it is an observe and had one.
+/// Returns the valid data frame that the observe of this number had on this channel, if it had one.
 #[tactic(auto, using(crate::proofs::NamingLemmas::frame_by_closed))]
 pub(crate) fn frame_named(params: &Params, journal: &Journal, origin: Origin) -> Option<Frame>
     ensures { result ≡ frame_named params.now journal.now.entries origin }
@@ -25,7 +25,7 @@ pub(crate) fn frame_named(params: &Params, journal: &Journal, origin: Origin) ->
     frame_in_entry(params, origin.channel, &window, &entry)
 }
 
-/// Returns what the entry tells of a frame on the channel, where this window is open before it.
+/// Returns the frame of the entry on the channel, if this window is open before it.
 fn frame_in_entry(
     params: &Params,
     channel: Channel,
@@ -49,7 +49,7 @@ fn frame_of(frame: &Option<LentFrame<'_>>) -> Option<Frame>
     frame.as_ref().map(|frame| Frame::from_lent(frame))
 }
 
-/// Returns what was seen on the channel.
+/// Returns the observation on the channel.
 fn seen_on<'a>(channel: Channel, a: &'a Seen, b: &'a Seen) -> &'a Seen
     ensures { result.now ≡ seen_on channel a.now b.now }
 {

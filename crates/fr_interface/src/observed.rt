@@ -1,4 +1,4 @@
-//! What an observed window brings: to the receive buffers, to the receive queue and to the counters.
+//! The effects of an observed window on the receive buffers, the receive FIFO and the counters.
 
 ghost use Rattle.std.specs.Prelude.{◌≡◌, ◌+◌, ◌<◌, ◌^◌, length, is_some};
 ghost use Rattle.std.specs.List.{list_any};
@@ -24,8 +24,8 @@ use fr_status::counters::Counters;
 use fr_status::seen::Seen;
 use fr_status::status::{SlotStatus, lent_status_of};
 
-/// What a channel of a window tells: the status of its slot, and the valid data frame that came, whose payload stays
-/// among the bytes that were seen. A channel without a slot tells neither.
+/// The status of the slot on a channel of a window, and the valid data frame in it. The payload of the frame stays
+/// among the observed bytes. A channel without a slot has neither.
 #[derive(Drop)]
 pub(crate) struct Told<'a> {
     pub status: Option<SlotStatus>,
@@ -33,7 +33,7 @@ pub(crate) struct Told<'a> {
 }
 
 impl<'a> Told<'a> {
-    /// Returns what the channel tells where this was seen.
+    /// Returns the status and the frame of an observation on the channel.
     pub(crate) fn of(params: &Params, window: &Window, channel: Channel, seen: &'a Seen) -> Told<'a>
         ensures status { result.status ≡ status_seen params.now window.now channel seen.now }
         ensures frame { result.frame ≡ data_frame_seen params.now window.now channel seen.now }
@@ -52,7 +52,7 @@ impl<'a> Told<'a> {
     }
 }
 
-/// Returns the frame, where it is no null frame.
+/// Returns the frame, unless it is a null frame.
 fn data_frame(frame: Option<LentFrame<'_>>) -> Option<LentFrame<'_>>
     ensures { result ≡ option_and_then with_data frame.entry }
 {
@@ -69,7 +69,7 @@ pub(crate) fn count_seen(counters: &mut Counters, channel: Channel, status: Opti
     }
 }
 
-/// Stores a data frame of the channel, if one came and the buffer admits the window there. Says whether it did.
+/// Stores a data frame of the channel if the buffer admits the window, and returns whether it did.
 fn store_on(
     buffer: &mut RxBuffer,
     line: &Buffer,
@@ -90,7 +90,7 @@ fn store_on(
     }
 }
 
-/// Stores what the buffer takes of a window in which these data frames came.
+/// Stores the data frame that the buffer admits of those in a window.
 fn store_in(
     buffer: &mut RxBuffer,
     line: &Buffer,
@@ -106,7 +106,7 @@ fn store_in(
     }
 }
 
-/// Returns a range outside which no buffer takes this data frame of the channel.
+/// Returns a range that holds all buffers that may store this data frame of the channel.
 fn taking_range(
     plan: &IndexedPlan,
     window: &Window,
@@ -121,7 +121,7 @@ fn taking_range(
     }
 }
 
-/// Stores what each receive buffer takes of a window in which these data frames came.
+/// Stores in each receive buffer the data frame that it admits of those in a window.
 pub(crate) fn store_all(
     buffers: &mut [RxBuffer],
     plan: &IndexedPlan,
@@ -157,7 +157,7 @@ fn is_taken(buffers: &[Buffer], window: &Window, channel: Channel) -> bool
     buffers.iter().any(|buffer| takes(window, channel, buffer))
 }
 
-/// Returns whether the queue, and no receive buffer, takes what comes in the window on the channel.
+/// Returns whether the receive FIFO, and no receive buffer, admits the window on the channel.
 fn is_for_queue(plan: &IndexedPlan, queue: &Queue, window: &Window, channel: Channel) -> bool
     ensures { result ≡ is_for_queue plan.now queue.now window.now channel }
 {
@@ -168,7 +168,7 @@ fn is_for_queue(plan: &IndexedPlan, queue: &Queue, window: &Window, channel: Cha
     queue.admits(window.cycle, slot, channel) && !is_taken(buffers, window, channel)
 }
 
-/// Appends the data frame of the channel to the queue, if one came and the queue takes it.
+/// Appends the data frame of the channel to the receive FIFO, if there is one and it is admitted.
 pub(crate) fn arrive(
     waiting: &mut ReceiveQueue,
     plan: &IndexedPlan,
@@ -189,7 +189,8 @@ pub(crate) fn arrive(
     }
 }
 
-/// Appends the data frames of a window that the queue takes, channel A's before B's. A plan without a queue takes none.
+/// Appends the admitted data frames of a window to the receive FIFO, channel A's before B's. A plan without a receive
+/// FIFO stores none.
 pub(crate) fn arrive_all(
     queue: &mut Option<ReceiveQueue>,
     plan: &IndexedPlan,

@@ -1,4 +1,4 @@
-//! What a node offers in a window, and the frames that go out.
+//! The offers of a node in a window, and their frames.
 
 ghost use Rattle.std.specs.Prelude.{◌≡◌, ◌<◌, length, IfSome};
 ghost use Rattle.std.specs.List.{position};
@@ -29,14 +29,14 @@ fn is_admitting(window: &Window, channel: Channel, buffer: &Buffer) -> bool
     buffer.transmits() && buffer.filter.admits_window(window, channel)
 }
 
-/// What goes out of a node in a window on a channel.
+/// The offer of a node in a window on a channel, with its buffer and its ownership line.
 #[derive(Clone, Copy)]
 pub(crate) struct Outgoing {
     /// The transmit buffer that offers a commit, and that commit.
     pub sender: Option<Sender>,
     /// The ownership line for the slot in the window's cycle.
     pub own: Option<Own>,
-    /// What the node offers.
+    /// The offer.
     pub offered: Offered,
 }
 
@@ -109,7 +109,7 @@ fn owner_on(plan: &IndexedPlan, window: &Window, channel: Channel) -> Option<Own
     line_of(plan, window, channel, slot)
 }
 
-/// Returns what the node offers in the window on the channel, where this line is the slot's and this offers a commit.
+/// Returns the node's offer in the window on the channel, by this ownership line and this sender.
 fn offered_by(
     window: &Window,
     channel: Channel,
@@ -129,7 +129,7 @@ fn offered_by(
     }
 }
 
-/// Returns what goes out in the window on the channel, where the transmit buffers are these.
+/// Returns the offer in the window on the channel, by these transmit buffers.
 pub(crate) fn outgoing_on(
     plan: &IndexedPlan,
     buffers: &[TxBuffer],
@@ -168,7 +168,7 @@ fn startup_of(line: &Option<Own>) -> bool
     }
 }
 
-/// Returns whether frames of the buffer that admits the window on the channel have the preamble indicator.
+/// Returns the payload preamble indicator of the buffer that admits the window on the channel.
 fn preamble_in(plan: &IndexedPlan, window: &Window, channel: Channel) -> bool
     ensures { result ≡ preamble_in plan.now window.now channel }
 {
@@ -201,7 +201,7 @@ pub(crate) fn null_frame_with(
     }
 }
 
-/// Returns the data frame with this payload, in a slot that has this ownership line in the window's cycle.
+/// Returns the data frame with this payload, in a slot with this ownership line in the window's cycle.
 pub(crate) fn data_frame_with(
     plan: &IndexedPlan,
     window: &Window,
@@ -223,7 +223,7 @@ pub(crate) fn data_frame_with(
     }
 }
 
-/// Returns the data frame of the commit that this offers.
+/// Returns the data frame of the commit that this sender offers.
 fn data_frame_by(
     plan: &IndexedPlan,
     buffers: &[TxBuffer],
@@ -239,7 +239,7 @@ fn data_frame_by(
     data_frame_with(plan, window, channel, slot, own, payload)
 }
 
-/// Returns the frame that goes out in the window on the channel.
+/// Returns the frame of the offer in the window on the channel.
 fn frame_by(
     params: &Params,
     plan: &IndexedPlan,
@@ -259,9 +259,9 @@ fn frame_by(
     }
 }
 
-/// Returns the bytes that go out in the window on the channel.
+/// Returns the bytes of the offer's frame in the window on the channel.
 ///
-/// It isn't inlined, so that a window in which nothing goes out doesn't pay for the room of a frame.
+/// It isn't inlined, so that a window without an offer doesn't pay for the room of a frame.
 #[inline(never)]
 pub(crate) fn spelled_by(
     params: &Params,

@@ -1,18 +1,18 @@
-//! What an interface knows of the windows of its journal.
+//! The state of the windows of a journal.
 
 use fr_slots::window::Window;
 
-/// What is known of the windows after some entries.
+/// The state of the windows after some entries.
 #[derive(Clone, Copy, PartialEq, Eq)]
 pub(crate) struct Opening {
-    /// The window that is open.
+    /// The open window.
     pub window: Option<Window>,
     /// The number of the last window that was fetched.
     pub last: Option<u32>,
 }
 
 impl Opening {
-    /// What is known before any entry.
+    /// The state before any entry.
     pub(crate) const NONE: Opening = Opening {
         window: None,
         last: None,

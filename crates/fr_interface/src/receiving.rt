@@ -1,4 +1,4 @@
-//! The receive buffers and the receive queue of a node.
+//! The receive buffers and the receive FIFO of a node.
 
 ghost use Rattle.std.specs.Prelude.{◌≡◌, [], None, map, slice_get, option_map, IfOk};
 ghost use Rattle.std.specs.Option.{option_and_then};
@@ -20,7 +20,7 @@ pub(crate) fn receive_buffers(alloc: Global, lines: &[Buffer]) -> Result<Vec<RxB
     lines.iter().map(|_line| RxBuffer::new()).collect(alloc)
 }
 
-/// Returns the empty queue of the plan's line, if it has one.
+/// Returns the empty receive FIFO of the plan's line, if it has one.
 pub(crate) fn receive_queue(
     alloc: Global,
     line: Option<Queue>,
@@ -36,7 +36,7 @@ pub(crate) fn receive_queue(
     }
 }
 
-/// Returns what the buffer of this number holds.
+/// Returns the frame in the buffer of this number, with its origin.
 pub(crate) fn arrival_at(buffers: &[RxBuffer], number: u8) -> Option<Arrival>
     ensures { result ≡ option_and_then (λ h. h) (slice_get buffers.now number) }
 {
@@ -47,7 +47,7 @@ pub(crate) fn arrival_at(buffers: &[RxBuffer], number: u8) -> Option<Arrival>
     })
 }
 
-/// Returns where what the buffer of this number holds comes from.
+/// Returns the source of the content of the buffer of this number.
 pub(crate) fn observed_at(buffers: &[RxBuffer], number: u8) -> Option<Source>
     ensures { result ≡ option_map (λ a. Source.Observed (origin_of a))
         (option_and_then (λ h. h) (slice_get buffers.now number)) }
@@ -56,7 +56,7 @@ pub(crate) fn observed_at(buffers: &[RxBuffer], number: u8) -> Option<Source>
     Some(Source::Observed(arrival.origin))
 }
 
-/// Takes the oldest frame of the queue, if there is one.
+/// Pops the oldest frame of the receive FIFO, if there is one.
 pub(crate) fn pop_from(queue: &mut Option<ReceiveQueue>) -> Option<Arrival>
     ensures oldest { result ≡ option_and_then (λ w. slice_get w.frames 0) queue.old }
     ensures left { queue.new ≡ option_map without_oldest queue.old }

@@ -1,4 +1,4 @@
-//! The transmit buffers of a node: which offers a commit in a window, and that it goes out.
+//! The transmit buffers of a node: the one that offers a commit in a window, and its state after sending.
 
 ghost use Rattle.std.specs.Prelude.{◌≡◌, ◌+◌, ◌<◌, ◌≤◌, ◌^◌, length, map, slice_get, option_map, IfOk, IfSome};
 ghost use Rattle.std.specs.Option.{option_and_then};
@@ -37,7 +37,7 @@ pub(crate) fn transmit_buffers(alloc: Global, lines: &[Buffer]) -> Result<Vec<Tx
         .collect(alloc)
 }
 
-/// Returns where what the buffer of this number holds comes from.
+/// Returns the source of the content of the buffer of this number.
 pub(crate) fn commit_at(buffers: &[TxBuffer], number: u8) -> Option<Source>
     ensures { result ≡ option_map Source.Commit (option_and_then entry_of (slice_get buffers.now number)) }
 {
@@ -45,7 +45,7 @@ pub(crate) fn commit_at(buffers: &[TxBuffer], number: u8) -> Option<Source>
     Some(Source::Commit(entry))
 }
 
-/// Returns what became of the commits on the buffer of this number.
+/// Returns the tally of the commits on the buffer of this number.
 pub(crate) fn tally_at(buffers: &[TxBuffer], number: u8) -> Option<Tally>
     ensures value { result ≡ option_map (λ b. b.tally) (slice_get buffers.now number) }
     ensures fates { IfSome result (λ t. t.committed ≡ t.sent + t.overwritten + t.pending + t.withdrawn) }
@@ -62,7 +62,7 @@ fn ready_at(buffers: &[TxBuffer], number: u8) -> Option<u32>
     buffers.get(usize::from(number))?.offers()
 }
 
-/// Returns what offers a commit in the window on the channel.
+/// Returns the buffer and its commit that are offered in the window on the channel.
 pub(crate) fn sender_on(
     plan: &IndexedPlan,
     buffers: &[TxBuffer],
@@ -99,7 +99,7 @@ fn held_payload(buffer: &TxBuffer) -> Payload
     }
 }
 
-/// The commit of this entry goes to the buffer of this number.
+/// Gives the buffer of this number the commit of this entry.
 pub(crate) fn commit_to(buffers: &mut [TxBuffer], number: u8, entry: u32, payload: &Payload)
     requires there { number < length buffers.old }
     requires few { IfSome (slice_get buffers.old number) (λ b. b.tally.committed + 1 < 2 ^ 32) }
@@ -110,7 +110,7 @@ pub(crate) fn commit_to(buffers: &mut [TxBuffer], number: u8, entry: u32, payloa
     buffer.commit(entry, payload);
 }
 
-/// Takes the pending commit of the buffer of this number back, if there is one.
+/// Withdraws the pending commit of the buffer of this number, if there is one.
 pub(crate) fn withdraw_from(buffers: &mut [TxBuffer], number: u8) -> Option<u32>
     ensures answer { result ≡ pending_at buffers.old number }
     ensures fits { IfSome result (λ commit. commit < 2 ^ 32) }
@@ -124,7 +124,7 @@ pub(crate) fn withdraw_from(buffers: &mut [TxBuffer], number: u8) -> Option<u32>
     buffer.withdraw()
 }
 
-/// What is offered goes out.
+/// Marks the sender's commit as sent.
 pub(crate) fn send_from(buffers: &mut [TxBuffer], sender: Option<Sender>)
     ensures { buffers.new ≡ after_sender buffers.old sender }
 {
@@ -138,7 +138,7 @@ pub(crate) fn send_from(buffers: &mut [TxBuffer], sender: Option<Sender>)
     }
 }
 
-/// What the buffer offers goes out, if it offers anything.
+/// Marks the buffer's offered commit as sent, if there is one.
 fn send_offered(buffer: &mut TxBuffer)
     ensures { buffer.new ≡ send_offered buffer.old }
 {

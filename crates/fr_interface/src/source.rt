@@ -1,8 +1,8 @@
-//! Where the content of a buffer comes from.
+//! The source of a buffer's content.
 
 use fr_journal::entry::Origin;
 
-/// Where the content of a buffer comes from.
+/// The source of a buffer's content.
 #[derive(Clone, Copy, PartialEq, Eq)]
 pub enum Source {
     /// The commit of this number, in a transmit buffer.

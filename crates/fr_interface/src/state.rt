@@ -1,4 +1,4 @@
-//! What an interface has at hand to go on: all that its calls need, and none of the calls before.
+//! The data that an interface keeps for its calls, without the calls before.
 
 ghost use Rattle.fr_interface.specs.Standing.{IsHistory, ForEachHistory};
 
@@ -30,9 +30,10 @@ use fr_status::seen::Seen;
 use std::alloc::Global;
 use std::marker::Model;
 
-// No call scans the journal: the results stand here, and the invariant of `Interface` says that they are those. With
-// scans an audit of 44 MB took 21.5 s, or 276 s.
-/// What is at hand after some calls of a host and of a controller.
+// No call scans the journal. The results are kept here, and the invariant of `Interface` states that they are those of
+// the journal. With a scan at each call, the audits of two traces took 21.5 s and 276 s; without scans they take less
+// than 0.1 s.
+/// The data that an interface keeps after some calls of a host and of a controller.
 #[derive(Drop)]
 pub struct InterfaceState {
     params: Params,
@@ -79,8 +80,8 @@ impl InterfaceState {
     ghost use Rattle.fr_journal.specs.Offers.{IsHandedOut, bytes_of};
     ghost use Rattle.fr_interface.specs.Standing.{with_limits, KeepsTerms};
 
-    /// Returns what is at hand before any call, with room for so many entries of the host and of the controller,
-    /// whatever room the plan gives. Refused with `Memory` alone.
+    /// Returns the data before any call, with room for so many entries of the host and of the controller. The room that
+    /// the plan gives doesn't count. Fails only with `Memory`.
     pub fn new(
         alloc: Global,
         params: &Params,
@@ -125,8 +126,7 @@ impl InterfaceState {
         self.hosts + self.slots
     }
 
-    /// Gives a transmit buffer a payload for a task, as `Interface::commit` does, and answers the number of the entry
-    /// that this call is.
+    /// Commits a payload as `Interface::commit` does, and returns the number of its entry.
     pub fn commit(&mut self, task: TaskId, buffer: u8, payload: &Payload) -> Result<u32, HostError>
         ensures refusal { result_err result ≡ commit_refused self.old task buffer payload.now }
         ensures entry { IfOk result (λ n. n ≡ entries_before self.old) }
@@ -158,7 +158,7 @@ impl InterfaceState {
         Ok(entry)
     }
 
-    /// Reads a receive buffer for a task, as `Interface::read` does, with the origin of what it holds.
+    /// Reads a receive buffer as `Interface::read` does, and returns the frame with its origin.
     pub fn read(&mut self, task: TaskId, buffer: u8) -> Result<Option<Arrival>, HostError>
         ensures refusal { result_err result ≡ read_refused self.old task buffer }
         ensures answer { ForEachHistory self.old (λ s. IfOk result (λ a. a ≡ received_by s buffer)) }
@@ -181,12 +181,13 @@ impl InterfaceState {
             return Err(HostError::HostFull);
         }
         let held = arrival_at(&self.receive, buffer);
+        // For the prover: the clause of this call.
         let _from = origin_in(&held);
         self.hosts += 1;
         Ok(held)
     }
 
-    /// Takes the last commit on a transmit buffer back for a task, as `Interface::withdraw` does.
+    /// Withdraws the last commit on a transmit buffer, as `Interface::withdraw` does.
     pub fn withdraw(&mut self, task: TaskId, buffer: u8) -> Result<Option<u32>, HostError>
         ensures refusal { result_err result ≡ withdraw_refused self.old task buffer }
         ensures answer { IfOk result (λ of. of ≡ pending_at self.old.transmit buffer) }
@@ -212,7 +213,7 @@ impl InterfaceState {
         Ok(of)
     }
 
-    /// Takes the oldest frame of the receive queue for a task, as `Interface::pop` does, with its origin.
+    /// Pops the oldest frame of the receive FIFO as `Interface::pop` does, with its origin.
     pub fn pop(&mut self, task: TaskId) -> Result<Option<Arrival>, HostError>
         ensures refusal { result_err result ≡ pop_refused self.old task }
         ensures answer { IfOk result (λ a. a ≡ oldest_at self.old) }
@@ -231,12 +232,13 @@ impl InterfaceState {
             return Err(HostError::HostFull);
         }
         let oldest = pop_from(&mut self.queue);
+        // For the prover: the clause of this call.
         let _from = origin_in(&oldest);
         self.hosts += 1;
         Ok(oldest)
     }
 
-    /// Refuses the window where `fetch` does.
+    /// Fails if `fetch` refuses the window.
     pub fn check_fetch(&self, window: &Window) -> Result<(), SlotError>
         ensures { result_err result ≡ fetch_refused self.now window.now }
     {
@@ -255,7 +257,7 @@ impl InterfaceState {
         Ok(())
     }
 
-    /// Returns what goes out on the channel, once the window is fetched.
+    /// Returns the node's offer on the channel, once the window is fetched.
     pub(crate) fn outgoing_on(&self, window: &Window, channel: Channel) -> Outgoing
         ensures value { result ≡ outgoing_on self.now.plan self.now.transmit window.now channel }
         ensures fits { IsOffered result.offered }
@@ -263,7 +265,7 @@ impl InterfaceState {
         outgoing_on(&self.plan, self.transmit.as_slice(), window, channel)
     }
 
-    /// Puts the bytes that go out on the channel in the place of those that were there.
+    /// Writes the bytes of the node's frame on the channel over the old ones.
     pub(crate) fn hand_out(
         &self,
         window: &Window,
@@ -279,7 +281,7 @@ impl InterfaceState {
     {
         match outgoing.offered {
             Offered::Nothing => {
-                // Most windows hand nothing out, and nothing needn't be written over nothing.
+                // Most windows hand nothing out, and then nothing is written over nothing.
                 if bytes.is_some() {
                     *bytes = None;
                 }
@@ -291,7 +293,7 @@ impl InterfaceState {
         }
     }
 
-    /// Opens a window, as `Interface::fetch_offered` does, and answers what the node offers on channels A and B.
+    /// Opens a window as `Interface::fetch_offered` does, and returns the node's offers on both channels.
     pub fn fetch_offered(&mut self, window: &Window) -> Result<(Offered, Offered), SlotError>
         ensures refusal { result_err result ≡ fetch_refused self.old window.now }
         ensures offered_a { IfOk result (λ o. o.0
@@ -310,7 +312,7 @@ impl InterfaceState {
         Ok((a.offered, b.offered))
     }
 
-    /// The window is fetched, and this goes out.
+    /// Fetches the window, with these offers.
     pub(crate) fn fetch(&mut self, window: &Window, a: &Outgoing, b: &Outgoing)
         requires accepted { fetch_refused self.old window.now ≡ None }
         requires outgoing_a { a.now ≡ outgoing_on self.old.plan self.old.transmit window.now Channel.A }
@@ -363,7 +365,7 @@ impl InterfaceState {
         Ok(())
     }
 
-    /// Returns where what the buffer holds comes from.
+    /// Returns the source of the buffer's content.
     pub fn held(&self, buffer: u8) -> Option<Source>
         ensures { result ≡ source_at self.now buffer }
     {
@@ -375,7 +377,7 @@ impl InterfaceState {
         }
     }
 
-    /// Returns what became of the commits on a transmit buffer.
+    /// Returns the tally of the commits on a transmit buffer.
     pub fn tally(&self, buffer: u8) -> Option<Tally>
         ensures value { result ≡ tally_at self.now buffer }
         ensures fates { IfSome result (λ t. t.committed ≡ t.sent + t.overwritten + t.pending + t.withdrawn) }
@@ -388,7 +390,7 @@ impl InterfaceState {
         tally_at(&self.transmit, buffer)
     }
 
-    /// Returns the frame that a receive buffer holds, and where it comes from.
+    /// Returns the frame in a receive buffer, with its origin.
     pub fn received(&self, buffer: u8) -> Option<Arrival>
         ensures { result ≡ received_at self.now buffer }
     {
@@ -399,7 +401,7 @@ impl InterfaceState {
         arrival_at(&self.receive, buffer)
     }
 
-    /// Returns how many frames the receive queue holds.
+    /// Returns the number of frames in the receive FIFO.
     pub fn queue_len(&self) -> Option<u32>
         ensures { result ≡ option_map (λ w. length w.frames) self.now.queue }
     {
@@ -409,7 +411,7 @@ impl InterfaceState {
         }
     }
 
-    /// Returns how many frames the receive queue lost.
+    /// Returns the number of frames that the receive FIFO lost.
     pub fn queue_lost(&self) -> Option<u32>
         ensures { result ≡ option_map (λ w. w.lost) self.now.queue }
     {
@@ -419,7 +421,7 @@ impl InterfaceState {
         }
     }
 
-    /// Returns how many observed windows had each bit of the slot status on each channel.
+    /// Returns the number of observed windows with each bit of the slot status, for each channel.
     pub fn counters(&self) -> Counters
         ensures { result ≡ self.now.counters }
     {

@@ -1,4 +1,4 @@
-//! The entries that calls leave, and calls that are refused, each at the first of its reasons.
+//! The entries of calls, and calls that are refused, each for the first of its reasons.
 
 use crate::parts::{buffer, came, interface, payload, plan_of, queuer, sender, slot_two};
 use fr_interface::errors::HostError;
@@ -11,7 +11,7 @@ use fr_testing::{DATA_ON_A, task};
 use std::alloc::Global;
 use std::test::Fail;
 
-/// The interface of a node that received a frame on channel A, and read it; another frame fails the test.
+/// Returns the interface of a node that received a frame on channel A and read it. Another frame fails the test.
 fn after_a_read(alloc: Global) -> Result<Interface, Fail> {
     let mut plan = plan_of(8)?;
     plan.add_buffer(buffer(Mode::Receive)?)?;
@@ -29,7 +29,7 @@ fn after_a_read(alloc: Global) -> Result<Interface, Fail> {
     Ok(interface)
 }
 
-/// The entries of these three calls.
+/// Returns the entries of these three calls.
 fn entries_of_a_read() -> Result<[Option<Entry>; 4], Fail> {
     let fetched = Entry::Fetch {
         window: slot_two(0)?,
@@ -77,7 +77,7 @@ enum Call {
     Pop,
 }
 
-/// What a call of the task on the buffer is refused for. A pop is on no buffer.
+/// Returns the refusal of a call of the task on the buffer. A pop needs no buffer.
 fn refusal(
     interface: &mut Interface,
     call: Call,

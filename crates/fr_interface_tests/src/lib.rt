@@ -1,4 +1,4 @@
-//! The tests of the host interface. What a trace and its report can show is tried by `tests/commands`.
+//! The tests of the host interface that need calls. `tests/commands` tests everything that a trace and its report show.
 #![tactic(auto)]
 
 #[cfg(test)]

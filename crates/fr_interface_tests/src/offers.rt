@@ -14,7 +14,7 @@ use std::test::Fail;
 /// The null frame of slot 2 in cycle 1, on channel A.
 const NULL_ON_A: [u8; 10] = [0x00, 0x02, 0x03, 0xc1, 0x41, 0x00, 0x00, 0xd1, 0x4f, 0x6c];
 
-/// The interface of a node that owns slot 2, once its task has committed; another receipt fails the test.
+/// Returns the interface of a node that owns slot 2, after a commit of its task. Another receipt fails the test.
 fn with_commit(alloc: Global) -> Result<Interface, Fail> {
     let mut interface = interface(alloc, &sender(8)?)?;
     let receipt = interface.commit(task(0)?, 0, &payload(&[0x0a, 0x0b])?)?;
@@ -24,8 +24,9 @@ fn with_commit(alloc: Global) -> Result<Interface, Fail> {
     Ok(interface)
 }
 
-/// The interface of a node that owns slot 2 on channel A in every fourth cycle: from 0 on with sync frames, and from 1
-/// on without.
+/// Returns the interface of a node that owns slot 2 on channel A in two of each four cycles.
+///
+/// It has sync frames in cycles 0, 4, 8 and so on, and other frames in cycles 1, 5, 9 and so on.
 fn with_divided_slot(alloc: Global) -> Result<Interface, Fail> {
     let mut plan = plan_of(1)?;
     for (base, sync) in [(0, true), (1, false)] {
@@ -34,7 +35,7 @@ fn with_divided_slot(alloc: Global) -> Result<Interface, Fail> {
     interface(alloc, &plan)
 }
 
-/// What the interface offers in slot 2 of the cycle of this number.
+/// Returns the offer of the interface in slot 2 of the cycle of this number.
 fn offer_in(interface: &mut Interface, number: u8) -> Result<Offer, Fail> {
     let offer = interface.fetch(&slot_two(number)?)?;
     interface.observe(u32::from(number), &Seen::Own, &Seen::Own)?;

@@ -1,4 +1,4 @@
-//! What the tests of an interface begin with: plans for a cluster of three static slots of one word, and windows.
+//! The first values of the tests of an interface: plans for a cluster of three static slots of one word, and windows.
 
 use fr_frame::payload::Payload;
 use fr_interface::interface::Interface;
@@ -12,7 +12,7 @@ use fr_testing::{ONE_WORD_CYCLE, cycle, frame_bytes, slot};
 use std::alloc::Global;
 use std::test::Fail;
 
-/// The interface of a node with this plan; a plan with a fault fails the test.
+/// Returns the interface of a node with this plan. A plan with a fault fails the test.
 pub(crate) fn interface(alloc: Global, plan: &NodePlan) -> Result<Interface, Fail> {
     let params = Params::new(ONE_WORD_CYCLE)?;
     if plan.fault(&params).is_some() {
@@ -21,12 +21,12 @@ pub(crate) fn interface(alloc: Global, plan: &NodePlan) -> Result<Interface, Fai
     Ok(Interface::new(alloc, &params, plan)?)
 }
 
-/// A plan of one task, with room for so many host entries and for eight slot entries.
+/// Returns a plan of one task, with room for this number of host entries and for eight slot entries.
 pub(crate) fn plan_of(host_entries: u16) -> Result<NodePlan, Fail> {
     Ok(NodePlan::new(1, [0, 0], host_entries, 8)?)
 }
 
-/// A buffer of this mode for slot 2, on both channels in every cycle.
+/// Returns a buffer of this mode for slot 2, on both channels in every cycle.
 pub(crate) fn buffer(mode: Mode) -> Result<Buffer, Fail> {
     Ok(Buffer {
         mode,
@@ -40,7 +40,7 @@ pub(crate) fn buffer(mode: Mode) -> Result<Buffer, Fail> {
     })
 }
 
-/// Slot 2 as a node's own, on these channels in these cycles, with sync frames or without.
+/// Returns the ownership of slot 2 on these channels in these cycles, with sync frames or without.
 pub(crate) fn own(channels: Channels, cycles: CycleFilter, sync: bool) -> Result<Own, Fail> {
     Ok(Own {
         slot: slot(2)?,
@@ -51,7 +51,7 @@ pub(crate) fn own(channels: Channels, cycles: CycleFilter, sync: bool) -> Result
     })
 }
 
-/// A plan that owns slot 2 on both channels, with an event buffer for it.
+/// Returns a plan that owns slot 2 on both channels, with an event buffer for it.
 pub(crate) fn sender(host_entries: u16) -> Result<NodePlan, Fail> {
     let mut plan = plan_of(host_entries)?;
     plan.add_own(own(Channels::Both, CycleFilter::default(), false)?)?;
@@ -59,7 +59,7 @@ pub(crate) fn sender(host_entries: u16) -> Result<NodePlan, Fail> {
     Ok(plan)
 }
 
-/// A plan with a queue of two frames, for slots 1 to 3 on both channels in every cycle.
+/// Returns a plan with a receive FIFO of two frames, for slots 1 to 3 on both channels in every cycle.
 pub(crate) fn queuer(host_entries: u16) -> Result<NodePlan, Fail> {
     let mut plan = plan_of(host_entries)?;
     plan.set_queue(Queue {
@@ -72,17 +72,17 @@ pub(crate) fn queuer(host_entries: u16) -> Result<NodePlan, Fail> {
     Ok(plan)
 }
 
-/// The window of static slot 2 in the cycle of its number.
+/// Returns the window of static slot 2 in the cycle of its number.
 pub(crate) fn slot_two(number: u8) -> Result<Window, Fail> {
     Ok(Window::fixed(u32::from(number), cycle(number)?, slot(2)?))
 }
 
-/// A payload of these bytes.
+/// Returns a payload of these bytes.
 pub(crate) fn payload(bytes: &[u8]) -> Result<Payload, Fail> {
     Ok(Payload::from_slice(bytes)?)
 }
 
-/// These bytes, as they came in.
+/// Returns the observation of these bytes.
 pub(crate) fn came(bytes: &[u8]) -> Result<Seen, Fail> {
     Ok(Seen::Bytes(frame_bytes(bytes)?))
 }

@@ -1,4 +1,4 @@
-//! The receive queue.
+//! The receive FIFO.
 
 use crate::parts::{came, interface, queuer, slot_two};
 use fr_interface::interface::Interface;
@@ -14,7 +14,7 @@ const ARRIVING: [[u8; 10]; 3] = [
     [0x20, 0x02, 0x03, 0xc1, 0x42, 0x00, 0x03, 0x7a, 0x36, 0x3b],
 ];
 
-/// The interface of a node with a queue of two frames, once the three frames have arrived.
+/// Returns an interface whose receive FIFO of two frames received the three frames.
 fn three_arrived(alloc: Global) -> Result<Interface, Fail> {
     let mut interface = interface(alloc, &queuer(8)?)?;
     for (number, bytes) in (0..3u8).zip(&ARRIVING) {
@@ -24,7 +24,7 @@ fn three_arrived(alloc: Global) -> Result<Interface, Fail> {
     Ok(interface)
 }
 
-/// The last byte of the frame that is popped, if any, and then the queue's length and what it lost.
+/// Pops a frame and returns its last byte, the FIFO's length, and the number of lost frames.
 fn pop_once(interface: &mut Interface) -> Result<(Option<u8>, Option<u32>, Option<u32>), Fail> {
     let frame = interface.pop(task(0)?)?;
     let mark = frame.and_then(|frame| frame.payload.as_slice().last().copied());

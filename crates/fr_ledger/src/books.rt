@@ -1,4 +1,4 @@
-//! The book of a ledger and the shares that its parts are given out as.
+//! The book of a ledger, and the shares into which the ledger is cut.
 
 ghost use Rattle.std.specs.Prelude.{◌≡◌, ◌+◌, ◌^◌, ◌<◌, IfOk, vec_len};
 ghost use Rattle.std.specs.List.{All};
@@ -9,10 +9,10 @@ use std::marker::Model;
 use std::sync::ledger;
 use std::sync::ledger::{Blank, Ledger};
 
-/// How many posts were made with all shares of the ledger (project-defined).
+/// The number of posts that were made with all shares of the ledger (project-defined).
 #[derive(Drop)]
 pub struct Book<L: Ledger> {
-    // Tokens of the ledger of `std` have no bytes, so the number stands beside them.
+    // Tokens of the ledger of `std` have no bytes, so the book keeps the number too.
     count: u64,
     posts: ledger::Book<L>,
 }
@@ -27,9 +27,9 @@ impl<L: Ledger> Model for Book<L> {
     ghost invariant = { λ b. b.posts.total ≡ b.count };
 }
 
-// A share has no number; its posts are known to the proofs alone. By its type it is one part, so a holder of as many
-// shares as the ledger has parts has them all.
-/// One part of the ledger, with the posts that were made with it (project-defined). It takes no bytes.
+// A share has no number; only the proofs know its posts. Its type says that it is one part, so all shares together are
+// as many as the parts of the ledger.
+/// One part of the ledger, with the posts that were made with it (project-defined); it has no bytes.
 #[derive(Drop)]
 pub struct Share<L: Ledger> {
     part: ledger::Share<L>,
@@ -45,11 +45,10 @@ impl<L: Ledger> Model for Share<L> {
     ghost invariant = { λ s. s.part.parts ≡ 1 };
 }
 
-/// Returns the book of a ledger, the desk's share and one for each of 0 to 255 tasks, all without a post
-/// (project-defined).
+/// Returns the book of a ledger, the host interface's share, and one share for each of 0 to 255 tasks.
 ///
-/// The blank is the ledger's, cut into a part for the desk and one for each task. Refused where memory for the list of
-/// the tasks' shares is refused.
+/// All are without a post (project-defined). The blank belongs to the ledger, and is cut into these parts. Fails if the
+/// allocation of the list of the tasks' shares fails.
 pub fn open_books<L: Ledger>(
     alloc: Global,
     blank: Blank,
@@ -85,8 +84,8 @@ pub fn post<L: Ledger>(book: &mut Book<L>, share: &mut Share<L>)
     book.count += 1;
 }
 
-/// Returns how many posts were made with the desk's share and the tasks' shares together, which is what the book
-/// counts, since these are all parts of the ledger (project-defined).
+/// Returns the number of posts that were made with all shares together (project-defined). It is the book's count, since
+/// the shares are all parts of the ledger.
 pub fn gather<L: Ledger>(book: &mut Book<L>, desk: Share<L>, tasks: Vec<Share<L>>) -> u64
     requires all { L.parts ≡ parts_for (vec_len tasks) }
     ensures sum { result ≡ posts_of desk tasks.items }

@@ -28,7 +28,7 @@ use Rattle.fr_text.specs.Spaces.{words_of, line_of}
 abbrev buffer : Mode → Filter → Option ℕ → Bool → Buffer
 buffer m f w p = record { mode = m; filter = f; words = w; preamble = p }
 
--- ---- what is read is spelled so
+-- ---- a buffer that is read is spelled by these words
 
 -- the words after a transmit buffer's mode
 abbrev parts_of : Filter → Option ℕ → Bool → List (List ℕ)
@@ -115,7 +115,7 @@ pub buffer_line_takes : (line : List ℕ) (b : Buffer) → buffer_in (words_of l
     → line ≡ line_of (buffer_words b)
 buffer_line_takes line b h = sym (line_of-words_of line) ∙ ap line_of (buffer_takes (words_of line) b h)
 
--- ---- what a line of a buffer is made of
+-- ---- the parts of a buffer's line
 
 -- A transmit buffer has words that fit, and a receive buffer none and no preamble.
 abbrev Parts : Mode → Option ℕ → Bool → Type 0
@@ -130,7 +130,7 @@ parts_at Receive f None true fits = cc fits
 parts_at Receive f None false fits = (refl, refl)
 parts_at Receive f (Some w) p fits = cc ((and_parts (words_fit (Some w)) false fits).1)
 
--- ---- what is spelled so is read
+-- ---- a buffer that is spelled is read again
 
 again_at : (m : Mode) (f : Filter) (w : Option ℕ) (p : Bool) → IsFilter f → Parts m w p
     → buffer_in (words_of_mode m (buffer m f w p)) ≡ Some (buffer m f w p)

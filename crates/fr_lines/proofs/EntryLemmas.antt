@@ -31,7 +31,7 @@ use Rattle.fr_text.specs.Reading.{number_in}
 use Rattle.fr_text.specs.Spaces.{words_of, line_of}
 use Rattle.fr_text.specs.Spelling.{hex_text}
 
--- ---- what is read is spelled so
+-- ---- an entry that is read is spelled by these words
 
 abbrev Takes : Version → List (List ℕ) → Entry → Type 0
 Takes v words e = (words ≡ entry_words e) × IsSpelledEntry e × (tells v e ≡ true)
@@ -181,7 +181,7 @@ taken_of : (v : Version) (kind this : List ℕ) (words : List (List ℕ)) (e : E
     → Takes v (this ∷ words) e → Takes v (kind ∷ words) e
 taken_of v kind this words e same t = (cons_same same refl ∙ t.0, t.1, t.2)
 
--- a fetch or an observe, where it is no entry of the host
+-- a fetch or an observe, if it is no entry of the host
 slot_taken : (v : Version) (kind : List ℕ) (words : List (List ℕ)) (e : Entry)
     → (if bytes_eq kind (codes "fetch") then fetch_in words
     else if bytes_eq kind (codes "see") then observe_in words else None) ≡ Some e
@@ -220,7 +220,7 @@ taken v (kind ∷ words) e h =
 pub entry_takes : (v : Version) (words : List (List ℕ)) (e : Entry) → entry_in v words ≡ Some e → words ≡ entry_words e
 entry_takes v words e h = (taken v words e h).0
 
--- what is read is in range
+-- an entry that is read is in range
 pub entry_fits : (v : Version) (words : List (List ℕ)) (e : Entry) → entry_in v words ≡ Some e → IsSpelledEntry e
 entry_fits v words e h = (taken v words e h).1
 
@@ -232,7 +232,7 @@ pub entry_line_takes : (v : Version) (line : List ℕ) (e : Entry) → entry_in 
     → line ≡ line_of (entry_words e)
 entry_line_takes v line e h = sym (line_of-words_of line) ∙ ap line_of (entry_takes v (words_of line) e h)
 
--- ---- what is spelled so is read
+-- ---- an entry that is spelled is read again
 
 withdraw_again : (v : Version) (task buffer : ℕ) (of : Option ℕ) → IsSpelledEntry (Withdraw task buffer of)
     → has_withdraws v ≡ true

@@ -1,4 +1,4 @@
--- What the words of a fetch and of an observe are read as, one after another.
+-- The words of a fetch and of an observe, read one after another.
 use Rattle.std.proofs.Common.{◌≡◌, ℕ, ◌<◌, ◌^◌, List, [], ◌∷◌, drop, Option, Some, None, refl, sym, ◌∙◌, arith, false}
 use Rattle.fr_frame.specs.Payload.{most_frame_bytes}
 use Rattle.fr_journal.specs.declared.entry.Entry.TheVariants.{Fetch}
@@ -17,7 +17,7 @@ use Rattle.fr_text.specs.Reading.{◌>>=◌, number_in, bytes_in, first_in}
 use Rattle.std.specs.Fmt.{decimal}
 use Rattle.std.specs.Str.{bytes_eq}
 
--- a second step that gives nothing
+-- a second step that always gives nothing
 never : {A B : Type 0} (o : Option A) (f : A → Option B) → ((x : A) → f x ≡ None) → (o >>= f) ≡ None
 never None f none = refl
 never (Some x) f none = none x
@@ -50,7 +50,7 @@ pub a_first_slot : (words : List (List ℕ)) (n s : ℕ) → first_in (number_in
     → number_within 1 last_slot n ≡ Some s → first_in optional_slot_in words ≡ Some (Some s)
 a_first_slot words n s h some = first_slot words n h ∙ rw some refl
 
--- ---- five words in turn
+-- ---- five words, one after another
 
 abbrev pub window_steps : List (List ℕ) → Option Opportunity
 window_steps ws =
@@ -105,7 +105,7 @@ a_fetch (n ∷ c ∷ m ∷ a ∷ b ∷ x ∷ y ∷ []) rest last w p q h5 d5 hp 
     rw (h5, read_p, read_q) refl
 a_fetch (n ∷ c ∷ m ∷ a ∷ b ∷ x ∷ y ∷ z ∷ ws) rest last w p q h5 d5 hp d6 hq d7 = cc (rw (d6, d5) at d7)
 
--- ---- what was seen
+-- ---- the observation on a channel
 
 pub first_seen : (words : List (List ℕ)) (bytes : List ℕ) → first_in (bytes_in most_frame_bytes) words ≡ Some bytes
     → Some (seen.Bytes (record { items = bytes })) ≡ first_in seen_in words

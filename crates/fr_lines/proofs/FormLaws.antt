@@ -1,5 +1,5 @@
--- The lines that a trace of a version can have have no wrong word, and a word that is wrong is so by the words up to
--- it.
+-- A line that a trace of a version can have has no wrong word. If a word of a line is wrong, no such line begins with
+-- the words up to it.
 use Rattle.std.proofs.Common.{◌≡◌, ℕ, suc, ◌+◌, ◌^◌, ℤ, Bool, true, false, List, [], ◌∷◌, take, codes, Option, Some}
 use Rattle.std.proofs.Common.{None, is_some, inl, inr}
 use Rattle.std.proofs.Common.{option_map, leb, refl, sym, ap, ◌∙◌, arith, if◌then◌else◌, IsSome, IfSome, zero}
@@ -110,7 +110,7 @@ window_right n c m a b w h =
       known (optional_slot_in b) on_b kb,
     )
 
--- ---- what a plan can have
+-- ---- the lines of a plan
 
 limits_pass : (t a b h s : ℕ) (p : Plan) → result_ok (plan_of t a b h s) ≡ Some p → limits_fit t a b h s ≡ true
 limits_pass t a b h s p read = elim (cases_Bool (limits_fit t a b h s)) [

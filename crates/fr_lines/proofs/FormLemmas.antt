@@ -1,4 +1,4 @@
--- Which word of a line is wrong, word by word, and the columns of words.
+-- The wrong word of a line, word by word, and the columns of words.
 use Rattle.std.proofs.Common.{◌≡◌, ℕ, zero, suc, ◌+◌, ◌<◌, ◌≤◌, Bool, true, false, List, [], ◌∷◌, length, take, drop}
 use Rattle.std.proofs.Common.{Option, Some, None}
 use Rattle.std.proofs.Common.{option_map, refl, sym, ap, ◌∙◌, arith, if◌then◌else◌, slice_index_or}
@@ -27,7 +27,7 @@ right_first : (f : WordForm) (forms : List WordForm) (word : List ℕ) (words : 
 right_first f forms word words i true is right = rw is (add_twice (wrong_at forms words) i)
 right_first f forms word words i false is right = absurd (let none : ⊥ = cc in none)
 
--- after a word that is right the next one is looked at
+-- after a word that is right, the next one is examined
 next_is : (i : ℕ) → suc i ≡ i + 1
 next_is i = omega arith
 
@@ -67,7 +67,7 @@ none_left : (forms : List WordForm) → drop (length forms) forms ≡ []
 none_left [] = refl
 none_left (f ∷ forms) = none_left forms
 
--- behind the last word that there has to be
+-- after the last word that the line must have
 pub one_more : (forms : List WordForm) (word : List ℕ) (words : List (List ℕ))
     → option_map (λ n. n + length forms) (wrong_at (drop (length forms) forms) (word ∷ words)) ≡ Some (length forms)
 one_more forms word words = ap (λ fs. option_map (λ n. n + length forms) (wrong_at fs (word ∷ words))) (none_left forms)
@@ -90,7 +90,7 @@ room_line line (word ∷ words) is =
     let same : length (line_of (word ∷ words)) ≡ length line = ap (λ l. length l) is in
     let exact = length-line_of word words in omega arith
 
--- a column isn't far behind the line
+-- a column is at most two more than the length of the line
 pub column_within : (line : List ℕ) (n : ℕ) → room_of (take n (words_of line)) ≤ length line + 1
 column_within line n =
     let front = room_front (words_of line) n in

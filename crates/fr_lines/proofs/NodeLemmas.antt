@@ -18,7 +18,7 @@ use Rattle.fr_text.specs.Plain.{ArePlain, has_no_feed}
 use Rattle.fr_text.specs.Reading.{number_in}
 use Rattle.fr_text.specs.Spaces.{words_of, line_of}
 
--- ---- what is read is spelled so
+-- ---- a plan that is read is spelled by these words
 
 limits_is : (t a b h s : ℕ) → limits_fit t a b h s ≡ true → IsPlan (empty_plan t a b h s)
 limits_is t a b h s pass =
@@ -92,7 +92,7 @@ taken (kind ∷ words) p h =
 pub node_takes : (words : List (List ℕ)) (p : Plan) → node_in words ≡ Some p → words ≡ node_words p
 node_takes words p h = (taken words p h).0
 
--- it has no ownership lines, no buffers and no queue
+-- it has no ownership lines, no buffers and no receive FIFO
 pub node_bare : (words : List (List ℕ)) (p : Plan) → node_in words ≡ Some p → p ≡ bare_plan p
 node_bare words p h = (taken words p h).1
 
@@ -108,7 +108,7 @@ node_no_lines words p h =
 pub node_line_takes : (line : List ℕ) (p : Plan) → node_in (words_of line) ≡ Some p → line ≡ line_of (node_words p)
 node_line_takes line p h = sym (line_of-words_of line) ∙ ap line_of (node_takes (words_of line) p h)
 
--- ---- what is spelled so is read
+-- ---- a plan that is spelled is read again
 
 limits_are : (p : Plan) → IsPlan p → limits_fit p.tasks p.latest_a p.latest_b p.host_entries p.slot_entries ≡ true
 limits_are p is =

@@ -28,7 +28,7 @@ use Rattle.fr_text.specs.Spaces.{words_of, line_of}
 
 -- ---- cycles
 
--- these words after the flags tell these cycles in the version
+-- these words after the flags spell these cycles in the version
 record TellsCycles (v : Version) (words : List (List ℕ)) (c : CycleClass) : Type 0 where
   pub words_are : words ≡ own_cycles_words v c
   pub cycles_are : IsCycleClass c
@@ -78,7 +78,7 @@ own_cycles_again One c lawful told = ap Some (every_is c told)
 own_cycles_again Two c lawful told = ap Some (every_is c told)
 own_cycles_again Three c lawful told = cycles_again c lawful
 
--- ---- what is read is spelled so
+-- ---- an ownership that is read is spelled by these words
 
 fitting_takes : (o found : Own) → fitting_own found ≡ Some o → (found ≡ o) × (own_fits found ≡ true)
 fitting_takes o found h =
@@ -138,7 +138,7 @@ pub own_line_takes : (v : Version) (line : List ℕ) (o : Own) → own_in v (wor
     → line ≡ line_of (own_words v o)
 own_line_takes v line o h = sym (line_of-words_of line) ∙ ap line_of (own_takes v (words_of line) o h)
 
--- ---- what is spelled so is read
+-- ---- an ownership that is spelled is read again
 
 pub own_again : (v : Version) (o : Own) → IsSpelledOwn o → tells_own v o ≡ true → own_in v (own_words v o) ≡ Some o
 unfolding own_in ownership_in

@@ -24,7 +24,7 @@ use Rattle.fr_text.specs.Plain.{ArePlain, has_no_feed}
 use Rattle.fr_text.specs.Reading.{number_in}
 use Rattle.fr_text.specs.Spaces.{words_of, line_of}
 
--- ---- ten numbers that are read are spelled so
+-- ---- ten numbers that are read are spelled by these words
 
 -- five numbers, before other words
 abbrev spelled : Five → List (List ℕ) → List (List ℕ)
@@ -72,7 +72,7 @@ ten_takes words zs h =
     let last_is = five_takes first.1 last hl ∙ ap (spelled last.0) end.1 in
     (first.0, last.0, end.0, five_takes words first hf ∙ ap (spelled first.0) last_is)
 
--- ---- and are the parameters' numbers
+-- ---- and are the numbers of the parameters
 
 bind_ok : {A B : Type 0} (r : Result A RangeError) (f : A → Result B RangeError) (y : B) → slots.◌>>=◌ r f ≡ Ok y
     → (x : A) × (r ≡ Ok x) × (f x ≡ Ok y)
@@ -163,7 +163,7 @@ pub params_line_takes : (line : List ℕ) (zs : List ℤ) (p : Parameters) → p
     → parameters_of zs ≡ Ok p → line ≡ line_of (params_words p)
 params_line_takes line zs p h made = sym (line_of-words_of line) ∙ ap line_of (params_takes (words_of line) zs p h made)
 
--- ---- what is spelled so is read
+-- ---- ten numbers that are spelled are read again
 
 parameter_again : (n : ℕ) → n ≤ 20000 → parameter_in (decimal n) ≡ Some (pos n)
 unfolding parameter_in
@@ -171,7 +171,7 @@ parameter_again n small =
     let below : n < 2 ^ 32 = omega arith in
     rw (number_again (2 ^ 32) n below (omega arith)) refl
 
--- no key's range goes higher
+-- a number in the range of a key is at most 20000
 within : (key : Key) (n : ℕ) → IsWithin key n → n ≤ 20000
 within StaticSlots n is = let high = is.at_most in omega arith
 within Minislots n is = let high = is.at_most in omega arith

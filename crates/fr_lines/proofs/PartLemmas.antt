@@ -32,9 +32,9 @@ use Rattle.fr_text.proofs.HexTextLemmas.{bytes_takes, bytes_again}
 use Rattle.fr_text.proofs.NumberLemmas.{number_takes, number_again, decimal_other}
 use Rattle.fr_text.specs.Reading.{number_in, bytes_in}
 
--- ---- a word among some
+-- ---- one of several words
 
--- a test for one word, and what comes of it
+-- the word is this one and gives the first result, or the other tests give the result
 pub word_or : {A : Type 0} (word this : List ℕ) (o other : Option A) (y : A)
     → (if bytes_eq word this then o else other) ≡ Some y
     → ((word ≡ this) × (o ≡ Some y)) ⊎ (other ≡ Some y)
@@ -166,7 +166,7 @@ cycles_again c lawful =
       lt-leb c.repetition c.base below,
     ) refl
 
--- ---- what is taken back
+-- ---- the commit that was withdrawn
 
 pub taken_back_takes : (word : List ℕ) (o : Option ℕ) → taken_back_in word ≡ Some o
     → (word ≡ optional_number o) × IfSome o (λ n. n < 2 ^ 32)
@@ -188,7 +188,7 @@ taken_back_again (Some n) fits =
     let small : n < 2 ^ 64 = omega arith in
     rw (decimal_other n absent small refl, number_again (2 ^ 32) n fits (omega arith)) refl
 
--- ---- where a frame comes from
+-- ---- the origin of a frame
 
 channel_takes : (mark : List ℕ) (c : Channel) → marked_channel_in mark ≡ Some c → mark ≡ channel_mark c
 unfolding marked_channel_in
@@ -268,7 +268,7 @@ unfolding from_in
 from_again None fits = refl
 from_again (Some origin) fits = rw (origin_present origin, origin_again origin fits) refl
 
--- ---- what is offered, and what is seen
+-- ---- offers and observations
 
 pub offered_takes : (word : List ℕ) (o : Offered) → offered_in word ≡ Some o → (word ≡ offered_word o) × IsOffered o
 unfolding offered_in

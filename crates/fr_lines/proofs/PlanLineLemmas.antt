@@ -1,4 +1,5 @@
--- A line of a plan is the ownership line, the buffer or the queue that it is by itself, since their first words differ.
+-- A line of a plan is read like the ownership line, the buffer or the receive FIFO alone, since their first words
+-- differ.
 use Rattle.std.proofs.Common.{◌≡◌, ℕ, true, false, List, [], ◌∷◌, Option, Some, None, codes, inl, inr, refl, sym, ap}
 use Rattle.std.proofs.Common.{subst, option_map}
 use Rattle.std.specs.Str.{bytes_eq}
@@ -13,7 +14,7 @@ use Rattle.fr_slots.specs.declared.plan.Buffer.{Buffer}
 use Rattle.fr_slots.specs.declared.plan.Own.{Own}
 use Rattle.fr_slots.specs.declared.plan.Queue.{Queue}
 
--- what is reported as one kind of line was read as that kind
+-- a result of one kind of line was read as that kind
 own_mapped : (r : Option Own) (line : PlanLine) → option_map plan_line.Own r ≡ Some line
     → (o : Own) × (line ≡ plan_line.Own o) × (r ≡ Some o)
 own_mapped None line h = cc h
@@ -29,7 +30,7 @@ queue_mapped : (r : Option Queue) (line : PlanLine) → option_map plan_line.Que
 queue_mapped None line h = cc h
 queue_mapped (Some q) line h = (q, cc h, refl)
 
--- what a line tells, its own reader reads
+-- the reader of the line's own kind reads this result too
 abbrev pub IsReadAs : Version → List (List ℕ) → PlanLine → Type 0
 IsReadAs v words (plan_line.Own o) = own_in v words ≡ Some o
 IsReadAs v words (plan_line.Buffer b) = buffer_in words ≡ Some b
@@ -93,7 +94,7 @@ told_read v (kind ∷ rest) line h =
           ]
     ]
 
--- and what its own reader reads, a line tells
+-- and a result of the reader of its own kind is that of the line
 pub own_told : (v : Version) (words : List (List ℕ)) (o : Own) → own_in v words ≡ Some o
     → plan_line_in v words ≡ Some (plan_line.Own o)
 unfolding plan_line_in own_in
@@ -104,7 +105,7 @@ own_told v (kind ∷ rest) o h =
       | inr other ↦ cc (rw other at h)
     ]
 
--- a word is no other word
+-- a word isn't two different words
 not_both : (word a b : List ℕ) → bytes_eq word a ≡ true → bytes_eq a b ≡ false → bytes_eq word b ≡ false
 not_both word a b is other =
     let same : word ≡ a = (bytes_eq-Decides word a).0 is in subst (λ w. bytes_eq w b ≡ false) (sym same) other

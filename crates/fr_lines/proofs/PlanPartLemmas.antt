@@ -1,4 +1,4 @@
--- A word is the spelling of at most one part of a plan's line, or of one payload.
+-- A word is the spelling of at most one part of a plan's line, or of at most one payload.
 use Rattle.std.proofs.Common.{◌≡◌, ℕ, ◌<◌, ◌≢◌, ◌%◌, ◌^◌, ◌==◌, ◌⊎◌, inl, inr, Bool, true, false, List, length, codes}
 use Rattle.std.proofs.Common.{Option, Some, None, refl, sym, ap, ◌∙◌, arith, ltb}
 use Rattle.std.proofs.lemmas.Bool.{cases_Bool, eqb-false, le-leb, le-ltb, leb-true}

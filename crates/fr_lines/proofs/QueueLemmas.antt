@@ -1,4 +1,4 @@
--- The line of a queue.
+-- The line of a receive FIFO.
 use Rattle.std.proofs.Common.{◌≡◌, ℕ, ◌≤◌, ◌&&◌, inl, inr, true, false, List, [], ◌∷◌, length, codes, None, Some, refl}
 use Rattle.std.proofs.Common.{sym, ap, ◌∙◌, arith}
 use Rattle.std.proofs.lemmas.Bool.{and_parts, cases_Bool, leb-true}
@@ -24,7 +24,7 @@ use Rattle.fr_text.specs.Plain.{ArePlain, has_no_feed}
 use Rattle.fr_text.specs.Reading.{number_in}
 use Rattle.fr_text.specs.Spaces.{words_of, line_of}
 
--- ---- what is read is spelled so
+-- ---- a receive FIFO that is read is spelled by these words
 
 fitting_takes : (q found : Queue) → fitting_queue found ≡ Some q → (found ≡ q) × (queue_fits found ≡ true)
 fitting_takes q found h =
@@ -74,14 +74,14 @@ taken (kind ∷ words) q h =
 pub queue_takes : (words : List (List ℕ)) (q : Queue) → queue_in words ≡ Some q → words ≡ queue_words q
 queue_takes words q h = (taken words q h).0
 
--- it is a queue that a plan can have
+-- it is a receive FIFO that a plan can have
 pub queue_line_fits : (words : List (List ℕ)) (q : Queue) → queue_in words ≡ Some q → IsSpelledQueue q
 queue_line_fits words q h = (taken words q h).1
 
 pub queue_line_takes : (line : List ℕ) (q : Queue) → queue_in (words_of line) ≡ Some q → line ≡ line_of (queue_words q)
 queue_line_takes line q h = sym (line_of-words_of line) ∙ ap line_of (queue_takes (words_of line) q h)
 
--- ---- what is spelled so is read
+-- ---- a receive FIFO that is spelled is read again
 
 few_frames : (q : Queue) → queue_fits q ≡ true → q.capacity ≤ 256
 few_frames q fits =
@@ -147,7 +147,7 @@ queue_cut q is =
 pub queue_line_again : (q : Queue) → IsSpelledQueue q → queue_in (words_of (line_of (queue_words q))) ≡ Some q
 queue_line_again q is = ap queue_in (queue_cut q is) ∙ queue_again q is
 
--- ---- a queue's line is no other line of a plan, and doesn't begin the entries
+-- ---- a line of a receive FIFO is no other line of a plan, and doesn't begin the entries
 
 not_own : (v : Version) (q : Queue) → own_in v (queue_words q) ≡ None
 unfolding own_in

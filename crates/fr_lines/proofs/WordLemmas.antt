@@ -1,4 +1,4 @@
--- The words of a line are plain, and few bytes long.
+-- The words of a line are plain, and have few bytes.
 use Rattle.std.proofs.Common.{◌≡◌, ℕ, ◌<◌, ◌≤◌, ◌^◌, Bool, true, false, List, length, Option, Some, None, refl, arith}
 use Rattle.std.proofs.Common.{length-append}
 use Rattle.std.proofs.lemmas.Bool.{leb-true}
@@ -24,7 +24,7 @@ use Rattle.fr_text.proofs.PlainLemmas.{IsPlain-decimal, IsPlain-hex_text, IsPlai
 use Rattle.fr_text.specs.Plain.{IsPlain}
 use Rattle.fr_text.specs.Spelling.{hex_text}
 
--- a word that stands in a line as it is, of so many bytes at most
+-- a plain word of at most `most` bytes
 pub record IsWord (most : ℕ) (word : List ℕ) : Type 0 where
   pub plain : IsPlain word
   pub short : length word ≤ most
@@ -50,7 +50,7 @@ pub flag_plain : (b : Bool) → IsWord 1 (flag_word b)
 flag_plain true = record { plain = refl; short = omega arith }
 flag_plain false = record { plain = refl; short = omega arith }
 
--- at most 127 words of two bytes, or none stated
+-- at most 127 two-byte words, or none stated
 pub size_word : (o : Option ℕ) → words_fit o ≡ true → IsWord 3 (optional_number o)
 size_word None fits = record { plain = refl; short = omega arith }
 size_word (Some n) fits =

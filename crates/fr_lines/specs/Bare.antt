@@ -1,4 +1,4 @@
--- An entry that is read without its bytes, and the bytes beside it.
+-- The entry that consists of a bare entry and the bytes beside it.
 use Rattle.std.specs.Prelude.{ℕ}
 use Rattle.fr_journal.specs.declared.entry.Entry.{Entry as EntryOf}
 use Rattle.fr_journal.specs.declared.entry.Entry.TheVariants.{Commit, Withdraw, Read, Pop, Fetch, Observe}

@@ -1,4 +1,4 @@
--- The words that a line of a trace has after its first, and which of its words is wrong (project-defined).
+-- The words of a line of a trace after its first, and the first of its words that is wrong (project-defined).
 use Rattle.std.specs.Prelude.{◌≡◌, ◌⊎◌, IsSome, ℕ, ◌+◌, ◌^◌, nat_le, Bool, List, [], ◌∷◌, codes, take, Option, Some}
 use Rattle.std.specs.Prelude.{None}
 use Rattle.std.specs.Prelude.{is_some, option_map}
@@ -20,7 +20,7 @@ use Rattle.fr_text.specs.Spaces.{words_of, room_of}
 
 -- ---- words
 
--- a number from this one to below that one
+-- a number from `least` to below `bound`
 unfoldable pub number_from_in : ℕ → ℕ → List ℕ → Option ℕ
 number_from_in least bound word = do
   n ← number_in bound word
@@ -38,7 +38,7 @@ repetition_in word = do
   n ← number_in 65 word
   if is_repetition n then Some n else None
 
--- the word is one of these
+-- the word has this form
 abbrev pub fits : WordForm → List ℕ → Bool
 fits (form.Number bound) word = is_some (number_in bound word)
 fits (form.NumberFrom least bound) word = is_some (number_from_in least bound word)
@@ -58,7 +58,7 @@ fits form.Observation word = is_some (seen_in word)
 
 -- ---- lines
 
--- the first of two, if there is one
+-- the first of two values, if there is one; otherwise the second
 abbrev pub first_of : {A : Type 0} → Option A → Option A → Option A
 first_of None second = second
 first_of (Some x) second = Some x
@@ -138,7 +138,7 @@ forms_of version kind = first_of (plan_forms_of version kind) (journal_forms_of 
 
 -- ---- the word that is wrong
 
--- the number of the first word that isn't what it has to be, that is one too many, or that is missing
+-- the number of the first word that has the wrong form, that is one too many, or that is missing
 abbrev pub wrong_at : List WordForm → List (List ℕ) → Option ℕ
 wrong_at [] [] = None
 wrong_at [] (word ∷ words) = Some 0
@@ -149,12 +149,12 @@ abbrev pub wrong_after : Option (List WordForm) → List (List ℕ) → Option �
 wrong_after None words = Some 0
 wrong_after (Some forms) words = option_map (λ n. n + 1) (wrong_at forms words)
 
--- of the words of a line, the first one too: it is wrong where no line of the version begins with it
+-- the same of a whole line: its first word is wrong if no line of the version begins with it
 abbrev pub wrong_in : Version → List (List ℕ) → Option ℕ
 wrong_in version [] = None
 wrong_in version (kind ∷ words) = wrong_after (forms_of version kind) words
 
--- the word of this number, and the column at which it begins, or would begin: both count from 1
+-- the word of this number, and the column at which it begins or would begin; both count from 1
 abbrev pub place_in : List (List ℕ) → ℕ → WordPlace
 place_in words n = record { word = n + 1; column = room_of (take n words) + 1 }
 

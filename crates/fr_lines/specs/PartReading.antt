@@ -66,7 +66,7 @@ filter_in slot channels base repetition = do
   cycles ← cycles_in base repetition
   Some (record { slot = s; channels = c; cycles = cycles })
 
--- ---- what a plan's lines say beside
+-- ---- flags, modes and sizes in the lines of a plan
 
 unfoldable pub flag_in : List ℕ → Option Bool
 flag_in word = if bytes_eq word (codes "1") then Some true else if bytes_eq word (codes "0") then Some false else None
@@ -76,15 +76,15 @@ unfoldable pub mode_in : List ℕ → Option Mode
 mode_in word = if bytes_eq word (codes "event") then Some mode.Event
     else if bytes_eq word (codes "state") then Some mode.State else None
 
--- at most 127 words of two bytes, or none stated
+-- at most 127 two-byte words, or none stated
 unfoldable pub size_in : List ℕ → Option (Option ℕ)
 size_in word = if bytes_eq word absent then Some None else do
   n ← number_in 128 word
   Some (Some n)
 
--- ---- what is committed
+-- ---- payloads of commits
 
--- the bytes, where they are a payload
+-- the bytes, if they are a payload
 abbrev pub payload_from : List ℕ → Option (List ℕ)
 payload_from bytes = if is_none (payload_refusal bytes) then Some bytes else None
 
@@ -93,7 +93,7 @@ payload_in word = do
   bytes ← bytes_in most_payload_bytes word
   payload_from bytes
 
--- ---- what is taken back
+-- ---- the commit that was withdrawn
 
 -- the number of a commit or none
 unfoldable pub taken_back_in : List ℕ → Option (Option ℕ)
@@ -101,7 +101,7 @@ taken_back_in word = if bytes_eq word absent then Some None else do
   commit ← number_in (2 ^ 32) word
   Some (Some commit)
 
--- ---- where a frame comes from
+-- ---- the origin of a frame
 
 unfoldable pub marked_channel_in : List ℕ → Option Channel
 marked_channel_in mark =
@@ -122,7 +122,7 @@ from_in word = if bytes_eq word absent then Some None else do
   origin ← origin_in word
   Some (Some origin)
 
--- ---- what is offered, and what is seen
+-- ---- offers and observations
 
 unfoldable pub offered_in : List ℕ → Option Offered
 offered_in word =
@@ -154,7 +154,7 @@ same_slot number cycle None b = None
 same_slot number cycle (Some a) None = None
 same_slot number cycle (Some a) (Some b) = if a == b then Some (static_window number cycle a) else None
 
--- a static window at minislot 0, and else a dynamic one
+-- a static window at minislot 0, otherwise a dynamic one
 abbrev pub window_of : ℕ → ℕ → ℕ → Option ℕ → Option ℕ → Option Opportunity
 window_of number cycle minislot a b = if minislot == 0 then same_slot number cycle a b
     else dynamic_window number cycle minislot a b

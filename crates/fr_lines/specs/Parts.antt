@@ -1,4 +1,4 @@
--- How the parts of a line are spelled. A number is spelled as std's `decimal` says.
+-- The spelling of the parts of a line. Std's `decimal` defines the spelling of a number.
 use Rattle.std.specs.Prelude.{ℕ, ◌++◌, Bool, true, false, not, List, codes, Option, Some, None, if◌then◌else◌}
 use Rattle.std.specs.Fmt.{decimal}
 use Rattle.fr_frame.specs.Fields.{Fields}
@@ -13,7 +13,7 @@ use Rattle.fr_status.specs.Forms.{Seen}
 use Rattle.fr_status.specs.declared.seen.Seen.TheVariants as seen
 use Rattle.fr_text.specs.Spelling.{hex_text}
 
--- what stands where there is nothing
+-- the word that stands for nothing
 abbrev pub absent : List ℕ
 absent = codes "-"
 
@@ -37,7 +37,7 @@ abbrev pub channel_mark : Channel → List ℕ
 channel_mark channel.A = codes ":A"
 channel_mark channel.B = codes ":B"
 
--- ---- where a frame comes from, what is offered, and what is seen
+-- ---- origins of frames, offers and observations
 
 abbrev pub origin_word : Origin → List ℕ
 origin_word origin = decimal origin.entry ++ channel_mark origin.channel
@@ -61,7 +61,7 @@ seen_word (seen.Bytes bytes) = hex_text bytes.items
 
 -- ---- frames
 
--- a letter for what is so, and a dash for what isn't
+-- a letter for an indicator that is set, and a dash for one that isn't
 abbrev pub mark : List ℕ → Bool → List ℕ
 mark letter is_so = if is_so then letter else codes "-"
 

@@ -1,4 +1,4 @@
--- What the words of a line spell, for the lines that are read.
+-- The values that the words of a line spell, for the lines that are read.
 use Rattle.std.specs.Prelude.{ℕ, ◌^◌, ℤ, pos, false, List, [], ◌∷◌, codes, Option, Some, None, option_map}
 use Rattle.std.specs.Prelude.{if◌then◌else◌}
 use Rattle.std.specs.Result.{result_ok}
@@ -30,7 +30,7 @@ version_in line = if bytes_eq line (first_line One) then Some One
     else if bytes_eq line (first_line Three) then Some Three
     else None
 
--- ---- parameters: ten numbers below 2^32, whatever their keys' ranges
+-- ---- parameters: ten numbers below 2^32, without the ranges of their keys
 
 unfoldable pub parameter_in : List ℕ → Option ℤ
 parameter_in word = do
@@ -51,7 +51,7 @@ five_in (a ∷ b ∷ c ∷ d ∷ e ∷ rest) = do
   Some ((v, w, x, y, z), rest)
 five_in words = None
 
--- the value, where no word is left
+-- the value, if no word is left
 abbrev pub at_end : {A : Type 0} → A → List (List ℕ) → Option A
 at_end value [] = Some value
 at_end value (word ∷ words) = None
@@ -87,7 +87,7 @@ node_in (kind ∷ words) = if bytes_eq kind (codes "node") then limits_in words 
 
 -- ---- ownership lines
 
--- the ownership line, where a plan can have it
+-- the ownership line, if a plan can have it
 abbrev pub fitting_own : Own → Option Own
 fitting_own o = if own_fits o then Some o else None
 
@@ -142,9 +142,9 @@ buffer_in (kind ∷ words) =
     else if bytes_eq kind (codes "rx") then receive_in words
     else None
 
--- ---- the queue
+-- ---- the receive FIFO
 
--- the queue, where a plan can have it
+-- the receive FIFO, if a plan can have it
 abbrev pub fitting_queue : Queue → Option Queue
 fitting_queue q = if queue_fits q then Some q else None
 
@@ -162,7 +162,7 @@ unfoldable pub queue_in : List (List ℕ) → Option Queue
 queue_in [] = None
 queue_in (kind ∷ words) = if bytes_eq kind (codes "queue") then reception_in words else None
 
--- ---- a line of the plan after its first: an ownership line, a buffer or the queue, by its first word
+-- ---- a line of the plan after its first: an ownership line, a buffer or the receive FIFO, by its first word
 
 unfoldable pub plan_line_in : Version → List (List ℕ) → Option PlanLine
 plan_line_in version [] = None

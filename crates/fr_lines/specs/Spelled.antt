@@ -1,4 +1,4 @@
--- What the lines that are read can spell.
+-- The values that the lines that are read can spell.
 use Rattle.std.specs.Prelude.{◌≡◌, ◌<◌, ℤ, pos, true, List, [], ◌∷◌}
 use Rattle.fr_journal.specs.Forms.{Entry}
 use Rattle.fr_journal.specs.declared.entry.Entry.TheVariants.{Commit, Withdraw, Read, Pop, Fetch, Observe}
@@ -28,7 +28,7 @@ pub record IsSpelledBuffer (b : Buffer) : Type 0 where
   pub is : IsBuffer b
   pub fits : buffer_fits b ≡ true
 
--- a queue that a plan can have
+-- a receive FIFO that a plan can have
 pub record IsSpelledQueue (q : Queue) : Type 0 where
   pub is : IsQueue q
   pub fits : queue_fits q ≡ true

@@ -1,4 +1,4 @@
--- The lines of a trace, each as its words. Only the first and those of ownership differ between versions.
+-- The lines of a trace, each as its words. Only the first line and the ownership lines differ between versions.
 use Rattle.std.specs.Prelude.{ℕ, List, [], ◌∷◌, ◌++◌, codes, if◌then◌else◌}
 use Rattle.std.specs.Fmt.{decimal}
 use Rattle.fr_journal.specs.Forms.{Entry}
@@ -49,7 +49,7 @@ params_words p =
     ∷ decimal p.minislot_mt
     ∷ decimal p.symbol_mt ∷ decimal p.nit_mt ∷ decimal p.cycle_mt ∷ decimal p.idle ∷ decimal p.words_per_minislot ∷ []
 
--- the numbers of a plan; its ownership lines, buffers and queue have lines of their own
+-- the numbers of a plan; its ownership lines, buffers and receive FIFO have lines of their own
 abbrev pub node_words : Plan → List (List ℕ)
 node_words p = codes "node" ∷ decimal p.tasks ∷ decimal p.latest_a ∷ decimal p.latest_b ∷ decimal p.host_entries
     ∷ decimal p.slot_entries ∷ []

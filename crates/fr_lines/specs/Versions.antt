@@ -1,4 +1,4 @@
--- The versions of the format, and what each has a line for.
+-- The versions of the format, and the lines that each has.
 use Rattle.std.specs.Prelude.{Bool, true, false, ◌||◌}
 use Rattle.fr_journal.specs.Forms.{Entry}
 use Rattle.fr_journal.specs.declared.entry.Entry.TheVariants.{Commit, Withdraw, Read, Pop, Fetch, Observe}

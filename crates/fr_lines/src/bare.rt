@@ -1,4 +1,4 @@
-//! Entries without their bytes, which stand in a place of their own that one line after another is read into.
+//! Entries without their bytes. The bytes stand in one place, which is reused for each line.
 
 use fr_frame::payload::Payload;
 use fr_journal::entry::Entry;
@@ -7,14 +7,16 @@ use fr_status::seen::Seen;
 /// An entry of a journal without its payload or observations (project-defined).
 pub type BareEntry = Entry<(), ()>;
 
-/// What was committed or seen by the entry that was read last. What an entry has no use for is left from those before.
+/// The payload or the observations of the entry that was read last.
+///
+/// A field that this entry doesn't need keeps its value of an earlier entry.
 #[derive(Drop)]
 pub struct EntryBytes {
-    /// What was committed.
+    /// The payload that was committed.
     pub payload: Payload,
-    /// What was seen on channel A.
+    /// The observation on channel A.
     pub a: Seen,
-    /// What was seen on channel B.
+    /// The observation on channel B.
     pub b: Seen,
 }
 
@@ -22,7 +24,7 @@ impl EntryBytes {
     ghost use Rattle.std.specs.Prelude.{◌≡◌, []};
     ghost use Rattle.fr_status.specs.declared.seen.Seen.TheVariants as seen;
 
-    /// Returns the place before an entry was read: a payload without bytes, and silence on both channels.
+    /// Returns the value before any entry was read: a payload without bytes, and silence on both channels.
     pub fn new() -> EntryBytes
         ensures { result ≡ record { payload = []; a = seen.Silence; b = seen.Silence } }
     {

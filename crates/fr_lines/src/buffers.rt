@@ -57,10 +57,12 @@ fn buffer_in(line: &[u8]) -> Option<Buffer>
     }
 }
 
-/// Returns the buffer of a line `tx` or `rx`, which a plan takes as long as it has room.
+/// Returns the buffer of a line `tx` or `rx`. A plan takes it as long as it has room.
 ///
-/// `None` for a line of another form, for a slot that isn't 1 to 2047, for more than 127 words, and where base and
-/// repetition are no cycle filter (chapter 9): the repetition is 1, 2, 4, 8, 16, 32 or 64, and the base is below it.
+/// `None` for a line of another form, for a slot that isn't 1 to 2047, and for more than 127 two-byte words.
+///
+/// Also `None` if base and repetition are no cycle counter filter (chapter 9): the repetition is 1, 2, 4, 8, 16, 32 or
+/// 64, and the base is below it.
 pub fn buffer_of(line: &[u8]) -> Option<Buffer>
     ensures found { IfSome result (λ b. line.now ≡ line_of (buffer_words b)) }
     ensures fits { IfSome result IsSpelledBuffer }

@@ -64,7 +64,7 @@ fn told_withdraw_of(words: &mut Words<'_>) -> Option<BareEntry>
     })
 }
 
-/// Returns the withdraw that the words spell, in a version that has such a line.
+/// Returns the withdraw that the words spell, if the version has such a line.
 #[tactic(auto, unfolding(crate::specs::Reading::withdraw_in))]
 fn withdraw_of(version: Version, words: &mut Words<'_>) -> Option<BareEntry>
     ensures { (bytes : EntryBytes) → option_map (with_bytes bytes) result ≡ withdraw_in version words.old }
@@ -118,7 +118,7 @@ fn next_slot(words: &mut Words<'_>) -> Option<Option<SlotId>>
     }
 }
 
-/// Returns what the next word says that a channel was offered.
+/// Returns the offer on a channel that the next word spells.
 #[tactic(auto, unfolding(crate::specs::PartReading::offered_in))]
 fn next_offered(words: &mut Words<'_>) -> Option<Offered>
     ensures offered { result ≡ first_in offered_in words.old }
@@ -209,14 +209,17 @@ fn entry_in(version: Version, line: &[u8], bytes: &mut EntryBytes) -> Option<Bar
     None
 }
 
-/// Returns the entry of a line `commit`, `withdraw`, `read`, `pop`, `fetch` or `see` in a text of this version, without
-/// its bytes, which are read in place of those before. Where it is `None`, what they are isn't told.
+/// Returns the entry that the line spells in a text of this version, without its bytes.
 ///
-/// `None` for a line of another form, for `withdraw` in version 1, and where a number is out of its range: a task is
-/// 0 to 7, a buffer 0 to 63, the bytes of a commit are an even number, at most 254, the number of a window or of an
-/// entry fits 32 bits, a cycle is 0 to 63, a minislot 0 to 8000, a slot 1 to 2047, and at most 262 bytes were seen.
-/// `None` too where the numbers of a fetch are no window: at minislot 0 both channels open the same slot, and at a
-/// minislot above 0 one channel or both open a slot.
+/// The line is a `commit`, `withdraw`, `read`, `pop`, `fetch` or `see`. Its bytes replace those of the entry before. If
+/// the result is `None`, the bytes are unspecified.
+///
+/// `None` for a line of another form, for `withdraw` in version 1, and for a number out of its range. A task is 0 to 7,
+/// a buffer 0 to 63, a cycle 0 to 63, a minislot 0 to 8000, and a slot 1 to 2047. The number of a window or of an entry
+/// fits 32 bits. A commit has an even number of bytes, at most 254, and an observation at most 262 bytes.
+///
+/// Also `None` if the numbers of a fetch are no window: at minislot 0 both channels open the same slot, and at a
+/// minislot above 0 at least one channel opens a slot.
 pub fn entry_into(version: Version, line: &[u8], bytes: &mut EntryBytes) -> Option<BareEntry>
     ensures found { IfSome result (λ e. line.now ≡ line_of (entry_words (with_bytes bytes.new e))) }
     ensures fits { IfSome result (λ e. IsSpelledEntry (with_bytes bytes.new e)) }

@@ -1,4 +1,4 @@
-//! The words that the lines of a trace have after their first, and which of a line's words is wrong.
+//! The words of a line of a trace after its first, and the first of its words that is wrong.
 ghost use Rattle.std.specs.Prelude.{◌≡◌, ◌+◌, ◌≤◌, ◌^◌, is_some, length, option_map, take, IfSome};
 ghost use Rattle.fr_lines.specs.Forms.{number_from_in, static_slot_in, repetition_in, own_forms, plan_forms_of};
 ghost use Rattle.fr_lines.specs.Forms.{journal_forms_of, forms_of};
@@ -17,7 +17,7 @@ use fr_text::hexes::bytes_of;
 use fr_text::numbers::number_of;
 use fr_text::words::Words;
 
-/// What a word after the first of a line is.
+/// The form of a word after the first of a line.
 #[derive(Clone, Copy, PartialEq, Eq)]
 pub(crate) enum WordForm {
     /// A number below this one.
@@ -44,11 +44,11 @@ pub(crate) enum WordForm {
     Payload,
     /// The entry of a commit or `-`.
     Commit,
-    /// Where a frame comes from or `-`.
+    /// The origin of a frame, or `-`.
     Origin,
-    /// What a node offers on a channel.
+    /// The offer of a node on a channel.
     Offer,
-    /// What a node received on a channel.
+    /// The observation of a node on a channel.
     Observation,
 }
 
@@ -56,7 +56,7 @@ impl WordForm {
     ghost use Rattle.std.specs.Prelude.{◌≡◌};
     ghost use Rattle.fr_lines.specs.Forms.{fits};
 
-    /// Returns whether the word is one of these.
+    /// Returns whether the word has this form.
     fn fits(self, word: &[u8]) -> bool
         ensures { result ≡ fits self word.now }
     {
@@ -124,7 +124,7 @@ fn is_slot_or_none(word: &[u8]) -> bool
     slot_of(word).is_some()
 }
 
-/// Returns whether the word says what a node offers on a channel.
+/// Returns whether the word spells a node's offer on a channel.
 #[tactic(auto, unfolding(crate::specs::PartReading::offered_in))]
 fn is_offer(word: &[u8]) -> bool
     ensures { result ≡ is_some (offered_in word.now) }
@@ -135,7 +135,7 @@ fn is_offer(word: &[u8]) -> bool
     number_of(word, 1 << 32).is_some()
 }
 
-/// Returns whether the word says what a node received on a channel.
+/// Returns whether the word spells a node's observation on a channel.
 #[tactic(auto, unfolding(crate::specs::PartReading::seen_in, crate::specs::PartReading::seen_bytes_in))]
 fn is_observation(word: &[u8]) -> bool
     ensures { result ≡ is_some (seen_in word.now) }
@@ -149,7 +149,7 @@ fn is_observation(word: &[u8]) -> bool
     bytes_of::<FRAME_BYTES>(word).is_some()
 }
 
-/// A number that has 32 bits.
+/// A number of at most 32 bits.
 const WIDE: WordForm = WordForm::Number(1 << 32);
 
 const PARAMS: [WordForm; 10] = [WIDE; 10];
@@ -224,7 +224,7 @@ const FETCH: [WordForm; 7] = [
 
 const SEE: [WordForm; 3] = [WIDE, WordForm::Observation, WordForm::Observation];
 
-/// Returns what the words after an ownership line's first are.
+/// Returns the forms of the words after the first of an ownership line.
 fn own_forms(version: Version) -> &'static [WordForm]
     ensures { result.now ≡ own_forms version }
 {
@@ -235,7 +235,7 @@ fn own_forms(version: Version) -> &'static [WordForm]
     }
 }
 
-/// Returns what the words after the first of a plan's line are, or of the lines before it.
+/// Returns the forms of the words after the first, for a line of a plan or a line before it.
 fn forms_of_plan(version: Version, kind: &[u8]) -> Option<&'static [WordForm]>
     ensures { option_map (λ f. f.now) result ≡ plan_forms_of version kind.now }
 {
@@ -263,7 +263,7 @@ fn forms_of_plan(version: Version, kind: &[u8]) -> Option<&'static [WordForm]>
     None
 }
 
-/// Returns what the words after the first of a journal's line are.
+/// Returns the forms of the words after the first, for a line of a journal.
 fn forms_of_journal(version: Version, kind: &[u8]) -> Option<&'static [WordForm]>
     ensures { option_map (λ f. f.now) result ≡ journal_forms_of version kind.now }
 {
@@ -295,7 +295,7 @@ fn forms_of_journal(version: Version, kind: &[u8]) -> Option<&'static [WordForm]
     None
 }
 
-/// Returns what the words after the first of a line are, if there are such lines.
+/// Returns the forms of the words after the first, if a line of the version begins with this word.
 fn forms_of(version: Version, kind: &[u8]) -> Option<&'static [WordForm]>
     ensures { option_map (λ f. f.now) result ≡ forms_of version kind.now }
 {
@@ -305,8 +305,9 @@ fn forms_of(version: Version, kind: &[u8]) -> Option<&'static [WordForm]>
     }
 }
 
-/// Returns the number of the first word, from 0, that isn't what it has to be, that is one too many, or that is
-/// missing.
+/// Returns the number, from 0, of the first word that is wrong.
+///
+/// A word is wrong if it has the wrong form, is one too many, or is missing.
 fn wrong_at(forms: &[WordForm], words: &mut Words<'_>) -> Option<usize>
     ensures place { result ≡ wrong_at forms.now words.old }
     ensures within { IfSome result (λ n. n ≤ length forms.now) }
@@ -325,7 +326,7 @@ fn wrong_at(forms: &[WordForm], words: &mut Words<'_>) -> Option<usize>
     }
 }
 
-/// Returns the number of the first word of a line that is wrong, from 0.
+/// Returns the number, from 0, of the first word of a line that is wrong.
 fn wrong_in(version: Version, line: &[u8]) -> Option<usize>
     ensures place { result ≡ wrong_in version (words_of line.now) }
     ensures few { IfSome result (λ n. n ≤ 2 ^ 63) }
@@ -339,7 +340,7 @@ fn wrong_in(version: Version, line: &[u8]) -> Option<usize>
     Some(place + 1)
 }
 
-/// Returns the column of the word of this number, from 1: of a word that is missing the one at which it would begin.
+/// Returns the column, from 1, at which the word of this number begins or would begin.
 fn column_of(line: &[u8], place: usize) -> usize
     ensures { result ≡ room_of (take place (words_of line.now)) + 1 }
 {
@@ -353,7 +354,7 @@ fn column_of(line: &[u8], place: usize) -> usize
     column
 }
 
-/// Where a word of a line stands (project-defined).
+/// The place of a word in a line (project-defined).
 #[derive(Clone, Copy, PartialEq, Eq)]
 pub struct WordPlace {
     /// The number of the word, from 1.
@@ -362,10 +363,13 @@ pub struct WordPlace {
     pub column: usize,
 }
 
-/// Returns the place of the first word of a line of a trace that can't stand there in a line that begins with its first
-/// word: that isn't what it has to be, that is one too many, or that is missing (project-defined). The line is given
-/// without its line feed. `None` where each word may stand in its place, as in each line of the version, and where they
-/// don't go together.
+/// Returns the place of the first word of a line of a trace that is wrong there (project-defined).
+///
+/// A word is wrong if it has the wrong form, is one too many, or is missing. The form is that of its place in a line
+/// that begins with this line's first word. The line is given without its line feed.
+///
+/// Returns `None` if each word may stand in its place. All lines of the version are such lines, and so are lines whose
+/// words don't go together.
 pub fn wrong_word(version: Version, line: &[u8]) -> Option<WordPlace>
     ensures place { result ≡ option_map (place_in (words_of line.now)) (wrong_in version (words_of line.now)) }
     ensures wrong { IfSome result (BeginsNoLine version (words_of line.now)) }

@@ -7,15 +7,17 @@ use fr_frame::lent::LentFrame;
 use std::io;
 use std::io::Write;
 
-/// Returns the letter of what is so, and a dash for what isn't.
+/// Returns the letter of an indicator that is set, and a dash for one that isn't.
 fn mark(letter: &'static str, is_so: bool) -> &'static str
     ensures { result.now ≡ mark letter.entry.now is_so }
 {
     if is_so { letter } else { "-" }
 }
 
-/// Writes the letters of a frame's indicators, in this order: `p` for the payload preamble, `n` for a null frame, `s`
-/// for a sync frame, `u` for a startup frame, and a dash in place of each that isn't so (project-defined).
+/// Writes the letters of a frame's indicators (project-defined).
+///
+/// They are in this order: `p` for the payload preamble, `n` for a null frame, `s` for a sync frame, `u` for a startup
+/// frame. A dash replaces the letter of an indicator that isn't set.
 #[tactic(auto, unfolding(crate::specs::Parts::indicators))]
 pub fn write_indicators<W: Write>(writer: &mut W, frame: &LentFrame<'_>) -> io::Result<()>
     ensures { Writes W.contents writer.old writer.new result (indicators frame.now) }

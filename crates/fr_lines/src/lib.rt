@@ -1,7 +1,8 @@
-//! The lines of a trace: how each is spelled, and what each spells in a version of the format (project-defined).
+//! The lines of a trace: the spelling of each, and the value that each spells in a version of the format
+//! (project-defined).
 //!
-//! A line is given without its line feed, and is cut at each space into words. Each thing has one spelling: a number
-//! is decimal without sign and leading zeros, and `-` stands where there is nothing.
+//! A line is given without its line feed, and is cut at each space into words. Each value has one spelling. A number is
+//! decimal without sign and leading zeros, and `-` stands for nothing.
 //!
 //! ```text
 //! let version = version_of(b"frtrace 3")?;
@@ -13,8 +14,8 @@
 //! write_buffer(&mut out, &buffer)?; // the same line, with its line feed
 //! ```
 //!
-//! A chapter in parentheses is one of the FlexRay Protocol Specification 2.1, revision A, whose rule it is.
-//! *(project-defined)* marks a rule of this project's own, which says nothing of the standard.
+//! A chapter in parentheses is one of the FlexRay Protocol Specification 2.1, revision A.
+//! *(project-defined)* marks a rule of this project, and makes no claim about the standard.
 //!
 //! # Definitions
 //!
@@ -22,13 +23,13 @@
 //!   that lines can spell; the lines of each version.
 //! - `Forms`: the words that a line has after its first, and which of them is wrong.
 //!
-//! Modules that go the way of the code, for private functions, with the module that has the meaning:
+//! Modules that follow the steps of the code, for private functions, with the module that has the meaning:
 //!
 //! - `Bare`: entries without their bytes, and the bytes beside them. Meaning: `fr_journal`: `Entry`, with its bytes.
 //!
 //! # Inner workings
 //!
-//! The crate knows no reader, so a changed line is proved without the auditor.
+//! The crate names no reader, so a changed line is proved without the auditor.
 #![tactic(auto)]
 
 pub mod bare;

@@ -45,10 +45,10 @@ fn node_in(line: &[u8]) -> Option<NodePlan>
     }
 }
 
-/// Returns the plan that a line `node` begins, which has no ownership lines, no buffers and no queue yet.
+/// Returns the plan that a line `node` begins, without ownership lines, buffers and a receive FIFO.
 ///
-/// `None` for a line of another form and where a number is out of its range: 0 to 8 tasks, a latest minislot from 0
-/// to 8000 for channel A and for B, room for 1 to 16384 host entries and for 2 to 65536 slot entries.
+/// `None` for a line of another form, and for a number out of its range. There are 0 to 8 tasks. The latest minislot is
+/// 0 to 8000 for channel A and for B. There is room for 1 to 16384 host entries and for 2 to 65536 slot entries.
 pub fn node_of(line: &[u8]) -> Option<NodePlan>
     ensures found { IfSome result (λ p. line.now ≡ line_of (node_words p)) }
     ensures fits { IfSome result (λ p. IsPlan p × (p ≡ bare_plan p)) }

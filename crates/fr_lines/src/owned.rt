@@ -13,14 +13,14 @@ use fr_slots::filter::CycleFilter;
 use fr_slots::plan::{Own, own_fits};
 use fr_text::words::Words;
 
-/// Returns the ownership line, where a plan can have it.
+/// Returns the ownership line, if a plan can have it.
 fn fitting(own: Own) -> Option<Own>
     ensures { result ≡ fitting_own own }
 {
     if own_fits(&own) { Some(own) } else { None }
 }
 
-/// Returns the cycles that the words spell, which are the line's last.
+/// Returns the cycles that the words spell, if no word follows them.
 #[tactic(auto, unfolding(crate::specs::Reading::last_cycles_in))]
 fn last_cycles_of(words: &mut Words<'_>) -> Option<CycleFilter>
     ensures { result ≡ last_cycles_in words.old }
@@ -29,7 +29,9 @@ fn last_cycles_of(words: &mut Words<'_>) -> Option<CycleFilter>
     cycles_of(base, repetition)
 }
 
-/// Returns the cycles of an ownership: those that the words spell, or every cycle in a version whose line has none.
+/// Returns the cycles of an ownership.
+///
+/// They are those that the words spell, or every cycle in a version whose line has none.
 #[tactic(auto, unfolding(crate::specs::Reading::own_cycles_in))]
 fn own_cycles_of(version: Version, words: &mut Words<'_>) -> Option<CycleFilter>
     ensures { result ≡ own_cycles_in version words.old }
@@ -73,12 +75,13 @@ fn own_in(version: Version, line: &[u8]) -> Option<Own>
     }
 }
 
-/// Returns the ownership of a line `own` in a text of this version, which a plan takes as long as it has room. In
-/// versions 1 and 2 it is for every cycle.
+/// Returns the ownership of a line `own` in a text of this version. A plan takes it as long as it has room.
 ///
-/// `None` for a line of another form, as one with cycles in versions 1 and 2 and one without in version 3; for a slot
-/// that isn't 1 to 1023; for startup frames that aren't sync frames; and where base and repetition are no cycle filter
-/// (chapter 9).
+/// In versions 1 and 2 it is for every cycle.
+///
+/// `None` for a line of another form: a line with cycles in versions 1 and 2, or one without in version 3. Also `None`
+/// for a slot that isn't 1 to 1023, for startup frames that aren't sync frames, and if base and repetition are no cycle
+/// counter filter (chapter 9).
 pub fn own_of(version: Version, line: &[u8]) -> Option<Own>
     ensures found { IfSome result (λ o. line.now ≡ line_of (own_words version o)) }
     ensures fits { IfSome result IsSpelledOwn }

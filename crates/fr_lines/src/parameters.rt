@@ -57,8 +57,7 @@ fn params_in(line: &[u8]) -> Option<[i64; 10]>
 
 /// Returns the ten numbers of a line `params`, in the order of `Key`.
 ///
-/// `None` for a line of another form and where a number doesn't fit 32 bits. The ranges of the keys are left to
-/// `Params::new`.
+/// `None` for a line of another form, and if a number doesn't fit 32 bits. `Params::new` tests the ranges of the keys.
 pub fn params_of(line: &[u8]) -> Option<[i64; 10]>
     ensures found { IfSome result (λ numbers.
         (p : Parameters) → parameters_of numbers ≡ Ok p → line.now ≡ line_of (params_words p)) }

@@ -1,4 +1,4 @@
-//! The parts of which lines are made.
+//! The parts of lines.
 ghost use Rattle.std.specs.Prelude.{◌≡◌, ◌<◌, ◌^◌, None, drop};
 ghost use Rattle.fr_frame.specs.Payload.{most_frame_bytes};
 ghost use Rattle.fr_text.specs.Reading.{number_in, bytes_in, read_as, first_in};
@@ -21,7 +21,7 @@ use fr_text::hexes::{bytes_into, bytes_of};
 use fr_text::numbers::number_of;
 use fr_text::words::Words;
 
-/// Returns the node that the word spells, 0 to 15 (project-defined). `None` where it spells none.
+/// Returns the node that the word spells, 0 to 15 (project-defined). `None` if it spells none.
 pub fn node_of(word: &[u8]) -> Option<NodeId>
     ensures { result ≡ number_in 16 word.now }
 {
@@ -29,7 +29,7 @@ pub fn node_of(word: &[u8]) -> Option<NodeId>
     NodeId::new(number as u8)
 }
 
-/// Returns the task that the word spells, 0 to 7 (project-defined). `None` where it spells none.
+/// Returns the task that the word spells, 0 to 7 (project-defined). `None` if it spells none.
 pub fn task_of(word: &[u8]) -> Option<TaskId>
     ensures { result ≡ number_in 8 word.now }
 {
@@ -37,7 +37,7 @@ pub fn task_of(word: &[u8]) -> Option<TaskId>
     TaskId::new(number as u8)
 }
 
-/// Returns the number of a buffer that the word spells, 0 to 63 (project-defined). `None` where it spells none.
+/// Returns the number of a buffer that the word spells, 0 to 63 (project-defined). `None` if it spells none.
 pub fn buffer_of(word: &[u8]) -> Option<u8>
     ensures { result ≡ number_in 64 word.now }
 {
@@ -45,7 +45,7 @@ pub fn buffer_of(word: &[u8]) -> Option<u8>
     Some(number as u8)
 }
 
-/// Returns the one channel that the word spells, `A` or `B` (project-defined). `None` where it spells none.
+/// Returns the one channel that the word spells, `A` or `B` (project-defined). `None` if it spells none.
 #[tactic(auto, unfolding(crate::specs::PartReading::channel_in))]
 pub fn channel_of(word: &[u8]) -> Option<Channel>
     ensures { result ≡ channel_in word.now }
@@ -79,12 +79,12 @@ pub(crate) fn channels_of(word: &[u8]) -> Option<Channels>
     }
 }
 
-/// Returns the cycles of this base and this repetition, where these are a lawful filter.
+/// Returns the cycles of this base and this repetition, if they are a cycle counter filter.
 #[tactic(auto, unfolding(crate::specs::PartReading::cycles_in))]
 pub(crate) fn cycles_of(base: &[u8], repetition: &[u8]) -> Option<CycleFilter>
     ensures { result ≡ cycles_in base.now repetition.now }
 {
-    // An unlawful filter is `BadLine`, as a number out of range is.
+    // A base and a repetition that are no filter give `BadLine`, as a number out of range does.
     let base = number_of(base, 64)?;
     let repetition = number_of(repetition, 65)?;
     match CycleFilter::new(base as u8, repetition as u8) {
@@ -137,7 +137,7 @@ pub(crate) fn mode_of(word: &[u8]) -> Option<Mode>
     }
 }
 
-/// Returns the words of two bytes that the word spells, 0 to 127, or none for `-`.
+/// Returns the number of two-byte words that the word spells, 0 to 127, or none for `-`.
 #[tactic(auto, unfolding(crate::specs::PartReading::size_in))]
 pub(crate) fn size_of(word: &[u8]) -> Option<Option<u8>>
     ensures { result ≡ size_in word.now }
@@ -151,8 +151,8 @@ pub(crate) fn size_of(word: &[u8]) -> Option<Option<u8>>
     }
 }
 
-/// Returns the payload that the word spells: whole words of two bytes, at most 254 bytes (project-defined). `None`
-/// where it spells none.
+/// Returns the payload that the word spells: two-byte words, at most 254 bytes (project-defined). `None` if it spells
+/// none.
 #[tactic(auto, unfolding(crate::specs::PartReading::payload_in))]
 pub fn payload_of(word: &[u8]) -> Option<Payload>
     ensures { result ≡ payload_in word.now }
@@ -161,7 +161,7 @@ pub fn payload_of(word: &[u8]) -> Option<Payload>
     Payload::from_slice(bytes.as_slice()).ok()
 }
 
-/// Reads the payload that the word spells in place of what the payload was. Says whether it could.
+/// Replaces the payload by the one that the word spells. Returns whether the word spells one.
 #[tactic(auto, unfolding(crate::specs::PartReading::payload_in))]
 pub(crate) fn payload_into(word: &[u8], payload: &mut Payload) -> bool
     ensures { read_as result payload.new ≡ payload_in word.now }
@@ -173,7 +173,7 @@ pub(crate) fn payload_into(word: &[u8], payload: &mut Payload) -> bool
     payload.set_from_slice(bytes.as_slice()).is_ok()
 }
 
-/// Returns the number of the commit that the word says was taken back, or none for `-`.
+/// Returns the number of the withdrawn commit that the word spells, or none for `-`.
 #[tactic(auto, unfolding(crate::specs::PartReading::taken_back_in))]
 pub(crate) fn taken_back_of(word: &[u8]) -> Option<Option<u32>>
     ensures { result ≡ taken_back_in word.now }
@@ -227,8 +227,7 @@ pub(crate) fn from_of(word: &[u8]) -> Option<Option<Origin>>
     }
 }
 
-/// Writes what a word that spells no bytes says that was seen on a channel over what was seen before. Says whether it
-/// could.
+/// Replaces an observation by the one that a word other than bytes spells. Returns whether the word spells one.
 #[tactic(auto, unfolding(crate::specs::PartReading::seen_in, crate::specs::PartReading::seen_bytes_in))]
 fn seen_word_into(word: &[u8], seen: &mut Seen) -> bool
     requires { bytes_in most_frame_bytes word.now ≡ None }
@@ -257,8 +256,9 @@ fn seen_word_into(word: &[u8], seen: &mut Seen) -> bool
     false
 }
 
-/// Reads what the next word says that was seen on a channel in place of what was seen before, bytes over those that are
-/// there. Says whether it could.
+/// Replaces an observation by the one that the next word spells. Returns whether the word spells one.
+///
+/// Bytes are written over the bytes that are there.
 pub(crate) fn next_seen_into(words: &mut Words<'_>, seen: &mut Seen) -> bool
     ensures seen { read_as result seen.new ≡ first_in seen_in words.old }
     ensures left { words.new ≡ drop 1 words.old }
@@ -291,8 +291,8 @@ pub(crate) fn window_at(
 ) -> Option<Window>
     ensures { result ≡ window_of number cycle minislot a b }
 {
-    // At minislot 0 both channels have the same slot, and later at least one has a slot. Anything else is no window, so
-    // `BadLine`; a window that the parameters don't have is `Refused`.
+    // At minislot 0 both channels have the same slot, and later at least one has a slot. Other numbers are no window
+    // and give `BadLine`. A window that the parameters don't have gives `Refused`.
     if minislot != 0 {
         return Window::dynamic(number, cycle, minislot, a, b);
     }

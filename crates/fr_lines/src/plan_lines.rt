@@ -21,15 +21,14 @@ pub enum PlanLine {
     Queue(Queue),
 }
 
-/// Returns what the line tells of a plan in a text of this version: an ownership line, a buffer or the queue, each as
-/// its own function reads it.
+/// Returns the ownership line, the buffer or the receive FIFO that the line spells in this version.
 ///
-/// `None` for a line of another form, or with a number out of its range.
+/// Each is read as its own function reads it. `None` for a line of another form, or with a number out of its range.
 #[tactic(auto, unfolding(crate::specs::Reading::plan_line_in))]
 pub fn plan_line_of(version: Version, line: &[u8]) -> Option<PlanLine>
     ensures { result ≡ plan_line_in version (words_of line.now) }
 {
-    // The line is read once, and the auditor asks its kind whether it stands in its place.
+    // The line is read once; the auditor then tests whether its kind may stand in this place.
     let mut words = Words::new(line);
     match words.next_word()? {
         b"own" => ownership_of(version, &mut words).map(PlanLine::Own),

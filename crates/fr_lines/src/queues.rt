@@ -1,4 +1,4 @@
-//! The line of a queue.
+//! The line of a receive FIFO.
 ghost use Rattle.std.specs.Prelude.{◌≡◌, Some, IfSome};
 ghost use Rattle.fr_slots.specs.declared.plan.Queue.{Queue};
 ghost use Rattle.fr_text.specs.Spaces.{words_of, line_of};
@@ -11,7 +11,7 @@ use fr_slots::plan::{Queue, queue_fits};
 use fr_text::numbers::number_of;
 use fr_text::words::Words;
 
-/// Returns the queue, where a plan can have it.
+/// Returns the receive FIFO, if a plan can have it.
 fn fitting(queue: Queue) -> Option<Queue>
     ensures { result ≡ fitting_queue queue }
 {
@@ -22,7 +22,7 @@ fn fitting(queue: Queue) -> Option<Queue>
     }
 }
 
-/// Returns the queue that the words spell.
+/// Returns the receive FIFO that the words spell.
 #[tactic(auto, unfolding(crate::specs::Reading::reception_in))]
 pub(crate) fn reception_of(words: &mut Words<'_>) -> Option<Queue>
     ensures { result ≡ reception_in words.old }
@@ -43,7 +43,7 @@ pub(crate) fn reception_of(words: &mut Words<'_>) -> Option<Queue>
     })
 }
 
-/// Returns the queue that the line spells.
+/// Returns the receive FIFO that the line spells.
 #[tactic(auto, unfolding(crate::specs::Reading::queue_in))]
 fn queue_in(line: &[u8]) -> Option<Queue>
     ensures { result ≡ queue_in (words_of line.now) }
@@ -55,11 +55,11 @@ fn queue_in(line: &[u8]) -> Option<Queue>
     }
 }
 
-/// Returns the receive queue of a line `queue`, which a plan takes where it has none yet.
+/// Returns the receive FIFO of a line `queue`. A plan takes it if it has none yet.
 ///
-/// `None` for a line of another form, for a capacity that isn't 1 to 256, for slots that aren't 1 to 2047 or of which
-/// the first is above the last, and where base and repetition are no cycle filter (chapter 9; the queue is
-/// project-defined).
+/// `None` for a line of another form, for a capacity that isn't 1 to 256, for slots that aren't 1 to 2047, and if the
+/// first slot is above the last. Also `None` if base and repetition are no cycle counter filter (chapter 9; the receive
+/// FIFO is project-defined).
 pub fn queue_of(line: &[u8]) -> Option<Queue>
     ensures found { IfSome result (λ q. line.now ≡ line_of (queue_words q)) }
     ensures fits { IfSome result IsSpelledQueue }

@@ -9,10 +9,10 @@ ghost use Rattle.fr_lines.specs.Spelling.{first_line};
 pub enum Version {
     /// Version 1, which has no line for a withdraw.
     One,
-    /// Version 2, which has a line for each entry. The lines of version 1 are the same in it.
+    /// Version 2, which has a line for each entry. It keeps the lines of version 1.
     Two,
-    /// Version 3, whose ownership lines have their cycles; in the versions before, each is for every cycle. All other
-    /// lines of version 2 are the same in it.
+    /// Version 3, whose ownership lines have their cycles; in earlier versions each is for every cycle. It keeps all
+    /// other lines of version 2.
     Three,
 }
 
@@ -60,7 +60,7 @@ fn version_in(line: &[u8]) -> Option<Version>
 
 /// Returns the version of the text that begins with this line.
 ///
-/// `None` for any line but `frtrace 1`, `frtrace 2` and `frtrace 3`.
+/// `None` for any line except `frtrace 1`, `frtrace 2` and `frtrace 3`.
 pub fn version_of(line: &[u8]) -> Option<Version>
     ensures found { IfSome result (λ v. line.now ≡ first_line v) }
     ensures only { (v : Version) → line.now ≡ first_line v → result ≡ Some v }

@@ -1,6 +1,6 @@
 //! The lines of a trace, written with their line feeds (project-defined).
 //!
-//! Each function fails where the writer fails, and then a part of the line may have gone out.
+//! Each function fails if the writer fails. Then a part of the line may have gone out.
 ghost use Rattle.std.specs.Prelude.{◌≡◌, ◌∷◌};
 ghost use Rattle.fr_text.specs.Writing.{Writes};
 ghost use Rattle.fr_journal.specs.declared.entry.Entry.TheVariants as entries;
@@ -40,7 +40,7 @@ fn flag_word(flag: bool) -> &'static str
     if flag { "1" } else { "0" }
 }
 
-/// Writes a space, and the word of a slot or of none.
+/// Writes a space, and the word of a slot or of no slot.
 pub fn write_slot<W: Write>(writer: &mut W, slot: Option<SlotId>) -> io::Result<()>
     ensures { Writes W.contents writer.old writer.new result (32 ∷ optional_number slot) }
 {
@@ -50,7 +50,7 @@ pub fn write_slot<W: Write>(writer: &mut W, slot: Option<SlotId>) -> io::Result<
     }
 }
 
-/// Writes a space, and the word of words of two bytes, or of none stated.
+/// Writes a space, and the word of a number of two-byte words, or of none stated.
 fn write_size<W: Write>(writer: &mut W, words: Option<u8>) -> io::Result<()>
     ensures { Writes W.contents writer.old writer.new result (32 ∷ optional_number words) }
 {
@@ -60,7 +60,7 @@ fn write_size<W: Write>(writer: &mut W, words: Option<u8>) -> io::Result<()>
     }
 }
 
-/// Writes a space, and the word of the commit that was taken back, or of none.
+/// Writes a space, and the word of the withdrawn commit, or of none.
 fn write_taken_back<W: Write>(writer: &mut W, of: Option<u32>) -> io::Result<()>
     ensures { Writes W.contents writer.old writer.new result (32 ∷ optional_number of) }
 {
@@ -70,7 +70,7 @@ fn write_taken_back<W: Write>(writer: &mut W, of: Option<u32>) -> io::Result<()>
     }
 }
 
-/// Writes a space, and the word of where a frame comes from.
+/// Writes a space, and the word of a frame's origin.
 fn write_from<W: Write>(writer: &mut W, from: &Option<Origin>) -> io::Result<()>
     ensures { Writes W.contents writer.old writer.new result (32 ∷ from_word from.now) }
 {
@@ -83,7 +83,7 @@ fn write_from<W: Write>(writer: &mut W, from: &Option<Origin>) -> io::Result<()>
     }
 }
 
-/// Writes a space, and the word of what is offered.
+/// Writes a space, and the word of an offer.
 fn write_offered<W: Write>(writer: &mut W, offered: Offered) -> io::Result<()>
     ensures { Writes W.contents writer.old writer.new result (32 ∷ offered_word offered) }
 {
@@ -94,7 +94,7 @@ fn write_offered<W: Write>(writer: &mut W, offered: Offered) -> io::Result<()>
     }
 }
 
-/// Writes a space, and the word of what was seen.
+/// Writes a space, and the word of an observation.
 fn write_seen<W: Write>(writer: &mut W, seen: &Seen) -> io::Result<()>
     ensures { Writes W.contents writer.old writer.new result (32 ∷ seen_word seen.now) }
 {
@@ -126,7 +126,7 @@ pub fn write_params<W: Write>(writer: &mut W, params: &Params) -> io::Result<()>
     writeln!(writer, " {} {}", params.idle, params.words_per_minislot)
 }
 
-/// Writes the line of a plan's numbers. Its ownership lines, buffers and queue have lines of their own.
+/// Writes the line of a plan's numbers. Its ownership lines, buffers and receive FIFO have lines of their own.
 pub fn write_node<W: Write>(writer: &mut W, plan: &NodePlan) -> io::Result<()>
     ensures { Writes W.contents writer.old writer.new result (line_text (node_words plan.now)) }
 {
@@ -182,7 +182,7 @@ pub fn write_buffer<W: Write>(writer: &mut W, buffer: &Buffer) -> io::Result<()>
     }
 }
 
-/// Writes the line of a receive queue.
+/// Writes the line of a receive FIFO.
 pub fn write_queue<W: Write>(writer: &mut W, queue: &Queue) -> io::Result<()>
     ensures { Writes W.contents writer.old writer.new result (line_text (queue_words queue.now)) }
 {

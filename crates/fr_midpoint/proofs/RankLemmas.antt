@@ -1,4 +1,4 @@
--- Places in ascending values are ranks, and ranks name one value.
+-- Places in ascending values are ranks, and each rank has one value.
 use Rattle.std.proofs.Common.{◌≡◌, ℕ, zero, suc, ◌+◌, ◌-◌, ◌<◌, ◌≤◌, Bool, true, false, cond, List, [], ◌∷◌, length}
 use Rattle.std.proofs.Common.{get_or, refl, sym, ap, subst, ◌∙◌, arith, inl, inr, Option, Some, None, ℤ, pos, negsuc}
 use Rattle.std.proofs.Common.{◌+ℤ◌, ◌<ℤ◌, Less, Equal, Greater}
@@ -196,11 +196,11 @@ midpoint-same xs m n h k =
     (subst (λ s. IsHalf s n.value) (sym (ap (λ x. x +ℤ h.high) low ∙ ap (λ y. k.low +ℤ y) high)) k.value_is) in
     midpoint_with-same m.value n.value m.low_rank n.low_rank m.high_rank n.high_rank value low_rank high_rank
 
--- a value has a rank only where there are values
+-- a value has a rank only if there are values
 midpoint_some : (xs : List ℤ) (m : Midpoint) → IsMidpoint xs m → 0 < length xs
 midpoint_some xs m h = let inside : h.low_has.among.0 < length xs = h.low_has.among.1 in omega arith
 
--- ---- what the call answers
+-- ---- the answer of the call
 
 pub middle_found : (xs ys : List ℤ) → IsPermutation xs ys → IsSorted int_cmp ys → (answer : Option Midpoint)
     → answer ≡ middle_of ys → IfSome answer (λ m. IsMidpoint xs m)
@@ -234,7 +234,7 @@ not_true : (b : Bool) → (b ≡ true → ⊥) → b ≡ false
 not_true true h = absurd (h refl)
 not_true false h = refl
 
--- no value is large, in whatever order
+-- no value is large, in any order
 none_large : (test : ℤ → Bool) (ys : List ℤ) → list_any test ys ≡ false → All (λ y. test y ≡ false) ys
 none_large test ys h = λ k d in'. not_true (test (get_or ys k d)) (λ e. let some = list_any_at test ys k d in' e in cc)
 

@@ -1,4 +1,4 @@
--- Which values have no midpoint for a fault of theirs (project-defined).
+-- The values that are refused (project-defined).
 use Rattle.std.specs.Prelude.{nat_lt, Bool, List, length, ℤ, Option, Some, None, if◌then◌else◌}
 use Rattle.std.specs.Int.RustNames.{unsigned_abs}
 use Rattle.std.specs.List.{list_any}

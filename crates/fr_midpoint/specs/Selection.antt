@@ -1,4 +1,4 @@
--- The midpoint by places in values that ascend.
+-- The midpoint by places in ascending values.
 use Rattle.std.specs.Prelude.{ℕ, ◌+◌, ◌-◌, ◌==◌, List, length, slice_index_or, ℤ, pos, ◌+ℤ◌, int_div, Option, Some}
 use Rattle.std.specs.Prelude.{None, if◌then◌else◌}
 use Rattle.fr_midpoint.specs.declared.ranks.Midpoint.{Midpoint}

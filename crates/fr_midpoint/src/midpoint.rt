@@ -1,4 +1,4 @@
-//! The midpoint of values, by sorting them.
+//! The midpoint of values, which are sorted.
 
 ghost use Rattle.std.specs.Prelude.{◌≡◌, ◌≤◌, ◌↔◌, IfOk, IfSome, IsNone, IsSome, length, All, false, pos, ◌+ℤ◌};
 ghost use Rattle.std.specs.Prelude.{int_div};
@@ -16,12 +16,12 @@ use arrayvec::ArrayVec;
 
 /// Returns the fault-tolerant midpoint of values (chapter 8), or none of no values (project-defined).
 ///
-/// Of up to 2 values none is dropped, of 3 to 7 the least and the greatest, and of 8 and more the
-/// two least and the two greatest. The midpoint is half of what the least and the greatest of the rest
-/// add up to; of an odd sum it is the half nearer to zero (project-defined).
+/// Of up to 2 values none is dropped, of 3 to 7 the least and the greatest, and of 8 and more the two least and the two
+/// greatest. The midpoint is half the sum of the least and the greatest of the rest. Half of an odd sum is truncated
+/// toward zero (project-defined).
 ///
-/// Refused with `TooMany` where there are more than 15 values, and then with `TooLarge` where one
-/// of them is more than 1,000,000 from 0. It takes no memory.
+/// Fails with `TooMany` for more than 15 values, then with `TooLarge` for a value more than 1,000,000 from 0. It
+/// allocates no memory.
 pub fn midpoint(values: &[i32]) -> Result<Option<Midpoint>, MidpointError>
     ensures refusal { result_err result ≡ refusal values.now }
     ensures none { IfOk result (λ answer. IsNone answer ↔ (length values.now ≡ 0)) }
@@ -29,7 +29,7 @@ pub fn midpoint(values: &[i32]) -> Result<Option<Midpoint>, MidpointError>
     ensures only { (m : Midpoint) → IsMidpoint values.now m
         → IfOk result (λ answer. answer ≡ Some m) }
 {
-    // Values are counted before they are judged, since `TooLarge` comes after `TooMany`.
+    // Values are counted before they are tested, since `TooLarge` comes after `TooMany`.
     let Some(ascending) = ascending(values) else {
         return Err(MidpointError::TooMany);
     };
@@ -39,7 +39,7 @@ pub fn midpoint(values: &[i32]) -> Result<Option<Midpoint>, MidpointError>
     Ok(middle_of(ascending.as_slice()))
 }
 
-/// Returns the values in ascending order, or none where there are more than 15.
+/// Returns the values in ascending order, or none for more than 15.
 fn ascending(values: &[i32]) -> Option<ArrayVec<i32, VALUES>>
     ensures room { IsSome result ↔ (length values.now ≤ 15) }
     ensures moved { IfSome result (λ kept. IsPermutation values.now kept.items) }
@@ -58,7 +58,7 @@ fn any_large(values: &[i32]) -> bool
     values.iter().any(|value| value.unsigned_abs() > GREATEST)
 }
 
-/// Returns how many of so many values are dropped at either end.
+/// Returns the number of values that are dropped at either end, of so many.
 fn count_dropped(count: usize) -> usize
     ensures { result ≡ dropped count }
 {
@@ -69,7 +69,7 @@ fn count_dropped(count: usize) -> usize
     }
 }
 
-/// Half the sum of two values, truncated toward zero.
+/// Returns half the sum of two values, truncated toward zero.
 fn half_sum(low: i32, high: i32) -> i32
     requires low_near { is_large low ≡ false }
     requires high_near { is_large high ≡ false }
@@ -78,7 +78,7 @@ fn half_sum(low: i32, high: i32) -> i32
     (low + high) / 2
 }
 
-/// Returns the midpoint of values that ascend.
+/// Returns the midpoint of ascending values.
 fn middle_of(ascending: &[i32]) -> Option<Midpoint>
     requires few { length ascending.now ≤ 15 }
     requires near { All (λ value. is_large value ≡ false) ascending.now }

@@ -1,14 +1,14 @@
-//! What a midpoint is, and why there is none.
+//! A midpoint, and the reasons to refuse values.
 
 use thiserror::Error;
 
-/// At most this many values have a midpoint (project-defined).
+/// The greatest number of values that have a midpoint (project-defined).
 pub const VALUES: usize = 15;
 
 /// The greatest distance of a value from 0 (project-defined).
 pub const GREATEST: u32 = 1_000_000;
 
-/// The midpoint of some values, and which of them it lies between.
+/// The midpoint of some values, and the ranks of the two values between which it lies.
 ///
 /// Ranks are counted from 1: the value of rank 1 is the least of all.
 #[derive(Clone, Copy, PartialEq, Eq)]
@@ -21,13 +21,13 @@ pub struct Midpoint {
     pub high_rank: u8,
 }
 
-/// Why values are refused.
+/// Reasons to refuse values.
 #[derive(Clone, Copy, Debug, PartialEq, Eq, Error)]
 pub enum MidpointError {
-    /// There are more than 15 values.
+    /// More than 15 values.
     #[error("TooMany")]
     TooMany,
-    /// A value lies more than 1,000,000 from 0.
+    /// A value more than 1,000,000 from 0.
     #[error("TooLarge")]
     TooLarge,
 }

@@ -1,4 +1,4 @@
--- One row more.
+-- One more row.
 use Rattle.std.proofs.Common.{◌≡◌, ℕ, zero, suc, ◌+◌, ◌*◌, ◌≤◌, inl, inr, List, [], ◌∷◌, ◌++◌, true, length}
 use Rattle.std.proofs.Common.{length-append, refl, ap, ◌∙◌, sym, subst, arith}
 use Rattle.std.proofs.lemmas.Bool.Decides.{eqb_tells}
@@ -19,7 +19,7 @@ minislot_more : (p : Parameters) (counts : List ℕ) (bytes : ℕ)
     → first_minislot p (counts ++ bytes ∷ []) ≡ first_minislot p counts + row_length p bytes
 minislot_more p counts bytes = omega (arith, sum_by-append (row_length p) counts (bytes ∷ []))
 
--- a lane that closes a row stands after that row too
+-- a lane that closes a row is the lane after that row too
 pub closed_more : (p : Parameters) (counts : List ℕ) (bytes : ℕ)
     → closed (standing_after p counts) bytes ≡ standing_after p (counts ++ bytes ∷ [])
 closed_more p counts bytes = λ i. record {
@@ -33,7 +33,7 @@ pub closed_rows : (s : Standing) (bytes : ℕ) (counts : List ℕ) → s ≡ sta
     → closed s bytes ≡ standing_after s.params (counts ++ bytes ∷ [])
 closed_rows s bytes counts e = ap (λ (t : Standing). closed t bytes) e ∙ closed_more s.params counts bytes
 
--- and is a lane
+-- so it is a lane
 pub closed_stands : (s : Standing) (bytes : ℕ) → is_row s.params s.slot s.begins ≡ true → IsStanding s
     → IsStanding (closed s bytes)
 closed_stands s bytes opened is =
@@ -45,7 +45,7 @@ closed_stands s bytes opened is =
       stands = closed_rows s bytes is.counts is.stands;
     }
 
--- so does a new one
+-- a new lane is one too
 pub new_stands : (p : Parameters) → IsStanding (standing_after p [])
 unfolding AllAfter
 new_stands p = record { counts = []; are_rows = tt; stands = refl }

@@ -3,7 +3,7 @@ use Rattle.std.proofs.Common.{◌≡◌, ℕ, Bool, true, false, List, [], ◌�
 use Rattle.fr_minislot.specs.DynamicRows.{row_length, opened_after, has_row_after}
 use Rattle.fr_slots.specs.Parameters.{Parameters}
 
--- three static slots, ten minislots of four words, and one that stays idle after a transmission
+-- three static slots, ten minislots of four words, and one idle minislot after a transmission
 abbrev small_cycle : Parameters
 small_cycle = record {
   static_slots = 3;

@@ -1,11 +1,11 @@
--- What a lane is seen as, and what its calls give.
+-- The view of a lane, and the results of its calls.
 use Rattle.std.specs.Prelude.{◌≡◌, ℕ, ◌+◌, ◌==◌, nat_lt, not, ◌&&◌, List, Option, Some, None, if◌then◌else◌}
 use Rattle.fr_minislot.specs.declared.lane.LaneError.{LaneError}
 use Rattle.fr_minislot.specs.declared.lane.LaneError.TheVariants.{NothingOpen, TooLong}
 use Rattle.fr_minislot.specs.DynamicRows.{first_minislot, slot_after, is_row, row_length, AreRows}
 use Rattle.fr_slots.specs.Parameters.{Parameters}
 
--- the slot of the row that is next, and its first minislot
+-- the slot of the next row, and its first minislot
 pub record Standing : Type 0 where
   pub params : Parameters
   pub slot : ℕ
@@ -24,7 +24,7 @@ pub record IsStanding (s : Standing) : Type 0 where
 abbrev pub opened_in : Standing → ℕ → Option ℕ
 opened_in s minislot = if is_row s.params s.slot s.begins && s.begins == minislot then Some s.slot else None
 
--- the first minislot of the row that is next, if it exists
+-- the first minislot of the next row, if it exists
 abbrev pub next_in : Standing → Option ℕ
 next_in s = if is_row s.params s.slot s.begins then Some s.begins else None
 

@@ -8,36 +8,35 @@ use fr_slots::params::Params;
 use std::marker::Model;
 use thiserror::Error;
 
-/// The greatest number of bytes of a transmission: a frame of 127 words of two bytes, with header and trailer
-/// (chapter 4).
+/// The greatest number of bytes of a transmission (chapter 4). It is a frame of 127 two-byte words, with header and
+/// trailer.
 const LONGEST: u16 = 262;
 
 /// The last slot of a channel (chapter 5).
 const LAST_SLOT: u16 = 2047;
 
-/// Why a slot can't be closed (project-defined).
+/// Reasons to refuse to close a slot (project-defined).
 #[derive(Clone, Copy, Debug, PartialEq, Eq, Error)]
 pub enum LaneError {
-    /// The channel opens no further slot in the cycle.
+    /// A cycle in which the channel opens no further slot.
     #[error("NothingOpen")]
     NothingOpen,
-    /// No transmission has so many bytes.
+    /// A number of bytes that no transmission has.
     #[error("TooLong")]
     TooLong,
 }
 
-/// One channel's dynamic segment in one cycle: how far its slots have come (chapter 5).
+/// One channel's dynamic segment in one cycle, after the slots that were closed (chapter 5).
 ///
-/// It stands after the slots that were closed, at the one that is next. The first dynamic slot is the one after the
-/// last static slot, and opens at minislot 1. The next one opens after the minislots that the one before it took: one
-/// where nothing was sent, else those that its longest transmission fills and the idle ones after them
-/// (project-defined).
+/// The first dynamic slot follows the last static slot, and opens at minislot 1. Each next slot opens after the
+/// minislots of the slot before it. Those are one if nothing was sent; otherwise they are the ones that its longest
+/// transmission fills, and the idle ones after them (project-defined).
 #[derive(Clone, Copy, PartialEq, Eq)]
 pub struct Lane {
     params: Params,
-    /// The slot that is next.
+    /// The next slot.
     slot: u16,
-    /// Its first minislot, counted from 1, which may lie after the segment's last.
+    /// Its first minislot, counted from 1, which may come after the segment's last.
     begins: u16,
 }
 
@@ -55,14 +54,14 @@ impl Model for Lane {
     ghost inverse = { λ s. record { params = s.params; slot = s.slot; begins = s.begins } };
 }
 
-/// Returns whether a slot of this number and first minislot opens, where all slots before it do.
+/// Returns whether a slot of this number and first minislot opens, if all slots before it do.
 fn is_row(params: &Params, slot: u16, begins: u16) -> bool
     ensures { result ≡ is_row params.now slot begins }
 {
     begins <= params.minislots && slot <= LAST_SLOT
 }
 
-/// Returns the minislots of a slot whose longest transmission has so many bytes.
+/// Returns the number of minislots of a slot whose longest transmission has so many bytes.
 fn row_length(params: &Params, bytes: u16) -> u16
     requires { bytes ≤ 262 }
     ensures value { result ≡ row_length params.now bytes }
@@ -80,7 +79,7 @@ impl Lane {
     ghost use Rattle.fr_minislot.specs.DynamicRows.{opened_after};
     ghost use Rattle.fr_minislot.specs.Lanes.{IsStanding, close_refusal, closed, next_in, opened_in, standing_after};
 
-    /// Returns the dynamic segment of a cycle from its start (chapter 5).
+    /// Returns the dynamic segment of a cycle, at its start (chapter 5).
     pub fn new(params: &Params) -> Lane
         ensures { result ≡ standing_after params.now [] }
     {
@@ -92,7 +91,7 @@ impl Lane {
         }
     }
 
-    /// Returns the parameters that it was made with.
+    /// Returns the parameters of the cluster.
     pub fn params(&self) -> &Params
         ensures value { result.now ≡ self.now.params }
         ensures rows { IsStanding self.now }
@@ -100,8 +99,8 @@ impl Lane {
         &self.params
     }
 
-    /// Returns the slot that the channel opens at the minislot, counted from 1 (chapter 5). None where the slot that is
-    /// next begins at another minislot or after the segment's last one, and where slot 2047 was closed.
+    /// Returns the slot that the channel opens at the minislot, counted from 1 (chapter 5). Returns none if the next
+    /// slot begins at another minislot or after the last one, and once slot 2047 is closed.
     pub fn opens(&self, minislot: u16) -> Option<SlotId>
         ensures value { result ≡ opened_in self.now minislot }
         ensures rows { (counts : List ℕ)
@@ -115,8 +114,8 @@ impl Lane {
         }
     }
 
-    /// Returns the minislot, counted from 1, at which the channel opens its next slot (chapter 5). None where it opens
-    /// no further one in the cycle.
+    /// Returns the minislot, counted from 1, at which the channel opens its next slot (chapter 5). Returns none if it
+    /// opens no further slot in the cycle.
     pub fn next(&self) -> Option<u16>
         ensures { result ≡ next_in self.now }
     {
@@ -127,11 +126,10 @@ impl Lane {
         }
     }
 
-    /// Ends the slot that is next (chapter 5). `bytes` is the length of the longest transmission that passed in it, or
-    /// 0 where none did.
+    /// Closes the next slot (chapter 5). `bytes` is the length of the longest transmission that passed in it, or 0 for
+    /// none.
     ///
-    /// Refused with `NothingOpen` where the channel opens no further slot, and then with `TooLong` for more than 262
-    /// bytes.
+    /// Fails with `NothingOpen` if the channel opens no further slot, then with `TooLong` for more than 262 bytes.
     pub fn close(&mut self, bytes: u16) -> Result<(), LaneError>
         ensures refusal { result_err result ≡ close_refusal self.old bytes }
         ensures accepted { OnOk result (self.new ≡ closed self.old bytes) }
@@ -141,8 +139,8 @@ impl Lane {
             → self.new ≡ standing_after self.old.params (counts ++ bytes ∷ [])) }
         ensures refused { OnErr result (self.new ≡ self.old) }
     {
-        // The call ends the slot that is next, whenever it comes. So `NothingOpen` says that the channel opens no
-        // further slot in the cycle, and it comes before `TooLong`.
+        // The call closes the next slot at any minislot. So `NothingOpen` means that the channel opens no further slot
+        // in the cycle, and it comes before `TooLong`.
         if !is_row(&self.params, self.slot, self.begins) {
             return Err(LaneError::NothingOpen);
         }

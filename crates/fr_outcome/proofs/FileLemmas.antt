@@ -1,4 +1,4 @@
--- What is read of a scenario file.
+-- The scenario that is read from a file.
 use Rattle.std.proofs.Common.{◌≡◌, ◌⊎◌, ℕ, List, Option, Some, None, Result, Ok, Err, subst, inl, inr}
 use Rattle.std.specs.Prelude.{IfSome}
 use Rattle.std.specs.Str.{IsUtf8}
@@ -20,7 +20,7 @@ short_in text (Ok contents) short is = (short, is)
 short_in text (Err (refusal.Scenario e)) short is = (short, is)
 short_in text (Err (refusal.Text e)) short is = absurd is
 
--- the scenario in the bytes that were read is that of the text
+-- the scenario of the bytes that were read is that of the text
 pub read_in : (text : Option (List ℕ)) (bytes : List ℕ) (r : Result Contents FileError)
     → IfSome text (λ t. (bytes ≡ t) × IsShort t) → IsScenarioIn bytes r → IfSome text (λ t. IsScenarioOf t r)
 read_in None bytes r read is = tt

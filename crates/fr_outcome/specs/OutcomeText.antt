@@ -13,10 +13,10 @@ node_text node s = line_text (codes "node" ∷ decimal node ∷ []) ++ report_te
 abbrev pub nodes_text : List State → List ℕ
 nodes_text interfaces = of_nodes node_text 0 interfaces
 
--- the number of windows, and that all agrees
+-- the number of windows, and the line `settled`
 abbrev pub settled_text : ℕ → List ℕ
 settled_text windows = line_text (codes "windows" ∷ decimal windows ∷ []) ++ line_text (codes "settled" ∷ [])
 
--- all nodes in order, and then that
+-- all nodes in order, and then the number of windows and `settled`
 abbrev pub outcome_text : List State → ℕ → List ℕ
 outcome_text interfaces windows = nodes_text interfaces ++ settled_text windows

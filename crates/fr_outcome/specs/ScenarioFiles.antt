@@ -1,4 +1,4 @@
--- What a whole scenario file is read as, and whether a run with it can be had (project-defined).
+-- The scenario of a whole scenario file, and the cluster's acceptance of a run with it (project-defined).
 use Rattle.std.specs.Prelude.{⊤, ◌≡◌, ◌<◌, ◌≤◌, ◌⊎◌, ℕ, List, length, Option, Some, Result, Ok, Err}
 use Rattle.std.specs.Str.{IsUtf8}
 use Rattle.fr_commands.specs.declared.error.BenchError.TheVariants as bench
@@ -17,19 +17,19 @@ use Rattle.fr_schedule.specs.Descriptions.{Description}
 abbrev pub IsShort : List ℕ → Type 0
 IsShort text = length text ≤ 1048576
 
--- The text is refused so: by its first fault, and as another version where it isn't UTF-8; or memory is refused.
+-- The text is rejected with this error: its first fault, or `BadMagic` if it isn't UTF-8; or memory ran out.
 abbrev pub IsRefused : List ℕ → ScenarioError → Type 0
 IsRefused text e =
     (e ≡ scenario.Memory)
     ⊎ ((IsUtf8 text × (first_fault text ≡ Some e)) ⊎ ((IsUtf8 text → ⊥) × (e ≡ scenario.BadMagic)))
 
--- the scenario that the bytes are, or their first fault
+-- the scenario that the bytes spell, or their first fault
 abbrev pub IsScenarioIn : List ℕ → Result Contents FileError → Type 0
 IsScenarioIn text (Ok contents) = IsScenarioText text contents
 IsScenarioIn text (Err (refusal.Scenario e)) = IsRefused text e
 IsScenarioIn text (Err (refusal.Text e)) = ⊥
 
--- The scenario that the text is, or its first fault. Of a failing reader and of a failed allocation nothing is said.
+-- The scenario that the text spells, or its first fault. Nothing is stated for a failing reader or a failed allocation.
 abbrev pub IsScenarioOf : List ℕ → Result Contents FileError → Type 0
 IsScenarioOf text (Ok contents) = IsShort text × IsScenarioText text contents
 IsScenarioOf text (Err (refusal.Scenario e)) = IsShort text × IsRefused text e
@@ -40,7 +40,7 @@ IsScenarioOf text (Err (refusal.Text e)) = ⊥
 
 -- ---- a run with it
 
--- the text is that of a scenario, and the cluster's run with it is refused so, or can be had
+-- the text is that of a scenario, and the cluster rejects a run with it with this error, or accepts it
 abbrev pub RunIsRefused : Description → ℕ → List ℕ → Option RunRefusal → Type 0
 RunIsRefused d cycles text refused =
     IsShort text

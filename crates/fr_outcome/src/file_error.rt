@@ -1,4 +1,4 @@
-//! Why the file of a scenario is refused.
+//! Reasons to reject the file of a scenario.
 ghost use Rattle.std.specs.Prelude.{◌≡◌};
 ghost use Rattle.fr_outcome.specs.declared.file_error.FileError.TheVariants as refusal;
 
@@ -6,10 +6,12 @@ use fr_commands::error::BenchError;
 use fr_scenario::error::ScenarioError;
 use thiserror::Error;
 
-/// Why the file of a scenario is refused (project-defined). Printed, it is the name and the values of the error below.
+/// Reasons to reject the file of a scenario (project-defined).
+///
+/// An error prints as the name and the values of the error within it.
 #[derive(Clone, Copy, Debug, Drop, PartialEq, Eq, Error)]
 pub enum FileError {
-    /// The file couldn't be read, or is too long, or memory for its bytes was refused.
+    /// The file couldn't be read, or is too long, or an allocation for its bytes failed.
     #[error("{0}")]
     Text(BenchError),
     /// The text is no scenario.

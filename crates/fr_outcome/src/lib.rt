@@ -1,4 +1,4 @@
-//! What all programs share that run a cluster: the file of a scenario, and the text of the outcome of a run
+//! The parts that all programs that run a cluster share: the file of a scenario, and the text of a run's outcome
 //! (project-defined).
 //!
 //! ```text
@@ -6,11 +6,11 @@
 //! write_outcome(&mut output, interfaces, windows)?; // node 0, its report, node 1 and so on
 //! ```
 //!
-//! *(project-defined)* marks a rule of this project's own, which says nothing of the standard.
+//! *(project-defined)* marks a rule of this project, and makes no claim about the standard.
 //!
 //! # Definitions
 //!
-//! - `ScenarioFiles`, `OutcomeText`: the reading of a scenario file, and whether the cluster accepts a run with it; the
+//! - `ScenarioFiles`, `OutcomeText`: the reading of a scenario file, and the cluster's acceptance of a run with it; the
 //!   text of an outcome.
 #![tactic(auto)]
 

@@ -28,18 +28,19 @@ fn write_nodes<W: Write>(writer: &mut W, interfaces: &[Interface]) -> io::Result
     Ok(())
 }
 
-/// Writes that all agrees, in so many windows.
+/// Writes the number of windows and the line `settled`.
 fn write_settled<W: Write>(writer: &mut W, windows: usize) -> io::Result<()>
     ensures { OnOk result (Appends (W.contents writer.old) (W.contents writer.new) (settled_text windows)) }
 {
-    // A single-threaded run has `settled` without a walk: agreement is the headline promise.
+    // A single-threaded run has `settled` without a cross-check: its agreement is proved.
     writeln!(writer, "windows {windows}")?;
     writeln!(writer, "settled")
 }
 
-/// Writes the outcome of a run: each node's report, the number of windows and that all agrees (project-defined).
+/// Writes the outcome of a run (project-defined).
 ///
-/// Fails where the writer fails, and then a part of the text may have gone out.
+/// It is each node's report, the number of windows and `settled`. Fails if the writer fails. Then a part of the text
+/// may have gone out.
 pub fn write_outcome<W: Write>(
     writer: &mut W,
     interfaces: &[Interface],

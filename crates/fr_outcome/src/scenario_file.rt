@@ -10,7 +10,7 @@ use std::alloc::Global;
 use std::io::Read;
 use std::str;
 
-/// The most bytes that a scenario file may have.
+/// The largest number of bytes of a scenario file.
 const MOST_BYTES: u64 = 1_048_576;
 
 /// Returns the scenario that the bytes of a scenario file spell.
@@ -27,11 +27,11 @@ fn scenario_in(alloc: Global, bytes: &[u8]) -> Result<Scenario, FileError>
     }
 }
 
-// Callers read the cluster first. Where that is refused, the scenario isn't opened.
+// Callers read the cluster first. If the cluster is rejected, the scenario isn't opened.
 /// Reads a scenario file to its end (project-defined).
 ///
-/// Refused with `TooLong` for more than 1,048,576 bytes, then as a text that is no scenario: with `BadMagic` also where
-/// it isn't UTF-8. `Read` and `Memory` come where the reader fails and where memory is refused.
+/// Returns `TooLong` for more than 1,048,576 bytes, and otherwise the error of a text that is no scenario. A text that
+/// isn't UTF-8 gives `BadMagic`. Returns `Read` if the reader fails, and `Memory` if an allocation fails.
 #[tactic(auto, using(crate::proofs::FileLemmas::read_in))]
 pub fn scenario_of<R: Read>(alloc: Global, reader: &mut R) -> Result<Scenario, FileError>
     ensures { IfSome (R.remaining reader.old) (λ text. IsScenarioOf text result) }

@@ -1,4 +1,4 @@
--- What a table says of the parameters: the first key at fault in the order of the keys, then the sum, or the parameters
+-- The parameters in a table, or its refusal: the first key at fault in the order of the keys, then the sum
 -- (project-defined).
 use Rattle.std.specs.Prelude.{ℕ, ◌==◌, ℤ, Option, Some, None, Result, Ok, Err, if◌then◌else◌}
 use Rattle.toml.specs.Data.{Data, Members, get_member, as_integer}
@@ -16,7 +16,7 @@ abbrev pub ◌>>=◌ : {A B : Type 0} → Result A ParamError → (A → Result 
 
 -- ---- one key
 
--- the integer under the key, if what stands there is one
+-- the integer under the key, if its value is one
 abbrev pub integer_in : Key → Option ℤ → Result ℕ ParamError
 integer_in key None = Err (NotANumber key)
 integer_in key (Some number) = if admits key number then Ok (unsigned number) else Err (OutOfRange key)
@@ -25,7 +25,7 @@ abbrev pub member_in : Key → Option Data → Result ℕ ParamError
 member_in key None = Err (Missing key)
 member_in key (Some data_there) = integer_in key (as_integer data_there)
 
--- the number that the table has under the key
+-- the number under the key
 unfoldable pub number_at : Key → Members → Result ℕ ParamError
 number_at key table = member_in key (get_member (name_of key) table)
 
@@ -49,7 +49,7 @@ last_five table = do
   words_per_minislot ← number_at WordsPerMinislot table
   Ok (symbol_mt, nit_mt, cycle_mt, idle, words_per_minislot)
 
--- the parameters, where their parts fill the cycle
+-- the parameters, if their parts fill the cycle
 abbrev pub summed : Parameters → Result Parameters ParamError
 summed p = if macroticks_of p == p.cycle_mt then Ok p else Err CycleSum
 

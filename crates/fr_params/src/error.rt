@@ -1,21 +1,21 @@
-//! Why a table holds no parameters.
+//! The reasons to refuse a table as parameters.
 
 use fr_slots::params::Key;
 use thiserror::Error;
 
-/// Why a table holds no parameters: the first key at fault, in the order of `Key`, or their sum.
+/// The first key at fault in a table of parameters, in the order of `Key`, or their sum.
 #[derive(Clone, Copy, Debug, PartialEq, Eq, Error)]
 pub enum ParamError {
-    /// The table hasn't the key.
+    /// A key that the table doesn't have.
     #[error("Missing {0}")]
     Missing(Key),
-    /// What stands under the key is no integer. A float is none, even without a fraction.
+    /// A value under the key that isn't an integer; floats aren't, even without a fraction.
     #[error("NotANumber {0}")]
     NotANumber(Key),
-    /// The number under the key is out of the key's range.
+    /// A number out of the key's range.
     #[error("OutOfRange {0}")]
     OutOfRange(Key),
-    /// Static slots, minislots, symbol window and network idle time don't fill the cycle.
+    /// A sum of static slots, minislots, symbol window and network idle time that isn't the cycle.
     #[error("CycleSum")]
     CycleSum,
 }

@@ -10,18 +10,17 @@ use crate::error::ParamError;
 use fr_slots::params::{Five, Key, Params};
 use toml::{Table, Value};
 
-/// Returns the parameters of a table (project-defined). Keys that aren't parameters are ignored.
+/// Returns the parameters of a table (project-defined). Other keys are ignored.
 ///
-/// Refused with the first key at fault in the order of `Key`: `Missing` where the table hasn't the
-/// key, `NotANumber` where what stands there is no integer, `OutOfRange` where the integer is out
-/// of the key's range. Then with `CycleSum` where
-/// `static_slots * static_mt + minislots * minislot_mt + symbol_mt + nit_mt` isn't `cycle_mt`.
+/// Fails with the first key at fault in the order of `Key`. The error is `Missing` if the table doesn't have the key,
+/// `NotANumber` if its value isn't an integer, `OutOfRange` if the integer is out of the key's range. Then it fails
+/// with `CycleSum` if `static_slots * static_mt + minislots * minislot_mt + symbol_mt + nit_mt` isn't `cycle_mt`.
 #[tactic(auto, unfolding(crate::specs::Table::parameters_in))]
 pub fn from_table(table: &Table) -> Result<Params, ParamError>
     ensures value { result ≡ parameters_in (table_view table.now) }
     ensures lawful { IfOk result IsParameters }
 {
-    // Each key is tested whole before the next, so a missing key comes before a later one out of range.
+    // Each key is tested completely before the next, so a missing key comes before a later one out of range.
     let first = first_five(table)?;
     let last = last_five(table)?;
     params_of(first, last)
@@ -34,7 +33,7 @@ fn params_of(first: Five, last: Five) -> Result<Params, ParamError>
     ensures value { result ≡ summed (assembled first last) }
     ensures lawful { IfOk result IsParameters }
 {
-    // Each number is in its range, so that only the sum is refused.
+    // Each number is in its range, so only the sum can be refused.
     match Params::assemble(first, last) {
         Ok(params) => Ok(params),
         Err(_) => Err(ParamError::CycleSum),
@@ -75,7 +74,7 @@ fn last_five(table: &Table) -> Result<Five, ParamError>
     Ok((symbol_mt, nit_mt, cycle_mt, idle, words_per_minislot))
 }
 
-/// Returns the number under the key, where the key admits it.
+/// Returns the number under the key, if it is in the key's range.
 #[tactic(auto, unfolding(crate::specs::Table::number_at))]
 fn number_at(table: &Table, key: Key) -> Result<u16, ParamError>
     ensures value { result ≡ number_at key (table_view table.now) }
@@ -94,7 +93,7 @@ fn number_at(table: &Table, key: Key) -> Result<u16, ParamError>
     }
 }
 
-/// Returns what the table has under the name, and none where it has no such key (project-defined).
+/// Returns the table's value under the name, or none if there is no such key (project-defined).
 pub fn value_under<'a>(table: &'a Table, name: &str) -> Option<&'a Value>
     ensures { option_map (λ v. view v.now) result ≡ get_member name.now (table_view table.now) }
 {

@@ -1,4 +1,4 @@
--- What a play with the scenario of a file answers, by what its parts do.
+-- The result of `play_file`, from the results of its parts.
 use Rattle.std.proofs.Common.{ℕ, List, Option, Some, None, Ok, Err, ◌≡◌, subst}
 use Rattle.std.specs.Prelude.{IfSome}
 use Rattle.fr_commands.specs.declared.error.BenchError.TheVariants as bench
@@ -52,7 +52,7 @@ refused_by d cycles text (refusal.Text bench.BadNumber) is told = absurd is
 refused_by d cycles text (refusal.Text (bench.Config e)) is told = absurd is
 refused_by d cycles text (refusal.Text (bench.Midpoint e)) is told = absurd is
 
--- why there is no run with the scenario that was read
+-- the reason why there is no run with the scenario that was read
 pub unplayed : (d : Description) (cycles : ℕ) (text : Option (List ℕ)) (contents : Contents) (scripts : List Scripted)
     (faults : List FaultLine) (e : PlayError)
     → scripts ≡ contents.scripts → faults ≡ contents.faults → IfSome text (λ t. IsScenarioOf t (Ok contents))

@@ -35,7 +35,7 @@ map_append f (x ∷ xs) ys = ap (λ l. f x ∷ l) (map_append f xs ys)
 
 -- ---- windows of events
 
--- the faults, what is due, and the advance
+-- the faults, the events that are due, and the advance
 pub passes_window : (cycle : ℕ) (faults : List FaultLine) (due : List Event) (window : Opportunity)
     (old struck done new : WorldState) → old.bus.opened ≡ Some window
     → Passes old (flat_map (strike_events cycle window) faults) struck → Passes struck due done
@@ -48,7 +48,7 @@ passes_window cycle faults due window old struck done new opened first second la
       (passes_append old (flat_map (strike_events cycle window) faults) struck due done first second) last,
 )
 
--- the same, where the last of them is the one that is done last
+-- the same, if the last of them is the one that is executed last
 pub ends_window : {A E : Type 0} (r : Result A E) (cycle : ℕ) (faults : List FaultLine) (due : List Event)
     (window : Opportunity) (old struck done new : WorldState)
     → old.bus.opened ≡ Some window → Passes old (flat_map (strike_events cycle window) faults) struck
@@ -102,7 +102,7 @@ adds_one before call asked old new does is = (call ∷ [], refl, ap (λ (a : Ask
 abbrev asked : ℕ → ℕ → ℕ → Action → Asked
 asked node task cycle action = record { node = node; task = task; cycle = cycle; action = action }
 
--- a line of another cycle asks for nothing
+-- a line of another cycle leads to no call
 pub other_line : (cycle node task : ℕ) (line : Line) (calls : List Call) (w : WorldState) → (line.cycle ≡ cycle → ⊥)
     → AddsCalls calls calls w (asked_in_line cycle node task line) w
 other_line cycle node task line calls w other = by (line.cycle == cycle) refl
@@ -112,7 +112,7 @@ other_line cycle node task line calls w other = by (line.cycle == cycle) refl
     by true e = absurd (other (eqb-true line.cycle cycle e))
     by false e = adds_none calls w
 
--- a line of this cycle that was done
+-- a line of this cycle that was executed
 pub one_line : (cycle node task : ℕ) (line : Line) (before after : List Call) (call : Call) (old new : WorldState)
     → line.cycle ≡ cycle → after ≡ before ++ call ∷ []
     → DoesCall old call new → (call.node ≡ node) × (call.task ≡ task) × (call.cycle ≡ cycle) ×
@@ -187,7 +187,7 @@ asked_more count scripts =
     ∙ flat_map-append all (range_with_len 0 count) (count ∷ [])
     ∙ ap (λ (l : List Asked). asked_by count scripts ++ l) (append-nil (asked_in count scripts))
 
--- what was done is what was asked for
+-- the executed calls are those of the scripts
 pub all_asked : (scripts : List Scripted) (faults : List FaultLine) (due : List Event) (count : ℕ) (calls : List Call)
     (old new : WorldState)
     → PlaysCycles scripts faults due count old calls new → map asked_of calls ≡ asked_by count scripts
@@ -200,7 +200,7 @@ all_asked scripts faults due (suc count) calls old new plays =
     cycle.1
     ∙ sym (asked_more count scripts)
 
--- a cycle whose windows are done last
+-- a cycle whose windows are executed last
 pub ends_cycle : {A E : Type 0} (r : Result A E) (cycle : ℕ) (scripts : List Scripted) (faults : List FaultLine)
     (due : List Event) (before after : List Call)
     (old called new : WorldState) → AddsCalls before after old (asked_in cycle scripts) called

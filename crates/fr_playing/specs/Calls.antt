@@ -1,4 +1,4 @@
--- What the lines of scripts do in the world, one after another (project-defined).
+-- The calls of script lines in the world, one after another (project-defined).
 use Rattle.std.specs.Prelude.{◌≡◌, ℕ, ◌==◌, List, [], ◌∷◌, ◌++◌, length, map, slice_get, Option, Some, None, Ok}
 use Rattle.std.specs.Prelude.{if◌then◌else◌}
 use Rattle.std.specs.List.{flat_map}
@@ -13,16 +13,16 @@ use Rattle.fr_core.specs.Worlds.{WorldState}
 use Rattle.fr_interface.specs.State.{State}
 use Rattle.fr_playing.specs.declared.call.Call.{Call}
 
--- ---- what is asked for
+-- ---- the calls of the scripts
 
--- what a task of a node is to do in a cycle of the run
+-- a call that a task of a node has in a cycle of the run
 pub record Asked : Type 0 where
   pub node : ℕ
   pub task : ℕ
   pub cycle : ℕ
   pub action : Action
 
--- what a line asks for in this cycle: nothing, if it is one of another
+-- the call of a line in this cycle; none for a line of another cycle
 abbrev pub asked_in_line : ℕ → ℕ → ℕ → Line → List Asked
 asked_in_line cycle node task line =
     if line.cycle == cycle then record { node = node; task = task; cycle = cycle; action = line.action } ∷ [] else []
@@ -30,11 +30,11 @@ asked_in_line cycle node task line =
 abbrev pub asked_in_script : ℕ → Scripted → List Asked
 asked_in_script cycle script = flat_map (asked_in_line cycle script.node script.task) script.lines
 
--- what is asked for in a cycle, in the order of the scripts and of the lines of each
+-- the calls of a cycle, in the order of the scripts and of the lines of each
 abbrev pub asked_in : ℕ → List Scripted → List Asked
 asked_in cycle scripts = flat_map (asked_in_script cycle) scripts
 
--- ---- what is done
+-- ---- executed calls
 
 abbrev pub event_of : ℕ → ℕ → Action → Event
 event_of node task (action.Commit buffer payload) = event.Commit node task buffer payload
@@ -45,12 +45,12 @@ event_of node task action.Pop = event.Pop node task
 abbrev pub asked_of : Call → Asked
 asked_of call = record { node = call.node; task = call.task; cycle = call.cycle; action = call.action }
 
--- how many entries an interface has, if there is one
+-- the number of entries of an interface, if there is one
 abbrev pub entries_in : Option State → ℕ
 entries_in None = 0
 entries_in (Some s) = length s.entries
 
--- the call is accepted and answered so, and the next entry of its node's journal tells of it
+-- the call is accepted and has this answer, and the next entry of its node's journal is its entry
 abbrev pub DoesCall : WorldState → Call → WorldState → Type 0
 DoesCall old call new =
     Steps old (event_of call.node call.task call.action) (Ok call.reply) new
@@ -61,7 +61,7 @@ unfoldable pub DoesCalls : WorldState → List Call → WorldState → Type 0
 DoesCalls old [] new = new ≡ old
 DoesCalls old (call ∷ calls) new = (between : WorldState) × DoesCall old call between × DoesCalls between calls new
 
--- to the calls `before` come those that do what is asked for, and lead from `old` to `new`
+-- after the calls `before` come those of the scripts, which lead from `old` to `new`
 abbrev pub AddsCalls : List Call → List Call → WorldState → List Asked → WorldState → Type 0
 AddsCalls before after old asked new =
     (calls : List Call) × (after ≡ before ++ calls) × (map asked_of calls ≡ asked) × DoesCalls old calls new

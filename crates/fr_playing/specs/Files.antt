@@ -9,15 +9,15 @@ use Rattle.fr_playing.specs.Playing.{IsPlayed}
 use Rattle.fr_scenario.specs.ScenarioText.{IsScenarioText}
 use Rattle.fr_schedule.specs.Descriptions.{Description}
 
--- the scenario is the one that the text is, and the run is one of the cluster with it
+-- the scenario is the one that the text spells, and the run is one of the cluster with it
 abbrev pub IsPlayIn : Description → ℕ → List ℕ → PlayedFile → Type 0
 IsPlayIn d cycles text file =
     IsScenarioText text file.scenario
     × IsPlayed d file.scenario.scripts file.scenario.faults cycles file.played
 
--- The run with the scenario that the text is, or why there is none: the text is refused so, or the run with it. Of a
--- failing reader and of a failed allocation nothing is said, nor of an event that the world refused in a run that can
--- be had.
+-- The run with the scenario that the text spells, or the reason why there is none: the text is rejected with this
+-- error, or the run with it. Nothing is stated for a failing reader, a failed allocation, or an event that the world
+-- refused in a run that the cluster accepts.
 abbrev pub IsPlayOf : Description → ℕ → List ℕ → Result PlayedFile PlayError → Type 0
 IsPlayOf d cycles text (Ok file) = RunIsRefused d cycles text None × IsPlayIn d cycles text file
 IsPlayOf d cycles text (Err (refusal.Run e)) = RunIsRefused d cycles text (Some e)

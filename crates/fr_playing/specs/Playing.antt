@@ -12,17 +12,17 @@ use Rattle.fr_runs.specs.declared.fault_line.FaultLine.{FaultLine}
 use Rattle.fr_schedule.specs.Descriptions.{Description}
 use Rattle.fr_session.specs.Moving.{whole_window}
 
--- `due` is what is due in a window of all nodes, but for the faults and the bus's advance.
+-- `due` are the events that are due in a window of all nodes, except the faults and the bus's advance.
 
 -- ---- cycles
 
--- The cycle of this number of the run: these calls do all lines of it, in their order, and then come its windows.
+-- The cycle of this number of the run: these calls execute all its lines in order, and then come its windows.
 abbrev pub PlaysCycle : ℕ → List Scripted → List FaultLine → List Event → WorldState → List Call → WorldState → Type 0
 PlaysCycle cycle scripts faults due old calls new =
     (called : WorldState) × (map asked_of calls ≡ asked_in cycle scripts) × DoesCalls old calls called
     × PlaysWindows cycle faults due called new
 
--- so many cycles, with all their calls
+-- this number of cycles, with all their calls
 unfoldable pub PlaysCycles : List Scripted → List FaultLine → List Event → ℕ → WorldState → List Call → WorldState
     → Type 0
 PlaysCycles scripts faults due zero old calls new = (calls ≡ []) × (new ≡ old)
@@ -30,7 +30,7 @@ PlaysCycles scripts faults due (suc n) old calls new =
     (mid : WorldState) × (before : List Call) × (later : List Call) × PlaysCycles scripts faults due n old before mid
     × PlaysCycle n scripts faults due mid later new × (calls ≡ before ++ later)
 
--- to the calls `before` come those of the cycle
+-- after the calls `before` come those of the cycle
 abbrev pub AddsCycle : ℕ → List Scripted → List FaultLine → List Event → List Call → List Call → WorldState
     → WorldState → Type 0
 AddsCycle cycle scripts faults due before after old new =
@@ -38,17 +38,17 @@ AddsCycle cycle scripts faults due before after old new =
 
 -- ---- the run
 
--- all that is asked for in so many cycles, one cycle after another
+-- the calls of this number of cycles, one cycle after another
 abbrev pub asked_by : ℕ → List Scripted → List Asked
 asked_by cycles scripts = flat_map (λ cycle. asked_in cycle scripts) (range_with_len 0 cycles)
 
--- This is what a run of the cluster with these scripts and faults and so many cycles leaves: the world to which its
--- events lead from the opening world, and the calls of its lines, each once.
+-- These are the results of a run of the cluster with these scripts, these faults and this number of cycles. They are
+-- the world to which its events lead from the opening world, and the calls of its lines, each once.
 pub record IsPlayed (d : Description) (scripts : List Scripted) (faults : List FaultLine) (cycles : ℕ) (played : Played)
     : Type 0 where
   pub cycles_are : PlaysCycles scripts faults (whole_window (length d.plans)) cycles (opening_world d cycles)
       played.calls.items played.world
-  -- each line of the run is done, once, and in this order
+  -- each line of the run is executed, once, and in this order
   pub asked : map asked_of played.calls.items ≡ asked_by cycles scripts
   -- the run is over
   pub over : played.world.bus.opened ≡ None

@@ -1,4 +1,4 @@
--- How the errors of a run without threads follow from those of its files, and which of them says that it can't be had
+-- The errors of a single-threaded run, from those of its files, and the reason why the cluster doesn't accept it
 -- (project-defined).
 use Rattle.std.specs.Prelude.{⊤, Option, Some, None, Result, Ok, Err}
 use Rattle.fr_bus.specs.declared.error.BusError.TheVariants as bus
@@ -17,18 +17,18 @@ abbrev pub failure_of_file : FileError → PlayError
 failure_of_file (file.Text e) = refusal.Text e
 failure_of_file (file.Scenario e) = refusal.Scenario e
 
--- what ends a play, where the world refuses an event
+-- the end of a run in which the world refuses an event
 abbrev pub hindrance_of : StepError → Hindrance
 hindrance_of (step.Bus bus.Memory) = hindrance.Memory
 hindrance_of e = hindrance.Step e
 
--- as an error
+-- the hindrance as an error
 abbrev pub error_of_hindrance : Hindrance → PlayError
 error_of_hindrance (hindrance.Step e) = refusal.Step e
 error_of_hindrance hindrance.Unfinished = refusal.Unfinished
 error_of_hindrance hindrance.Memory = refusal.Text bench.Memory
 
--- why the run can't be had, where the error says that
+-- the reason why the cluster doesn't accept the run, if the error is such a reason
 abbrev pub refusal_of : PlayError → Option RunRefusal
 refusal_of (refusal.Text e) = None
 refusal_of (refusal.Scenario e) = None
@@ -41,7 +41,7 @@ abbrev pub refusal_told : {A : Type 0} → Result A PlayError → Option RunRefu
 refusal_told (Ok x) = None
 refusal_told (Err e) = refusal_of e
 
--- an error of a run, and of none of its files but where an allocation fails
+-- an error of a run, and not of its files, except a failed allocation
 abbrev pub IsOfRun : PlayError → Type 0
 IsOfRun (refusal.Text bench.Memory) = ⊤
 IsOfRun (refusal.Text e) = ⊥

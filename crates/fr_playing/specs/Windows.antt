@@ -9,7 +9,7 @@ use Rattle.fr_session.specs.Moving.{is_at_cycle}
 use Rattle.fr_session.specs.Striking.{strike_events, Passes}
 use Rattle.fr_slots.specs.Windows.{Opportunity}
 
--- what is done in this window: the faults that come in it, then what is due of all nodes, and then the bus's advance
+-- the events of this window: its faults, then the due events of all nodes, and then the bus's advance
 abbrev pub played_events : ℕ → List FaultLine → List Event → Opportunity → List Event
 played_events cycle faults due window = flat_map (strike_events cycle window) faults ++ due ++ Advance ∷ []
 
@@ -20,7 +20,7 @@ abbrev pub PlaysWindow : ℕ → List FaultLine → List Event → WorldState �
 PlaysWindow cycle faults due old new =
     (window : Opportunity) × (old.bus.opened ≡ Some window) × Passes old (played_events cycle faults due window) new
 
--- so many windows lead from `old` to `new`, and after each of them the bus stands within the cycle
+-- this number of windows lead from `old` to `new`, and after each of them the bus stands within the cycle
 unfoldable pub PlaysWithin : ℕ → List FaultLine → List Event → ℕ → WorldState → WorldState → Type 0
 PlaysWithin cycle faults due zero old new = new ≡ old
 PlaysWithin cycle faults due (suc n) old new =

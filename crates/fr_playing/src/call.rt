@@ -22,7 +22,7 @@ pub struct Call {
     /// The call of the task.
     pub action: Action,
     // The number is kept, since the channel of a frame stands in the entry and not in the reply.
-    /// The entry of the node's journal that tells of it, from 0.
+    /// The number of its entry in the node's journal, from 0.
     pub entry: u32,
     /// The answer.
     pub reply: Reply,
@@ -53,7 +53,7 @@ fn event_of(node: NodeId, task: TaskId, action: &Action) -> Event
     }
 }
 
-/// Returns how many entries the node's journal has, and 0 where the cluster doesn't have the node.
+/// Returns the number of entries of the node's journal, or 0 if the cluster doesn't have the node.
 fn entries_of(world: &World, node: NodeId) -> u32
     ensures { result ≡ entries_in (slice_get world.now.interfaces node) }
 {
@@ -63,7 +63,7 @@ fn entries_of(world: &World, node: NodeId) -> u32
     }
 }
 
-/// Does the action of the node's task.
+/// Executes the action of the node's task.
 fn do_action(
     world: &mut World,
     node: NodeId,
@@ -87,7 +87,7 @@ fn do_action(
     })
 }
 
-/// Does the line of the node's task, if it is one of this cycle.
+/// Executes the line of the node's task, if it is one of this cycle.
 fn do_line(
     world: &mut World,
     cycle: u16,
@@ -107,7 +107,7 @@ fn do_line(
     Ok(())
 }
 
-/// Does the script's lines of this cycle, in their order.
+/// Executes the script's lines of this cycle, in their order.
 fn do_script(
     world: &mut World,
     cycle: u16,
@@ -124,7 +124,7 @@ fn do_script(
     Ok(())
 }
 
-/// Does the lines of this cycle, in the order of the scripts and of the lines of each.
+/// Executes the lines of this cycle, in the order of the scripts and of the lines of each.
 pub(crate) fn do_lines(
     world: &mut World,
     cycle: u16,

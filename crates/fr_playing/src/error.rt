@@ -1,4 +1,4 @@
-//! The reasons for which a run isn't played, or not shown.
+//! Reasons why a run isn't executed, or not shown.
 ghost use Rattle.std.specs.Prelude.{◌≡◌};
 ghost use Rattle.fr_playing.specs.declared.error.PlayError.TheVariants as refusal;
 ghost use Rattle.fr_playing.specs.Refusals.{failure_of_file};
@@ -10,22 +10,22 @@ use fr_runs::check::RunRefusal;
 use fr_scenario::error::ScenarioError;
 use thiserror::Error;
 
-/// The reason for which a run isn't played, or not shown (project-defined). Printed, it is the error's name, and for an
-/// error of a crate below the names and values of that error.
+/// Reasons why a run isn't executed, or not shown (project-defined).
+///
+/// An error prints as its name. An error of a crate below prints as the names and values of that error.
 #[derive(Clone, Copy, Debug, Drop, PartialEq, Eq, Error)]
 pub enum PlayError {
-    /// The cluster file is refused, an input couldn't be read or was too long, the output couldn't be written, or
-    /// memory was refused.
+    /// The cluster file is rejected, a stream failed, an input is too long, or an allocation failed.
     #[error("{0}")]
     Text(BenchError),
-    /// The scenario file is refused.
+    /// The scenario file is rejected.
     #[error("{0}")]
     Scenario(ScenarioError),
-    /// The run can't be had.
+    /// The cluster doesn't accept the run.
     #[error("{0}")]
     Run(RunRefusal),
-    // It can't be proved away without the place of stations, controllers and journals at each step of a window.
-    /// The world refused an event of the run, for another cause than a failed allocation.
+    // A proof that it never occurs would need the stages of nodes, controllers and journals at each step of a window.
+    /// The world refused an event of the run for a reason other than a failed allocation.
     #[error("{0}")]
     Step(StepError),
     /// The bus didn't come to its end.

@@ -10,19 +10,18 @@ use fr_schedule::cluster::Cluster;
 use std::alloc::Global;
 use std::io::Read;
 
-/// A scenario, and what a run with it leaves (project-defined).
+/// A scenario, and the results of a run with it (project-defined).
 #[derive(Drop)]
 pub struct PlayedFile {
-    /// The scenario that the file is.
+    /// The scenario that the file spells.
     pub scenario: Scenario,
     /// The world and the calls at the end of the run.
     pub played: Played,
 }
 
-/// Reads a scenario file to its end, and plays a run of the cluster with it for so many cycles (project-defined). Gives
-/// the scenario too.
+/// Reads a scenario file to its end, and executes a run of the cluster with it (project-defined).
 ///
-/// Refused as the file of the scenario is, then as the run is (`play`).
+/// It also returns the scenario. Returns the error of the scenario's file, then that of the run (`play`).
 #[tactic(auto, using(crate::proofs::FileLemmas::file_refused))]
 pub fn play_file<R: Read>(
     alloc: Global,

@@ -10,15 +10,16 @@ use fr_commands::error::BenchError;
 use fr_core::error::StepError;
 use std::alloc::{AllocError, AllocFailed};
 
-/// An event that ends a single-threaded run early. In a run that the cluster accepts, only a failed allocation is known
-/// to come.
+/// An event that ends a single-threaded run early.
+///
+/// In a run that the cluster accepts, the only known one is a failed allocation.
 #[derive(Clone, Copy, PartialEq, Eq)]
 pub(crate) enum Hindrance {
     /// The world refused an event.
     Step(StepError),
     /// The bus didn't come to its end.
     Unfinished,
-    /// Memory was refused.
+    /// An allocation failed.
     Memory,
 }
 

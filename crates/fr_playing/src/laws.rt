@@ -8,8 +8,8 @@ ghost use Rattle.fr_runs.specs.declared.fault_line.FaultLine.{FaultLine};
 ghost use Rattle.fr_schedule.specs.Descriptions.{Description};
 ghost use Rattle.fr_session.specs.Laws.{IsLed};
 
-/// A list of events leads from the opening world to the world of the run (project-defined). An empty function: its
-/// clause is the law.
+// For the prover: the clause is the law.
+/// A list of events leads from the opening world to the world of the run (project-defined).
 pub fn led_by_events()
     ensures { (d : Description) (scripts : List Scripted) (faults : List FaultLine) (cycles : ℕ) (played : Played)
         → IsPlayed d scripts faults cycles played → IsLed (opening_world d cycles) played.world }

@@ -27,7 +27,7 @@ pub struct Played {
     pub calls: Vec<Call>,
 }
 
-/// Does a cycle: its lines, and then its windows.
+/// Executes a cycle: its lines, and then its windows.
 fn play_cycle(
     world: &mut World,
     cycle: u16,
@@ -43,7 +43,7 @@ fn play_cycle(
     play_windows(world, cycle, faults, due)
 }
 
-/// Does so many cycles.
+/// Executes this number of cycles.
 fn play_cycles(
     world: &mut World,
     scripts: &[Script],
@@ -61,7 +61,7 @@ fn play_cycles(
     Ok(())
 }
 
-/// Plays a run that the cluster accepts.
+/// Executes a run that the cluster accepts.
 fn play_all(
     alloc: Global,
     cluster: &Cluster,
@@ -88,16 +88,16 @@ fn play_all(
     }
 }
 
-/// Plays a run of the cluster for so many cycles in one thread, one event of its world after another (project-defined).
+/// Executes a run of the cluster in one thread, one event of its world after another (project-defined).
 ///
 /// In each cycle its lines are executed first, in the order of the scripts and of the lines of each. Then comes window
 /// after window: its faults, in the order of their lines; the look, fetch and put of each node; the seal; the take and
 /// observe of each node; the bus's advance. A lockstep run in threads leads to the same if no two tasks touch one
 /// buffer or one receive FIFO in a cycle.
 ///
-/// Refused with `Run` exactly as `check_run` refuses, and then with `Memory` if an allocation fails. `Step` and
-/// `Unfinished` would say that the world refused an event, or wasn't over after so many cycles. In a run that the
-/// cluster accepts neither is known to come: tests show that.
+/// Returns `Run` exactly if `check_run` rejects the run, and `Memory` if an allocation fails. The errors `Step` and
+/// `Unfinished` mean that the world refused an event, or that the run wasn't over after its cycles. Tests show that
+/// neither occurs in a run that the cluster accepts.
 pub fn play(
     alloc: Global,
     cluster: &Cluster,
@@ -115,6 +115,7 @@ pub fn play(
     }
     match play_all(alloc, cluster, scripts, faults, cycles) {
         Ok(played) => {
+            // For the prover: the clause of this call.
             played.world.known();
             Ok(played)
         }

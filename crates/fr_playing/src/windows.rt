@@ -10,7 +10,7 @@ use fr_runs::fault_line::FaultLine;
 use fr_session::moving::is_at_cycle;
 use fr_session::striking::strike_all;
 
-/// Does an event, which has to be accepted.
+/// Executes an event, which must be accepted.
 fn pass(world: &mut World, event: &Event) -> Result<(), Hindrance>
     ensures { OnOk result (Passes world.old (event.now ∷ []) world.new) }
 {
@@ -18,7 +18,7 @@ fn pass(world: &mut World, event: &Event) -> Result<(), Hindrance>
     Ok(())
 }
 
-/// Does the events, each of which has to be accepted.
+/// Executes the events, each of which must be accepted.
 fn pass_all(world: &mut World, events: &[Event]) -> Result<(), Hindrance>
     ensures { OnOk result (Passes world.old events.now world.new) }
 {
@@ -28,7 +28,7 @@ fn pass_all(world: &mut World, events: &[Event]) -> Result<(), Hindrance>
     Ok(())
 }
 
-/// Does the open window: its faults, then what is due in it, and then the bus's advance.
+/// Executes the open window: its faults, then its due events, and then the bus's advance.
 fn play_window(
     world: &mut World,
     cycle: u16,
@@ -45,7 +45,7 @@ fn play_window(
     pass(world, &Event::Advance)
 }
 
-/// Does windows until the first one of a cycle is open, or the run is over.
+/// Executes windows until the first one of a cycle is open, or the run is over.
 pub(crate) fn play_windows(
     world: &mut World,
     cycle: u16,

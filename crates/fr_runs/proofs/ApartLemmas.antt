@@ -1,4 +1,4 @@
--- Lines that both come in a window name a window in common.
+-- Lines that both occur in a window name a common window.
 use Rattle.std.proofs.Common.{◌≡◌, ℕ, Bool, true, false, ◌&&◌, List, take, Option, Some, None, refl, sym, subst, ◌∙◌}
 use Rattle.std.specs.Prelude.{◌==◌, not, IfSome}
 use Rattle.std.specs.List.{list_any}

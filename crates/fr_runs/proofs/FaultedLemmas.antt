@@ -64,7 +64,7 @@ module _ (lines : List FaultLine) (cycle : ℕ) (w : Opportunity) (channel : Cha
       (sent_due ts bytes (λ k. due (suc k))) is
 
 module _ (cycle : ℕ) (r : Recorded) (channel : Channel) (node : ℕ) where
-  -- what a line has the node send is recorded
+  -- the babble that the line gives the node is recorded
   by_fault : (f : Fault) (bytes : ArrayVec ℕ) → bytes_babbled node channel f ≡ Some bytes → IsBabbled r f
       → babble_in channel node r.sent ≡ recordable (slot_of r.window channel) (Some bytes)
   by_fault (Mute of on) bytes is babbled = absurd (let none : ⊥ = cc in none)
@@ -105,7 +105,7 @@ module _ (cycle : ℕ) (r : Recorded) (channel : Channel) (node : ℕ) where
   no_bytes None = refl
   no_bytes (Some slot) = refl
 
-  -- where nothing of the node is recorded no line has it send something
+  -- if nothing of the node is recorded, no line gives it a babble
   none_due : (lines : List FaultLine) → ((k : ℕ) → IfSome (slice_get lines k) (IsBabbledBy cycle r))
       → babble_in channel node r.sent ≡ None
       → recordable (slot_of r.window channel) (babble_due lines cycle r.window node channel) ≡ None
@@ -194,7 +194,7 @@ module _ (cycle : ℕ) (w : Opportunity) where
   loss_of_cycle node channel (line ∷ lines) = loss_of_cycle_next node channel line lines (names_cycle line.cycles cycle)
       refl (loss_of_cycle node channel lines)
 
--- the lines of a cycle do to its windows what all lines do
+-- the lines of a cycle have the same effect on its windows as all lines
 pub faults_of_cycle : (lines : List FaultLine) (cycle : ℕ) (r : Recorded)
     → HasFaults (lines_of_cycle cycle lines) cycle r → HasFaults lines cycle r
 faults_of_cycle lines cycle r has = record {
@@ -205,7 +205,7 @@ faults_of_cycle lines cycle r has = record {
       (loss_of_cycle cycle r.window t.node t.channel lines);
 }
 
--- the window at this place has its faults, where so many cycles began with it, and these are the lines of that cycle
+-- the window at this place has its faults, if so many cycles began with it, and these are the lines of that cycle
 pub faults_at : (lines kept : List FaultLine) (rs : List Recorded) (k cycle : ℕ) (r : Recorded)
     → slice_get rs k ≡ Some r
     → cycle ≡ cycle_at rs k → kept ≡ lines_of_cycle cycle lines → HasFaults kept cycle r → HasFaultsAt lines rs k
@@ -220,13 +220,13 @@ by_place lines rs j None at all = tt
 by_place lines rs j (Some r) at all = subst (λ o. IfSome o (HasFaults lines (cycle_at rs j))) at
     (all (slice_get_within rs j r at))
 
--- all windows have their faults, where those before the end have
+-- all windows have their faults, if those before the end have
 pub faults_all : (lines : List FaultLine) (rs : List Recorded) (k : ℕ) → length rs ≤ k
     → ((j : ℕ) → j < k → HasFaultsAt lines rs j) → (j : ℕ) → HasFaultsAt lines rs j
 faults_all lines rs k end all j = by_place lines rs j (slice_get rs j) refl
     (λ within. all j (omega (arith, within, end)))
 
--- one window more has its faults
+-- one more window has its faults
 pub faults_on : (lines : List FaultLine) (rs : List Recorded) (k : ℕ) → ((j : ℕ) → j < k → HasFaultsAt lines rs j)
     → HasFaultsAt lines rs k
     → (j : ℕ) → j < k + 1 → HasFaultsAt lines rs j
@@ -235,7 +235,7 @@ faults_on lines rs k before here j below = elim (eqb_tells j k) [
   | inr other ↦ before j (let less : j < k = omega (arith, below, other.1) in less)
 ]
 
--- the cycles that began with one window more
+-- the cycles that began, with one more window
 pub begun_yes : (rs : List Recorded) (k : ℕ) (r : Recorded) → slice_get rs k ≡ Some r → begins_cycle r ≡ true
     → cycles_begun (take (k + 1) rs) ≡ cycles_begun (take k rs) + 1
 begun_yes rs k r at begins = count_yes begins_cycle rs k r at begins

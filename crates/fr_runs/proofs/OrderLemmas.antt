@@ -1,4 +1,4 @@
--- What a test of each line beside the next tells.
+-- The consequence of a test of each line beside the next.
 use Rattle.std.proofs.Common.{◌≡◌, ◌≤◌, ℕ, Bool, true, false, List, [], ◌∷◌, Some, refl, sym, ◌∙◌, arith, rules, tests}
 use Rattle.std.specs.Prelude.{◌↔◌, IsTrue}
 use Rattle.std.specs.List.{IsAllAdjacentAnswer}

@@ -1,4 +1,4 @@
--- One entry further along a journal, beside the record and the scripts.
+-- One more entry of a journal, beside the record and the scripts.
 use Rattle.std.proofs.Common.{◌≡◌, ◌<◌, ◌≤◌, ℕ, zero, suc, ◌+◌, Bool, true, false, cond, List, [], ◌∷◌, length, set}
 use Rattle.std.proofs.Common.{Option}
 use Rattle.std.proofs.Common.{Some, None, refl, sym, ap, subst, ◌∙◌, arith, take, get_or, inl, inr, IsTrue, ◌↔◌}
@@ -27,7 +27,7 @@ module _ {X : Type 0} where
   got : (xs : List X) (k : ℕ) (x : X) → slice_get xs k ≡ Some x → get_or xs k x ≡ x
   got xs k x at = some_alike (get_or xs k x) x (sym (slice_get-get_or xs k x (slice_get_within xs k x at)) ∙ at)
 
-  -- how many pass a test, with one more
+  -- the number of items that pass a test, with one more
   pub count_yes : (p : X → Bool) (xs : List X) (k : ℕ) (x : X) → slice_get xs k ≡ Some x → p x ≡ true
       → count_by p (take (k + 1) xs) ≡ count_by p (take k xs) + 1
   count_yes p xs k x at passes = count_by_more_yes p xs k x (slice_get_within xs k x at) (ap p (got xs k x at) ∙ passes)
@@ -119,7 +119,7 @@ other_observes (Pop t from) none is = absurd (let no : ⊥ = cc in no)
 other_observes (Fetch window a b) none is = absurd (let no : ⊥ = cc in no)
 other_observes (Observe number a b) none is = refl
 
--- ---- one entry further
+-- ---- one more entry
 
 module _ (rs : List Recorded) (es : List Entry) (k : ℕ) (x : Progress) (far : IsProgress rs (take k es) x) (e : Entry)
     (at : slice_get es k ≡ Some e) where
@@ -188,7 +188,7 @@ module _ (rs : List Recorded) (es : List Entry) (k : ℕ) (x : Progress) (far : 
     calls = calls_on none;
   }
 
-  -- none is counted more often than there are entries
+  -- no count is above the number of entries
   within : k < length es
   within = slice_get_within es k e at
 
@@ -264,7 +264,7 @@ module _ (rs : List Recorded) (before : List Entry) (x : Progress) (far : IsProg
       both_ways None = (λ a. a, λ a. a)
       both_ways (Some line) = (in_step line.cycle, stands_then line.cycle)
 
-  -- the entry of a task comes in its turn exactly where the walk stands for the task's next line
+  -- the entry of a task is in its turn exactly if the walk is in step for the task's next line
   pub in_turn : (scripts : List Scripted) (node : ℕ) (e : Entry) (task d : ℕ) (b : Bool) → task_of e ≡ Some task
       → task < most_tasks
       → (IsTrue b ↔ StandsFor rs (lines_given scripts node task) (get_or x.calls task d) x)

@@ -18,7 +18,7 @@ mute cycles place = record { fault = Mute 0 A; cycles = cycles; place = place }
 abbrev second_minislot : Opportunity
 second_minislot = record { number = 4; cycle = 0; minislot = 2; a = Some 5; b = Some 5 }
 
--- cycle 64 of a run is another than its cycle 0
+-- cycle 64 of a run isn't its cycle 0
 pub mute_comes_in_its_cycle : strikes (mute (Only 64) EverySlot) 64 (static_window 9 0 3) ≡ true
 mute_comes_in_its_cycle = refl
 

@@ -1,5 +1,4 @@
--- What the faults of a run leave in its record: the bits that are turned, the babbles, and the offers that are lost
--- (project-defined).
+-- The faults of a run in its record (project-defined): the flipped bits, the babbles, and the muted offers.
 use Rattle.std.specs.Prelude.{◌≡◌, ℕ, ◌+◌, ◌-◌, ◌==◌, Bool, true, false, not, ◌&&◌, List, [], ◌∷◌, take, slice_get}
 use Rattle.std.specs.Prelude.{Option, Some, None, IfSome, Contains, if◌then◌else◌}
 use Rattle.std.specs.List.{list_any, filter}
@@ -19,27 +18,27 @@ use Rattle.fr_slots.specs.Admission.{is_channel}
 use Rattle.fr_slots.specs.declared.channel.Channel.{Channel}
 use Rattle.fr_slots.specs.Windows.{Opportunity, slot_of}
 
--- ---- what a fault does
+-- ---- the effect of a fault
 
--- the bit that it turns on the channel
+-- the bit that the fault flips on the channel
 abbrev pub bit_turned : Channel → Fault → Option ℕ
 bit_turned channel (Babble node on bytes) = None
 bit_turned channel (Mute node on) = None
 bit_turned channel (Corrupt on bit) = if is_channel on channel then Some bit else None
 
--- the bytes that it has the node send on the channel
+-- the bytes that the node babbles on the channel by the fault
 abbrev pub bytes_babbled : ℕ → Channel → Fault → Option (ArrayVec ℕ)
 bytes_babbled node channel (Babble of on bytes) = if of == node && is_channel on channel then Some bytes else None
 bytes_babbled node channel (Mute of on) = None
 bytes_babbled node channel (Corrupt on bit) = None
 
--- it loses what the node offers on the channel
+-- the fault mutes the node's offer on the channel
 abbrev pub loses : ℕ → Channel → Fault → Bool
 loses node channel (Babble of on bytes) = false
 loses node channel (Mute of on) = of == node && is_channel on channel
 loses node channel (Corrupt on bit) = false
 
--- ---- what the lines do that take effect in a window, which lies in the cycle of this number of the run
+-- ---- the effect of the lines in a window of this cycle of the run
 
 abbrev pub bit_by : FaultLine → ℕ → Opportunity → Channel → Option ℕ
 bit_by line cycle w channel = if strikes line cycle w then bit_turned channel line.fault else None
@@ -62,11 +61,11 @@ is_lost_by cycle w node channel line = strikes line cycle w && loses node channe
 abbrev pub is_loss_due : List FaultLine → ℕ → Opportunity → ℕ → Channel → Bool
 is_loss_due lines cycle w node channel = list_any (is_lost_by cycle w node channel) lines
 
--- the lines that name the cycle of this number of the run, of which alone any takes effect in it
+-- the lines that name this cycle of the run; only these can take effect in it
 abbrev pub lines_of_cycle : ℕ → List FaultLine → List FaultLine
 lines_of_cycle cycle lines = filter (λ (line : FaultLine). names_cycle line.cycles cycle) lines
 
--- ---- what is recorded
+-- ---- the record of a babble
 
 abbrev pub is_muted : Fate → Bool
 is_muted Passed = false
@@ -81,9 +80,10 @@ abbrev pub babble_in : Channel → ℕ → List Sent → Option (ArrayVec ℕ)
 babble_in channel node [] = None
 babble_in channel node (t ∷ ts) = if is_babble_of channel node t then Some t.bytes else babble_in channel node ts
 
--- The window has the faults of the lines that take effect there in this cycle of the run, and no others: on each
--- channel the bit that a line turns, of each node on each channel the babble that a line has it send, if the channel
--- has a slot and the babble bytes, and of its transmissions those offers are muted that a line loses.
+-- The window has exactly the faults of the lines that take effect there in this cycle of the run:
+-- - on each channel, the bit that a line flips;
+-- - for each node on each channel, the babble that a line gives it, if the channel has a slot and the babble has bytes;
+-- - among its transmissions, a mute of exactly those offers that a line mutes.
 pub record HasFaults (lines : List FaultLine) (cycle : ℕ) (r : Recorded) : Type 0 where
   pub bits : (channel : Channel) → corrupt_on r channel ≡ bit_due lines cycle r.window channel
   pub babbles : (node : ℕ) (channel : Channel) → babble_in channel node r.sent
@@ -91,21 +91,20 @@ pub record HasFaults (lines : List FaultLine) (cycle : ℕ) (r : Recorded) : Typ
   pub losses : (k : ℕ) (t : Sent) → slice_get r.sent k ≡ Some t
       → is_muted t.fate ≡ (not t.babble && is_loss_due lines cycle r.window t.node t.channel)
 
--- the number of the run's cycle in which the window at this place of the record lies, from 0
+-- the number of the run's cycle, from 0, of the window at this place of the record
 abbrev pub cycle_at : List Recorded → ℕ → ℕ
 cycle_at rs k = cycles_begun (take (k + 1) rs) - 1
 
 abbrev pub HasFaultsAt : List FaultLine → List Recorded → ℕ → Type 0
 HasFaultsAt lines rs k = IfSome (slice_get rs k) (HasFaults lines (cycle_at rs k))
 
--- each window of the record has the faults of the lines that take effect there, and no others
+-- each window of the record has exactly the faults of the lines that take effect there
 abbrev pub HaveFaults : List FaultLine → List Recorded → Type 0
 HaveFaults lines rs = (k : ℕ) → HasFaultsAt lines rs k
 
 -- ---- a window transmission by transmission, and line by line
 
--- the transmission is a babble of a line that takes effect, or an offer that is muted exactly where such a line loses
--- it
+-- the transmission is a babble of a line that takes effect, or an offer that is muted exactly if such a line mutes it
 pub record IsDue (lines : List FaultLine) (cycle : ℕ) (w : Opportunity) (t : Sent) : Type 0 where
   pub babble : t.babble ≡ true
       → recordable (slot_of w t.channel) (babble_due lines cycle w t.node t.channel) ≡ Some t.bytes
@@ -114,7 +113,7 @@ pub record IsDue (lines : List FaultLine) (cycle : ℕ) (w : Opportunity) (t : S
 abbrev pub IsDueAt : List FaultLine → ℕ → Recorded → ℕ → Type 0
 IsDueAt lines cycle r k = IfSome (slice_get r.sent k) (IsDue lines cycle r.window)
 
--- what the fault has a node send was sent
+-- the window has the babble that the fault gives a node
 abbrev pub IsBabbled : Recorded → Fault → Type 0
 IsBabbled r (Babble node channel bytes) =
     babble_in channel node r.sent ≡ recordable (slot_of r.window channel) (Some bytes)

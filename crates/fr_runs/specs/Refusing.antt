@@ -1,4 +1,4 @@
--- Whether a run can be had (project-defined).
+-- Refusals of a run (project-defined).
 use Rattle.std.specs.Prelude.{◌≡◌, ℕ, true, false, List, Option, Some, None}
 use Rattle.fr_bus.specs.States.{cycles_fit}
 use Rattle.fr_core.specs.Scripts.{Scripted}
@@ -15,8 +15,8 @@ EachScriptSuits d cycles scripts = (i : ℕ) → ScriptSuits d cycles scripts i
 abbrev pub EachFaultSuits : Description → ℕ → List FaultLine → Type 0
 EachFaultSuits d cycles faults = (i : ℕ) → FaultSuits d cycles faults i
 
--- The cycles, then the scripts, then the faults, then the room of each node's journal. The first that doesn't suit is
--- named; where all suit nothing is refused.
+-- The cycles, then the scripts, then the faults, then the room of each node's journal. The first that doesn't fit is
+-- named, and if all fit, there is no refusal.
 abbrev pub Refuses : Description → List Scripted → List FaultLine → ℕ → Option RunRefusal → Type 0
 Refuses d scripts faults cycles None =
     (cycles_fit cycles ≡ true)

@@ -1,4 +1,4 @@
--- Whether tasks did the lines of their scripts in the cycles of these (project-defined).
+-- Calls of tasks in the cycles of their lines (project-defined).
 use Rattle.std.specs.Prelude.{◌≡◌, ℕ, ◌==◌, Bool, true, false, List, [], ◌∷◌, length, take, slice_get, count_by}
 use Rattle.std.specs.Prelude.{Option, Some, None, IfSome, if◌then◌else◌}
 use Rattle.fr_bus.specs.Record.{Recorded}
@@ -47,26 +47,26 @@ is_by task e = is_task task (task_of e)
 
 -- ---- lines
 
--- the lines of the first script that is for the task
+-- the lines of the first script for the task
 abbrev pub lines_given : List Scripted → ℕ → ℕ → List Line
 lines_given [] node task = []
 lines_given (script ∷ scripts) node task =
     if is_for node task script then script.lines else lines_given scripts node task
 
--- ---- when lines are done
+-- ---- the times of calls
 
 abbrev pub is_beginning : Option Recorded → Bool
 is_beginning None = false
 is_beginning (Some r) = begins_cycle r
 
--- The call that comes after these entries comes in step with the cycle of this number of the run: all windows of the
--- cycles before were fetched and observed, and the next of the record is the first of this cycle.
+-- The call after these entries is in step with this cycle of the run. All windows of the earlier cycles were fetched
+-- and observed, and the next window of the record is the first of this cycle.
 pub record IsInStep (rs : List Recorded) (cycle : ℕ) (before : List Entry) : Type 0 where
   pub cycle_is : cycles_begun (take (count_by is_fetch before) rs) ≡ cycle
   pub beginning : is_beginning (slice_get rs (count_by is_fetch before)) ≡ true
   pub observed : count_by is_observe before ≡ count_by is_fetch before
 
--- where the entry is a task's, it comes in step with the cycle of the line that is the task's next one
+-- if the entry is a task's, it is in step with the cycle of the task's next line
 abbrev pub IsInTurn : List Recorded → List Scripted → ℕ → List Entry → Entry → Type 0
 IsInTurn rs scripts node before e =
     IfSome (task_of e) (λ task.
@@ -76,13 +76,13 @@ IsInTurn rs scripts node before e =
 abbrev pub IsInTurnAt : List Recorded → List Scripted → ℕ → List Entry → ℕ → Type 0
 IsInTurnAt rs scripts node entries k = IfSome (slice_get entries k) (IsInTurn rs scripts node (take k entries))
 
--- in the journal of the node each call came in the cycle of the line that it is taken for
+-- in the journal of the node, each call came in the cycle of its line
 abbrev pub IsStepped : List Recorded → List Scripted → ℕ → State → Type 0
 IsStepped rs scripts node s = (k : ℕ) → IsInTurnAt rs scripts node s.entries k
 
 abbrev pub IsSteppedAt : List Recorded → List Scripted → List State → ℕ → Type 0
 IsSteppedAt rs scripts is node = IfThere (slice_get is node) (IsStepped rs scripts node)
 
--- in the journal of each node
+-- the same in the journal of each node
 abbrev pub AreStepped : List Recorded → List Scripted → List State → Type 0
 AreStepped rs scripts is = EachNode (IsSteppedAt rs scripts is)

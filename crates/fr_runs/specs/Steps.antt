@@ -1,4 +1,4 @@
--- How far a walk along a journal has come: what stands in the entries before.
+-- The progress of a walk along a journal: the counts of the entries before.
 use Rattle.std.specs.Prelude.{◌≡◌, ℕ, ◌≤◌, List, length, take, slice_get, count_by, Some, true, IfSome}
 use Rattle.fr_bus.specs.Record.{Recorded}
 use Rattle.fr_bus.specs.Windows.{cycles_begun}
@@ -19,12 +19,12 @@ pub record IsProgress (rs : List Recorded) (before : List Entry) (x : Progress) 
   pub as_many : length x.calls ≡ most_tasks
   pub calls : (task : ℕ) (count : ℕ) → slice_get x.calls task ≡ Some count → IsCountOf before task count
 
--- the call that comes next comes in step with this cycle
+-- the next call is in step with this cycle
 pub record Stands (rs : List Recorded) (cycle : ℕ) (x : Progress) : Type 0 where
   pub begun : x.begun ≡ cycle
   pub beginning : is_beginning (slice_get rs x.fetches) ≡ true
   pub observed : x.observes ≡ x.fetches
 
--- where the task has a line after so many others, the next call comes in step with its cycle
+-- if the task has a line after so many others, the next call is in step with its cycle
 abbrev pub StandsFor : List Recorded → List Line → ℕ → Progress → Type 0
 StandsFor rs lines place x = IfSome (slice_get lines place) (λ line. Stands rs line.cycle x)

@@ -1,4 +1,4 @@
--- Whether the scripts of tasks, and the faults, suit a cluster and a run of so many cycles (project-defined).
+-- Scripts of tasks, and faults, that fit a cluster and a run of so many cycles (project-defined).
 use Rattle.std.specs.Prelude.{◌≡◌, ℕ, ◌+◌, ◌*◌, ◌<◌, ◌≤◌, ◌==◌, nat_lt, nat_le, Bool, true, false, ◌&&◌, List, length}
 use Rattle.std.specs.Prelude.{take, slice_get, Option, Some, None, is_some, IfSome, if◌then◌else◌}
 use Rattle.std.specs.List.{list_all, list_any, sum_by, AllAdjacentBelow}
@@ -22,37 +22,37 @@ use Rattle.fr_slots.specs.Plans.{Plan, is_receive, buffer_at}
 
 -- ---- scripts
 
--- there is a transmit buffer, and it sends payloads of this length
+-- the buffer exists, transmits, and sends payloads of this length
 abbrev pub sends : Parameters → List ℕ → Option Buffer → Bool
 sends p payload None = false
 sends p payload (Some b) = transmits b && length payload == 2 * words_of p b
 
--- there is a transmit buffer
+-- the buffer exists and transmits
 abbrev pub is_transmit : Option Buffer → Bool
 is_transmit None = false
 is_transmit (Some b) = transmits b
 
--- there is a receive buffer
+-- the buffer exists and receives
 abbrev pub receives : Option Buffer → Bool
 receives None = false
 receives (Some b) = is_receive b.mode
 
--- the node has what the action is done on
+-- the node has the buffer or receive FIFO that the action needs
 abbrev pub action_suits : Parameters → Plan → Action → Bool
 action_suits p plan (Commit buffer payload) = sends p payload (buffer_at plan buffer)
 action_suits p plan (Withdraw buffer) = is_transmit (buffer_at plan buffer)
 action_suits p plan (Read buffer) = receives (buffer_at plan buffer)
 action_suits p plan Pop = is_some plan.queue
 
--- and the run has the line's cycle
+-- in addition, the run has the line's cycle
 abbrev pub line_suits : Parameters → Plan → ℕ → Line → Bool
 line_suits p plan cycles line = nat_lt line.cycle cycles && action_suits p plan line.action
 
--- no line's cycle is below that of the line before it
+-- each line's cycle is at least that of the line before it
 abbrev pub AreInOrder : List Line → Type 0
 AreInOrder lines = AllAdjacentBelow (λ (one : Line) (next : Line). one.cycle ≤ next.cycle) lines (length lines)
 
--- the node has the task, and the lines suit it
+-- the node has the task, and the lines fit the node
 pub record SuitsPlan (p : Parameters) (cycles : ℕ) (script : Scripted) (plan : Plan) : Type 0 where
   pub has_task : script.task < plan.tasks
   pub lines_suit : list_all (line_suits p plan cycles) script.lines ≡ true
@@ -62,7 +62,7 @@ abbrev pub SuitsNode : Parameters → ℕ → Scripted → Option Plan → Type 
 SuitsNode p cycles script None = ⊥
 SuitsNode p cycles script (Some plan) = SuitsPlan p cycles script plan
 
--- the cluster has the node, which the script suits, and none before it is for the same task
+-- the cluster has the node, the script fits it, and no earlier one is for the same task
 pub record IsScriptAfter (d : Description) (cycles : ℕ) (before : List Scripted) (script : Scripted) : Type 0 where
   pub suits : SuitsNode d.params cycles script (slice_get d.plans script.node)
   pub only : list_any (is_for script.node script.task) before ≡ false
@@ -72,7 +72,7 @@ ScriptSuits d cycles scripts i = IfSome (slice_get scripts i) (IsScriptAfter d c
 
 -- ---- faults
 
--- the cluster has the node of the fault, where it has one
+-- the cluster has the fault's node, if the fault has one
 abbrev pub has_node : ℕ → Fault → Bool
 has_node nodes (Babble node channel bytes) = nat_lt node nodes
 has_node nodes (Mute node channel) = nat_lt node nodes
@@ -88,12 +88,12 @@ has_place p EverySlot = true
 has_place p (Slot number) = nat_le 1 number && nat_le number p.static_slots
 has_place p (Minislot number) = nat_le 1 number && nat_le number p.minislots
 
--- the run has what the line names
+-- the run has the node, cycle and place of the line
 abbrev pub line_fits : Description → ℕ → FaultLine → Bool
 line_fits d cycles line =
     has_node (length d.plans) line.fault && has_cycle cycles line.cycles && has_place d.params line.place
 
--- both are of one kind, node and channel
+-- both are of the same kind, node and channel
 abbrev pub are_alike : Fault → Fault → Bool
 are_alike (Babble n c bytes) (Babble m e others) = n == m && is_channel c e
 are_alike (Babble n c bytes) (Mute m e) = false
@@ -123,12 +123,12 @@ places_meet (Minislot number) EverySlot = false
 places_meet (Minislot number) (Slot other) = false
 places_meet (Minislot number) (Minislot other) = number == other
 
--- both name a window for one kind, node and channel
+-- both name a common window for the same kind, node and channel
 abbrev pub lines_meet : FaultLine → FaultLine → Bool
 lines_meet line other =
     are_alike line.fault other.fault && cycles_meet line.cycles other.cycles && places_meet line.place other.place
 
--- the line fits, and none before it names a window that it names
+-- the line fits, and no earlier line names a window that it names
 pub record IsFaultAfter (d : Description) (cycles : ℕ) (before : List FaultLine) (line : FaultLine) : Type 0 where
   pub fits : line_fits d cycles line ≡ true
   pub only : list_any (lines_meet line) before ≡ false

@@ -1,4 +1,4 @@
-//! Whether a run can be had.
+//! The check of a run: its cycles, scripts, faults and journals.
 
 ghost use Rattle.std.specs.Prelude.{◌≡◌, ◌↔◌, ◌<◌, ◌≤◌, IsTrue, OnOk};
 ghost use Rattle.std.specs.Result.{result_err};
@@ -17,24 +17,24 @@ use fr_slots::params::Params;
 use fr_slots::plan::NodePlan;
 use thiserror::Error;
 
-/// Why a run can't be had (project-defined).
+/// Reasons to refuse a run (project-defined).
 #[derive(Clone, Copy, Debug, PartialEq, Eq, Error)]
 pub enum RunRefusal {
-    /// The number of cycles is 0 or above 1024.
+    /// A number of cycles that is 0 or above 1024.
     #[error("BadCycles")]
     BadCycles,
-    /// The script of this place among the scripts, counted from 0, doesn't suit the cluster and the run.
+    /// The script at this place, counted from 0, which doesn't fit the cluster and the run.
     #[error("BadScript {0}")]
     BadScript(usize),
-    /// The fault line of this place among the fault lines, counted from 0, doesn't suit the cluster and the run.
+    /// The fault line at this place, counted from 0, which doesn't fit the cluster and the run.
     #[error("BadFault {0}")]
     BadFault(usize),
-    /// The journal of this node hasn't the room that the run may take.
+    /// The node whose journal has less room than the run may take.
     #[error("NoRoom {0}")]
     NoRoom(NodeId),
 }
 
-/// Returns whether the scripts for the node have at most so many lines together.
+/// Returns whether the scripts for the node together have at most so many lines.
 fn has_host_room(scripts: &[Script], node: NodeId, host_entries: u16) -> bool
     ensures { IsTrue result ↔ (lines_for node scripts.now ≤ host_entries) }
 {
@@ -50,15 +50,15 @@ fn has_host_room(scripts: &[Script], node: NodeId, host_entries: u16) -> bool
     true
 }
 
-/// Returns the most slot entries that a run of so many cycles leaves in a journal: a fetch and an observe for each
-/// window.
+/// Returns the greatest number of slot entries that a run of so many cycles leaves in a journal. Each window has a
+/// fetch and an observe.
 fn most_slot_entries_in(params: &Params, cycles: u16) -> u64
     ensures { result ≡ most_slot_entries_in params.now cycles }
 {
     2 * u64::from(cycles) * (u64::from(params.static_slots) + u64::from(params.minislots))
 }
 
-/// Returns whether the journal of a node of this plan has the room that the run may take.
+/// Returns whether the journal of a node with this plan has the room that the run may take.
 fn has_room_in(
     params: &Params,
     cycles: u16,
@@ -72,7 +72,7 @@ fn has_room_in(
         && most_slot_entries_in(params, cycles) <= u64::from(plan.slot_entries())
 }
 
-/// Returns whether the journal of the node has the room that the run may take, if the cluster has the node.
+/// Returns whether the cluster doesn't have the node, or its journal has the room for the run.
 fn has_room(cluster: &Cluster, cycles: u16, scripts: &[Script], node: NodeId) -> bool
     ensures { IsTrue result ↔ HasRoom cluster.now cycles scripts.now node }
 {
@@ -82,7 +82,7 @@ fn has_room(cluster: &Cluster, cycles: u16, scripts: &[Script], node: NodeId) ->
     }
 }
 
-/// Returns the first node whose journal hasn't the room.
+/// Returns the first node whose journal doesn't have the room.
 fn full_node(cluster: &Cluster, scripts: &[Script], cycles: u16) -> Option<NodeId>
     ensures { Finds (HasRoom cluster.now cycles scripts.now) result }
 {
@@ -95,25 +95,28 @@ fn full_node(cluster: &Cluster, scripts: &[Script], cycles: u16) -> Option<NodeI
     None
 }
 
-/// Whether a run of so many cycles, 1 to 1024, can be had with these scripts and faults (project-defined). It takes no
-/// memory.
+/// Checks that the cluster accepts a run of so many cycles, these scripts and these faults. Project-defined. It
+/// allocates no memory.
 ///
-/// Refused, in this order, each kind looked for in the whole lists before the next, and of a kind the first named:
+/// Fails in this order. Each kind is looked for in the whole lists before the next, and of a kind the first is named.
 ///
-/// - `BadCycles` for 0 cycles or more than 1024;
-/// - `BadScript` for a script whose node the cluster doesn't have, or whose task that node doesn't have; with a line
-///   whose cycle is below that of the line before it or isn't a cycle of the run, counted from 0; which commits on what
-///   is no transmit buffer of the node, or a payload of another length than that buffer's; which withdraws from what is
-///   no transmit buffer of the node, reads what is no receive buffer of it, or pops where the node has no queue; and
-///   for one whose task an earlier script has;
-/// - `BadFault` for a fault of a node that the cluster doesn't have; in a cycle, static slot or minislot that the run
-///   doesn't have; and for one that names a window that an earlier line names for the same kind, node and channel, or
-///   for a corruption the same channel. `Every` names every cycle and `EverySlot` every static slot, and a line names
-///   the window at its minislot whether one opens there or not;
-/// - `NoRoom` for a node whose scripts together have more lines than its journal has room for host entries, or whose
-///   journal hasn't room for two slot entries for each static slot and each minislot of each cycle.
+/// - `BadCycles`: 0 cycles or more than 1024.
+/// - `BadScript`, for a script:
+///   - its node isn't in the cluster, its task isn't one of the node's, or an earlier script has the task;
+///   - a line's cycle is below that of the line before it, or isn't a cycle of the run, counted from 0;
+///   - a line commits or withdraws on a buffer that isn't a transmit buffer of the node, or commits a payload of
+///     another length than that buffer's;
+///   - a line reads a buffer that isn't a receive buffer of the node, or pops while the node has no receive FIFO.
+/// - `BadFault`, for a fault line:
+///   - its node isn't in the cluster;
+///   - its cycle, static slot or minislot isn't in the run;
+///   - it names a window that an earlier line names for the same kind, node and channel; for a corruption, for the same
+///     channel. `Every` names every cycle and `EverySlot` every static slot. A line names the window at its minislot
+///     even if none opens there.
+/// - `NoRoom`: a node's scripts together have more lines than its journal has room for host entries. Or its journal
+///   doesn't have room for two slot entries for each static slot and each minislot of each cycle.
 ///
-/// Accepted fault lines bring at most one fault of a kind, node and channel into a window.
+/// Accepted fault lines give at most one fault of a kind, node and channel in each window.
 pub fn check_run(
     cluster: &Cluster,
     scripts: &[Script],

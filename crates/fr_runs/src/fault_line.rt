@@ -9,7 +9,7 @@ use fr_slots::numbers::SlotId;
 use fr_slots::window::Window;
 use std::alloc::AllocError;
 
-/// The cycles of a run in which a fault comes (project-defined).
+/// The cycles of a run in which a fault occurs (project-defined).
 #[derive(Clone, Copy, PartialEq, Eq)]
 pub enum FaultCycles {
     /// Every cycle of the run.
@@ -18,33 +18,33 @@ pub enum FaultCycles {
     Only(u16),
 }
 
-/// The windows of a cycle in which a fault comes (project-defined).
+/// The windows of a cycle in which a fault occurs (project-defined).
 #[derive(Clone, Copy, PartialEq, Eq)]
 pub enum FaultPlace {
     /// Every static slot.
     EverySlot,
     /// The static slot of this number, counted from 1.
     Slot(u16),
-    /// The window that opens at the minislot of this number, counted from 1. Where none opens there the fault doesn't
-    /// come.
+    /// The window that opens at the minislot of this number, counted from 1. If none opens there, the fault doesn't
+    /// occur.
     Minislot(u16),
 }
 
-/// A fault, and the windows of a run in which it comes (project-defined).
+/// A fault, and the windows of a run in which it occurs (project-defined).
 #[derive(Drop, PartialEq, Eq)]
 pub struct FaultLine {
-    /// What goes wrong.
+    /// The fault.
     pub fault: Fault,
-    /// In which cycles.
+    /// The cycles.
     pub cycles: FaultCycles,
-    /// In which windows of such a cycle.
+    /// The windows of such a cycle.
     pub place: FaultPlace,
 }
 
-/// Puts copies of the lines that name the cycle of this number of the run, in their order, in the place of those that
-/// are kept (project-defined). No other line takes effect in a window of that cycle.
+/// Replaces the kept lines by copies of the lines that name this cycle of the run, in order. No other line takes effect
+/// in a window of that cycle (project-defined).
 ///
-/// Where memory is refused some of them are kept.
+/// Fails if an allocation fails, and then some of them are kept.
 pub fn keep_lines_of(
     lines: &[FaultLine],
     cycle: u16,
@@ -75,7 +75,7 @@ impl FaultCycles {
     ghost use Rattle.std.specs.Prelude.{◌≡◌};
     ghost use Rattle.fr_runs.specs.Striking.{names_cycle};
 
-    /// Returns whether the cycle of this number of the run is one of these.
+    /// Returns whether this cycle of the run is named.
     pub(crate) fn names(self, cycle: u16) -> bool
         ensures { result ≡ names_cycle self cycle }
     {
@@ -90,7 +90,7 @@ impl FaultPlace {
     ghost use Rattle.std.specs.Prelude.{◌≡◌};
     ghost use Rattle.fr_runs.specs.Striking.{names_window};
 
-    /// Returns whether the window is one of these.
+    /// Returns whether the window is named.
     fn names(self, window: &Window) -> bool
         ensures { result ≡ names_window self window.now }
     {
@@ -117,8 +117,8 @@ impl FaultLine {
         }
     }
 
-    /// Returns whether the fault comes in this window (project-defined). `cycle` is the number of the window's cycle in
-    /// the run, counted from 0 and going on after 63.
+    /// Returns whether the fault occurs in this window (project-defined). `cycle` is the number of the window's cycle
+    /// in the run, counted from 0, without a wrap after 63.
     pub fn strikes(&self, cycle: u16, window: &Window) -> bool
         ensures { result ≡ strikes self.now cycle window.now }
     {

@@ -1,4 +1,4 @@
-//! Whether a record has the faults of a run.
+//! The comparison of a record with the faults of a run.
 
 ghost use Rattle.std.specs.Prelude.{◌≡◌, ◌↔◌, IfOk, IsTrue, ℕ, Some, not, ◌&&◌, slice_get, option_map};
 ghost use Rattle.std.specs.Option.{option_copied};
@@ -18,7 +18,7 @@ use fr_slots::numbers::{NodeId, SlotId};
 use fr_slots::window::Window;
 use std::alloc::{AllocError, Global};
 
-/// Returns the bit that the fault turns on the channel, if it turns one.
+/// Returns the bit that the fault flips on the channel, if it flips one.
 fn bit_turned(channel: Channel, fault: &Fault) -> Option<u16>
     ensures { result ≡ bit_turned channel fault.now }
 {
@@ -28,7 +28,7 @@ fn bit_turned(channel: Channel, fault: &Fault) -> Option<u16>
     }
 }
 
-/// Returns the bytes that the fault has the node send on the channel, if it babbles there.
+/// Returns the bytes that the node babbles on the channel by the fault, if it does.
 fn bytes_babbled(node: NodeId, channel: Channel, fault: &Fault) -> Option<&Bytes>
     ensures { option_copied result ≡ bytes_babbled node channel fault.now }
 {
@@ -46,7 +46,7 @@ fn bytes_babbled(node: NodeId, channel: Channel, fault: &Fault) -> Option<&Bytes
     }
 }
 
-/// Returns whether the fault loses what the node offers on the channel.
+/// Returns whether the fault mutes the node's offer on the channel.
 fn loses(node: NodeId, channel: Channel, fault: &Fault) -> bool
     ensures { result ≡ loses node channel fault.now }
 {
@@ -59,7 +59,7 @@ fn loses(node: NodeId, channel: Channel, fault: &Fault) -> bool
     }
 }
 
-/// Returns the bit that the line turns on the channel of the window, if it takes effect there.
+/// Returns the bit that the line flips on the channel of the window, if it takes effect there.
 fn bit_by(line: &FaultLine, cycle: u16, window: &Window, channel: Channel) -> Option<u16>
     ensures { result ≡ bit_by line.now cycle window.now channel }
 {
@@ -70,7 +70,7 @@ fn bit_by(line: &FaultLine, cycle: u16, window: &Window, channel: Channel) -> Op
     }
 }
 
-/// Returns the bit that the lines turn on the channel of the window.
+/// Returns the bit that the lines flip on the channel of the window.
 fn bit_due(lines: &[FaultLine], cycle: u16, window: &Window, channel: Channel) -> Option<u16>
     ensures { result ≡ bit_due lines.now cycle window.now channel }
 {
@@ -83,7 +83,7 @@ fn bit_due(lines: &[FaultLine], cycle: u16, window: &Window, channel: Channel) -
     None
 }
 
-/// Returns what the line has the node send on the channel of the window, if it takes effect there.
+/// Returns the node's babble on the channel of the window by the line, if it takes effect there.
 fn babble_by<'a>(
     line: &'a FaultLine,
     cycle: u16,
@@ -100,7 +100,7 @@ fn babble_by<'a>(
     }
 }
 
-/// Returns what the lines have the node send on the channel of the window.
+/// Returns the node's babble on the channel of the window by the lines.
 fn babble_due<'a>(
     lines: &'a [FaultLine],
     cycle: u16,
@@ -118,14 +118,14 @@ fn babble_due<'a>(
     None
 }
 
-/// Returns whether the line loses what the node offers on the channel of the window.
+/// Returns whether the line mutes the node's offer on the channel of the window.
 fn is_lost_by(cycle: u16, window: &Window, node: NodeId, channel: Channel, line: &FaultLine) -> bool
     ensures { result ≡ is_lost_by cycle window.now node channel line.now }
 {
     line.strikes(cycle, window) && loses(node, channel, &line.fault)
 }
 
-/// Returns whether a line loses what the node offers on the channel of the window.
+/// Returns whether a line mutes the node's offer on the channel of the window.
 fn is_loss_due(
     lines: &[FaultLine],
     cycle: u16,
@@ -140,7 +140,7 @@ fn is_loss_due(
         .any(|line| is_lost_by(cycle, window, node, channel, line))
 }
 
-/// Returns whether a fault lost it.
+/// Returns whether the fate is a mute.
 fn is_muted(fate: Fate) -> bool
     ensures { result ≡ is_muted fate }
 {
@@ -150,7 +150,7 @@ fn is_muted(fate: Fate) -> bool
     }
 }
 
-/// Returns whether it is the node's babble on the channel.
+/// Returns whether the transmission is the node's babble on the channel.
 fn is_babble_of(channel: Channel, node: NodeId, sent: &Sent) -> bool
     ensures { result ≡ is_babble_of channel node sent.now }
 {
@@ -169,18 +169,18 @@ fn babble_in(channel: Channel, node: NodeId, sent: &[Sent]) -> Option<&Bytes>
     None
 }
 
-/// Returns what is recorded of these bytes on a channel with or without a slot.
+/// Returns the bytes that are recorded of these on a channel with or without a slot.
 fn recordable(slot: Option<SlotId>, bytes: Option<&Bytes>) -> Option<&Bytes>
     ensures { option_copied result ≡ recordable slot (option_copied bytes.entry) }
 {
-    // A babble without bytes, or on a channel without a slot, leaves nothing to look for.
+    // A babble without bytes, or on a channel without a slot, isn't recorded.
     match (slot, bytes) {
         (Some(_), Some(bytes)) => if bytes.len() == 0 { None } else { Some(bytes) },
         _ => None,
     }
 }
 
-/// Returns whether both are the same bytes, or neither is there.
+/// Returns whether both are the same bytes, or both are none.
 fn are_same(one: Option<&Bytes>, other: Option<&Bytes>) -> bool
     ensures { IsTrue result ↔ (option_copied one.entry ≡ option_copied other.entry) }
 {
@@ -191,7 +191,7 @@ fn are_same(one: Option<&Bytes>, other: Option<&Bytes>) -> bool
     }
 }
 
-/// Returns whether the babble is what the lines have its node send.
+/// Returns whether the babble is the one that the lines give its node.
 fn is_babble_due(lines: &[FaultLine], cycle: u16, window: &Window, sent: &Sent) -> bool
     ensures { IsTrue result
         ↔ (recordable
@@ -204,19 +204,19 @@ fn is_babble_due(lines: &[FaultLine], cycle: u16, window: &Window, sent: &Sent) 
     are_same(recorded, Some(&sent.bytes))
 }
 
-/// Returns whether the transmission is muted exactly where it is an offer that a line loses.
+/// Returns whether the transmission is muted exactly if it is an offer that a line mutes.
 fn is_loss_right(lines: &[FaultLine], cycle: u16, window: &Window, sent: &Sent) -> bool
     ensures { IsTrue result
         ↔ (is_muted sent.now.fate
         ≡ (not sent.now.babble && is_loss_due lines.now cycle window.now sent.now.node sent.now.channel)) }
 {
-    // A mute is looked for only where the node offered something: a mute of a silent node leaves nothing.
+    // Only an offer can be muted: a mute of a silent node isn't recorded.
     let is_lost = !sent.babble && is_loss_due(lines, cycle, window, sent.node, sent.channel);
     is_muted(sent.fate) == is_lost
 }
 
-/// Returns whether the transmission is due, as a babble of a line that takes effect, or as an offer that such a line
-/// loses or not.
+/// Returns whether the transmission is due. It is a babble of a line that takes effect, or an offer that is muted
+/// exactly if such a line mutes it.
 fn is_due(lines: &[FaultLine], cycle: u16, window: &Window, sent: &Sent) -> bool
     ensures { IsTrue result ↔ IsDue lines.now cycle window.now sent.now }
 {
@@ -260,7 +260,7 @@ fn are_due(lines: &[FaultLine], cycle: u16, sealed: &Sealed) -> bool
     true
 }
 
-/// Returns whether what the fault has a node send in the window was sent.
+/// Returns whether the window has the babble that the fault gives a node.
 fn is_babbled(sealed: &Sealed, fault: &Fault) -> bool
     ensures { IsTrue result ↔ IsBabbled sealed.now fault.now }
 {
@@ -277,14 +277,14 @@ fn is_babbled(sealed: &Sealed, fault: &Fault) -> bool
     }
 }
 
-/// Returns whether what the line has a node send was sent, if the line takes effect in the window.
+/// Returns whether the window has the babble of the line, if the line takes effect there.
 fn is_babbled_by(cycle: u16, sealed: &Sealed, line: &FaultLine) -> bool
     ensures { IsTrue result ↔ IsBabbledBy cycle sealed.now line.now }
 {
     !line.strikes(cycle, &sealed.window) || is_babbled(sealed, &line.fault)
 }
 
-/// The same of the line at this place, if there is one.
+/// Returns the same for the line at this place, if there is one.
 fn is_babbled_at(lines: &[FaultLine], cycle: u16, sealed: &Sealed, place: usize) -> bool
     ensures { IsTrue result ↔ IsBabbledAt lines.now cycle sealed.now place }
 {
@@ -294,7 +294,7 @@ fn is_babbled_at(lines: &[FaultLine], cycle: u16, sealed: &Sealed, place: usize)
     }
 }
 
-/// Returns whether all that the lines have nodes send in the window was sent.
+/// Returns whether the window has all babbles of the lines.
 fn are_babbled(lines: &[FaultLine], cycle: u16, sealed: &Sealed) -> bool
     ensures { IsTrue result ↔ ((k : ℕ) → IsBabbledAt lines.now cycle sealed.now k) }
 {
@@ -306,16 +306,16 @@ fn are_babbled(lines: &[FaultLine], cycle: u16, sealed: &Sealed) -> bool
     true
 }
 
-// A bit to be flipped is always recorded, also where it flips nothing.
-/// Returns whether the bit that is turned on the channel of the window is the one that the lines turn.
+// A bit to be flipped is always recorded, even if it flips nothing.
+/// Returns whether the flipped bit on the channel of the window is the one of the lines.
 fn is_bit_due(lines: &[FaultLine], cycle: u16, sealed: &Sealed, channel: Channel) -> bool
     ensures { IsTrue result ↔ (corrupt_on sealed.now channel ≡ bit_due lines.now cycle sealed.now.window channel) }
 {
     sealed.corrupt_on(channel) == bit_due(lines, cycle, &sealed.window, channel)
 }
 
-/// Returns whether the window, which lies in the cycle of this number of the run, has the faults of the lines that take
-/// effect there, and no others.
+/// Returns whether the window has exactly the faults of the lines that take effect there. The window is in the cycle of
+/// this number of the run.
 #[tactic(auto, using(crate::proofs::FaultedLemmas::has_faults))]
 fn has_faults(lines: &[FaultLine], cycle: u16, sealed: &Sealed) -> bool
     ensures { IsTrue result → HasFaults lines.now cycle sealed.now }
@@ -326,13 +326,14 @@ fn has_faults(lines: &[FaultLine], cycle: u16, sealed: &Sealed) -> bool
         && are_babbled(lines, cycle, sealed)
 }
 
-/// Returns whether each window of the record has the faults of the lines that take effect there, and no others
-/// (project-defined).
+/// Returns whether the record has exactly the faults of the lines, in each window (project-defined).
 ///
-/// That is found by one walk along the record, in which each line is looked at once for each cycle, and each that names
-/// the cycle a few times for each of its windows. Of lines that bring more than one fault of a kind, node and channel
-/// into a window, which `check_run` doesn't accept, the first is looked for, and the answer may be false for a record
-/// that has it. Refused where an allocation fails, which it takes for the lines of a cycle.
+/// It walks the record once. For each cycle it reads each line once, and for each window of the cycle it reads the
+/// lines that name the cycle a few times. The lines of a cycle are copied, and the call fails if their allocation
+/// fails.
+///
+/// Lines that give more than one fault of a kind, node and channel in a window, which `check_run` rejects, may give
+/// false for a record that has their faults. Only the first of them is looked for.
 pub fn have_faults(
     alloc: Global,
     lines: &[FaultLine],

@@ -1,4 +1,4 @@
-//! Whether faults suit a cluster.
+//! The check of fault lines against a cluster.
 
 ghost use Rattle.std.specs.Prelude.{◌≡◌, ◌↔◌, IsTrue};
 ghost use Rattle.std.specs.List.{list_any};
@@ -11,7 +11,7 @@ use fr_bus::fault::Fault;
 use fr_schedule::cluster::Cluster;
 use fr_slots::params::Params;
 
-/// Returns whether a cluster of so many nodes has the node of the fault, if it has one.
+/// Returns whether a cluster of so many nodes has the fault's node, if the fault has one.
 fn has_node(nodes: u8, fault: &Fault) -> bool
     ensures { result ≡ has_node nodes fault.now }
 {
@@ -21,7 +21,7 @@ fn has_node(nodes: u8, fault: &Fault) -> bool
     }
 }
 
-/// Returns whether a run of so many cycles has these.
+/// Returns whether a run of so many cycles has the named cycles.
 fn has_cycle(cycles: u16, named: FaultCycles) -> bool
     ensures { result ≡ has_cycle cycles named }
 {
@@ -31,7 +31,7 @@ fn has_cycle(cycles: u16, named: FaultCycles) -> bool
     }
 }
 
-/// Returns whether a cycle has these slots or this minislot.
+/// Returns whether a cycle has the named slots or minislot.
 fn has_place(params: &Params, place: FaultPlace) -> bool
     ensures { result ≡ has_place params.now place }
 {
@@ -42,7 +42,7 @@ fn has_place(params: &Params, place: FaultPlace) -> bool
     }
 }
 
-/// Returns whether the run has what the line names.
+/// Returns whether the run has the node, cycle and place of the line.
 fn line_fits(cluster: &Cluster, cycles: u16, line: &FaultLine) -> bool
     ensures { result ≡ line_fits cluster.now cycles line.now }
 {
@@ -51,7 +51,7 @@ fn line_fits(cluster: &Cluster, cycles: u16, line: &FaultLine) -> bool
         && has_place(cluster.params(), line.place)
 }
 
-/// Returns whether both are of one kind, node and channel.
+/// Returns whether both are of the same kind, node and channel.
 fn are_alike(fault: &Fault, other: &Fault) -> bool
     ensures { result ≡ are_alike fault.now other.now }
 {
@@ -76,7 +76,7 @@ fn are_alike(fault: &Fault, other: &Fault) -> bool
     }
 }
 
-/// Returns whether both name one cycle.
+/// Returns whether both name a common cycle.
 fn cycles_meet(cycles: FaultCycles, others: FaultCycles) -> bool
     ensures { result ≡ cycles_meet cycles others }
 {
@@ -86,7 +86,7 @@ fn cycles_meet(cycles: FaultCycles, others: FaultCycles) -> bool
     }
 }
 
-/// Returns whether both name one window, if one opens at each minislot.
+/// Returns whether both name a common window, if one opens at each minislot.
 fn places_meet(place: FaultPlace, other: FaultPlace) -> bool
     ensures { result ≡ places_meet place other }
 {
@@ -98,7 +98,7 @@ fn places_meet(place: FaultPlace, other: FaultPlace) -> bool
     }
 }
 
-/// Returns whether both name a window for one kind, node and channel.
+/// Returns whether both name a common window for the same kind, node and channel.
 fn lines_meet(line: &FaultLine, other: &FaultLine) -> bool
     ensures { result ≡ lines_meet line.now other.now }
 {
@@ -107,24 +107,24 @@ fn lines_meet(line: &FaultLine, other: &FaultLine) -> bool
         && places_meet(line.place, other.place)
 }
 
-/// Returns whether the line names a window that one of these names.
+/// Returns whether the line names a window that an earlier line names.
 fn meets_any(line: &FaultLine, before: &[FaultLine]) -> bool
     ensures { result ≡ list_any (lines_meet line.now) before.now }
 {
     before.iter().any(|other| lines_meet(line, other))
 }
 
-/// Returns whether a run of the cluster for so many cycles, which has the fault lines before it, can have this one too
-/// (project-defined): the cluster has the node of the fault, where it has one, the run has the cycle and each cycle the
-/// static slot or minislot, where the line names one, and no line before it names a window that it names for the same
-/// kind, node and channel, or for a corruption the same channel. It is what `check_run` asks of each fault line.
+/// Returns whether a run with the fault lines before it can have this one too (project-defined). This is the check of
+/// `check_run` for each fault line. The cluster has the fault's node, if the fault has one. The run has the named
+/// cycle, and each cycle the named static slot or minislot. No earlier line names a window that this one names for the
+/// same kind, node and channel; for a corruption, for the same channel.
 pub fn suits_after(cluster: &Cluster, cycles: u16, before: &[FaultLine], line: &FaultLine) -> bool
     ensures { IsTrue result ↔ IsFaultAfter cluster.now cycles before.now line.now }
 {
     line_fits(cluster, cycles, line) && !meets_any(line, before)
 }
 
-/// Returns the first fault line that doesn't suit.
+/// Returns the first fault line that doesn't fit.
 pub(crate) fn other_fault(cluster: &Cluster, faults: &[FaultLine], cycles: u16) -> Option<usize>
     ensures { Finds (FaultSuits cluster.now cycles faults.now) result }
 {

@@ -1,30 +1,30 @@
-//! What a run of a cluster is asked for: the faults that come in it, and whether these and the scripts of the tasks
-//! suit the cluster.
+//! The faults of a run, the check of a run's scripts and faults against its cluster, and the comparison of a record
+//! with both.
 //!
 //! ```text
-//! check_run(&cluster, &scripts, &faults, cycles)?; // whether such a run can be had
-//! if fault_line.strikes(run_cycle, &window) {} // whether the fault comes in this window
-//! have_faults(&faults, bus.record()); // whether a run had these faults, and no others
-//! are_stepped(&interfaces, bus.record(), &scripts); // whether each line was done in its cycle
-//! suits_after(&cluster, cycles, &faults, &fault_line); // whether the run can have one fault line more
+//! check_run(&cluster, &scripts, &faults, cycles)?; // the cluster accepts the run
+//! if fault_line.strikes(run_cycle, &window) {} // the fault occurs in this window
+//! have_faults(&faults, bus.record()); // a run had exactly these faults
+//! are_stepped(&interfaces, bus.record(), &scripts); // each call was in the cycle of its line
+//! suits_after(&cluster, cycles, &faults, &fault_line); // the run can have one more fault line
 //! ```
 //!
-//! A chapter in parentheses is one of the FlexRay Protocol Specification 2.1, revision A, whose rule it is.
-//! *(project-defined)* marks a rule of this project's own, which says nothing of the standard.
+//! A chapter in parentheses is one of the FlexRay Protocol Specification 2.1, revision A.
+//! *(project-defined)* marks a rule of this project, and makes no claim about the standard.
 //!
 //! # Definitions
 //!
-//! - `Striking`, `Suiting`, `Refusing`, `Apart`: the windows of a fault line; what suits a cluster; refusals of a run;
-//!   at most one fault of a kind, node and channel in a window.
+//! - `Striking`, `Suiting`, `Refusing`, `Apart`: the windows of a fault line; scripts and faults that fit a cluster;
+//!   refusals of a run; at most one fault of a kind, node and channel in a window.
 //! - `Faulted`, `Stepping`: the faults of a record; execution of each line in its cycle.
 //!
-//! Modules that go the way of the code, for private functions, with the module that has the meaning:
+//! Modules that follow the steps of the code, for private functions, with the module that has the meaning:
 //!
 //! - `Steps`: progress of a walk along a journal, as counts. Meaning: `Stepping`.
 //!
 //! # Inner workings
 //!
-//! The crate stands below the texts of scenarios and the threads, so each is proved by itself.
+//! The crate is below the texts of scenarios and the threads, so each of these is proved by itself.
 #![tactic(auto)]
 
 pub mod check;

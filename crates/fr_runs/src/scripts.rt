@@ -1,4 +1,4 @@
-//! Whether scripts suit a cluster.
+//! The check of scripts against a cluster.
 
 ghost use Rattle.std.specs.Prelude.{◌≡◌, ◌↔◌, IsTrue, slice_get, option_map};
 ghost use Rattle.std.specs.List.{list_all};
@@ -13,7 +13,7 @@ use fr_schedule::cluster::Cluster;
 use fr_slots::params::Params;
 use fr_slots::plan::{Buffer, NodePlan};
 
-/// Returns whether there is a transmit buffer that sends payloads of this length.
+/// Returns whether the buffer exists, transmits, and sends payloads of this length.
 fn sends(params: &Params, payload: &Payload, buffer: Option<Buffer>) -> bool
     ensures { result ≡ sends params.now payload.now buffer }
 {
@@ -25,7 +25,7 @@ fn sends(params: &Params, payload: &Payload, buffer: Option<Buffer>) -> bool
     }
 }
 
-/// Returns whether there is a transmit buffer.
+/// Returns whether the buffer exists and transmits.
 fn is_transmit(buffer: Option<Buffer>) -> bool
     ensures { result ≡ is_transmit buffer }
 {
@@ -35,7 +35,7 @@ fn is_transmit(buffer: Option<Buffer>) -> bool
     }
 }
 
-/// Returns whether there is a receive buffer.
+/// Returns whether the buffer exists and receives.
 fn receives(buffer: Option<Buffer>) -> bool
     ensures { result ≡ receives buffer }
 {
@@ -45,7 +45,7 @@ fn receives(buffer: Option<Buffer>) -> bool
     }
 }
 
-/// Returns whether the node has what the action is done on.
+/// Returns whether the node has the buffer or receive FIFO that the action needs.
 fn action_suits(params: &Params, plan: &NodePlan, action: &Action) -> bool
     ensures { result ≡ action_suits params.now plan.now action.now }
 {
@@ -57,14 +57,14 @@ fn action_suits(params: &Params, plan: &NodePlan, action: &Action) -> bool
     }
 }
 
-/// Returns whether the run has the line's cycle, and the node what its action is done on.
+/// Returns whether the run has the line's cycle, and the node fits the line's action.
 fn line_suits(params: &Params, plan: &NodePlan, cycles: u16, line: &Line) -> bool
     ensures { result ≡ line_suits params.now plan.now cycles line.now }
 {
     line.cycle < cycles && action_suits(params, plan, &line.action)
 }
 
-/// Returns whether all lines suit the node and the run.
+/// Returns whether all lines fit the node and the run.
 fn lines_suit(params: &Params, plan: &NodePlan, cycles: u16, lines: &[Line]) -> bool
     ensures { result ≡ list_all (line_suits params.now plan.now cycles) lines.now }
 {
@@ -73,14 +73,14 @@ fn lines_suit(params: &Params, plan: &NodePlan, cycles: u16, lines: &[Line]) -> 
         .all(|line| line_suits(params, plan, cycles, line))
 }
 
-/// Returns whether no line's cycle is below that of the line before it.
+/// Returns whether each line's cycle is at least that of the line before it.
 fn are_in_order(lines: &[Line]) -> bool
     ensures { IsTrue result ↔ AreInOrder lines.now }
 {
     lines.is_sorted_by_key(|line| line.cycle)
 }
 
-/// Returns whether the node has the script's task, and the lines suit it.
+/// Returns whether the node has the script's task, and the lines fit the node.
 fn suits_plan(params: &Params, cycles: u16, script: &Script, plan: &NodePlan) -> bool
     ensures { IsTrue result ↔ SuitsPlan params.now cycles script.now plan.now }
 {
@@ -90,7 +90,7 @@ fn suits_plan(params: &Params, cycles: u16, script: &Script, plan: &NodePlan) ->
         && are_in_order(lines)
 }
 
-/// Returns whether the cluster has the script's node, and the script suits it.
+/// Returns whether the cluster has the script's node, and the script fits it.
 fn suits_node(params: &Params, cycles: u16, script: &Script, plan: Option<&NodePlan>) -> bool
     ensures { IsTrue result ↔ SuitsNode params.now cycles script.now (option_map (λ plan. plan.now) plan.entry) }
 {
@@ -100,7 +100,7 @@ fn suits_node(params: &Params, cycles: u16, script: &Script, plan: Option<&NodeP
     }
 }
 
-/// Returns whether the script suits the cluster, and none before it is for the same task.
+/// Returns whether the script fits the cluster, and no earlier one is for the same task.
 fn suits_after(cluster: &Cluster, cycles: u16, before: &[Script], script: &Script) -> bool
     ensures { IsTrue result ↔ IsScriptAfter cluster.now cycles before.now script.now }
 {
@@ -108,7 +108,7 @@ fn suits_after(cluster: &Cluster, cycles: u16, before: &[Script], script: &Scrip
         && !has_script(before, script.node, script.task)
 }
 
-/// Returns the first script that doesn't suit.
+/// Returns the first script that doesn't fit.
 pub(crate) fn other_script(cluster: &Cluster, scripts: &[Script], cycles: u16) -> Option<usize>
     ensures { Finds (ScriptSuits cluster.now cycles scripts.now) result }
 {

@@ -1,6 +1,6 @@
-//! Whether tasks did the lines of their scripts in the cycles of these.
+//! The comparison of tasks' calls with the cycles of their lines.
 //!
-//! This walk is one of its own, so that a cross-check of a world needs none of it.
+//! This walk is separate, so that a cross-check of a world doesn't need it.
 
 ghost use Rattle.std.specs.Prelude.{◌≡◌, ◌<◌, ◌≤◌, ◌+◌, ◌↔◌, IsTrue, Some, IfSome, length, take, slice_get, option_map};
 ghost use Rattle.std.specs.Prelude.{ℕ};
@@ -17,23 +17,23 @@ use fr_interface::interface::Interface;
 use fr_journal::lent::LentEntry;
 use fr_slots::numbers::{NODES, NodeId, TASKS, TaskId};
 
-/// How many tasks a node has at most.
+/// The greatest number of tasks of a node.
 const COUNT: usize = TASKS as usize;
 
-/// How far a walk along a journal has come.
+/// The progress of a walk along a journal.
 #[derive(Clone, Copy)]
 pub(crate) struct Progress {
-    /// How many windows were fetched.
+    /// The number of fetched windows.
     pub fetches: usize,
-    /// How many were observed.
+    /// The number of observed windows.
     pub observes: usize,
-    /// How many cycles began in the windows that were fetched.
+    /// The number of cycles that began in the fetched windows.
     pub begun: usize,
-    /// How many calls each task made.
+    /// The number of calls of each task.
     pub calls: [usize; COUNT],
 }
 
-/// Returns the lines of the task's script, which is the first that is for it, or none.
+/// Returns the lines of the first script for the task, or no lines.
 pub fn lines_given(scripts: &[Script], node: NodeId, task: TaskId) -> &[Line]
     ensures { result.now ≡ lines_given scripts.now node task }
 {
@@ -80,7 +80,7 @@ fn entry_at(interface: &Interface, number: u32) -> Option<LentEntry<'_>>
     interface.journal().lent(number)
 }
 
-/// Returns what stands at this place of the record.
+/// Returns the sealed window at this place of the record.
 fn sealed_at(recorded: &[Sealed], place: usize) -> Option<&Sealed>
     ensures { option_map (λ sealed. sealed.now) result ≡ slice_get recorded.now place }
 {
@@ -104,7 +104,7 @@ fn is_beginning(recorded: &[Sealed], place: usize) -> bool
     }
 }
 
-/// Returns whether a call that comes now comes in step with the cycle.
+/// Returns whether the next call is in step with the cycle.
 fn stands(recorded: &[Sealed], cycle: u16, progress: &Progress) -> bool
     ensures { IsTrue result ↔ Stands recorded.now cycle progress.now }
 {
@@ -113,7 +113,7 @@ fn stands(recorded: &[Sealed], cycle: u16, progress: &Progress) -> bool
         && is_beginning(recorded, progress.fetches)
 }
 
-/// Returns whether that is so of the cycle of the line at this place, if there is one.
+/// Returns whether the next call is in step with the cycle of the line at this place, if there is one.
 fn stands_for(recorded: &[Sealed], lines: &[Line], place: usize, progress: &Progress) -> bool
     ensures { IsTrue result ↔ StandsFor recorded.now lines.now place progress.now }
 {
@@ -123,7 +123,7 @@ fn stands_for(recorded: &[Sealed], lines: &[Line], place: usize, progress: &Prog
     }
 }
 
-/// Returns whether the entry of this number, if it is a task's, comes in step with the cycle of the task's next line.
+/// Returns whether a task's call is in step with the cycle of the task's next line.
 fn is_in_turn(
     interface: &Interface,
     recorded: &[Sealed],
@@ -144,7 +144,7 @@ fn is_in_turn(
     stands_for(recorded, lines_given(scripts, node, task), place, progress)
 }
 
-/// Goes past the entry of this number.
+/// Advances the progress by the entry of this number.
 fn pass(
     interface: &Interface,
     recorded: &[Sealed],
@@ -169,7 +169,7 @@ fn pass(
     }
 }
 
-/// Returns whether each line was done in its cycle, by the journal of the node, which is walked once.
+/// Returns whether each call of the node was in the cycle of its line; the journal is walked once.
 fn is_stepped(interface: &Interface, recorded: &[Sealed], scripts: &[Script], node: NodeId) -> bool
     ensures { IsTrue result ↔ IsStepped recorded.now scripts.now node interface.now }
 {
@@ -200,7 +200,7 @@ fn interface_at(interfaces: &[Interface], place: usize) -> Option<&Interface>
     interfaces.get(place)
 }
 
-/// The same of the node, if its interface is there.
+/// Returns the same for the node, if its interface exists.
 fn is_stepped_at(
     interfaces: &[Interface],
     recorded: &[Sealed],
@@ -215,10 +215,10 @@ fn is_stepped_at(
     }
 }
 
-/// Returns whether each call that a task made came in the cycle of the line that it is taken for (project-defined):
-/// once its node had fetched and observed all windows of the cycles before, and before it fetched the first window of
-/// the line's cycle. A task's lines are those of the first script that is for it, and its calls are taken for them in
-/// their order. A line whose call is missing isn't looked for: `settle` tells that.
+/// Returns whether each call of a task came in the cycle of its line (project-defined). The node had fetched and
+/// observed all windows of the earlier cycles by then, and hadn't fetched the first window of the line's cycle. A
+/// task's lines are those of the first script for it, and its calls belong to them in their order. A line without a
+/// call isn't reported here: `settle` reports it.
 ///
 /// Each journal is walked once.
 pub fn are_stepped(interfaces: &[Interface], recorded: &[Sealed], scripts: &[Script]) -> bool

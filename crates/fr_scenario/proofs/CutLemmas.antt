@@ -24,7 +24,7 @@ split_none (x ∷ xs) h =
           slice_split-cons_no is_feed x xs fail ∙ ap (onto_first x) (split_none xs (omega arith))
     ]
 
--- at the first line feed
+-- the text has its first line feed at this place
 pub cut_at : (text : List ℕ) (at : ℕ) → position is_feed text ≡ Some at
     → lines_in text ≡ take at text ∷ lines_in (drop (at + 1) text)
 cut_at text at found =
@@ -36,7 +36,7 @@ cut_at text at found =
       | inr fail ↦ cc (rw fail at found)
     ]
 
--- with no line feed in it
+-- the text has no line feed
 pub cut_none : (text : List ℕ) → position is_feed text ≡ None → lines_in text ≡ text ∷ []
 cut_none text none =
     let first = position_or_len is_feed text in
@@ -45,7 +45,7 @@ cut_none text none =
       | inr fail ↦ split_none text (grind arith)
     ]
 
--- ---- the first line feed, by what a search of it says
+-- ---- the first line feed, from the result of a search
 
 first_at : (text : List ℕ) (k : ℕ) → k < length text → is_feed (get_or text k 0) ≡ true
     → ((j : ℕ) → j < k → is_feed (get_or text j 0) ≡ true → ⊥) → position_or_len is_feed text ≡ k
@@ -97,7 +97,7 @@ some_line (b ∷ text) =
       | inr fail ↦ (b ∷ first, more, slice_split-cons_no is_feed b text fail ∙ ap (onto_first b) is)
     ]
 
--- a text with a byte is not at its end
+-- a text with a byte isn't at its end
 at_end_not : (first : List ℕ) (more : List (List ℕ)) → is_at_end ([] ∷ first ∷ more) ≡ false
 at_end_not first more = refl
 
@@ -176,7 +176,7 @@ module _ (version : Version) where
       → read_from version n (lines_in text) ≡ Err Truncated
   read_last n text few none short = ap (read_from version n) (cut_none text none) ∙ last_short n text few short
 
-  -- ---- after the last line that there may be
+  -- ---- after the last line of the largest text
 
   pub read_past_end : (lines : List (List ℕ)) → is_at_end lines ≡ true → read_from version 4097 lines ≡ Err Truncated
   read_past_end [] h = refl

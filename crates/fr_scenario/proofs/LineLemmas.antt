@@ -1,4 +1,4 @@
--- A line of a scenario spells at most one thing, and the words of a line that is spelled are read as that.
+-- A line of a scenario spells at most one value, and the words of a spelled line are read as this value.
 use Rattle.std.proofs.Common.{◌≡◌, ℕ, ◌<◌, ◌≤◌, inl, inr, true, false, List, [], ◌∷◌, length, codes, None, Some, refl}
 use Rattle.std.proofs.Common.{sym, ap}
 use Rattle.std.proofs.Common.{◌∙◌, arith, if◌then◌else◌}
@@ -44,7 +44,7 @@ use Rattle.fr_text.specs.Reading.{number_in, bytes_in}
 use Rattle.fr_text.specs.Spaces.{words_of, line_of}
 use Rattle.fr_text.specs.Spelling.{hex_text}
 
--- ---- what is read is spelled so
+-- ---- a line that is read is spelled by these words
 
 commit_takes : (version : Version) (words : List (List ℕ)) (l : SpelledLine) → commit_in words ≡ Some l
     → (codes "commit" ∷ words ≡ line_words l) × IsSpelledLine version l
@@ -277,14 +277,14 @@ taken version (kind ∷ words) l h =
           ]
     ]
 
--- what is read of a line is spelled so, and in range
+-- a line that is read is spelled by these words, and is in range
 pub line_takes : (version : Version) (line : List ℕ) (l : SpelledLine) → line_in version (words_of line) ≡ Some l
     → (line ≡ line_of (line_words l)) × IsSpelledLine version l
 line_takes version line l h =
     let t = taken version (words_of line) l h in
     (sym (line_of-words_of line) ∙ ap line_of t.0, t.1)
 
--- ---- what is spelled so is read
+-- ---- a line that is spelled is read again
 
 action_again : (version : Version) (node task cycle : ℕ) (action : Action) → node < 16 → task < 8 → IsRunCycle cycle
     → IsSpelledAction version action
@@ -352,7 +352,7 @@ again version (FaultOf f) fits = again_fault version f.fault f.cycles f.place fi
 
 -- ---- the words are plain and few
 
--- what the words of a spelled line are
+-- the words of a spelled line are plain, and the line is short
 pub record IsSpelledSo (words : List (List ℕ)) : Type 0 where
   pub plain : ArePlain words
   pub short : length (line_of words) ≤ 1200
@@ -447,7 +447,7 @@ spelled version (Host node task line) fits = action_spelled version node task li
 spelled version (FaultOf f) fits = fault_spelled f.fault f.cycles f.place fits.fault_fits fits.cycles_fit
     fits.place_fits
 
--- ---- what is spelled so is read
+-- ---- a line that is spelled is read again
 
 pub line_again : (version : Version) (l : SpelledLine) → IsSpelledLine version l
     → line_in version (words_of (line_of (line_words l))) ≡ Some l

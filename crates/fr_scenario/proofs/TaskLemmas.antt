@@ -1,4 +1,4 @@
--- What is kept for each task, and the scripts that it makes.
+-- The lines that are kept for each task, and the scripts that they make.
 use Rattle.std.proofs.Common.{◌≡◌, ◌≢◌, ℕ, zero, suc, ◌+◌, ◌*◌, ◌/◌, ◌%◌, ◌<◌, ◌==◌, ◌&&◌, true, false, inl, inr, List}
 use Rattle.std.proofs.Common.{[]}
 use Rattle.std.proofs.Common.{◌∷◌, ◌++◌, length, get_or, set, replicate, map, refl, sym, ap, ◌∙◌, arith, append_assoc}
@@ -36,7 +36,7 @@ script_some ss place (l ∷ ls) rest some = append_assoc ss
 pub replicate-more : {X : Type 0} (n : ℕ) (x : X) → replicate n x ++ x ∷ [] ≡ replicate (n + 1) x
 replicate-more n x = replicate-append-replicate n 1 x
 
--- ---- what lines give each task
+-- ---- the lines of each task
 
 length-with_line : (n : ℕ) (g : Kept) (l : SpelledLine) → length (with_line n g l).tasks ≡ length g.tasks
 length-with_line n g (Host node task line) = length-set g.tasks (place_of node task) _

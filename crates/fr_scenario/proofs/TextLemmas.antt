@@ -1,4 +1,4 @@
--- A text that is read is spelled so, and a text that is spelled is read.
+-- A text that is read is spelled by its lines, and a text that is spelled is read again.
 use Rattle.std.proofs.Common.{◌≡◌, ℕ, ◌+◌, ◌≤◌, ◌==◌, ◌⊎◌, true, false, not, ◌&&◌, inl, inr, List, [], ◌∷◌, ◌++◌}
 use Rattle.std.proofs.Common.{length, take, drop, Option, Some, None, Result, Ok, Err, refl, sym, ap, subst, ◌∙◌, arith}
 use Rattle.std.proofs.Common.{ltb, append_assoc}
@@ -41,7 +41,7 @@ use Rattle.fr_slots.specs.Plans.{Each}
 use Rattle.fr_text.specs.Plain.{is_feed, has_no_feed}
 use Rattle.fr_text.specs.Spaces.{words_of, line_of}
 
--- ---- what is read is spelled so
+-- ---- a text that is read is spelled by its lines
 
 module _ (version : Version) where
   -- the lines from number n on are these, up to `end`
@@ -135,14 +135,14 @@ module _ (version : Version) where
             ]
       ]
 
-  -- the lines after the first one, as they are read of a text
+  -- the lines after the first one, as they are read from a text
   pub body_found : (text : List ℕ) (ls : List SpelledLine) → read_from version 2 (lines_in text) ≡ Ok ls
       → (text ≡ body_text ls) × Each (IsSpelledLine version) ls × (2 + length ls ≤ 4096)
   body_found text ls h =
       let are = lines_found 2 (lines_in text) ls h in
       (sym (join_with_byte-slice_split 10 text) ∙ are.spelled, are.fit, are.few)
 
--- ---- what is spelled so is read
+-- ---- a text that is spelled is read again
 
 not_feed : (bytes : List ℕ) → has_no_feed bytes ≡ true → All (λ b. is_feed b ≡ false) bytes
 not_feed [] h = All-nil (λ b. is_feed b ≡ false)
@@ -178,7 +178,7 @@ module _ (version : Version) where
 
 -- ---- the whole text
 
--- the first line is without a line feed, and names its version
+-- the first line has no line feed, and names its version
 plain_first : (version : Version) → has_no_feed (first_line version) ≡ true
 plain_first One = refl
 plain_first Two = refl
@@ -202,7 +202,7 @@ scenario_again text s is =
     ap scenario_in is.spelled ∙ ap with_contents (read_scenario is.version is.lines is.fit is.few) ∙ ap Ok
     (sym is.contents_are)
 
--- a text that begins with a first line says what stands after that
+-- a text that begins with a first line has the content of the rest
 pub after_first : (version : Version) (rest : List ℕ) → read_text ((first_line version ++ line_feed) ++ rest) ≡
     read_from version 2 (lines_in rest)
 after_first version rest =
@@ -308,7 +308,7 @@ not_first text one two =
     neither One same = cc (sym one ∙ same)
     neither Two same = cc (sym two ∙ same)
 
--- a prefix that isn't there
+-- the text begins with another prefix
 pub not_there : (text prefix first : List ℕ) → prefix ≡ first → bytes_eq (take (length prefix) text) prefix ≡ false
     → bytes_eq (take (length first) text) first ≡ false
 not_there text prefix first is other = ap (λ p. bytes_eq (take (length p) text) p) (sym is) ∙ other
@@ -320,7 +320,7 @@ begun_first version text bytes rest is first = sym is ∙ first
 pub no_first : (text bytes : List ℕ) → bytes ≡ text → read_text bytes ≡ Err BadMagic → Err BadMagic ≡ scenario_in text
 no_first text bytes is bad = sym (ap with_contents (ap read_text (sym is) ∙ bad))
 
--- ---- what is kept of a text
+-- ---- the state that is kept of a text
 
 kept_ok : (n : ℕ) (g k : Kept) (r : Read) → kept_from n g r ≡ Ok k
     → (ls : List SpelledLine) × (r ≡ Ok ls) × (with_lines n g ls ≡ k)
@@ -393,7 +393,7 @@ made_unanswered version rest k scripts kept ss =
     version ls are.fit in
     subst AreUnanswered (sym scripts_are) (scripts_unanswered version ls (range_with_len 0 128) are.fit)
 
--- ---- what an answer tells
+-- ---- the meaning of a result
 
 memory_or_not : (e : ScenarioError) → (e ≡ Memory) ⊎ (e ≡ Memory → ⊥)
 memory_or_not BadMagic = inr (λ h. cc h)

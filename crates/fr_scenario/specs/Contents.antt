@@ -1,4 +1,4 @@
--- What a scenario has: a script for each task that has lines, and fault lines, each with its number in the text.
+-- The contents of a scenario: a script for each task that has lines, and fault lines, each with its number in the text.
 use Rattle.std.specs.Prelude.{◌≡◌, ℕ, ◌+◌, ◌/◌, ◌%◌, ◌==◌, ◌&&◌, List, [], ◌∷◌, None, if◌then◌else◌}
 use Rattle.std.specs.List.{flat_map, range_with_len}
 use Rattle.fr_core.specs.declared.script.Line.{Line}
@@ -15,7 +15,7 @@ pub record Contents : Type 0 where
   -- the number of each fault line among all lines of the text, counted from 1
   pub numbers : List ℕ
 
--- ---- what the lines say together
+-- ---- the contents of all lines
 
 -- the lines of a task of a node, in their order
 abbrev pub task_lines : ℕ → ℕ → List SpelledLine → List Line
@@ -30,7 +30,7 @@ fault_lines [] = []
 fault_lines (Host node task line ∷ lines) = fault_lines lines
 fault_lines (FaultOf f ∷ lines) = f ∷ fault_lines lines
 
--- the numbers of the fault lines, where the first of these lines has number n
+-- the numbers of the fault lines, if the first of these lines has number n
 abbrev pub fault_numbers : ℕ → List SpelledLine → List ℕ
 fault_numbers n [] = []
 fault_numbers n (Host node task line ∷ lines) = fault_numbers (n + 1) lines
@@ -59,12 +59,12 @@ script_at lines k = script_of (node_at k) (task_at k) (task_lines (node_at k) (t
 abbrev pub scripts_of : List SpelledLine → List Scripted
 scripts_of lines = flat_map (script_at lines) (range_with_len 0 task_count)
 
--- line 1 of a text names its version, so the first of these is line 2
+-- line 1 of a text names its version, so the first of these lines is line 2
 abbrev pub contents_of : List SpelledLine → Contents
 contents_of lines =
     record { scripts = scripts_of lines; faults = fault_lines lines; numbers = fault_numbers 2 lines }
 
--- ---- what every scenario keeps
+-- ---- an invariant of every scenario
 
 abbrev pub IsUnanswered : Line → Type 0
 IsUnanswered line = line.answer ≡ None

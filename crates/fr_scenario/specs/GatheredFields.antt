@@ -1,4 +1,4 @@
--- The fields of `Gathered` as what is kept.
+-- The fields of `Gathered` as the lines that are kept.
 use Rattle.std.specs.Prelude.{◌≡◌, map, length}
 use Rattle.fr_scenario.specs.Contents.{task_count}
 use Rattle.fr_scenario.specs.declared.gathered.Gathered.TheInside.{Inside}

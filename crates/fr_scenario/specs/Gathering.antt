@@ -1,4 +1,4 @@
--- What is kept of the lines that were read, while others may come.
+-- The lines that are kept of those that were read, while further lines may come.
 use Rattle.std.specs.Prelude.{ℕ, ◌+◌, ◌*◌, List, [], ◌∷◌, ◌++◌, replicate, slice_set, slice_index_or, Result, Ok, Err}
 use Rattle.fr_core.specs.declared.script.Line.{Line}
 use Rattle.fr_core.specs.Scripts.{Scripted}
@@ -19,27 +19,27 @@ pub record Kept : Type 0 where
 abbrev pub none_yet : Kept
 none_yet = record { tasks = replicate task_count []; faults = []; numbers = [] }
 
--- where the task of a node stands
+-- the place of a node's task among all tasks
 abbrev pub place_of : ℕ → ℕ → ℕ
 place_of node task = most_tasks * node + task
 
--- one line more of the task at this place
+-- with one more line of the task at this place
 abbrev pub with_task_line : ℕ → Line → List (List Line) → List (List Line)
 with_task_line place line tasks = slice_set tasks place (slice_index_or tasks place [] ++ line ∷ [])
 
--- the line of number n more
+-- with the line of number n
 abbrev pub with_line : ℕ → Kept → SpelledLine → Kept
 with_line n g (Host node task line) =
     record { tasks = with_task_line (place_of node task) line g.tasks; faults = g.faults; numbers = g.numbers }
 with_line n g (FaultOf f) =
     record { tasks = g.tasks; faults = g.faults ++ f ∷ []; numbers = g.numbers ++ n ∷ [] }
 
--- these lines more, of which the first has number n
+-- with these lines, of which the first has number n
 abbrev pub with_lines : ℕ → Kept → List SpelledLine → Kept
 with_lines n g [] = g
 with_lines n g (line ∷ lines) = with_lines (n + 1) (with_line n g line) lines
 
--- what is kept once these lines have come too, of which the first has number n
+-- the lines that are kept once these lines have come too, of which the first has number n
 abbrev pub kept_from : ℕ → Kept → Read → Result Kept ScenarioError
 kept_from n g (Ok lines) = Ok (with_lines n g lines)
 kept_from n g (Err e) = Err e

@@ -1,4 +1,4 @@
--- What the words of a scenario's line spell.
+-- The values that the words of a scenario's line spell.
 use Rattle.std.specs.Prelude.{ℕ, List, [], ◌∷◌, codes, Option, Some, None, if◌then◌else◌}
 use Rattle.std.specs.Str.{bytes_eq}
 use Rattle.fr_bus.specs.declared.fault.Fault.{Fault}
@@ -17,9 +17,9 @@ use Rattle.fr_scenario.specs.declared.version.Version.TheVariants.{One, Two}
 use Rattle.fr_scenario.specs.PartReading.{run_cycle_in, cycles_in, place_in}
 use Rattle.fr_text.specs.Reading.{◌>>=◌, number_in, bytes_in}
 
--- ---- what a task is to do
+-- ---- the actions of tasks
 
--- the line of a task, whose answer isn't known
+-- the line of a task, without an answer
 abbrev pub host_line : ℕ → ℕ → ℕ → Action → SpelledLine
 host_line node task cycle action = Host node task (record { cycle = cycle; action = action; answer = None })
 
@@ -108,7 +108,7 @@ line_in version (kind ∷ words) =
     else if bytes_eq kind (codes "corrupt") then corrupt_in words
     else None
 
--- ---- a fault line by itself
+-- ---- a fault line alone
 
 abbrev pub fault_said : Option SpelledLine → Option FaultLine
 fault_said None = None

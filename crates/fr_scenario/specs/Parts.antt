@@ -1,4 +1,4 @@
--- How the parts of a scenario's line are spelled. A number is spelled as std's `decimal` says.
+-- The spelling of the parts of a scenario's line. Std's `decimal` defines the spelling of a number.
 use Rattle.std.specs.Prelude.{ℕ, List, ◌∷◌, codes}
 use Rattle.std.specs.Fmt.{decimal}
 use Rattle.fr_runs.specs.declared.fault_line.FaultCycles.{FaultCycles}
@@ -8,7 +8,7 @@ use Rattle.fr_runs.specs.declared.fault_line.FaultPlace.TheVariants.{EverySlot, 
 use Rattle.fr_slots.specs.declared.channel.Channel.{Channel}
 use Rattle.fr_slots.specs.declared.channel.Channel.TheVariants.{A, B}
 
--- what stands for all
+-- the word for all
 abbrev pub star : List ℕ
 star = codes "*"
 

@@ -1,4 +1,4 @@
--- What a text says as a scenario, or its first line at fault.
+-- The scenario that a text spells, or its first line at fault.
 use Rattle.std.specs.Prelude.{ℕ, ◌+◌, nat_lt, Bool, true, false, List, [], ◌∷◌, length, Option, Some, None, Result}
 use Rattle.std.specs.Prelude.{Ok, Err, if◌then◌else◌}
 use Rattle.std.specs.List.{slice_split}
@@ -16,12 +16,11 @@ use Rattle.fr_scenario.specs.ScenarioText.{first_line, most_lines}
 use Rattle.fr_text.specs.Plain.{is_feed}
 use Rattle.fr_text.specs.Spaces.{words_of}
 
--- The text, cut at each line feed: its whole lines, and last what stands after its last line feed, which may be
--- nothing.
+-- The text, cut at each line feed: its whole lines, and last the bytes after its last line feed, perhaps none.
 abbrev pub lines_in : List ℕ → List (List ℕ)
 lines_in text = slice_split is_feed text
 
--- what some lines say, or which is the first at fault and why
+-- the values of some lines, or the first line at fault with its error
 abbrev pub Read : Type 0
 Read = Result (List SpelledLine) ScenarioError
 
@@ -30,7 +29,7 @@ longest_line = 1200
 
 -- ---- one line, of number n counted from 1
 
--- what stands after the last line feed, where no line before it is `end`
+-- the bytes after the last line feed, if no line before it is `end`
 abbrev pub unfinished : ℕ → List ℕ → Read
 unfinished n [] = Err Truncated
 unfinished n (b ∷ line) =
@@ -38,13 +37,13 @@ unfinished n (b ∷ line) =
     else if nat_lt longest_line (length (b ∷ line)) then Err (BadLine n)
     else Err Truncated
 
--- no line is left, and nothing stands after the last line feed
+-- no line is left, and no byte stands after the last line feed
 abbrev pub is_at_end : List (List ℕ) → Bool
 is_at_end [] = true
 is_at_end ([] ∷ []) = true
 is_at_end lines = false
 
--- nothing may stand after `end`
+-- no byte may stand after `end`
 abbrev pub after_end : ℕ → List (List ℕ) → Read
 after_end n more = if is_at_end more then Ok [] else Err (BadLine n)
 
@@ -52,12 +51,12 @@ abbrev pub put_before : SpelledLine → Read → Read
 put_before line (Ok lines) = Ok (line ∷ lines)
 put_before line (Err e) = Err e
 
--- a line that is not `end`, with what those after it say
+-- a line other than `end`, with the lines after it
 abbrev pub said : ℕ → Option SpelledLine → Read → Read
 said n None after = Err (BadLine n)
 said n (Some line) after = put_before line after
 
--- a whole line of at most 1200 bytes, with the lines after it and what these say
+-- a whole line of at most 1200 bytes, with the lines after it and their values
 abbrev pub whole_line : Version → ℕ → List ℕ → List (List ℕ) → Read → Read
 whole_line version n line more after =
     if bytes_eq line end_line then after_end (n + 1) more else said n (line_in version (words_of line)) after

@@ -1,4 +1,4 @@
--- The fields of `Scenario` as what it has.
+-- The fields of `Scenario` as its contents.
 use Rattle.fr_scenario.specs.Contents.{Contents, AreUnanswered}
 use Rattle.fr_scenario.specs.declared.scenario.Scenario.TheInside.{Inside}
 

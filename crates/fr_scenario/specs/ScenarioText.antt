@@ -26,12 +26,12 @@ body_text lines = flat_map spelled_line lines ++ (end_line ++ line_feed)
 abbrev pub scenario_text : Version → List SpelledLine → List ℕ
 scenario_text version lines = (first_line version ++ line_feed) ++ body_text lines
 
--- a text has at most so many lines, the first one and `end` included
+-- the largest number of lines of a text, the first one and `end` included
 abbrev pub most_lines : ℕ
 most_lines = 4096
 
--- The text is that of some lines of its version, which have these scripts and fault lines. They may stand in any order
--- that keeps the lines of each task and the fault lines in theirs, so several texts have the same contents.
+-- The text is that of some lines of its version, which have these scripts and fault lines. Other texts may have the
+-- same contents: only the order of the lines of each task, and that of the fault lines, matters.
 pub record IsScenarioText (text : List ℕ) (s : Contents) : Type 0 where
   pub version : Version
   pub lines : List SpelledLine

@@ -1,4 +1,4 @@
--- What the lines of a scenario can spell.
+-- The values that the lines of a scenario can spell.
 use Rattle.std.specs.Prelude.{◌≡◌, ℕ, ◌<◌, ◌≤◌, ◌^◌, length, None}
 use Rattle.fr_bus.specs.declared.fault.Fault.{Fault}
 use Rattle.fr_bus.specs.declared.fault.Fault.TheVariants.{Babble, Mute, Corrupt}
@@ -21,7 +21,7 @@ use Rattle.fr_scenario.specs.declared.version.Version.TheVariants.{One, Two}
 abbrev pub IsRunCycle : ℕ → Type 0
 IsRunCycle cycle = cycle < 1024
 
--- ---- what a task is to do
+-- ---- the actions of tasks
 
 -- version 1 has no line for a withdraw
 abbrev pub IsWithdrawSpelled : Version → ℕ → Type 0
@@ -34,7 +34,7 @@ IsSpelledAction version (Withdraw buffer) = IsWithdrawSpelled version buffer
 IsSpelledAction version (Read buffer) = buffer < 64
 IsSpelledAction version Pop = Unit {0}
 
--- nodes are 0 to 15 and tasks 0 to 7, and no answer is known
+-- nodes are 0 to 15 and tasks 0 to 7, and there is no answer
 pub record IsSpelledHost (version : Version) (node task : ℕ) (line : Line) : Type 0 where
   pub node_fits : node < 16
   pub task_fits : task < 8

@@ -12,7 +12,7 @@ use Rattle.fr_scenario.specs.declared.spelled.SpelledLine.TheVariants.{Host, Fau
 use Rattle.fr_scenario.specs.Parts.{channel_word, cycles_word, place_word}
 use Rattle.fr_text.specs.Spelling.{hex_text}
 
--- ---- what a task is to do
+-- ---- the actions of tasks
 
 abbrev pub action_words : List ℕ → List ℕ → List ℕ → Action → List (List ℕ)
 action_words node task cycle (Commit buffer payload) =

@@ -1,4 +1,4 @@
-//! Why a text is no scenario.
+//! Reasons to reject a text as a scenario.
 
 ghost use Rattle.std.specs.Prelude.{◌≡◌};
 ghost use Rattle.fr_scenario.specs.declared.error.ScenarioError.TheVariants as error;
@@ -6,14 +6,15 @@ ghost use Rattle.fr_scenario.specs.declared.error.ScenarioError.TheVariants as e
 use std::alloc::AllocError;
 use thiserror::Error;
 
-/// Why a text is no scenario. A number is that of the line at fault, counted from 1.
+/// Reasons to reject a text as a scenario. A number is that of the line at fault, counted from 1.
 #[derive(Clone, Copy, Debug, PartialEq, Eq, Error)]
 pub enum ScenarioError {
     /// The first line isn't `frscenario 1` or `frscenario 2` with its line feed.
     #[error("BadMagic")]
     BadMagic,
-    /// The line has no form of the format's version, has a number out of its range or more than 1200 bytes before its
-    /// line feed, or stands after the line `end`.
+    /// The line has no form of the version, a number out of its range, or too many bytes.
+    ///
+    /// It may have 1200 bytes before its line feed. A line after the line `end` also gives this error.
     #[error("BadLine {0}")]
     BadLine(u32),
     /// Line 4097 begins, and no line before it is `end`.
@@ -22,7 +23,7 @@ pub enum ScenarioError {
     /// The text ends before the line feed of `end`.
     #[error("Truncated")]
     Truncated,
-    /// Memory was refused.
+    /// An allocation failed.
     #[error("Memory")]
     Memory,
 }

@@ -1,4 +1,4 @@
-//! What is kept of a scenario's lines while they are read.
+//! The lines of a scenario that are kept while it is read.
 ghost use Rattle.std.specs.Prelude.{◌≡◌, ◌<◌, [], map, replicate, IfOk, OnOk, vec_len};
 ghost use Rattle.fr_scenario.specs.Contents.{node_at, task_at, task_count};
 ghost use Rattle.fr_scenario.specs.Gathering.{place_of, with_task_line, scripts_from};
@@ -11,13 +11,13 @@ use std::alloc::{AllocError, Global};
 use std::marker::Model;
 use std::mem;
 
-/// How many tasks a node can have.
+/// The largest number of tasks of a node.
 const TASKS_OF_NODE: usize = TASKS as usize;
 
-/// How many tasks all nodes can have.
+/// The largest number of tasks of all nodes.
 const TASK_COUNT: usize = NODES as usize * TASKS_OF_NODE;
 
-// Lines of different tasks may come in any order, which isn't kept.
+// Lines of different tasks may come in any order. Their order isn't kept.
 /// The lines of each task, by node and then task, and the fault lines with their numbers.
 #[derive(Drop)]
 pub(crate) struct Gathered {
@@ -38,7 +38,7 @@ impl Model for Gathered {
     ghost invariant = { HasAllTasks };
 }
 
-/// Returns where the task of the node stands among all.
+/// Returns the place of the node's task among all tasks.
 fn place_of(node: NodeId, task: TaskId) -> usize
     ensures place { result ≡ place_of node task }
     ensures within { result < task_count }
@@ -57,7 +57,7 @@ fn node_at(place: usize) -> NodeId
     }
 }
 
-/// Returns which task of its node stands at this place.
+/// Returns the number of the task at this place within its node.
 fn task_at(place: usize) -> TaskId
     requires { place < task_count }
     ensures { result ≡ task_at place }
@@ -68,7 +68,7 @@ fn task_at(place: usize) -> TaskId
     }
 }
 
-/// Tasks without lines.
+/// Returns tasks without lines.
 fn idle_tasks(alloc: Global) -> Result<Vec<Vec<Line>>, AllocError>
     ensures tasks { IfOk result (λ tasks. map (λ lines. lines.items) tasks.items ≡ replicate task_count []) }
     ensures len { IfOk result (λ tasks. vec_len tasks ≡ task_count) }
@@ -80,7 +80,7 @@ fn idle_tasks(alloc: Global) -> Result<Vec<Vec<Line>>, AllocError>
     Ok(tasks)
 }
 
-/// Gives the task at this place one line more.
+/// Adds one line to the task at this place.
 fn add_task_line(tasks: &mut Vec<Vec<Line>>, place: usize, line: Line) -> Result<(), AllocError>
     requires { place < vec_len tasks.old }
     ensures tasks { OnOk result (map (λ lines. lines.items) tasks.new.items
@@ -116,7 +116,7 @@ impl Gathered {
     ghost use Rattle.std.specs.Prelude.{◌≡◌, OnOk, IfOk};
     ghost use Rattle.fr_scenario.specs.Gathering.{none_yet, with_line, scripts_from};
 
-    /// Returns what is kept of no lines.
+    /// Returns the value before any line.
     pub(crate) fn new(alloc: Global) -> Result<Gathered, AllocError>
         ensures { IfOk result (λ gathered. gathered ≡ none_yet) }
     {
@@ -127,7 +127,7 @@ impl Gathered {
         })
     }
 
-    /// Keeps one line more, which has this number in the text.
+    /// Keeps one more line, which has this number in the text.
     pub(crate) fn add(&mut self, number: u32, line: SpelledLine) -> Result<(), AllocError>
         ensures { OnOk result (self.new ≡ with_line number self.old line) }
     {

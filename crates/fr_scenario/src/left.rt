@@ -10,10 +10,10 @@ use std::marker::Model;
 /// The number of the last line that a scenario can have (project-defined).
 pub(crate) const LAST_LINE: u32 = 4096;
 
-/// The most bytes of a line, without its line feed (project-defined).
+/// The largest number of bytes of a line, without its line feed (project-defined).
 const LONGEST_LINE: usize = 1200;
 
-/// The lines that a text has left: its whole lines, and what stands after its last line feed.
+/// The lines that a text has left: its whole lines, and the bytes after its last line feed.
 #[derive(Drop)]
 pub(crate) struct Left<'a> {
     rest: &'a [u8],
@@ -29,7 +29,7 @@ impl<'a> Model for Left<'a> {
     ghost view = { left_of };
 }
 
-/// Returns where the first line feed stands.
+/// Returns the place of the first line feed.
 fn feed_in(text: &[u8]) -> Option<usize>
     ensures { result ≡ position is_feed text.now }
 {
@@ -48,15 +48,17 @@ impl<'a> Left<'a> {
         Left { rest: text }
     }
 
-    /// Returns whether no line is left, and nothing stands after the last line feed.
+    /// Returns whether no line is left, and no byte stands after the last line feed.
     pub(crate) fn is_empty(&self) -> bool
         ensures { result ≡ is_at_end self.now }
     {
         self.rest.is_empty()
     }
 
-    /// Takes the next line, which has this number, and gives it without its line feed. Refused with `BadLine` where it
-    /// has too many bytes, with or without a line feed, and else with `Truncated` where it has none.
+    /// Takes the next line, which has this number, and returns it without its line feed.
+    ///
+    /// Returns `BadLine` if it has too many bytes, with or without a line feed, and otherwise `Truncated` if it has no
+    /// line feed.
     pub(crate) fn next_line(&mut self, number: u32) -> Result<&'a [u8], ScenarioError>
         requires { number ≤ LAST_LINE }
         ensures line { (version : Version) → IfOk result (λ line. read_from version number self.old

@@ -17,7 +17,7 @@ use fr_text::hexes::bytes_of;
 use fr_text::numbers::number_of;
 use fr_text::words::Words;
 
-/// Returns the line of a task, whose answer isn't known.
+/// Returns the line of a task, without an answer.
 fn host_line(node: NodeId, task: TaskId, cycle: u16, action: Action) -> SpelledLine
     ensures { result ≡ host_line node task cycle action }
 {
@@ -46,7 +46,7 @@ fn commit_of(words: &mut Words<'_>) -> Option<SpelledLine>
     Some(host_line(node, task, cycle, Action::Commit { buffer, payload }))
 }
 
-/// Returns the withdraw that the words spell, in a version that has such a line.
+/// Returns the withdraw that the words spell, if the version has such a line.
 #[tactic(auto, unfolding(crate::specs::LineReading::withdraw_in))]
 fn withdraw_of(version: Version, words: &mut Words<'_>) -> Option<SpelledLine>
     ensures { result ≡ withdraw_in version words.old }
@@ -146,8 +146,9 @@ fn corrupt_of(words: &mut Words<'_>) -> Option<SpelledLine>
     }))
 }
 
-/// Returns what the line, which is given without its line feed, says. `None` where it has no form of the format's
-/// version or a number out of its range.
+/// Returns the value of the line, which is given without its line feed.
+///
+/// `None` if it has no form of the format's version, or a number out of its range.
 #[tactic(auto, unfolding(crate::specs::LineReading::line_in))]
 pub(crate) fn line_of(version: Version, line: &[u8]) -> Option<SpelledLine>
     ensures { result ≡ line_in version (words_of line.now) }
@@ -178,9 +179,10 @@ pub(crate) fn line_of(version: Version, line: &[u8]) -> Option<SpelledLine>
     None
 }
 
-/// Returns the fault line that the line of a scenario of the newest version spells, which is given without its line
-/// feed (project-defined). `None` where it spells none: where it is the line of a task, has no form of a line, or has a
-/// number out of its range. How long the line is doesn't matter.
+/// Returns the fault line that a line of the newest version spells (project-defined).
+///
+/// The line is given without its line feed. `None` if it spells none: it is the line of a task, has no form of a line,
+/// or has a number out of its range. The line may have any length.
 pub fn fault_line_of(line: &[u8]) -> Option<FaultLine>
     ensures { result ≡ fault_line_in (words_of line.now) }
 {

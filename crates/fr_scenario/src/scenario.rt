@@ -16,7 +16,7 @@ use fr_runs::fault_line::FaultLine;
 use std::alloc::Global;
 use std::marker::Model;
 
-/// What the tasks of a cluster are to do in a run, and which faults come in it (project-defined).
+/// The calls of a cluster's tasks in a run, and the faults of the run (project-defined).
 #[derive(Drop)]
 pub struct Scenario {
     scripts: Vec<Script>,
@@ -36,7 +36,7 @@ impl Model for Scenario {
     ghost invariant = { HasNoAnswers };
 }
 
-/// Returns the version that the first line names, and what stands after that line.
+/// Returns the version that the first line names, and the text after that line.
 fn begun(text: &[u8]) -> Option<(Version, &[u8])>
     ensures first { IfSome result (λ begun. text.now ≡ (first_line begun.0 ++ line_feed) ++ begun.1.now) }
     ensures other { result ≡ None → read_text text.now ≡ Err error.BadMagic }
@@ -48,7 +48,7 @@ fn begun(text: &[u8]) -> Option<(Version, &[u8])>
     Some((Version::Two, rest))
 }
 
-/// Returns what the lines after the first one say, in this version.
+/// Returns the lines after the first one, in this version.
 fn body_of(alloc: Global, version: Version, text: &[u8]) -> Result<Gathered, ScenarioError>
     ensures found { IfOk result
         (λ gathered. kept_from 2 none_yet (read_from version 2 (lines_in text.now)) ≡ Ok gathered) }
@@ -70,7 +70,7 @@ fn body_of(alloc: Global, version: Version, text: &[u8]) -> Result<Gathered, Sce
         };
         gathered.add(number, line)?;
     }
-    // Line 4097 is `TooManyLines` whatever it says, unless line 4096 was `end`: then it is `BadLine 4097`.
+    // Line 4097 gives `TooManyLines` for any content, unless line 4096 was `end`: then it gives `BadLine 4097`.
     if left.is_empty() {
         Err(ScenarioError::Truncated)
     } else {
@@ -103,8 +103,9 @@ impl Scenario {
 
     /// Returns the scenario that a text spells (project-defined).
     ///
-    /// The first line is `frscenario 1` or `frscenario 2`, and the last one `end`; each line ends with a line feed and
-    /// has at most 1200 bytes before it, and there are at most 4096 of them. Between those two stand, in any order:
+    /// The first line is `frscenario 1` or `frscenario 2`, and the last one `end`. Each line ends with a line feed and
+    /// has at most 1200 bytes before it, and there are at most 4096 lines. Between the first and the last line stand,
+    /// in any order:
     ///
     /// ```text
     /// commit NODE TASK CYCLE BUFFER HEX
@@ -117,21 +118,24 @@ impl Scenario {
     /// ```
     ///
     /// Version 1 has no line `withdraw`. Words are separated by one space. A number is decimal without sign and leading
-    /// zeros: a node is 0 to 15, a task 0 to 7, a cycle 0 to 1023, a buffer 0 to 63, a bit 0 to 65535. CYCLES is a
-    /// cycle, or `*` for every one; CHANNEL is `A` or `B`; PLACE is `s*` for every static slot, `sN` for the static
-    /// slot N or `mN` for the minislot N, each 1 to 8000. HEX is `x` and two lower-case digits for each byte: of a
-    /// commit an even number, at most 254, and of a babble at most 262.
+    /// zeros. A node is 0 to 15, a task 0 to 7, a cycle 0 to 1023, a buffer 0 to 63, a bit 0 to 65535. CYCLES is a
+    /// cycle, or `*` for every one. CHANNEL is `A` or `B`. PLACE is `s*` for every static slot, `sN` for the static
+    /// slot N or `mN` for the minislot N, each 1 to 8000. HEX is `x` and two lower-case digits for each byte: an even
+    /// number of bytes for a commit, at most 254, and at most 262 bytes for a babble.
     ///
-    /// The first line at fault is answered: `BadMagic` where the first line is another or isn't whole; `BadLine` for a
-    /// line of no form, for a number out of its range, for a line that is too long, and for any byte after `end`;
-    /// `TooManyLines` for the first byte of line 4097, whatever follows; and `Truncated` where the text ends before the
-    /// line feed of `end`. `Memory` comes where memory is refused.
+    /// Returns the error of the first line at fault:
+    /// - `BadMagic` if the first line is another or isn't whole;
+    /// - `BadLine` for a line of no form, for a number out of its range, for a line that is too long, and for any byte
+    ///   after `end`;
+    /// - `TooManyLines` at the first byte of line 4097, whatever follows;
+    /// - `Truncated` if the text ends before the line feed of `end`;
+    /// - `Memory` if an allocation fails.
     pub fn from_text(alloc: Global, text: &str) -> Result<Scenario, ScenarioError>
-        // What is accepted is spelled so, and has these scripts and fault lines.
+        // An accepted text is a spelling of the scenario, and has these scripts and fault lines.
         ensures found { IfOk result (IsScenarioText text.now) }
-        // What is spelled so is accepted as that, unless memory runs out.
+        // A spelling of a scenario is accepted as it, unless memory runs out.
         ensures only { (s : Contents) → IsScenarioText text.now s → (result ≡ Ok s) ⊎ (result ≡ Err error.Memory) }
-        // A refusal tells the first fault of the text,
+        // A refusal is the first fault of the text,
         ensures refused { IfErr result (λ e. (e ≡ error.Memory) ⊎ (first_fault text.now ≡ Some e)) }
         // which is the text of no scenario.
         ensures hopeless { IfErr result (λ e. (e ≡ error.Memory)
@@ -140,8 +144,7 @@ impl Scenario {
         Scenario::read(alloc, text)
     }
 
-    /// Returns what each task is to do: one script for each task that has lines, by node and then task. No line has an
-    /// answer.
+    /// Returns the script of each task that has lines, by node and then task. No line has an answer.
     pub fn scripts(&self) -> &[Script]
         ensures value { result.now ≡ self.now.scripts }
         ensures unanswered { AreUnanswered result.now }

@@ -1,13 +1,13 @@
-//! What a line of a scenario says.
+//! The value of a line of a scenario.
 
 use fr_core::script::Line;
 use fr_runs::fault_line::FaultLine;
 use fr_slots::numbers::{NodeId, TaskId};
 
-/// What a line between the first one and `end` says (project-defined).
+/// The value of a line between the first one and `end` (project-defined).
 #[derive(Drop)]
 pub(crate) enum SpelledLine {
-    /// What the task of the node is to do.
+    /// The call of a task of the node.
     Host {
         node: NodeId,
         task: TaskId,

@@ -5,6 +5,6 @@
 pub(crate) enum Version {
     /// Version 1, which has no line for a withdraw.
     One,
-    /// Version 2, which has one. The lines of version 1 are the same in it.
+    /// Version 2, which has one. It keeps the lines of version 1.
     Two,
 }

@@ -1,4 +1,4 @@
--- Buffers that a plan gets one by one.
+-- Buffers that are added to a plan one by one.
 use Rattle.std.proofs.Common.{◌≡◌, ℕ, ◌+◌, List, [], ◌∷◌, ◌++◌, map, Result, Ok, Err, refl, ap}
 use Rattle.fr_schedule.proofs.EachLemmas.{with_rest, rest_refused, rest_taken, rest_end}
 use Rattle.fr_schedule.specs.declared.error.ConfigError.{ConfigError}
@@ -9,7 +9,7 @@ use Rattle.fr_slots.specs.Plans.{Plan, with_buffer}
 use Rattle.toml.specs.View.{view}
 use Rattle.toml.specs.declared.value.Value.{Value}
 
--- the plan with the buffers that it has and those that are left
+-- the plan with its buffers and the remaining ones
 abbrev pub buffers_left : Parameters → ℕ → Plan → ℕ → List Buffer → List Value → Result Plan ConfigError
 buffers_left p node plan n so_far values = with_rest (buffer_read p node) (with_buffers plan) n so_far (map view values)
 
@@ -35,7 +35,7 @@ pub left_start : (p : Parameters) (node : ℕ) (plan : Plan) (none : List Buffer
 unfolding with_buffers_of
 left_start p node plan none values is = rw is refl
 
--- one buffer more
+-- one more buffer
 pub kept_more : (plan new : Plan) (b : Buffer) → new ≡ with_buffers plan new.buffers
     → with_buffer new b ≡ with_buffers plan (new.buffers ++ b ∷ [])
 kept_more plan new b kept = ap (λ (q : Plan). with_buffers q (new.buffers ++ b ∷ [])) kept

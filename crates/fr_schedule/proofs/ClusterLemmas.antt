@@ -1,4 +1,4 @@
--- Plans that are lawful and for these parameters, without a fault among them, are those of a cluster.
+-- Lawful plans that fit these parameters, without a fault among them, are those of a cluster.
 use Rattle.std.proofs.Common.{◌≡◌, ℕ, zero, suc, ◌+◌, ◌<◌, ◌≤◌, ◌==◌, Bool, true, false, ◌&&◌, ◌||◌, if◌then◌else◌}
 use Rattle.std.proofs.Common.{List, []}
 use Rattle.std.proofs.Common.{◌∷◌, ◌++◌, length, Option, Some, None, option_map, refl, sym, ap, subst, ◌∙◌, inl, inr}
@@ -52,7 +52,7 @@ module _ {X : Type 0} where
   each_so P Q so [] ps = tt
   each_so P Q so (x ∷ xs) ps = (so x ps.0, each_so P Q so xs ps.1)
 
--- ---- nothing in all lines, so nothing in those of one node
+-- ---- nothing found in all lines, so nothing in those of one node
 
 module _ {X A : Type 0} (f g : X → Option A) (so : (x : X) → f x ≡ None → g x ≡ None) where
   none_so : (xs : List X) → first_of f xs ≡ None → first_of g xs ≡ None
@@ -122,14 +122,14 @@ none_in_nodes made test n (q ∷ plans) none =
 
 -- ---- a node without fault
 
--- what the file's tests leave of a node
+-- the facts that the file's tests leave for a node
 record IsFree (p : Parameters) (q : Plan) : Type 0 where
   pub owned : HasNone (λ r. not_owned p r.owned) q
   pub one_channel : HasNone (λ r. dynamic_both p) q
   pub apart : plan.first_overlap q.owned q.buffers ≡ None
   pub in_time : HasNone (too_long p) q
 
--- the plan is one for these parameters
+-- the plan fits these parameters
 abbrev pub IsFor : Parameters → Plan → Type 0
 IsFor p q = is_out_of_params p q ≡ false
 

@@ -33,7 +33,7 @@ first_passed f n end (suc k) o within none first =
     (λ j lt. let later : (n + 1) + j ≡ n + suc j = omega arith in ap f later ∙ none (suc j) (omega arith))
     (first-goes_on f n end o (omega arith) (ap f (sym here) ∙ none 0 (omega arith)) first))
 
--- of the cycles of a turn one is admitted
+-- one of the cycles of a turn is admitted
 not_admitted : (c : CycleClass) (turn j : ℕ) → j < c.repetition → (j ≡ c.base → ⊥)
     → cycle_admitted c (turn * c.repetition + j) ≡ false
 not_admitted c turn j below other =
@@ -56,7 +56,7 @@ admitted_at nodes start c turn taken below is =
     (eq-eqb (cycle % c.repetition) c.base (mod-mul-add turn c.repetition c.base below))
     ∙ ap (λ (b : Bool). let r : Option ℕ = cond b (Some cycle) None in r) is
 
--- the cycles before the one that is admitted
+-- the cycles before the admitted one
 up_to_base : (nodes : List ℕ) (start : ℕ) (c : CycleClass) (turn : ℕ) (o : Option ℕ) → c.base < c.repetition
     → turn * c.repetition + c.repetition ≤ 64
     → first_of (taken_in nodes start c) (numbers_from (turn * c.repetition) (64 - turn * c.repetition)) ≡ o
@@ -121,9 +121,9 @@ turn_ended f turn r o is all first =
     let end : 64 / r * r ≤ turn * r = mul-le-mul_right r all in
     first-ended f (turn * r) 64 o (omega (arith, whole, end)) first
 
--- ---- a row in which no node stands
+-- ---- a row without a node
 
--- of a row that is all free no place is taken
+-- no place of a free row is occupied
 pub row_is_free : (nodes : List ℕ) (start : ℕ) → take 64 (drop start nodes) ≡ replicate 64 nobody
     → IsRowFree start nodes
 row_is_free nodes start same cycle below =

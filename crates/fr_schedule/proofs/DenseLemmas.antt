@@ -45,7 +45,7 @@ channel_itself : (a : Channel) → is_channel a a ≡ true
 channel_itself A = refl
 channel_itself B = refl
 
--- ---- what of a filter is taken on a channel
+-- ---- the occupied occasions of a filter on a channel
 
 record IsRetaken (nodes : List ℕ) (start : ℕ) (f : Filter) (on : Channel) (slot : ℕ) (channel : Channel)
     (cycle : ℕ) : Type 0 where
@@ -126,7 +126,7 @@ not_included nodes f on is slot channel cycle in_cycles =
 
 -- ---- the same occasions
 
--- the first of one test is that of another which is the same
+-- two equal tests have the same first occasion
 pub same_first : (s t : ℕ → Channel → ℕ → Bool) → ((slot : ℕ) (channel : Channel) (cycle : ℕ) → cycle < 64
     → s slot channel cycle ≡ t slot channel cycle)
     → (o : Option Occasion) → IsFirst s o → IsFirst t o
@@ -140,7 +140,7 @@ same_first s t same (Some o) is = record {
       (same slot channel cycle in_cycles ∙ pass);
 }
 
--- two tests that are narrowed to a filter's occasions, where they are the same there
+-- two tests that are equal on a filter's occasions are equal when narrowed to these
 pub same_admitted : (f : Filter) (a b : Bool) (slot : ℕ) (channel : Channel) (cycle : ℕ) → IsSlot f.slot
     → (IsSlot slot → a ≡ b)
     → (a && admits_at slot channel cycle f) ≡ (b && admits_at slot channel cycle f)
@@ -174,7 +174,7 @@ narrowed : (c x y z : Bool) → (c ≡ true → (x && z) ≡ (y && z)) → (c &&
 narrowed true x y z same = same refl
 narrowed false x y z same = refl
 
--- what was entered on A doesn't change what is taken on B
+-- entries on A don't change the occupied places on B
 pub retaken_both : (old mid : List ℕ) (f : Filter) (node : ℕ) (on_a on_b : Option Occasion) → IsSlot f.slot
     → IsFirst (is_retaken_on old f A) on_a → IsEntered (is_admitted_on f A) node old mid
     → IsFirst (is_retaken_on mid f B) on_b
@@ -223,7 +223,7 @@ entered_more claims claim old mid new before now = record {
       ∙ sym (after_more claims claim (node_at old slot channel cycle) slot channel cycle);
 }
 
--- a node stands where one of the claims is for the occasion, and where one stood before
+-- an entry is a node if a claim is for the occasion, or if it was a node before
 pub is_some_node : (n : ℕ) → n ≤ 15 → not (n == nobody) ≡ true
 is_some_node n le = ap not (false_from_ne_true (n == nobody)
     (λ same. let e = eqb-true n nobody same in absurd (omega (arith, e))))
@@ -256,7 +256,7 @@ or_nothing : (a b : Bool) → b ≡ false → (a || b) ≡ a
 or_nothing true b is = refl
 or_nothing false b is = is
 
--- what is taken after the claims were entered into a free table
+-- the occupied occasions after the claims were entered into a free table
 taken_after : (claims : List Claim) (old mid : List ℕ) → Each IsClaim claims → AreEntered claims old mid → IsFree old
     → (slot : ℕ) (channel : Channel) (cycle : ℕ) → cycle < 64 → IsSlot slot
     → is_taken mid slot channel cycle ≡ list_any (admits_at slot channel cycle) (filters_of claims)
@@ -279,7 +279,7 @@ shared_more claims claim old mid first here lawful this entered free is_first is
     (shared_here (filters_of claims) claim.filter mid this.slot_is
     (taken_after claims old mid lawful entered free) here is_here))
 
--- what the loop over the claims keeps
+-- the invariant of the loop over the claims
 pub record IsSoFar (claims : List Claim) (old new : List ℕ) (first : Option Occasion) : Type 0 where
   pub lawful : Each IsClaim claims
   pub entered : AreEntered claims old new

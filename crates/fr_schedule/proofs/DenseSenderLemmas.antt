@@ -138,9 +138,9 @@ any_sent (b ∷ buffers) slot channel cycle =
     here true a is = ap (λ (r : Bool). r || list_any (admits_at slot channel cycle) (transmit_filters buffers)) is
     here false a is = refl
 
--- ---- who stands in the table
+-- ---- the entries of the table
 
--- a node of this plan, numbered from n on, or whoever stood there before
+-- a node of this plan, numbered from n up, or the earlier entry
 data Stands (filters : Plan → List Filter) (n : ℕ) (plans : List Plan) (before slot : ℕ) (channel : Channel)
     (cycle node : ℕ) : Type 0 where
   of_node : (m : ℕ) (plan : Plan) → slice_get plans m ≡ Some plan
@@ -196,9 +196,9 @@ stands filters n (plan ∷ plans) before slot channel cycle node is =
     ∙ ap (λ (b : ℕ). after_claims (claims_from filters (n + 1) plans) b slot channel cycle)
     (after_node n (filters plan) before slot channel cycle)))
 
--- ---- a node that stands there sends
+-- ---- a node that is entered sends
 
--- what a node owns is a static slot
+-- an owned slot is static
 static_if_owned : (p : Parameters) (plan : Plan) (slot : ℕ) (channel : Channel) (cycle : ℕ) → IsFaultless p plan
     → is_owned plan.owned slot channel cycle ≡ true → is_static_slot p slot ≡ true
 static_if_owned p plan slot channel cycle h owned = of_lines plan.owned (λ k own at. h.owned_are_static k own at) owned
@@ -217,7 +217,7 @@ static_if_owned p plan slot channel cycle h owned = of_lines plan.owned (λ k ow
           | inr later ↦ of_lines lines (λ k o at. static (suc k) o at) later
         ]
 
--- a static slot in which a buffer of the node sends in a cycle is the node's then
+-- the node owns a static slot in each cycle in which a buffer of the node sends there
 owned_if_sent : (p : Parameters) (plan : Plan) (slot : ℕ) (channel : Channel) (cycle : ℕ) → cycle < 64
     → IsFaultless p plan
     → is_static_slot p slot ≡ true → list_any (sends_at slot channel cycle) plan.buffers ≡ true
@@ -310,7 +310,7 @@ sender_stands d lawful nodes h slot channel cycle in_cycles is taken =
         (node_at nodes slot channel cycle)
         (node_is ∙ h.buffers_are.each slot channel cycle in_cycles is))
 
--- ---- a node that sends stands there
+-- ---- a node that sends is entered
 
 some_claim : (filters : Plan → List Filter) (plans : List Plan) (m : ℕ) (plan : Plan) (slot : ℕ) (channel : Channel)
     (cycle : ℕ) → slice_get plans m ≡ Some plan
@@ -355,7 +355,7 @@ dense_table d nodes lawful h = record {
       sender;
 }
 
--- ---- what is read from the table
+-- ---- reading the table
 
 within_plans : {X : Type 0} (xs : List X) (n : ℕ) (x : X) → slice_get xs n ≡ Some x → n < length xs
 within_plans [] n x at = cc at

@@ -5,7 +5,7 @@ use Rattle.fr_schedule.specs.declared.error.ConfigError.{ConfigError}
 use Rattle.fr_schedule.specs.Files.{◌>>=◌, each_of}
 
 module _ {X A B : Type 0} (read : ℕ → X → Result A ConfigError) (made : List A → B) where
-  -- what is made of those that were read and those that are left, which are numbered from this number on
+  -- the result of the values that were read and the remaining ones, which are numbered from this number up
   abbrev pub with_rest : ℕ → List A → List X → Result B ConfigError
   with_rest n so_far left = each_of read n left >>= (λ more. Ok (made (so_far ++ more)))
 

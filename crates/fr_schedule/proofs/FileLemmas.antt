@@ -40,7 +40,7 @@ module _ (root : Members) where
         unfolding description_of
         plans_read plans is = rw (params_are, guard_is, values_are, is) refl
 
--- as many are read as there are
+-- as many values are read as there are
 pub each_of-length : {X A : Type 0} (read : ℕ → X → Result A ConfigError) (n : ℕ) (xs : List X) (all : List A)
     → each_of read n xs ≡ Ok all → length all ≡ length xs
 unfolding each_of
@@ -50,7 +50,7 @@ each_of-length read n (x ∷ xs) all is =
     let (more, is_more, made) = then_ok (each_of read (n + 1) xs) _ all rest in
     ap length (sym (same_Ok (one ∷ more) all made)) ∙ ap suc (each_of-length read (n + 1) xs more is_more)
 
--- what is read from the nodes of a file, and has no fault, is a cluster
+-- the nodes read from a file without fault are a cluster
 pub read_cluster : (p kept : Parameters) (guard : Option Channels) (values : List Data) (plans : List Plan) → kept ≡ p
     → IsParameters p → 1 ≤ length values → length values ≤ 16
     → each_of (plan_of p) 0 values ≡ Ok plans → Each IsPlan plans → file_fault p plans ≡ None

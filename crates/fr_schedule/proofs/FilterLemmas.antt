@@ -1,4 +1,4 @@
--- The first fault that nodes give, and the first slot that lines or buffers of several nodes share.
+-- The first fault of nodes, and the first slot that lines or buffers of several nodes share.
 use Rattle.std.proofs.Common.{◌≡◌, ℕ, ◌+◌, Bool, true, false, if◌then◌else◌, List, [], ◌∷◌, Option, Some, None}
 use Rattle.std.proofs.Common.{option_map, refl, sym, ap, ◌∙◌}
 use Rattle.std.specs.Option.{option_or}
@@ -75,7 +75,7 @@ overlap_same plans =
     channels)
     slots
 
--- ---- what lines or buffers share
+-- ---- slots that lines or buffers share
 
 pub overlap_is : (plans : List Plan) (o : Option Occasion) → IsFirst (is_overlap (all_owned plans) (all_buffers plans))
     o
@@ -85,7 +85,7 @@ overlap_is plans None is =
 overlap_is plans (Some o) is =
     sym (overlap_same plans ∙ ap (option_map of_file) (overlap-some (all_owned plans) (all_buffers plans) o is))
 
--- nothing of a file is nothing of the plan that all its lines would make
+-- if the lines of all plans together have no overlap, those of each plan have none
 pub no_overlap_plans : (plans : List Plan) → first_overlap plans ≡ None
     → plan.first_overlap (all_owned plans) (all_buffers plans) ≡ None
 no_overlap_plans plans none =

@@ -1,4 +1,4 @@
--- What is read from a file's tables is for the parameters of the file.
+-- The plans read from a file's tables fit the parameters of the file.
 use Rattle.std.proofs.Common.{◌≡◌, ℕ, ◌+◌, ◌≤◌, ℤ, pos, nat_lt, Bool, true, false, not, ◌&&◌, ◌||◌, if◌then◌else◌, List}
 use Rattle.std.proofs.Common.{[], ◌∷◌, codes, Option, Some, None, Result, Ok, Err, refl, sym, ap, subst, ◌∙◌, inl, inr}
 use Rattle.std.proofs.Common.{arith}
@@ -117,7 +117,7 @@ right_words false s w none some = refl
 right_words true true w none some = rw (none refl) refl
 right_words true false w none some = rw (some refl) refl
 
--- words where there have to be some, and none where there have to be none
+-- words if there must be some, and none if there must be none
 record Fits (s : Bool) (w : Option ℕ) : Type 0 where
   pub static : s ≡ true → w ≡ None
   pub dynamic : s ≡ false → is_some w ≡ true
@@ -187,7 +187,7 @@ limited : (b : Bool) (made plan : Plan) (e : PlanError) → result_ok (if b then
 limited true made plan e is = same_Some made plan is
 limited false made plan e is = cc is
 
--- the latest minislots that were read are there
+-- each pLatestTx that was read is in range
 record IsLimited (p : Parameters) (plan : Plan) : Type 0 where
   pub a : plan.latest_a ≤ p.minislots
   pub b : plan.latest_b ≤ p.minislots

@@ -1,4 +1,4 @@
--- What the plan of a node has before its buffers are read.
+-- The contents of a node's plan before its buffers are read.
 use Rattle.std.proofs.Common.{◌≡◌, List, [], codes, Option, Some, None, option_map, sym, ap, ◌∙◌}
 use Rattle.std.proofs.lemmas.Option.{same_Some}
 use Rattle.std.specs.Prelude.{IfSome}
@@ -11,7 +11,7 @@ use Rattle.fr_slots.specs.Parameters.{Parameters}
 use Rattle.fr_slots.specs.Plans.{Plan, with_queue}
 use Rattle.toml.specs.Data.{Data, Members, get_member}
 
--- ownership lines that were read, and nothing else, are in the plan
+-- the ownership lines that were read are in the plan, and nothing else
 pub record Owns (p : Parameters) (plan new : Plan) : Type 0 where
   pub lines : List Data
   pub owned : List Own
@@ -27,7 +27,7 @@ owned_is p table plan new is =
     let (owned, read, made) = map_some (owning plan) (all_of (own_of p) lines) new rest in
     record { lines = lines; owned = owned; read = read; is = made }
 
--- nothing but the queue is another one
+-- only the receive FIFO differs
 abbrev pub IsQueued : Plan → Plan → Type 0
 IsQueued plan new = (queue : Option Queue) × (record plan { queue = queue } ≡ new)
 

@@ -1,4 +1,4 @@
--- Ownership lines that a plan gets one by one.
+-- Ownership lines that are added to a plan one by one.
 use Rattle.std.proofs.Common.{◌≡◌, List, [], ◌∷◌, ◌++◌, map, Option, Some, None, option_map, refl, sym, ap}
 use Rattle.std.proofs.lemmas.List.{append_assoc, append-nil}
 use Rattle.std.specs.Prelude.{option_and_then}
@@ -32,7 +32,7 @@ pub owning_none : (p : Parameters) (plan : Plan) (line : Value) (lines : List Va
 unfolding all_of
 owning_none p plan line lines none = rw none refl
 
--- one that is taken
+-- a line that is accepted
 pub owning_some : (p : Parameters) (plan : Plan) (line : Value) (lines : List Value) (own : Own)
     → own_of p (view line) ≡ Some own
     → owning_more p plan (line ∷ lines) ≡ owning_more p (with_own plan own) lines

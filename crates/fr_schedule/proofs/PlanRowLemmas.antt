@@ -11,7 +11,7 @@ use Rattle.toml.specs.declared.value.Value.{Value}
 abbrev made : List Plan → List Plan
 made plans = plans
 
--- the plans that were read and those that are left
+-- the plans that were read and the remaining ones
 abbrev pub plans_left : Parameters → ℕ → List Plan → List Value → Result (List Plan) ConfigError
 plans_left p n so_far values = with_rest (plan_of p) made n so_far (map view values)
 

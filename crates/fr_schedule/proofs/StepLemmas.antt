@@ -1,4 +1,4 @@
--- Steps that gave something.
+-- Steps that gave a value.
 use Rattle.std.proofs.Common.{◌≡◌, Option, Some, None, option_map, Result, Ok, Err, refl}
 use Rattle.std.proofs.lemmas.Option.{same_Some}
 use Rattle.std.specs.Prelude.{option_and_then, ok_or}

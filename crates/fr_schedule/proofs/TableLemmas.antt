@@ -9,7 +9,7 @@ use Rattle.toml.specs.Data.{Data}
 use Rattle.toml.specs.View.{view, items_of}
 use Rattle.toml.specs.declared.value.Value.{Value}
 
--- items that a list makes are that list
+-- the items of a list give that list
 pub values_of-items : (values : List Data) → values_of (items_of values) ≡ values
 values_of-items [] = refl
 values_of-items (value ∷ values) = ap (λ (vs : List Data). value ∷ vs) (values_of-items values)

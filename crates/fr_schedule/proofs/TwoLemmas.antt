@@ -1,4 +1,4 @@
--- Two that pass a test, in a list that is made of several lists.
+-- Two items that pass a test, in a list that consists of several lists.
 use Rattle.std.proofs.Common.{◌≡◌, ℕ, zero, suc, Bool, true, ◌&&◌, List, [], ◌∷◌, ◌++◌, Some, refl, ap, ◌∙◌, inl, inr}
 use Rattle.std.proofs.lemmas.Bool.{and_from, and_parts, or_cases, or_left, or_right}
 use Rattle.std.proofs.lemmas.List.Folds.{list_any-append}
@@ -49,7 +49,7 @@ module _ {X : Type 0} (t : X → Bool) where
         (ap (λ r. list_any t (lines r)) (same_Some q p at) ∙ any)
     any_at (q ∷ plans) (suc n) p at any = any_right (lines q) (flat_map lines plans) (any_at plans n p at any)
 
-    -- one in each of two
+    -- one item in each of two lists
     pub two_at : (plans : List P) (m n : ℕ) (p q : P) → (m ≡ n → ⊥) → slice_get plans m ≡ Some p
         → slice_get plans n ≡ Some q
         → list_any t (lines p) ≡ true → list_any t (lines q) ≡ true → two_pass t (flat_map lines plans) ≡ true

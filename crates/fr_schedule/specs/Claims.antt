@@ -1,4 +1,4 @@
--- What the nodes of a cluster claim, as the code goes through it: one claim for each line.
+-- The claims of the nodes of a cluster, in the order of the code: one claim for each line.
 use Rattle.std.specs.Prelude.{ℕ, ◌+◌, ◌≤◌, List, [], ◌∷◌, ◌++◌, map}
 use Rattle.fr_slots.specs.declared.filter.Filter.{Filter}
 use Rattle.fr_slots.specs.Numbers.{IsSlot, last_node}
@@ -27,7 +27,7 @@ filters_by Transmitting plan = transmit_filters plan.buffers
 abbrev pub claim_of : ℕ → Filter → Claim
 claim_of node f = record { filter = f; node = node }
 
--- the claims of nodes, which are numbered from this number on
+-- the claims of nodes, which are numbered from this number up
 abbrev pub claims_from : (Plan → List Filter) → ℕ → List Plan → List Claim
 claims_from filters node [] = []
 claims_from filters node (plan ∷ plans) = map (claim_of node) (filters plan) ++ claims_from filters (node + 1) plans

@@ -1,4 +1,4 @@
--- What every cluster keeps (the limits are project-defined).
+-- The properties of every cluster (the limits are project-defined).
 use Rattle.std.specs.Prelude.{◌≡◌, ℕ, ◌≤◌, length, None}
 use Rattle.fr_schedule.specs.Descriptions.{Description}
 use Rattle.fr_schedule.specs.SenderTable.{HasOneSender}

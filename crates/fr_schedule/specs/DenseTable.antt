@@ -1,5 +1,5 @@
--- The sender table as the code keeps it: one number for each occasion, in the order of slots, then of channels, then of
--- cycles. It serves the code alone: who sends is said by `SenderTable`.
+-- The sender table of the code: one number for each occasion, in the order of slots, then of channels, then of cycles.
+-- It serves the code alone; `SenderTable` defines the senders.
 use Rattle.std.specs.Prelude.{◌≡◌, ℕ, ◌+◌, ◌-◌, ◌*◌, ◌<◌, ◌≤◌, ◌==◌, ◌⊎◌, not, Bool, true, false, ◌&&◌, List, [], ◌∷◌}
 use Rattle.std.specs.Prelude.{length, replicate, Option, Some, None, slice_index_or, if◌then◌else◌}
 use Rattle.fr_slots.specs.declared.channel.Channel.{Channel}
@@ -15,42 +15,42 @@ use Rattle.fr_schedule.specs.Claims.{IsClaim, claims_from, filters_by}
 use Rattle.fr_schedule.specs.Descriptions.{Description}
 use Rattle.fr_schedule.specs.SenderTable.{IsSender}
 
--- how many occasions there are
+-- the number of occasions
 abbrev pub occasions : ℕ
 occasions = last_slot * (2 * cycle_count)
 
--- what stands for no node
+-- the entry for no node
 abbrev pub nobody : ℕ
 nobody = 255
 
 -- ---- rows: the cycles of a slot on a channel
 
--- what stands at a place
+-- the entry at a place
 abbrev pub at_place : List ℕ → ℕ → ℕ
 at_place nodes place = slice_index_or nodes place nobody
 
--- a node stands at the cycle of the row that starts there, and the cycle is one of these
+-- a node is entered at the cycle of the row that starts there, and the cycle is one of these
 abbrev pub is_taken_in : List ℕ → ℕ → CycleClass → ℕ → Bool
 is_taken_in nodes start c cycle = cycle_admitted c cycle && not (at_place nodes (start + cycle) == nobody)
 
 abbrev pub taken_in : List ℕ → ℕ → CycleClass → ℕ → Option ℕ
 taken_in nodes start c cycle = if is_taken_in nodes start c cycle then Some cycle else None
 
--- the first of these cycles at which a node stands
+-- the first of these cycles with a node
 abbrev pub first_taken_in : List ℕ → ℕ → CycleClass → Option ℕ
 first_taken_in nodes start c = first_of (taken_in nodes start c) cycles
 
--- no node stands in the row
+-- no node is entered in the row
 abbrev pub IsRowFree : ℕ → List ℕ → Type 0
 IsRowFree start nodes = (cycle : ℕ) → cycle < cycle_count → at_place nodes (start + cycle) ≡ nobody
 
--- the node stands at every cycle of the row, and all else is as it was
+-- the node is entered at every cycle of the row, and everything else is unchanged
 pub record IsRowFilled (start node : ℕ) (old new : List ℕ) : Type 0 where
   pub size : length new ≡ length old
   pub within : (cycle : ℕ) → cycle < cycle_count → at_place new (start + cycle) ≡ node
   pub outside : (place : ℕ) → (place < start) ⊎ (start + cycle_count ≤ place) → at_place new place ≡ at_place old place
 
--- up to a cycle of the row the node stands at these cycles, and all else is as it was
+-- up to a cycle of the row the node is entered at these cycles, and everything else is unchanged
 pub record IsRowEntered (upto start : ℕ) (c : CycleClass) (node : ℕ) (old new : List ℕ) : Type 0 where
   pub size : length new ≡ length old
   pub within : (cycle : ℕ) → cycle < upto
@@ -59,7 +59,7 @@ pub record IsRowEntered (upto start : ℕ) (c : CycleClass) (node : ℕ) (old ne
 
 -- ---- the whole table
 
--- who stands at the occasion; the first slot is 1
+-- the entry at the occasion; the first slot is 1
 abbrev pub node_at : List ℕ → ℕ → Channel → ℕ → ℕ
 node_at nodes slot channel cycle = at_place nodes (place_of slot channel cycle - 2 * cycle_count)
 
@@ -71,7 +71,7 @@ IsFree nodes =
     (slot : ℕ) (channel : Channel) (cycle : ℕ) → cycle < cycle_count → IsSlot slot
     → is_taken nodes slot channel cycle ≡ false
 
--- an occasion of the filter, on this channel or on both, that is taken
+-- an occasion of the filter, on this channel or on both, that is occupied
 abbrev pub is_retaken_on : List ℕ → Filter → Channel → ℕ → Channel → ℕ → Bool
 is_retaken_on nodes f on slot channel cycle =
     is_channel on channel && (is_taken nodes slot channel cycle && admits_at slot channel cycle f)
@@ -83,7 +83,7 @@ is_retaken nodes f slot channel cycle = is_taken nodes slot channel cycle && adm
 abbrev pub is_admitted_on : Filter → Channel → ℕ → Channel → ℕ → Bool
 is_admitted_on f on slot channel cycle = is_channel on channel && admits_at slot channel cycle f
 
--- the node stands at the occasions that pass the test, and all else is as it was
+-- the node is entered at the occasions that pass the test, and everything else is unchanged
 pub record IsEntered (test : ℕ → Channel → ℕ → Bool) (node : ℕ) (old new : List ℕ) : Type 0 where
   pub size : length new ≡ length old
   pub each : (slot : ℕ) (channel : Channel) (cycle : ℕ) → cycle < cycle_count → IsSlot slot
@@ -91,7 +91,7 @@ pub record IsEntered (test : ℕ → Channel → ℕ → Bool) (node : ℕ) (old
 
 -- ---- claims
 
--- who stands at the occasion after the claims were entered one by one
+-- the entry at the occasion after the claims were entered one by one
 abbrev pub after_claims : List Claim → ℕ → ℕ → Channel → ℕ → ℕ
 after_claims [] before slot channel cycle = before
 after_claims (claim ∷ claims) before slot channel cycle =
@@ -102,13 +102,13 @@ pub record AreEntered (claims : List Claim) (old new : List ℕ) : Type 0 where
   pub each : (slot : ℕ) (channel : Channel) (cycle : ℕ) → cycle < cycle_count → IsSlot slot
       → node_at new slot channel cycle ≡ after_claims claims (node_at old slot channel cycle) slot channel cycle
 
--- the table in which nobody sends
+-- the table without a sender
 unfoldable pub free : List ℕ
 free = replicate occasions nobody
 
 -- ---- the sender table of a cluster
 
--- what the transmit buffers of the plans claim was entered into a free table, and then what the plans own
+-- the claims of the transmit buffers were entered into a free table, and then the ownership lines
 pub record HasClaims (plans : List Plan) (nodes : List ℕ) : Type 0 where
   pub sending : List ℕ
   pub buffers_are : AreEntered (claims_from (filters_by Transmitting) 0 plans) free sending

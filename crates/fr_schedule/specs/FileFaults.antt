@@ -1,5 +1,5 @@
--- What is at fault among the nodes of a cluster file, each by itself being in order (chapters 5 and 9; that nodes
--- divide a static slot on a channel by cycles, and the order of the faults, are project-defined).
+-- The faults among the nodes of a cluster file whose tables have no fault by themselves. Chapters 5 and 9; the division
+-- of a static slot on a channel by cycles, and the order of the faults, are project-defined.
 use Rattle.std.specs.Prelude.{ℕ, ◌+◌, Bool, List, [], ◌∷◌, Option, Some, None, option_map, position, if◌then◌else◌}
 use Rattle.std.specs.List.{flat_map}
 use Rattle.std.specs.Option.{option_or}
@@ -44,7 +44,7 @@ first_overlap plans = first_of (overlap_in plans) slots
 abbrev pub buffer_fault : (ℕ → ℕ → ConfigError) → (Plan → Buffer → Bool) → ℕ → Plan → Option ConfigError
 buffer_fault fault test node plan = option_map (fault node) (position (test plan) plan.buffers)
 
--- the first fault that nodes, which are numbered from this one on, give
+-- the first fault of the nodes, which are numbered from this one up
 unfoldable pub first_in_nodes : (ℕ → Plan → Option ConfigError) → ℕ → List Plan → Option ConfigError
 first_in_nodes fault node [] = None
 first_in_nodes fault node (plan ∷ plans) = option_or (fault node plan) (first_in_nodes fault (node + 1) plans)
@@ -52,7 +52,7 @@ first_in_nodes fault node (plan ∷ plans) = option_or (fault node plan) (first_
 abbrev pub first_by : (ℕ → Plan → Option ConfigError) → List Plan → Option ConfigError
 first_by fault plans = first_in_nodes fault 0 plans
 
--- a static transmit buffer, whose slot the node doesn't own on all the buffer's channels in all the buffer's cycles
+-- a static transmit buffer whose slot the node doesn't own on all the buffer's channels in all the buffer's cycles
 abbrev pub not_owned_in : Parameters → ℕ → Plan → Option ConfigError
 not_owned_in p = buffer_fault NotOwned (λ plan. not_owned p plan.owned)
 
@@ -60,11 +60,11 @@ not_owned_in p = buffer_fault NotOwned (λ plan. not_owned p plan.owned)
 abbrev pub dynamic_both_in : Parameters → ℕ → Plan → Option ConfigError
 dynamic_both_in p = buffer_fault DynamicBoth (λ plan. dynamic_both p)
 
--- a dynamic transmit buffer, whose frame would end after the dynamic segment if it began at the node's latest minislot
+-- a dynamic transmit buffer whose frame, begun at pLatestTx, would end after the dynamic segment
 abbrev pub too_long_in : Parameters → ℕ → Plan → Option ConfigError
 too_long_in p = buffer_fault TooLong (too_long p)
 
--- ---- the first fault: each kind over all nodes before the next, and of a kind the first in order of its numbers
+-- ---- the first fault: each kind over all nodes before the next, and of a kind the first in the order of its numbers
 
 unfoldable pub file_fault : Parameters → List Plan → Option ConfigError
 file_fault p plans =

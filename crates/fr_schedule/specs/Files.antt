@@ -29,7 +29,7 @@ abbrev pub ◌>>=◌ : {A B : Type 0} → Result A ConfigError → (A → Result
 (Ok x) >>= f = f x
 (Err e) >>= f = Err e
 
--- ---- the parameters, of which no key is there where there is no table `params`
+-- ---- the parameters; if there is no table `params`, all its keys are missing
 
 abbrev pub members_or_none : Option Members → Members
 members_or_none None = no_members
@@ -45,7 +45,7 @@ held (Err e) = Err (Params e)
 unfoldable pub params_in : Members → Result Parameters ConfigError
 params_in root = held (parameters_in (members_or_none (params_table root)))
 
--- ---- the guarded channels: both where `guard` is absent, and "none" for no channel
+-- ---- the guarded channels: both if `guard` is absent, and no channel for "none"
 
 abbrev pub guard_named : List ℕ → Option (Option Channels)
 guard_named word =
@@ -68,7 +68,7 @@ nodes_in root = option_and_then some_nodes (option_and_then array_in (get_member
 
 -- ---- values in a row
 
--- what each is read as, numbered from this number on, or the first refusal
+-- each value as it is read, numbered from this number up, or the first refusal
 unfoldable pub each_of : {X A : Type 0} → (ℕ → X → Result A ConfigError) → ℕ → List X → Result (List A) ConfigError
 each_of read n [] = Ok []
 each_of read n (x ∷ xs) = do
@@ -89,7 +89,7 @@ with_buffers_of p node values plan = do
   buffers ← each_of (buffer_read p node) 0 values
   Ok (with_buffers plan buffers)
 
--- all that stands in the node but its buffers is looked at before these
+-- everything in the node is read before its buffers
 unfoldable pub plan_of : Parameters → ℕ → Data → Result Plan ConfigError
 plan_of p node value = do
   table ← ok_or (as_table value) (BadNode node)
@@ -103,7 +103,7 @@ abbrev pub unless_fault : Option ConfigError → Description → Result Descript
 unless_fault None d = Ok d
 unless_fault (Some fault) d = Err fault
 
--- the description that a file's table gives, or its first fault
+-- the description in a file's table, or its first fault
 unfoldable pub description_of : Members → Result Description ConfigError
 description_of root = do
   params ← params_in root
@@ -116,11 +116,11 @@ abbrev pub or_no_toml : Option Members → Result Description ConfigError
 or_no_toml None = Err Toml
 or_no_toml (Some root) = description_of root
 
--- the same of the file's text
+-- the same for the file's text
 abbrev pub described : List ℕ → Result Description ConfigError
 described text = or_no_toml (parse_document text)
 
--- what a text gives as a table, unless memory ran out while it was parsed
+-- the table in a text, unless memory ran out while it was parsed
 abbrev pub IsTableOf : List ℕ → Result (BTreeMap (String Global) Value) ConfigError → Type 0
 IsTableOf text (Ok root) = parse_document text ≡ Some (table_view root)
 IsTableOf text (Err Toml) = parse_document text ≡ None

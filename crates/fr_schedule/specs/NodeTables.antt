@@ -1,4 +1,4 @@
--- What the table of a node and the tables in it are read as (project-defined): `None` where one can't be.
+-- Reading the table of a node and the tables in it (project-defined): `None` if one can't be read.
 use Rattle.std.specs.Prelude.{ℕ, Bool, false, List, codes, Option, Some, None, option_map, if◌then◌else◌}
 use Rattle.std.specs.Result.{result_ok}
 use Rattle.fr_slots.specs.declared.filter.Filter.{Filter}
@@ -13,13 +13,13 @@ use Rattle.fr_schedule.specs.TableReading.{◌>>=◌, or_default, number_at, num
 use Rattle.fr_schedule.specs.TableReading.{cycles_in, tables_at, all_of}
 use Rattle.toml.specs.Data.{Data, Members, get_member, as_table}
 
--- the value, where it passes the test
+-- the value, if it passes the test
 abbrev pub checked : {A : Type 0} → (A → Bool) → A → Option A
 checked test value = if test value then Some value else None
 
 -- ---- ownership lines
 
--- the slot is a static one, in every cycle where no other ones are reported, and only a sync frame is a startup frame
+-- the slot is static, the cycles are all unless others are given, and only a sync frame is a startup frame
 unfoldable pub own_in : Parameters → Members → Option Own
 own_in p table = do
   slot ← number_at (codes "slot") 1 p.static_slots table
@@ -34,7 +34,7 @@ own_of p value = do
   table ← as_table value
   own_in p table
 
--- ---- the queue
+-- ---- the receive FIFO
 
 unfoldable pub queue_in : Members → Option Queue
 queue_in table = do
@@ -59,7 +59,7 @@ filter_in table = do
   cycles ← cycles_in table
   Some (record { slot = slot; channels = channels; cycles = cycles })
 
--- the words of a transmit buffer: its own in a dynamic slot, while in a static one no key is read
+-- the words of a transmit buffer: its own in a dynamic slot; in a static slot the key isn't read
 unfoldable pub words_in : Parameters → ℕ → Members → Option (Option ℕ)
 words_in p slot table =
     if is_static_slot p slot then Some None else do
@@ -72,7 +72,7 @@ transmit_buffer_in p mode filter table = do
   words ← words_in p filter.slot table
   checked buffer_fits (record { mode = mode; filter = filter; words = words; preamble = preamble })
 
--- the keys of transmit buffers aren't read for a receive buffer
+-- for a receive buffer the keys of transmit buffers aren't read
 unfoldable pub buffer_by : Parameters → Mode → Filter → Members → Option Buffer
 buffer_by p mode filter table =
     if is_receive mode then Some (record { mode = mode; filter = filter; words = None; preamble = false })
@@ -89,7 +89,7 @@ buffer_of p value = do
   table ← as_table value
   buffer_in p table
 
--- ---- a node, its buffers aside
+-- ---- a node, without its buffers
 
 -- a plan with no lines yet
 unfoldable pub limits_in : Parameters → Members → Option Plan
@@ -113,7 +113,7 @@ unfoldable pub with_queue_in : Members → Plan → Option Plan
 with_queue_in table plan =
     or_default plan (λ value. option_map (with_queue plan) (queue_of value)) (get_member (codes "queue") table)
 
--- the plan that a node's table gives, its buffers aside
+-- the plan in a node's table, without its buffers
 unfoldable pub head_in : Parameters → Members → Option Plan
 head_in p table = do
   limits ← limits_in p table

@@ -1,5 +1,4 @@
--- What each rule of the code finds at fault in a node, and what it makes of an occasion that two lines or two buffers
--- are for.
+-- The fault by each rule of the code in a node, and the fault of an occasion that two lines or two buffers share.
 use Rattle.std.specs.Prelude.{ℕ, Option}
 use Rattle.fr_slots.specs.Parameters.{Parameters}
 use Rattle.fr_slots.specs.Plans.{Plan}

@@ -1,5 +1,5 @@
--- Who sends in a slot on a channel in a cycle (chapters 5 and 9; that nodes divide a static slot on a channel by cycles
--- is project-defined).
+-- The sender in a slot on a channel in a cycle. Chapters 5 and 9; the division of a static slot on a channel by cycles
+-- is project-defined.
 use Rattle.std.specs.Prelude.{◌≡◌, ℕ, ◌<◌, Bool, true, Some, slice_get, if◌then◌else◌}
 use Rattle.std.specs.List.{list_any}
 use Rattle.fr_schedule.specs.Descriptions.{Description}
@@ -8,8 +8,8 @@ use Rattle.fr_slots.specs.Faults.{is_owned, sends_at}
 use Rattle.fr_slots.specs.Parameters.{Parameters, is_static_slot}
 use Rattle.fr_slots.specs.Plans.{Plan}
 
--- in a static slot the owner of the slot on the channel in the cycle sends, and in a dynamic slot the node with a
--- transmit buffer that admits the slot on the channel in the cycle
+-- In a static slot the owner of the slot on the channel in the cycle sends. In a dynamic slot the node with a transmit
+-- buffer that admits the slot on the channel in the cycle sends.
 abbrev pub may_send : Parameters → ℕ → ℕ → Channel → Plan → Bool
 may_send p cycle slot channel plan =
     if is_static_slot p slot then is_owned plan.owned slot channel cycle

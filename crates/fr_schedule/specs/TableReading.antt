@@ -1,5 +1,5 @@
--- What a table of a cluster file has under a key (project-defined): `None` where the key is missing that has to be
--- there, and where something else stands there than has to.
+-- The value under a key of a table in a cluster file (project-defined). It is `None` if a required key is missing, or
+-- its value is of another kind.
 use Rattle.std.specs.Prelude.{ℕ, nat_le, ℤ, pos, Bool, false, ◌&&◌, List, [], ◌∷◌, length, codes, Option, Some, None}
 use Rattle.std.specs.Prelude.{is_some, option_and_then, if◌then◌else◌}
 use Rattle.std.specs.Int.Signed.{le_z}
@@ -20,7 +20,7 @@ infixl 10 ◌>>=◌
 abbrev pub ◌>>=◌ : {A B : Type 0} → Option A → (A → Option B) → Option B
 o >>= f = option_and_then f o
 
--- what stands under a key, or the default where nothing does
+-- the value under a key, or the default if there is none
 abbrev pub or_default : {A : Type 0} → A → (Data → Option A) → Option Data → Option A
 or_default default read None = Some default
 or_default default read (Some value) = read value
@@ -44,7 +44,7 @@ number_at key least greatest table = do
 unfoldable pub number_or : List ℕ → ℕ → ℕ → ℕ → Members → Option ℕ
 number_or key least greatest default table = or_default default (number_in least greatest) (get_member key table)
 
--- ---- flags, which are false where they are absent
+-- ---- flags, which are false if absent
 
 unfoldable pub flag_at : List ℕ → Members → Option Bool
 flag_at key table = or_default false as_bool (get_member key table)
@@ -82,7 +82,7 @@ mode_in table = do
   word ← word_at (codes "kind") table
   mode_named word
 
--- ---- cycles: every cycle where neither key is there
+-- ---- cycles: every cycle if neither key is there
 
 unfoldable pub cycles_in : Members → Option CycleClass
 cycles_in table = do
@@ -121,7 +121,7 @@ tables_at key table = or_default [] tables_in (get_member key table)
 
 -- ---- values in a row
 
--- what each is read as, where all can be read
+-- each value as it is read, if all can be read
 unfoldable pub all_of : {X A : Type 0} → (X → Option A) → List X → Option (List A)
 all_of read [] = Some []
 all_of read (x ∷ xs) = do

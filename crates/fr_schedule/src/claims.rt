@@ -1,4 +1,4 @@
-//! What the nodes of a cluster claim: the slots that they own, and those that they send in.
+//! The claims of the nodes of a cluster: the slots that they own, and the slots in which they send.
 
 ghost use Rattle.std.specs.Prelude.{◌≡◌, ◌≤◌, ◌++◌, length, map, IfOk, OnOk};
 ghost use Rattle.fr_schedule.specs.Claims.{claim_of, claims_from, filters_by};
@@ -20,7 +20,7 @@ pub(crate) struct Claim {
 /// Lines of a plan that claim occasions.
 #[derive(Clone, Copy, PartialEq, Eq)]
 pub(crate) enum Lines {
-    /// The ownership lines, each for its cycles.
+    /// The ownership lines, each in its cycles.
     Owned,
     /// The transmit buffers.
     Transmitting,
@@ -49,7 +49,7 @@ fn add_claims(claims: &mut Vec<Claim>, node: NodeId, filters: &[Filter]) -> Resu
     Ok(())
 }
 
-/// Returns the claims of all nodes by these lines, in the order of nodes.
+/// Returns the claims that these lines of all nodes make, in the order of nodes.
 pub(crate) fn claims_of(
     alloc: Global,
     lines: Lines,

@@ -22,13 +22,13 @@ use std::marker::Model;
 use std::mem;
 use toml::Table;
 
-/// A cluster of 1 to 16 nodes whose plans have no fault, by themselves and among each other.
+/// A cluster of 1 to 16 nodes whose plans have no fault, alone and together.
 #[derive(Drop)]
 pub struct Cluster {
     params: Params,
     guard: Option<Channels>,
     plans: Vec<NodePlan>,
-    /// For each slot, channel and cycle the number of the node that sends there.
+    /// The number of the sending node, for each slot, channel and cycle.
     senders: Vec<u8>,
 }
 
@@ -44,7 +44,7 @@ impl Model for Cluster {
     ghost invariant = { IsLawful };
 }
 
-/// Returns the table that a cluster file spells.
+/// Returns the table of a cluster file.
 fn table_of(alloc: Global, text: &str) -> Result<Table, ConfigError>
     ensures { IsTableOf text.now result }
 {
@@ -55,7 +55,7 @@ fn table_of(alloc: Global, text: &str) -> Result<Table, ConfigError>
     }
 }
 
-/// Returns the cluster that a file's table gives.
+/// Returns the cluster of a file's table.
 fn cluster_of(alloc: Global, root: &Table) -> Result<Cluster, ConfigError>
     ensures told { ¬ (result ≡ Err error.Memory) → result ≡ description_of (table_view root.now) }
     ensures lawful { IfOk result IsCluster }
@@ -78,17 +78,17 @@ fn cluster_of(alloc: Global, root: &Table) -> Result<Cluster, ConfigError>
 impl Cluster {
     /// Returns the cluster that a cluster file describes (project-defined).
     ///
-    /// Refused, in this order:
+    /// Fails, in this order:
     ///
-    /// - `Toml` for a text that is no TOML,
-    /// - `Params` where the table `params` gives no parameters; without such a table its first key is missing,
-    /// - `BadGuard`, and then `TooManyNodes`,
-    /// - node by node, in the order of the file, `BadNode` and then `BadBuffer` for the first of its buffers at fault,
-    /// - `NotOwned`, `DynamicBoth`, `Overlap` and `TooLong`, each kind looked for in the whole file before the next,
-    ///   and of a kind the first in order of its numbers, channel A before B.
+    /// - `Toml` for a text that isn't TOML,
+    /// - `Params` if the table `params` gives no parameters; if it is absent, its first key is missing,
+    /// - `BadGuard`, then `TooManyNodes`,
+    /// - node by node, in the order of the file, `BadNode`, then `BadBuffer` for its first buffer at fault,
+    /// - `NotOwned`, `DynamicBoth`, `Overlap` and `TooLong`. Each kind is looked for in the whole file before the next.
+    ///   Of a kind, the first in the order of its numbers is named, channel A before B.
     ///
-    /// Keys that have no meaning where they stand aren't read. `Memory` comes where memory was refused; that it comes
-    /// for no other cause isn't stated of the parse, since `toml` says nothing of a text for which memory ran out.
+    /// Keys without a meaning are ignored. A failed allocation gives `Memory`. The clauses don't exclude `Memory` for
+    /// other causes while the text is parsed, since `toml` states nothing of a text for which memory ran out.
     pub fn from_text(alloc: Global, text: &str) -> Result<Cluster, ConfigError>
         ensures told { ¬ (result ≡ Err error.Memory) → result ≡ described text.now }
         ensures lawful { IfOk result IsCluster }
@@ -97,8 +97,8 @@ impl Cluster {
         cluster_of(alloc, &root)
     }
 
-    /// The same, for a program that reads one cluster file and ends: the memory of the parsed table isn't given back,
-    /// since taking the table apart takes a tenth of the time of reading it.
+    /// Returns the same cluster, for a program that reads one cluster file and ends. The parsed table isn't freed,
+    /// since freeing it takes a tenth of the time of reading it.
     pub fn from_text_leaking(alloc: Global, text: &str) -> Result<Cluster, ConfigError>
         ensures told { ¬ (result ≡ Err error.Memory) → result ≡ described text.now }
         ensures lawful { IfOk result IsCluster }
@@ -109,9 +109,9 @@ impl Cluster {
         cluster
     }
 
-    /// Returns the node that sends in the slot on the channel in the cycle, or None where there is none: the owner of a
-    /// static slot in that cycle, and in a dynamic slot the node with a transmit buffer that admits it (chapter 5; the
-    /// division of a static slot by cycles is project-defined).
+    /// Returns the node that sends in the slot on the channel in the cycle, or `None` if there is none. In a static
+    /// slot it is the owner in that cycle, in a dynamic slot the node with a transmit buffer that admits the slot.
+    /// Chapter 5; the division of a static slot by cycles is project-defined.
     pub fn sender(&self, cycle: Cycle, slot: SlotId, channel: Channel) -> Option<NodeId>
         ensures sender { IfSome result (λ node. IsSender self.now cycle slot channel node) }
         ensures nobody { IfNone result ((node : ℕ) → ¬ IsSender self.now cycle slot channel node) }
@@ -136,7 +136,7 @@ impl Cluster {
         self.plans.as_slice()
     }
 
-    /// Returns the plan of a node, or None where the cluster doesn't have it.
+    /// Returns the plan of a node, or `None` if the cluster doesn't have the node.
     pub fn node(&self, node: NodeId) -> Option<&NodePlan>
         ensures value { option_map (λ plan. plan.now) result ≡ slice_get self.now.plans node }
         ensures lawful { IsCluster self.now }
@@ -153,7 +153,7 @@ impl Cluster {
         self.plans.len() as u8
     }
 
-    /// Returns whether the guardians watch over the channel (project-defined).
+    /// Returns whether the channel has bus guardians (project-defined).
     pub fn guarded(&self, channel: Channel) -> bool
         ensures value { result ≡ is_guarded self.now.guard channel }
         ensures lawful { IsCluster self.now }

@@ -1,4 +1,4 @@
-//! What is at fault among the nodes of a cluster file.
+//! The faults among the nodes of a cluster file.
 
 ghost use Rattle.std.specs.Prelude.{◌≡◌, ◌≤◌, length, option_map};
 ghost use Rattle.fr_schedule.specs.FileFaults.{all_owned, all_buffers, first_by, file_fault};
@@ -13,19 +13,18 @@ use fr_slots::params::Params;
 use fr_slots::plan::NodePlan;
 use fr_slots::sharing::Occasion;
 
-/// A rule that a transmit buffer keeps by itself.
+/// A rule that each transmit buffer follows by itself.
 #[derive(Clone, Copy, PartialEq, Eq)]
 pub(crate) enum Rule {
-    /// A static one is for channels on which its node owns the slot in the buffer's cycles (chapter 5).
+    /// A static buffer's node owns the slot on the buffer's channels in the buffer's cycles (chapter 5).
     Owned,
-    /// A dynamic one is for one channel (project-defined).
+    /// A dynamic buffer is for one channel (project-defined).
     OneChannel,
-    /// A frame of a dynamic one that begins at the latest minislot ends within the dynamic segment (project-defined).
+    /// A dynamic buffer's frame ends within the dynamic segment, even from pLatestTx on (project-defined).
     EndsInTime,
 }
 
-/// Returns the fault of the first slot, channel and cycle that two ownership lines are for, or that two transmit
-/// buffers admit, which is this one.
+/// Returns the fault of the first occasion that two ownership lines or two transmit buffers share.
 fn overlap_fault(overlap: Option<Occasion>) -> Option<ConfigError>
     ensures { result ≡ option_map overlap_fault overlap }
 {
@@ -33,8 +32,8 @@ fn overlap_fault(overlap: Option<Occasion>) -> Option<ConfigError>
     Some(ConfigError::Overlap(shared.slot, shared.channel, shared.cycle))
 }
 
-/// Returns the fault of the first buffer of the node for a static slot that the node lacks on one of the buffer's
-/// channels in one of its cycles.
+/// Returns the fault of the node's first static buffer whose slot isn't owned. A channel of the buffer and a cycle that
+/// it admits are enough.
 fn not_owned_in(params: &Params, node: NodeId, plan: &NodePlan) -> Option<ConfigError>
     ensures { result ≡ not_owned_in params.now node plan.now }
 {
@@ -42,7 +41,7 @@ fn not_owned_in(params: &Params, node: NodeId, plan: &NodePlan) -> Option<Config
     Some(ConfigError::NotOwned(node, number))
 }
 
-/// Returns the fault of the first dynamic buffer of the node for both channels.
+/// Returns the fault of the node's first dynamic buffer for both channels.
 fn dynamic_both_in(params: &Params, node: NodeId, plan: &NodePlan) -> Option<ConfigError>
     ensures { result ≡ dynamic_both_in params.now node plan.now }
 {
@@ -50,7 +49,7 @@ fn dynamic_both_in(params: &Params, node: NodeId, plan: &NodePlan) -> Option<Con
     Some(ConfigError::DynamicBoth(node, number))
 }
 
-/// Returns the fault of the first dynamic buffer of the node whose frame would end after the dynamic segment.
+/// Returns the fault of the node's first dynamic buffer whose frame would end too late.
 fn too_long_in(params: &Params, node: NodeId, plan: &NodePlan) -> Option<ConfigError>
     ensures { result ≡ too_long_in params.now node plan.now }
 {
@@ -58,7 +57,7 @@ fn too_long_in(params: &Params, node: NodeId, plan: &NodePlan) -> Option<ConfigE
     Some(ConfigError::TooLong(node, number))
 }
 
-/// Returns the fault of the node's first buffer that doesn't keep the rule.
+/// Returns the fault of the node's first buffer that breaks the rule.
 fn fault_by(rule: Rule, params: &Params, node: NodeId, plan: &NodePlan) -> Option<ConfigError>
     ensures { result ≡ fault_by rule params.now node plan.now }
 {
@@ -69,7 +68,7 @@ fn fault_by(rule: Rule, params: &Params, node: NodeId, plan: &NodePlan) -> Optio
     }
 }
 
-/// Returns the fault of the first buffer, in the order of nodes, that doesn't keep the rule.
+/// Returns the fault of the first buffer, in the order of nodes, that breaks the rule.
 fn first_by(rule: Rule, params: &Params, plans: &[NodePlan]) -> Option<ConfigError>
     requires { length plans.now ≤ 16 }
     ensures { result ≡ first_by (fault_by rule params.now) plans.now }
@@ -82,9 +81,9 @@ fn first_by(rule: Rule, params: &Params, plans: &[NodePlan]) -> Option<ConfigErr
     None
 }
 
-/// Returns the first fault of the file: each kind is looked for in all nodes before the next, and of a kind the first
-/// in order of its numbers is named, channel A before B. Two ownership lines or two transmit buffers are first for this
-/// occasion.
+/// Returns the first fault of the file. Each kind is looked for in all nodes before the next. Of a kind, the first in
+/// the order of its numbers is named, channel A before B. `overlap` is the first occasion of two ownership lines or two
+/// transmit buffers.
 #[tactic(auto, using(crate::proofs::FilterLemmas::overlap_is), unfolding(crate::specs::FileFaults::file_fault))]
 pub(crate) fn file_fault(
     params: &Params,

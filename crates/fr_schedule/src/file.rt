@@ -1,4 +1,4 @@
-//! What a cluster file's table gives, before its nodes are held against each other.
+//! Reading the table of a cluster file, before its nodes are compared.
 
 ghost use Rattle.std.specs.Prelude.{◌≡◌, ◌≤◌, ◌<◌, [], true, None, Ok, Err, length, map, option_map, ok_or};
 ghost use Rattle.std.specs.Prelude.{IfSome, IfOk, IfErr};
@@ -22,7 +22,7 @@ use fr_slots::plan::{Buffer, NodePlan};
 use std::alloc::Global;
 use toml::{Table, Value};
 
-/// The most nodes of a cluster (project-defined).
+/// The greatest number of nodes of a cluster (project-defined).
 const MOST_NODES: usize = NODES as usize;
 
 /// Returns the table `params`, if there is one.
@@ -35,7 +35,7 @@ fn params_table(root: &Table) -> Option<&Table>
     }
 }
 
-/// Returns the parameters. Where there is no table `params` no key is there.
+/// Returns the parameters. If there is no table `params`, its first key is missing.
 #[tactic(auto, unfolding(crate::specs::Files::params_in))]
 pub(crate) fn params_in(alloc: Global, root: &Table) -> Result<Params, ConfigError>
     ensures value { result ≡ params_in (table_view root.now) }
@@ -76,7 +76,7 @@ pub(crate) fn guard_in(root: &Table) -> Result<Option<Channels>, ConfigError>
     guard_named(word).ok_or(ConfigError::BadGuard)
 }
 
-/// Returns the values of the nodes, of which there are 1 to 16.
+/// Returns the values of the nodes, 1 to 16.
 #[tactic(auto, unfolding(crate::specs::Files::nodes_in))]
 pub(crate) fn nodes_in(root: &Table) -> Option<&[Value]>
     ensures value { option_map (λ values. map view values.now) result ≡ nodes_in (table_view root.now) }
@@ -92,7 +92,7 @@ pub(crate) fn nodes_in(root: &Table) -> Option<&[Value]>
     }
 }
 
-/// Returns the buffer that the value gives.
+/// Returns the buffer in the value.
 fn buffer_read(
     params: &Params,
     node: NodeId,
@@ -108,7 +108,7 @@ fn buffer_read(
     }
 }
 
-/// Returns the plan with the buffers that the values give.
+/// Returns the plan with the buffers in the values.
 fn with_buffers_of(
     params: &Params,
     node: NodeId,
@@ -140,20 +140,22 @@ fn plan_of(params: &Params, node: NodeId, value: &Value) -> Result<NodePlan, Con
     let Some(plan) = head_in(params, table) else {
         return Err(ConfigError::BadNode(node));
     };
-    // An element that is no table is the fault of its node before any buffer is read, since `buffer` is then no array
-    // of tables.
+    // An element that isn't a table is a fault of its node, before any buffer is read: `buffer` then isn't an array of
+    // tables.
     let Some(buffers) = tables_at(table, "buffer") else {
         return Err(ConfigError::BadNode(node));
     };
     with_buffers_of(params, node, buffers, plan)
 }
 
-/// Returns the plan of a node, which is lawful as every plan is.
+// For the prover: `plans_of` needs that the plan is lawful.
+/// Returns the plan of a node, with the clause that it is lawful.
 fn lawful_plan(params: &Params, node: NodeId, value: &Value) -> Result<NodePlan, ConfigError>
     ensures value { result ≡ plan_of params.now node (view value.now) }
     ensures lawful { IfOk result IsPlan }
 {
     let plan = plan_of(params, node, value)?;
+    // For the prover: the clause of this call.
     let _tasks = plan.tasks();
     Ok(plan)
 }
@@ -170,7 +172,7 @@ pub(crate) fn plans_of(
     ensures refused { IfErr result (λ e. ¬ (e ≡ error.Memory)
         → each_of (plan_of params.now) 0 (map view values.now) ≡ Err e) }
 {
-    // Nodes are read whole in turn, and held against each other only after that.
+    // Each node is read completely before the next, and nodes are compared only after that.
     let mut plans = Vec::new(alloc);
     for (number, value) in values.iter().enumerate() {
         let plan = lawful_plan(params, NodeId::from_number(number as u8), value)?;

@@ -1,4 +1,4 @@
-//! The plan that a node's table gives, its buffers aside.
+//! Reading the table of a node, without its buffers.
 
 ghost use Rattle.std.specs.Prelude.{◌≡◌, ◌≤◌, [], true, None, length, map, option_map, IfSome};
 ghost use Rattle.fr_schedule.specs.TableReading.{all_of};
@@ -22,7 +22,7 @@ use fr_slots::plan::{
 };
 use toml::{Table, Value};
 
-// The greatest numbers that may stand in a table, as wide as those that are read.
+// The greatest numbers that a table may hold, in the type of the numbers that are read.
 const MOST_TASKS: u32 = TASKS as u32;
 
 const MOST_FRAMES: u32 = FRAMES as u32;
@@ -31,7 +31,7 @@ const MOST_HOST_ENTRIES: u32 = HOST_ENTRIES as u32;
 
 const LARGEST_PAYLOAD: u32 = MOST_WORDS as u32;
 
-/// Returns the ownership line that the table gives.
+/// Returns the ownership line in the table.
 #[tactic(auto, unfolding(crate::specs::NodeTables::own_in))]
 fn own_in(params: &Params, table: &Table) -> Option<Own>
     ensures value { result ≡ own_in params.now (table_view table.now) }
@@ -52,7 +52,7 @@ fn own_in(params: &Params, table: &Table) -> Option<Own>
     if own_fits(&own) { Some(own) } else { None }
 }
 
-/// Returns the ownership line that the value gives.
+/// Returns the ownership line in the value.
 #[tactic(auto, unfolding(crate::specs::NodeTables::own_of))]
 fn own_of(params: &Params, value: &Value) -> Option<Own>
     ensures value { result ≡ own_of params.now (view value.now) }
@@ -62,7 +62,7 @@ fn own_of(params: &Params, value: &Value) -> Option<Own>
     own_in(params, table)
 }
 
-/// Returns the queue that the table gives.
+/// Returns the receive FIFO in the table.
 #[tactic(auto, unfolding(crate::specs::NodeTables::queue_in))]
 fn queue_in(table: &Table) -> Option<Queue>
     ensures value { result ≡ queue_in (table_view table.now) }
@@ -88,7 +88,7 @@ fn queue_in(table: &Table) -> Option<Queue>
     }
 }
 
-/// Returns the queue that the value gives.
+/// Returns the receive FIFO in the value.
 #[tactic(auto, unfolding(crate::specs::NodeTables::queue_of))]
 fn queue_of(value: &Value) -> Option<Queue>
     ensures value { result ≡ queue_of (view value.now) }
@@ -113,7 +113,7 @@ fn filter_in(table: &Table) -> Option<Filter>
     })
 }
 
-/// Returns the words of a transmit buffer for the slot. In a static slot the key isn't read.
+/// Returns the words of a transmit buffer for the slot; for a static slot the key isn't read.
 #[tactic(auto, unfolding(crate::specs::NodeTables::words_in))]
 fn words_in(params: &Params, slot: SlotId, table: &Table) -> Option<Option<u8>>
     ensures { result ≡ words_in params.now slot (table_view table.now) }
@@ -125,7 +125,7 @@ fn words_in(params: &Params, slot: SlotId, table: &Table) -> Option<Option<u8>>
     Some(Some(words as u8))
 }
 
-/// Returns the transmit buffer that the table gives.
+/// Returns the transmit buffer in the table.
 #[tactic(auto, unfolding(crate::specs::NodeTables::transmit_buffer_in))]
 fn transmit_buffer_in(params: &Params, mode: Mode, filter: Filter, table: &Table) -> Option<Buffer>
     ensures value { result ≡ transmit_buffer_in params.now mode filter (table_view table.now) }
@@ -146,7 +146,7 @@ fn transmit_buffer_in(params: &Params, mode: Mode, filter: Filter, table: &Table
     }
 }
 
-/// Returns the buffer of this kind and filter that the table gives.
+/// Returns the buffer of this mode and filter in the table.
 #[tactic(auto, unfolding(crate::specs::NodeTables::buffer_by))]
 fn buffer_by(params: &Params, mode: Mode, filter: Filter, table: &Table) -> Option<Buffer>
     ensures value { result ≡ buffer_by params.now mode filter (table_view table.now) }
@@ -163,7 +163,7 @@ fn buffer_by(params: &Params, mode: Mode, filter: Filter, table: &Table) -> Opti
     }
 }
 
-/// Returns the buffer that the table gives.
+/// Returns the buffer in the table.
 #[tactic(auto, unfolding(crate::specs::NodeTables::buffer_in))]
 fn buffer_in(params: &Params, table: &Table) -> Option<Buffer>
     ensures value { result ≡ buffer_in params.now (table_view table.now) }
@@ -174,7 +174,7 @@ fn buffer_in(params: &Params, table: &Table) -> Option<Buffer>
     buffer_by(params, mode, filter, table)
 }
 
-/// Returns the buffer that the value gives.
+/// Returns the buffer in the value.
 #[tactic(auto, unfolding(crate::specs::NodeTables::buffer_of))]
 pub(crate) fn buffer_of(params: &Params, value: &Value) -> Option<Buffer>
     ensures value { result ≡ buffer_of params.now (view value.now) }
@@ -184,7 +184,7 @@ pub(crate) fn buffer_of(params: &Params, value: &Value) -> Option<Buffer>
     buffer_in(params, table)
 }
 
-/// Returns the plan of the limits that a node's table gives.
+/// Returns a plan with the limits in a node's table.
 #[tactic(auto, unfolding(crate::specs::NodeTables::limits_in))]
 fn limits_in(params: &Params, table: &Table) -> Option<NodePlan>
     ensures value { result ≡ limits_in params.now (table_view table.now) }
@@ -205,7 +205,7 @@ fn limits_in(params: &Params, table: &Table) -> Option<NodePlan>
     }
 }
 
-/// Returns the plan with the ownership lines that the values give.
+/// Returns the plan with the ownership lines in the values.
 fn owning(params: &Params, lines: &[Value], plan: NodePlan) -> Option<NodePlan>
     requires few { length lines.now ≤ most_lines }
     requires none_yet { plan.owned ≡ [] }
@@ -221,7 +221,7 @@ fn owning(params: &Params, lines: &[Value], plan: NodePlan) -> Option<NodePlan>
     Some(plan)
 }
 
-/// Returns the plan with the ownership lines that the node's table gives.
+/// Returns the plan with the ownership lines in the node's table.
 #[tactic(auto, unfolding(crate::specs::NodeTables::with_owned_in))]
 fn with_owned_in(params: &Params, table: &Table, plan: NodePlan) -> Option<NodePlan>
     requires { plan.owned ≡ [] }
@@ -231,7 +231,7 @@ fn with_owned_in(params: &Params, table: &Table, plan: NodePlan) -> Option<NodeP
     owning(params, lines, plan)
 }
 
-/// Returns the plan with the queue that the value gives.
+/// Returns the plan with the receive FIFO in the value.
 fn queueing(value: &Value, plan: NodePlan) -> Option<NodePlan>
     requires { plan.queue ≡ None }
     ensures { result ≡ option_map (with_queue plan) (queue_of (view value.now)) }
@@ -244,7 +244,7 @@ fn queueing(value: &Value, plan: NodePlan) -> Option<NodePlan>
     }
 }
 
-/// Returns the plan with the queue that the node's table gives, if it gives one.
+/// Returns the plan with the receive FIFO in the node's table, if there is one.
 #[tactic(auto, unfolding(crate::specs::NodeTables::with_queue_in))]
 fn with_queue_in(table: &Table, plan: NodePlan) -> Option<NodePlan>
     requires { plan.queue ≡ None }
@@ -256,7 +256,7 @@ fn with_queue_in(table: &Table, plan: NodePlan) -> Option<NodePlan>
     }
 }
 
-/// Returns the plan that a node's table gives, its buffers aside.
+/// Returns the plan in a node's table, without its buffers.
 #[tactic(auto, unfolding(crate::specs::NodeTables::head_in))]
 pub(crate) fn head_in(params: &Params, table: &Table) -> Option<NodePlan>
     ensures value { result ≡ head_in params.now (table_view table.now) }

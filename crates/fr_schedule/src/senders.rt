@@ -1,4 +1,4 @@
-//! The sender table: which node sends in a slot, on a channel and in a cycle.
+//! The sender table: the sending node of a slot, on a channel and in a cycle.
 
 ghost use Rattle.std.specs.Prelude.{◌≡◌, ◌+◌, ◌*◌, ◌<◌, ◌≤◌, ◌==◌, not, length, None, Some, IfOk, IfErr, IsTrue};
 ghost use Rattle.fr_slots.specs.Faults.{cycles};
@@ -24,21 +24,21 @@ use fr_slots::plan::NodePlan;
 use fr_slots::sharing::{Occasion, earlier};
 use std::alloc::{AllocError, Global};
 
-/// How many cycles a row of the table has, which is for a slot on a channel.
+/// The number of cycles in a row of the table, which is for a slot on a channel.
 const ROW: usize = CYCLES as usize;
 
-// The lines of all nodes go into a table of 262,016 bytes, one for each occasion: the number of the node, or 255. The
-// first place that is taken already is the fault.
-/// How many occasions there are: 2,047 slots on two channels in 64 cycles.
+// The lines of all nodes are entered into a table of 262,016 bytes, one for each occasion: the number of the node, or
+// 255. The first place that is occupied already is the fault.
+/// The number of occasions: 2,047 slots on two channels in 64 cycles.
 pub(crate) const OCCASIONS: usize = LAST_SLOT as usize * 2 * ROW;
 
-/// What stands where no node sends.
+/// The entry for no node.
 pub(crate) const NOBODY: u8 = u8::MAX;
 
 /// A row in which no node sends.
 const FREE_ROW: [u8; ROW] = [NOBODY; ROW];
 
-/// Returns where the row of the slot on the channel starts.
+/// Returns the place at which the row of the slot on the channel starts.
 fn start_of(slot: SlotId, channel: Channel) -> usize
     ensures place { result + 2 * cycle_count ≡ place_of slot channel 0 }
     ensures within { result + cycle_count ≤ occasions }
@@ -61,7 +61,7 @@ pub(crate) fn place_of(slot: SlotId, channel: Channel, cycle: Cycle) -> usize
     start_of(slot, channel) + usize::from(cycle.number())
 }
 
-/// Returns whether a node stands at the place.
+/// Returns whether a node is entered at the place.
 fn is_taken_at(nodes: &[u8], place: usize) -> bool
     requires { place < length nodes.now }
     ensures { result ≡ not (at_place nodes.now place == nobody) }
@@ -69,7 +69,7 @@ fn is_taken_at(nodes: &[u8], place: usize) -> bool
     nodes[place] != NOBODY
 }
 
-/// Returns whether no node stands in the row that starts there.
+/// Returns whether no node is entered in the row that starts there.
 fn is_row_free(nodes: &[u8], start: usize) -> bool
     requires { start + cycle_count ≤ length nodes.now }
     ensures { IsTrue result → IsRowFree start nodes.now }
@@ -77,7 +77,7 @@ fn is_row_free(nodes: &[u8], start: usize) -> bool
     &nodes[start..start + ROW] == FREE_ROW.as_slice()
 }
 
-/// Returns the first of the cycles at which a node stands in the row that starts there, looked for cycle by cycle.
+/// Returns the first of the cycles with a node in the row that starts there, cycle by cycle.
 fn search_row(nodes: &[u8], start: usize, cycles: CycleFilter) -> Option<Cycle>
     requires { start + cycle_count ≤ length nodes.now }
     ensures { result ≡ first_taken_in nodes.now start cycles }
@@ -93,8 +93,7 @@ fn search_row(nodes: &[u8], start: usize, cycles: CycleFilter) -> Option<Cycle>
     None
 }
 
-/// Returns the first of the cycles at which a node stands in the row that starts there. Most rows are free, which is
-/// seen at once.
+/// Returns the first of the cycles with a node in the row that starts there. Most rows are free, which is tested first.
 fn first_taken_in(nodes: &[u8], start: usize, cycles: CycleFilter) -> Option<Cycle>
     requires { start + cycle_count ≤ length nodes.now }
     ensures { result ≡ first_taken_in nodes.now start cycles }
@@ -114,7 +113,7 @@ fn fill_row(nodes: &mut [u8], start: usize, node: u8)
     nodes[start..start + ROW].fill(node);
 }
 
-/// Enters the node at the cycles in the row that starts there, cycle by cycle.
+/// Enters the node at these cycles of the row that starts there, cycle by cycle.
 fn enter_cycles(nodes: &mut [u8], start: usize, cycles: CycleFilter, node: u8)
     requires { start + cycle_count ≤ length nodes.old }
     ensures { IsRowEntered cycle_count start cycles node nodes.old nodes.new }
@@ -126,7 +125,7 @@ fn enter_cycles(nodes: &mut [u8], start: usize, cycles: CycleFilter, node: u8)
     }
 }
 
-/// Enters the node at the cycles in the row that starts there. Most lines are for every cycle.
+/// Enters the node at these cycles of the row that starts there. Most lines are for every cycle.
 fn enter_row(nodes: &mut [u8], start: usize, cycles: CycleFilter, node: u8)
     requires { start + cycle_count ≤ length nodes.old }
     ensures { IsRowEntered cycle_count start cycles node nodes.old nodes.new }
@@ -138,7 +137,7 @@ fn enter_row(nodes: &mut [u8], start: usize, cycles: CycleFilter, node: u8)
     }
 }
 
-/// Enters the claim on the channel, and gives the first of its occasions there that was taken.
+/// Enters the claim on the channel, and returns its first occasion there that was occupied.
 fn enter_on(nodes: &mut [u8], claim: &Claim, channel: Channel) -> Option<Occasion>
     requires { length nodes.old ≡ occasions }
     ensures first { IsFirst (is_retaken_on nodes.old claim.now.filter channel) result }
@@ -161,7 +160,7 @@ fn enter_on(nodes: &mut [u8], claim: &Claim, channel: Channel) -> Option<Occasio
     })
 }
 
-/// Enters the claim, and gives the first of its occasions that was taken.
+/// Enters the claim, and returns its first occasion that was occupied.
 fn enter(nodes: &mut [u8], claim: &Claim) -> Option<Occasion>
     requires { length nodes.old ≡ occasions }
     ensures first { IsFirst (is_retaken nodes.old claim.now.filter) result }
@@ -177,7 +176,7 @@ fn enter(nodes: &mut [u8], claim: &Claim) -> Option<Occasion>
     earlier(on_a, on_b)
 }
 
-/// Enters the claims, and gives the first occasion that was taken or that two of them are for.
+/// Enters the claims, and returns the first occasion that was occupied or that two claims share.
 pub(crate) fn enter_all(nodes: &mut [u8], claims: &[Claim]) -> Option<Occasion>
     requires { length nodes.old ≡ occasions }
     ensures entered { AreEntered claims.now nodes.old nodes.new }
@@ -191,14 +190,14 @@ pub(crate) fn enter_all(nodes: &mut [u8], claims: &[Claim]) -> Option<Occasion>
     first
 }
 
-/// Returns the table in which nobody sends.
+/// Returns the table without a sender.
 fn free_table(alloc: Global) -> Result<Vec<u8>, AllocError>
     ensures { IfOk result (λ nodes. nodes.items ≡ free) }
 {
     Ok(vec![in alloc; NOBODY; OCCASIONS]?)
 }
 
-/// Has nobody send any more, enters the claims, and gives the first occasion that two of them are for.
+/// Clears the table, enters the claims, and returns the first occasion that two claims share.
 fn enter_anew(nodes: &mut [u8], claims: &[Claim]) -> Option<Occasion>
     requires { length nodes.old ≡ occasions }
     ensures table { AreEntered claims.now free nodes.new }
@@ -209,8 +208,8 @@ fn enter_anew(nodes: &mut [u8], claims: &[Claim]) -> Option<Occasion>
     enter_all(nodes, claims)
 }
 
-// The table of buffers, with what is owned over it, is the one that `Cluster::sender` reads.
-/// Returns the sender table of the plans, or the first of their faults.
+// `Cluster::sender` reads the table of buffers, over which the ownership lines are entered.
+/// Returns the sender table of the plans, or their first fault.
 pub(crate) fn senders_of(
     alloc: Global,
     params: &Params,

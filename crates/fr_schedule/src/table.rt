@@ -1,4 +1,4 @@
-//! What a table of a cluster file has under a key.
+//! Reading the value under a key of a table of a cluster file.
 
 ghost use Rattle.std.specs.Prelude.{◌≡◌, ◌≤◌, ◌<◌, length, map, option_map, option_copied, IfSome, IsTrue};
 ghost use Rattle.std.specs.Prelude.{nat_le, ◌&&◌};
@@ -16,12 +16,12 @@ use fr_slots::numbers::{CYCLES, SlotId};
 use fr_slots::plan::{LINES, Mode};
 use toml::{Table, Value};
 
-// The greatest numbers of a cycle filter, as wide as those that are read.
+// The greatest numbers of a cycle filter, in the type of the numbers that are read.
 const MOST_CYCLES: u32 = CYCLES as u32;
 
 const LAST_CYCLE: u32 = MOST_CYCLES - 1;
 
-/// Returns the value as a number, where it is an integer from the least to the greatest number.
+/// Returns the value as a number, if it is an integer from the least to the greatest one.
 #[tactic(auto, unfolding(crate::specs::TableReading::number_in))]
 fn number_in(value: &Value, least: u32, greatest: u32) -> Option<u32>
     ensures value { result ≡ number_in least greatest (view value.now) }
@@ -36,7 +36,7 @@ fn number_in(value: &Value, least: u32, greatest: u32) -> Option<u32>
     }
 }
 
-/// Returns the number under a key that has to be there.
+/// Returns the number under a key that must be there.
 #[tactic(auto, unfolding(crate::specs::TableReading::number_at))]
 pub(crate) fn number_at(table: &Table, name: &str, least: u32, greatest: u32) -> Option<u32>
     ensures value { result ≡ number_at name.now least greatest (table_view table.now) }
@@ -47,7 +47,7 @@ pub(crate) fn number_at(table: &Table, name: &str, least: u32, greatest: u32) ->
     number_in(value, least, greatest)
 }
 
-/// Returns the number under a key, or the usual one where the key is absent.
+/// Returns the number under a key, or the default if the key is absent.
 #[tactic(auto, unfolding(crate::specs::TableReading::number_or))]
 pub(crate) fn number_or(
     table: &Table,
@@ -66,7 +66,7 @@ pub(crate) fn number_or(
     }
 }
 
-/// Returns the slot under a key that has to be there, up to the greatest one.
+/// Returns the slot under a key that must be there, up to the greatest one.
 pub(crate) fn slot_at(table: &Table, name: &str, greatest: u16) -> Option<SlotId>
     requires { greatest ≤ last_slot }
     ensures { result ≡ number_at name.now 1 greatest (table_view table.now) }
@@ -75,7 +75,7 @@ pub(crate) fn slot_at(table: &Table, name: &str, greatest: u16) -> Option<SlotId
     SlotId::new(number as u16)
 }
 
-/// Returns the flag under a key, which is false where the key is absent.
+/// Returns the flag under a key, which is false if the key is absent.
 #[tactic(auto, unfolding(crate::specs::TableReading::flag_at))]
 pub(crate) fn flag_at(table: &Table, name: &str) -> Option<bool>
     ensures { result ≡ flag_at name.now (table_view table.now) }
@@ -86,7 +86,7 @@ pub(crate) fn flag_at(table: &Table, name: &str) -> Option<bool>
     }
 }
 
-/// Returns the word under a key that has to be there.
+/// Returns the word under a key that must be there.
 #[tactic(auto, unfolding(crate::specs::TableReading::word_at))]
 fn word_at<'a>(table: &'a Table, name: &str) -> Option<&'a str>
     ensures { option_copied result ≡ word_at name.now (table_view table.now) }
@@ -108,7 +108,7 @@ pub(crate) fn channels_named(word: &str) -> Option<Channels>
     }
 }
 
-/// Returns the kind of a buffer of this name.
+/// Returns the mode of a buffer of this name.
 #[tactic(auto, unfolding(crate::specs::TableReading::mode_named))]
 fn mode_named(word: &str) -> Option<Mode>
     ensures { result ≡ mode_named word.now }
@@ -133,7 +133,7 @@ pub(crate) fn channels_in(table: &Table) -> Option<Channels>
     channels_named(word)
 }
 
-/// Returns the kind of a buffer under the key `kind`.
+/// Returns the mode of a buffer under the key `kind`.
 #[tactic(auto, unfolding(crate::specs::TableReading::mode_in))]
 pub(crate) fn mode_in(table: &Table) -> Option<Mode>
     ensures { result ≡ mode_in (table_view table.now) }
@@ -142,7 +142,7 @@ pub(crate) fn mode_in(table: &Table) -> Option<Mode>
     mode_named(word)
 }
 
-/// Returns the cycles under the keys `base` and `repetition`, which are every cycle where both are absent.
+/// Returns the cycles under the keys `base` and `repetition`, or every cycle if both are absent.
 #[tactic(auto, unfolding(crate::specs::TableReading::cycles_in))]
 pub(crate) fn cycles_in(table: &Table) -> Option<CycleFilter>
     ensures { result ≡ cycles_in (table_view table.now) }
@@ -201,7 +201,7 @@ fn tables_in(value: &Value) -> Option<&[Value]>
     }
 }
 
-/// Returns the tables of the array of at most 64 under a key, of which there are none where the key is absent.
+/// Returns the tables of the array of at most 64 under a key, or none if the key is absent.
 #[tactic(auto, unfolding(crate::specs::TableReading::tables_at))]
 pub(crate) fn tables_at<'a>(table: &'a Table, name: &str) -> Option<&'a [Value]>
     ensures value { option_map (λ values. map view values.now) result ≡ tables_at name.now (table_view table.now) }

@@ -1,4 +1,4 @@
--- The fault lines that are kept suit.
+-- The fault lines that are kept suit the cluster, the run and one another.
 use Rattle.std.proofs.Common.{ℕ, zero, suc, true, false, List, [], ◌∷◌, ◌++◌, take, slice_get, inl, inr, refl, sym}
 use Rattle.std.proofs.Common.{subst}
 use Rattle.std.specs.Prelude.{Bool, IfSome, IsTrue}
@@ -8,7 +8,7 @@ use Rattle.fr_runs.specs.Suiting.{IsFaultAfter}
 use Rattle.fr_schedule.specs.Descriptions.{Description}
 use Rattle.fr_session.specs.Keeping.{KeepsIf, KeepsLine}
 
--- what holds of each element and those before it, where it holds of the last
+-- a fact of each element and those before it, if it holds of the last element
 each_more : {X : Type 0} (P : List X → X → Type 0) (xs : List X) (last : X) (i : ℕ)
     → ((j : ℕ) → IfSome (slice_get xs j) (P (take j xs))) → P xs last
     → IfSome (slice_get (xs ++ last ∷ []) i) (P (take i (xs ++ last ∷ [])))

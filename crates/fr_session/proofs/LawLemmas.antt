@@ -1,4 +1,4 @@
--- What holds of every session.
+-- Laws of every session.
 use Rattle.std.proofs.Common.{◌≡◌, ℕ, zero, suc, ◌+◌, List, [], ◌∷◌, ◌++◌, Option, Some, None, inl, inr, refl, sym, ap}
 use Rattle.std.proofs.Common.{subst, ◌∙◌, append_assoc, arith}
 use Rattle.fr_core.specs.declared.error.StepError.{StepError}

@@ -35,7 +35,7 @@ front_fits zero (x ∷ xs) ys k le all = absurd (omega arith)
 front_fits (suc n) (x ∷ xs) ys k le all = ap (λ l. x ∷ l) (front_fits n xs ys k (omega arith)
     (λ less. all (omega arith)))
 
--- what there is room for
+-- the part of a line for which there is room
 pub kept_front : (line more : List ℕ) (k : ℕ) → length line + k ≤ 1201 → (length line + k < 1201 → length more ≤ k)
     → line ++ take k more ≡ line_front (line ++ more)
 kept_front line more k = front_fits 1201 line more k
@@ -45,7 +45,7 @@ front_of zero xs ys = refl
 front_of (suc n) [] ys = refl
 front_of (suc n) (x ∷ xs) ys = ap (λ l. x ∷ l) (front_of n xs ys)
 
--- the front of a line that goes on
+-- the front of a line that continues
 front_more : (line more : List ℕ) → line_front (line_front line ++ more) ≡ line_front (line ++ more)
 front_more line more = front_of 1201 line more
 
@@ -55,7 +55,7 @@ take_whole zero (x ∷ xs) few = absurd (omega arith)
 take_whole (suc n) [] few = refl
 take_whole (suc n) (x ∷ xs) few = ap (λ l. x ∷ l) (take_whole n xs (omega arith))
 
--- a line asks for what its front asks for
+-- the request of a line is that of its front
 pub front_asks : (line : List ℕ) → asked_in (line_front line) ≡ asked_in line
 front_asks line =
     elim (cases_Bool (ltb 1200 (length line))) [
@@ -87,7 +87,7 @@ before_plain (b ∷ text) (suc k) before =
       | inr fail ↦ rw (fail, before_plain text k (λ j less. before (suc j) (omega arith))) refl
     ]
 
--- what stands before the first line feed, and what is taken with it
+-- the bytes before the first line feed, and the bytes that are taken with it
 pub line_found : (text : List ℕ) (at : ℕ) → IsFirstByte (is_byte 10) text (Some at)
     → IsLine (take at text) × (take (at + 1) text ≡ take at text ++ 10 ∷ [])
 line_found text at first = (

@@ -60,7 +60,7 @@ on_places (Minislot number) EverySlot = refl
 on_places (Minislot number) (Slot other) = refl
 on_places (Minislot number) (Minislot other) = grind arith
 
--- ---- a line is found by another exactly where they meet
+-- ---- the marks of a line find another line exactly if the two meet
 
 four : (t f c e p q : Bool) → ((t && (f && (c && p))) || (t && (f && (c && q))) || (t && (f && (e && p)))
     || (t && (f && (e && q)))) ≡ (t && (c || e) && (f && (p || q)))
@@ -94,7 +94,7 @@ spread f g own =
 either : (a b c d : Bool) → a ≡ b → c ≡ d → (a || c) ≡ (b || d)
 either a b c d one other = grind (arith, one, other)
 
--- the marks find what meets one of the lines
+-- the marks find a line that meets one of the lines
 found : (line : FaultLine) (lines : List FaultLine)
     → finds (λ m. list_any (is_left_by m) lines) (mark_of line) ≡ list_any (lines_meet line) lines
 found line [] = refl
@@ -108,7 +108,7 @@ pub met : {S : Type 0} (set : HashSet Mark S) (lines : List FaultLine) (line : F
     → finds (contains mark_eq set) (mark_of line) ≡ list_any (lines_meet line) lines
 met set lines line marked = alike _ _ (mark_of line) marked ∙ found line lines
 
--- no line leaves no mark
+-- an empty list of lines leaves no mark
 pub unmarked : {S : Type 0} (set : HashSet Mark S) → IsEmpty set → AreMarksOf [] set
 unmarked set empty m = subst (λ keys. list_any (mark_eq m) keys ≡ false) (sym empty) refl
 
@@ -127,7 +127,7 @@ pub marked_by : {S : Type 0} (old new : HashSet Mark S) (own : Mark) (lines : Li
 marked_by old new own lines line is marked adds =
     marked_more old new lines line marked (subst (λ mark. AddsMarks old mark new) is adds)
 
--- a line that fits suits exactly where the marks don't find it
+-- a line that fits suits exactly if the marks don't find it
 pub suits_by : (d : Description) (cycles : ℕ) (lines : List FaultLine) (line : FaultLine) (is_found : Bool)
     → is_found ≡ list_any (lines_meet line) lines → line_fits d cycles line ≡ true
     → (IsTrue (not is_found) → IsFaultAfter d cycles lines line) ×

@@ -20,7 +20,7 @@ block_told contents old new (Ok x) lines items is told = (
 )
 block_told contents old new (Err e) lines items is told = tt
 
--- of a node that is there
+-- the block of a node that the cluster has
 pub node_told : {W A E : Type 0} (contents : W → Option (List ℕ)) (old new : W) (result : Result A E)
     (text : State → List ℕ) (w : WorldState) (n : ℕ) (s : State) → n < length w.interfaces → s ≡ get_or w.interfaces n s
     → Replies contents old new result (IsBlock (text s)) → Replies contents old new result (IsBlockOf text w n)
@@ -30,7 +30,7 @@ node_told contents old new result text w n s within is told =
     subst (λ b. Replies contents old new result (IsBlockIf b (text (interface_at w n)))) (sym has)
     (subst (λ (t : State). Replies contents old new result (IsBlock (text t))) at told)
 
--- where a frame came from, of a node that is there
+-- the origin of a frame, for a node that the cluster has
 pub origin_told : {W A E : Type 0} (contents : W → Option (List ℕ)) (old new : W) (result : Result A E)
     (w : WorldState) (n : ℕ) (s : State) → n < length w.interfaces → s ≡ get_or w.interfaces n s
     → Writes contents old new result (origin_text s) → Writes contents old new result (node_origin_text w n)

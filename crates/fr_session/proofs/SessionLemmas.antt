@@ -1,4 +1,4 @@
--- A session goes on by one line.
+-- A session continues by one line.
 use Rattle.std.proofs.Common.{◌≡◌, ℕ, ◌+◌, true, false, List, [], ◌∷◌, ◌++◌, length, Option, Some, None, refl, sym, ap}
 use Rattle.std.proofs.Common.{subst, ◌∙◌, append_assoc, arith, length-append}
 use Rattle.std.proofs.lemmas.List.{append-nil}
@@ -113,7 +113,7 @@ so_far_over terms (Some text) (Some left) left' before after after' number old m
       appends_kept before after after' (greeting ++ replies) told next.2,
     )
 
--- a line of which the front was kept is answered by that
+-- a line of which the front was kept is answered by its front
 pub answered_front : (terms : Terms) (text left before after : Option (List ℕ)) (number : ℕ) (front : List ℕ)
     (old new : SessionState)
     → ComesFront true text left front → (reply : List ℕ) × DoesIf terms old number (asked_in front) reply new

@@ -17,7 +17,7 @@ use Rattle.fr_runs.specs.Striking.{strikes}
 use Rattle.fr_session.specs.Striking.{first_of, refusal_among, Passes, Tells, Tries, strike_events}
 use Rattle.fr_slots.specs.Windows.{Opportunity}
 
--- what comes of one element more
+-- the events of one more element
 pub flat-more : {X Y : Type 0} (f : X → List Y) (xs : List X) (i : ℕ) (x : X) → i < length xs → x ≡ get_or xs i x
     → flat_map f (take (i + 1) xs) ≡ flat_map f (take i xs) ++ f x
 flat-more f xs i x lt is =
@@ -70,7 +70,7 @@ steps_append old (e ∷ events) [] mid events' answers' new first second = absur
 steps_append old (e ∷ events) (a ∷ answers) mid events' answers' new first second =
     (first.0, first.1, steps_append first.0 events answers mid events' answers' new first.2 second)
 
--- ---- told
+-- ---- the first refusal
 
 pub tells_none : (w : WorldState) → Tells w [] (Ok tt) w
 unfolding StepsAll refusal_among
@@ -133,7 +133,7 @@ tells_tries old events told new tells = (tells.0, tells.1)
 
 -- ---- faults
 
--- a line that doesn't come in the window brings nothing
+-- a line without effect in the window leads to no event
 pub no_strike : (cycle : ℕ) (window : Opportunity) (line : FaultLine) (w : WorldState)
     → strikes line cycle window ≡ false
     → Tells w (strike_events cycle window line) (Ok tt) w

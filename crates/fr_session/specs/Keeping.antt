@@ -7,13 +7,13 @@ use Rattle.fr_schedule.specs.Descriptions.{Description}
 use Rattle.fr_session.specs.Queries.{memory_text}
 use Rattle.fr_session.specs.Replies.{done_words, bad_fault_words}
 
--- The line is kept after the others, unless memory is refused. One that doesn't suit is refused by their number.
+-- The line is kept after the others, unless an allocation fails. A line that doesn't suit is refused with their number.
 abbrev pub KeepsIf : Bool → List FaultLine → FaultLine → List ℕ → List FaultLine → Type 0
 KeepsIf true old line reply new =
     ((reply ≡ line_text done_words) × (new ≡ old ++ line ∷ [])) ⊎ ((reply ≡ memory_text) × (new ≡ old))
 KeepsIf false old line reply new = (reply ≡ line_text (bad_fault_words (length old))) × (new ≡ old)
 
--- A line suits where a run of this cluster for so many cycles, which has the lines that are kept, can have it too.
+-- A line suits if a run of this cluster for this number of cycles, which has the lines that are kept, can have it too.
 abbrev pub KeepsLine : Description → ℕ → List FaultLine → FaultLine → List ℕ → List FaultLine → Type 0
 KeepsLine d cycles old line reply new =
     (suits : Bool) × (IsTrue suits ↔ IsFaultAfter d cycles old line) × KeepsIf suits old line reply new

@@ -1,4 +1,4 @@
--- The lines of a text, and how they come from a reader.
+-- The lines of a text, and their arrival from a reader.
 use Rattle.std.specs.Prelude.{◌≡◌, ℕ, true, Bool, false, List, [], ◌∷◌, ◌++◌, Option, Some, None, take}
 use Rattle.std.specs.List.{flat_map}
 use Rattle.std.specs.Io.KnownBytes.{Consumes, IsAtEnd}
@@ -29,7 +29,7 @@ longest_line = 1200
 
 -- ---- one line from a reader
 
--- whether a whole line comes, which is then taken from the reader, and no byte after it
+-- a whole line comes and is taken from the reader, and no byte after it; or none comes
 abbrev pub Comes : Bool → Option (List ℕ) → Option (List ℕ) → List ℕ → Type 0
 Comes more None left line = Unit {0}
 Comes true (Some text) None line = ⊥
@@ -38,7 +38,7 @@ Comes false (Some text) left line = IsLine text
 
 -- ---- a line from a reader, piece by piece
 
--- what is kept of a line: so much that a line which is too long shows
+-- the part of a line that is kept: enough to see that a line is too long
 abbrev pub line_front : List ℕ → List ℕ
 line_front line = take 1201 line
 
@@ -50,7 +50,7 @@ TakesPiece Part text left before after =
     (bytes : List ℕ) × IsLine bytes × Consumes text left bytes × (after ≡ line_front (before ++ bytes))
 TakesPiece Nothing text left before after = IsAtEnd text
 
--- whether a whole line comes, of which the front is kept
+-- a whole line comes, of which the front is kept; or none comes
 abbrev pub ComesFront : Bool → Option (List ℕ) → Option (List ℕ) → List ℕ → Type 0
 ComesFront true text left front = (line : List ℕ) × Comes true text left line × (front ≡ line_front line)
 ComesFront false text left front = Comes false text left []

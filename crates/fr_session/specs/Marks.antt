@@ -88,9 +88,9 @@ mark_of line = record {
 abbrev pub at : Mark → Reach → Reach → Mark
 at m cycles places = record { target = m.target; in_static = m.in_static; cycles = cycles; places = places }
 
--- ---- what a line leaves, and what finds it
+-- ---- the marks that a line leaves, and those that find it
 
--- what a line names is found by that, and by `Any`
+-- a place or cycle of a line is found by itself, and by `Any`
 abbrev pub leaves_on : Reach → Reach → Bool
 leaves_on named looked_up = reach_eq reach.Any looked_up || reach_eq named looked_up
 
@@ -99,7 +99,7 @@ leaves own m =
     target_eq own.target m.target
     && (is_same own.in_static m.in_static && (leaves_on own.cycles m.cycles && leaves_on own.places m.places))
 
--- two of what is looked up, so that one of them is left by each that has something in common
+-- the first of two keys: each line that has something in common leaves one of the two
 abbrev pub first_by : Reach → Reach
 first_by reach.Every = reach.Any
 first_by (reach.Only number) = reach.Only number
@@ -119,7 +119,7 @@ finds has own =
 abbrev pub is_left_by : Mark → FaultLine → Bool
 is_left_by m line = leaves (mark_of line) m
 
--- the set has the marks that these lines leave, and no others
+-- the marks of the set are exactly those that these lines leave
 abbrev pub AreMarksOf : {S : Type 0} → List FaultLine → HashSet Mark S → Type 0
 AreMarksOf lines set = (m : Mark) → contains mark_eq set m ≡ list_any (is_left_by m) lines
 
@@ -127,6 +127,6 @@ AreMarksOf lines set = (m : Mark) → contains mark_eq set m ≡ list_any (is_le
 abbrev pub AddsMark : {S : Type 0} → HashSet Mark S → Mark → HashSet Mark S → Type 0
 AddsMark old mark new = (m : Mark) → contains mark_eq new m ≡ (mark_eq mark m || contains mark_eq old m)
 
--- the set has the marks of one line more, whose own one this is
+-- the set also has the marks of one more line, whose own mark this is
 abbrev pub AddsMarks : {S : Type 0} → HashSet Mark S → Mark → HashSet Mark S → Type 0
 AddsMarks old own new = (m : Mark) → contains mark_eq new m ≡ (leaves own m || contains mark_eq old m)

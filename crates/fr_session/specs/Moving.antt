@@ -1,4 +1,4 @@
--- What comes in a window and what is due in it, as lists of events.
+-- The faults of a window and the steps that are due in it, as lists of events.
 use Rattle.std.specs.Prelude.{◌≡◌, ℕ, zero, suc, ◌-◌, ◌<◌, ◌⊎◌, Bool, true, false, List, [], ◌∷◌, ◌++◌}
 use Rattle.std.specs.Prelude.{Option, Some, None, Ok, Err, if◌then◌else◌}
 use Rattle.std.specs.List.{flat_map, range_with_len, fold}
@@ -27,38 +27,38 @@ offer_events n = Look n ∷ Fetch n ∷ Put n ∷ []
 abbrev pub see_events : ℕ → List Event
 see_events n = Take n ∷ Observe n ∷ []
 
--- for each of so many nodes
+-- for each of `count` nodes
 abbrev pub for_nodes : (ℕ → List Event) → ℕ → List Event
 for_nodes events nodes = flat_map events (range_with_len 0 nodes)
 
--- what is due before the bus moves on, in a window in which nothing has been done
+-- the events that are due before the bus moves on, in a window in which nothing has been executed
 abbrev pub whole_window : ℕ → List Event
 whole_window nodes = for_nodes offer_events nodes ++ Seal ∷ for_nodes see_events nodes
 
--- All that can be due before the bus moves on. What isn't due is refused, and changes nothing.
+-- All events that can be due before the bus moves on. An event that isn't due is refused, and changes nothing.
 abbrev pub window_events : ℕ → List Event
 window_events nodes = for_nodes observe_events nodes ++ whole_window nodes
 
 -- ---- the faults
 
--- the number of the run's cycle in which the window lies that follows those of this record
+-- the number of the run's cycle of the window that follows those of this record
 abbrev pub run_cycle_after : List Recorded → Opportunity → ℕ
 run_cycle_after sealed window = if opens_cycle window then cycles_begun sealed else cycles_begun sealed - 1
 
--- the faults that come in the window that follows those of this record, in the order of their lines
+-- the faults of the window that follows those of this record, in the order of their lines
 abbrev pub struck_after : List FaultLine → List Recorded → Option Opportunity → List Event
 struck_after faults sealed None = []
 struck_after faults sealed (Some window) = flat_map (strike_events (run_cycle_after sealed window) window) faults
 
--- the faults that come in the open window, as long as it isn't sealed
+-- the faults of the open window, as long as it isn't sealed
 abbrev pub struck_events : List FaultLine → BusState → List Event
 struck_events faults b = struck_after faults b.sealed (collecting_of b)
 
--- Each of them comes, unless the window has a fault of its kind, node and channel: that one stays.
+-- Each fault takes effect, unless the window has a fault of its kind, node and channel: that one stays.
 abbrev pub Strikes : List FaultLine → WorldState → WorldState → Type 0
 Strikes faults old new = Tries old (struck_events faults old.bus) new
 
--- ---- what hinders
+-- ---- hindrances
 
 -- the first refusal that isn't `WrongTurn`
 abbrev pub first_refusal : Option StepError → Answer → Option StepError
@@ -67,7 +67,7 @@ first_refusal None (Ok reply) = None
 first_refusal None (Err WrongTurn) = None
 first_refusal None (Err e) = Some e
 
--- nothing does where the bus's advance is accepted
+-- none if the bus's advance is accepted
 abbrev pub hindrance : Option StepError → Answer → Option StepError
 hindrance found (Ok reply) = None
 hindrance (Some e) (Err last) = Some e
@@ -80,10 +80,10 @@ DoesAll old events found new =
 
 -- ---- the open window
 
--- `faults` are the fault lines that are kept, in their order, and `due` all that can be due in a window.
+-- `faults` are the fault lines that are kept, in their order, and `due` are all events that can be due in a window.
 
--- the faults of the lines come as far as the bus accepts them, and then the events, and then the bus's advance; this
--- hinders the bus
+-- the faults of the lines take effect as far as the bus accepts them, then come the events, and then the bus's advance;
+-- this hinders the bus
 abbrev pub MovesOn : List FaultLine → List Event → WorldState → Option StepError → WorldState → Type 0
 MovesOn faults due old hinders new =
     (struck : WorldState) × (between : WorldState) × (found : Option StepError) × (last : Answer)
@@ -97,14 +97,15 @@ abbrev pub is_at_cycle : Option Opportunity → Bool
 is_at_cycle None = true
 is_at_cycle (Some window) = opens_cycle window
 
--- so many windows lead from `old` to `new`, nothing hinders, and after each of them the bus stands within a cycle
+-- this number of windows lead from `old` to `new`, nothing hinders, and after each of them the bus stands within a
+-- cycle
 unfoldable pub WithinCycle : List FaultLine → List Event → ℕ → WorldState → WorldState → Type 0
 WithinCycle faults due zero old new = new ≡ old
 WithinCycle faults due (suc n) old new =
     (mid : WorldState) × WithinCycle faults due n old mid × MovesOn faults due mid None new
     × (is_at_cycle new.bus.opened ≡ false)
 
--- the most windows of a cycle: one for each static slot and minislot
+-- the largest number of windows of a cycle: one for each static slot and minislot
 abbrev pub most_windows : ℕ
 most_windows = 9023
 
@@ -114,18 +115,18 @@ LastWindow faults due old hinders new =
     (count : ℕ) × (before : WorldState) × WithinCycle faults due count old before
     × MovesOn faults due before hinders new × (hinders ≡ None → is_at_cycle new.bus.opened ≡ true)
 
--- windows up to the start of the next cycle, or up to what hinders; never more than a cycle can have
+-- windows up to the start of the next cycle, or up to a hindrance; at most as many as a cycle can have
 abbrev pub EndsCycle : List FaultLine → List Event → WorldState → Option StepError → WorldState → Type 0
 EndsCycle faults due old hinders new =
     LastWindow faults due old hinders new ⊎ (WithinCycle faults due most_windows old new × (hinders ≡ None))
 
--- so many cycles, which nothing hinders
+-- this number of cycles, without a hindrance
 unfoldable pub PassesCycles : List FaultLine → List Event → ℕ → WorldState → WorldState → Type 0
 PassesCycles faults due zero old new = new ≡ old
 PassesCycles faults due (suc n) old new =
     (mid : WorldState) × PassesCycles faults due n old mid × EndsCycle faults due mid None new
 
--- so many cycles, or fewer up to one that something hinders
+-- this number of cycles, or fewer up to a hindrance
 abbrev pub RunsCycles : List FaultLine → List Event → ℕ → WorldState → Option StepError → WorldState → Type 0
 RunsCycles faults due cycles old None new = PassesCycles faults due cycles old new
 RunsCycles faults due cycles old (Some e) new =

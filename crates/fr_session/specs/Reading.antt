@@ -1,4 +1,4 @@
--- What the words of a line ask for.
+-- The requests that the words of a line spell.
 use Rattle.std.specs.Prelude.{ℕ, nat_lt, Bool, ◌||◌, List, [], ◌∷◌, codes, length, Option, Some, None, if◌then◌else◌}
 use Rattle.std.specs.Str.{bytes_eq}
 use Rattle.fr_bus.specs.declared.fault.Fault.{Fault}
@@ -199,7 +199,7 @@ abbrev pub with_fault : Option FaultLine → Option Request
 with_fault None = None
 with_fault (Some line) = Some (request.Fault line)
 
--- one that is no other request: its words are more than those of the event of the same name
+-- a fault line that is no other request: it has more words than the event of the same name
 abbrev pub request_or_fault : Option Request → List (List ℕ) → Option Request
 request_or_fault None words = with_fault (fault_line_in words)
 request_or_fault (Some asked) words = Some asked

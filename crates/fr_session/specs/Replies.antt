@@ -25,11 +25,11 @@ refusal_words error = codes "refused" ∷ step_error_text error ∷ []
 abbrev pub bad_line_words : ℕ → List (List ℕ)
 bad_line_words number = codes "refused" ∷ codes "BadLine" ∷ decimal number ∷ []
 
--- a fault line that a run couldn't have after so many that are kept
+-- a fault line that a run couldn't have beside those that are kept, with their number
 abbrev pub bad_fault_words : ℕ → List (List ℕ)
 bad_fault_words kept = codes "refused" ∷ codes "BadFault" ∷ decimal kept ∷ []
 
--- ---- what was done
+-- ---- executed requests
 
 abbrev pub done_words : List (List ℕ)
 done_words = codes "done" ∷ []
@@ -50,7 +50,7 @@ window_words kind w = kind ∷ decimal w.number ∷ decimal w.cycle ∷ decimal 
 abbrev pub withdrawn_words : Option ℕ → List (List ℕ)
 withdrawn_words of = codes "withdrawn" ∷ optional_number of ∷ []
 
--- ---- what an event is answered
+-- ---- the reply to an event
 
 abbrev pub reply_words : Reply → List (List ℕ)
 reply_words (reply.Committed receipt) = codes "committed" ∷ decimal receipt.entry ∷ []

@@ -1,4 +1,4 @@
--- What a session does with the lines that it reads.
+-- The effect of a session on the lines that it reads.
 use Rattle.std.specs.Prelude.{◌≡◌, ℕ, ◌+◌, true, Bool, false, List, [], ◌∷◌, ◌++◌, length, Option, Some, None}
 use Rattle.std.specs.Prelude.{Result, Ok, Err, slice_get}
 use Rattle.std.specs.Io.KnownBytes.{Appends, Keeps}
@@ -24,10 +24,10 @@ use Rattle.fr_session.specs.Replies.{answer_text, bad_line_words, done_words, gr
 use Rattle.fr_trace.specs.ReportText.{report_text}
 use Rattle.fr_trace.specs.TraceText.{trace_text}
 
--- ---- what a session goes by, and what it has come to
+-- ---- the terms and the state of a session
 
--- All that can be due in a window of the cluster's nodes, up to the bus's advance; and the cluster and the number of
--- cycles of the run, which fault lines have to suit.
+-- All events that can be due in a window of the cluster's nodes, up to the bus's advance; and the cluster and the
+-- number of cycles of the run, which fault lines have to suit.
 pub record Terms : Type 0 where
   pub due : List Event
   pub cluster : Description
@@ -50,8 +50,8 @@ opening w = state_of w []
 
 -- ---- one line
 
--- An event is the step of the world that it asks for, answered by its text. A fault line and a forget alone change
--- which lines are kept, and then the world is as it was.
+-- An event is one step of the world, and its reply is the text of the step's answer. Only a fault line and a forget
+-- change the lines that are kept, and they leave the world unchanged.
 abbrev pub DoesRequest : Terms → SessionState → Request → List ℕ → SessionState → Type 0
 DoesRequest terms old (request.Event event) reply new =
     (answer : Answer) × Steps old.world event answer new.world × (reply ≡ answer_text answer)
@@ -83,21 +83,21 @@ Does terms old number line reply new = DoesIf terms old number (asked_in line) r
 
 -- ---- all lines
 
--- lines that are answered one after another, of which the first has this number
+-- lines that are answered one after another; the first has this number
 unfoldable pub Serves : Terms → SessionState → ℕ → List (List ℕ) → List ℕ → SessionState → Type 0
 Serves terms old number [] replies new = (replies ≡ []) × (new ≡ old)
 Serves terms old number (line ∷ lines) replies new =
     (between : SessionState) × (reply : List ℕ) × (later : List ℕ) × Does terms old number line reply between
     × (replies ≡ reply ++ later) × Serves terms between (number + 1) lines later new
 
--- what is done with a text, where it is known: the first line is written, and then the replies
+-- the effect of a session on a known text: the first line is written, and then the replies
 abbrev pub Served : Terms → Option (List ℕ) → Option (List ℕ) → Option (List ℕ) → SessionState → SessionState → Type 0
 Served terms None before after old new = Unit {0}
 Served terms (Some text) before after old new =
     (lines : List (List ℕ)) × (rest : List ℕ) × (replies : List ℕ) × IsCut text lines rest
     × Serves terms old 1 lines replies new × Appends before after (greeting ++ replies)
 
--- from an opening world to another world, whatever fault lines are kept there
+-- from an opening world to another world, with any fault lines kept there
 abbrev pub ServedWorld : Terms → Option (List ℕ) → Option (List ℕ) → Option (List ℕ) → WorldState → WorldState → Type 0
 ServedWorld terms text before after old new =
     (kept : List FaultLine) × Served terms text before after (opening old) (state_of new kept)
@@ -110,7 +110,7 @@ IsOfStream Read = Unit {0}
 IsOfStream Write = Unit {0}
 IsOfStream Memory = ⊥
 
--- where memory is refused, nothing was written, and the world is as it was
+-- if an allocation fails, nothing was written, and the world is unchanged
 abbrev pub IsUntouched : {A : Type 0} → Result A SessionError → Option (List ℕ) → Option (List ℕ) → WorldState
     → WorldState → Type 0
 IsUntouched (Ok done) before after old new = Unit {0}

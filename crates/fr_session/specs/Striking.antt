@@ -1,4 +1,4 @@
--- The faults that come in a window, as events (project-defined).
+-- The faults of a window, as events (project-defined).
 use Rattle.std.specs.Prelude.{◌≡◌, ℕ, List, [], ◌∷◌, Result, Ok, Err, if◌then◌else◌}
 use Rattle.fr_core.specs.declared.error.StepError.{StepError}
 use Rattle.fr_core.specs.declared.event.Event.{Event}
@@ -21,17 +21,17 @@ Passes old (event ∷ events) new =
 abbrev pub Tries : WorldState → List Event → WorldState → Type 0
 Tries old events new = (answers : List Answer) × StepsAll old events answers new
 
--- the first refusal among the answers, or that there is none
+-- the first refusal among the answers, or none
 unfoldable pub refusal_among : List Answer → Result (Unit {0}) StepError
 refusal_among [] = Ok tt
 refusal_among (Ok reply ∷ answers) = refusal_among answers
 refusal_among (Err error ∷ answers) = Err error
 
--- the events, whether they are accepted or refused, lead from `old` to `new`, and this tells the first refusal
+-- the events, whether they are accepted or refused, lead from `old` to `new`, and this is the first refusal
 abbrev pub Tells : WorldState → List Event → Result (Unit {0}) StepError → WorldState → Type 0
 Tells old events told new = (answers : List Answer) × StepsAll old events answers new × told ≡ refusal_among answers
 
--- the fault of the line, if it comes in this window of the cycle of this number of the run
+-- the fault of the line, if it takes effect in this window of the cycle of this number of the run
 abbrev pub strike_events : ℕ → Opportunity → FaultLine → List Event
 strike_events cycle window line = if strikes line cycle window then Inject line.fault ∷ [] else []
 

@@ -1,4 +1,4 @@
--- The fields of `Terms` as what a session goes by.
+-- The fields of `Terms` as the terms of a session.
 use Rattle.fr_session.specs.declared.session.Terms.{Terms as Given}
 use Rattle.fr_session.specs.Sessions.{Terms}
 

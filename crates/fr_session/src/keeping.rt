@@ -10,7 +10,9 @@ use fr_schedule::cluster::Cluster;
 use std::io;
 use std::io::Write;
 
-/// Keeps the line after the others, if it suits the cluster, the run of so many cycles and those, and writes the reply.
+/// Keeps the line after the others, if it suits, and writes the reply.
+///
+/// It must suit the cluster, the run and these lines.
 pub(crate) fn keep_line<W: Write>(
     cluster: &Cluster,
     cycles: u16,

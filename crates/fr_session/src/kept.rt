@@ -13,12 +13,13 @@ use std::alloc::{AllocError, Global};
 use std::collections::HashSet;
 use std::marker::Model;
 
-/// Fault lines in their order, and marks of the windows that they name, so that each further line is checked in the
-/// same time. Contracts see them as the list of lines.
+/// Fault lines in their order, and marks of the windows that they name.
+///
+/// Each further line is checked in constant time. In contracts, this is the list of lines.
 #[derive(Drop)]
 pub(crate) struct KeptLines {
     lines: Vec<FaultLine>,
-    /// None once an allocation for the marks has failed. Each line is then compared with all others.
+    /// The marks, or none once an allocation for them has failed. Each line is then compared with all others.
     marks: Option<Marks>,
     ghost marked: { ForSome marks (AreMarksOf lines.items) },
 }
@@ -32,7 +33,9 @@ impl Model for KeptLines {
     ghost view = { λ k. k.lines.items };
 }
 
-/// Returns the marks with those of one line more, whose own one this is, or none where an allocation fails.
+/// Returns the marks with those of one more line, or none if an allocation fails.
+///
+/// The own mark of the line is given.
 fn marks_with(marks: Option<Marks>, own: Mark) -> Option<Marks>
     ensures { (lines : List Line) (line : Line) → own ≡ mark_of line → ForSome marks (AreMarksOf lines)
         → ForSome result (AreMarksOf (lines ++ line ∷ [])) }
@@ -48,7 +51,7 @@ impl KeptLines {
     ghost use Rattle.std.specs.Prelude.{◌≡◌, ◌↔◌, ◌++◌, ◌∷◌, [], length, IsTrue, OnErr, OnOk};
     ghost use Rattle.fr_runs.specs.Suiting.{IsFaultAfter};
 
-    /// Returns no lines.
+    /// Returns an empty list of lines.
     pub(crate) fn new(alloc: Global) -> KeptLines
         ensures { result ≡ [] }
     {
@@ -84,7 +87,7 @@ impl KeptLines {
         }
     }
 
-    /// Returns whether a run of the cluster for so many cycles that has these lines can have this one too.
+    /// Returns whether a run of the cluster with these lines can have this line too.
     pub(crate) fn suit(&self, cluster: &Cluster, cycles: u16, line: &FaultLine) -> bool
         ensures { IsTrue result ↔ IsFaultAfter cluster.now cycles self.now line.now }
     {

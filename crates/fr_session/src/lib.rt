@@ -11,7 +11,7 @@
 //! // cycle                   open 7 1 0 1 1
 //! ```
 //!
-//! *(project-defined)* marks a rule of this project's own, which says nothing of the standard.
+//! *(project-defined)* marks a rule of this project, and makes no claim about the standard.
 //!
 //! # Definitions
 //!
@@ -22,7 +22,7 @@
 //! - `Marks`: marks of the windows that fault lines name, by which a line is compared with all others at once.
 //! - `Sessions`, `Laws`: a session; laws of all sessions.
 //!
-//! Modules that go the way of the code, for private functions, with the module that has the meaning:
+//! Modules that follow the steps of the code, for private functions, with the module that has the meaning:
 //!
 //! - `line_front`, `TakesPiece`, `ComesFront` in `Lines`: a line piece by piece, of which the front is kept. Meaning:
 //!   `Comes`: a whole line.

@@ -11,7 +11,7 @@ use std::io::{BufRead, ErrorKind};
 /// The longest line, without its line feed (project-defined).
 pub(crate) const LONGEST_LINE: usize = 1200;
 
-/// So many bytes of a line are kept: one more than it may have, so that a longer one shows.
+/// The number of bytes of a line that are kept: one more than it may have, so that a longer one shows.
 const FRONT: usize = LONGEST_LINE + 1;
 
 /// The front of a line.
@@ -28,7 +28,7 @@ enum Piece {
     Nothing,
 }
 
-/// Appends of these bytes those for which there is room.
+/// Appends those of the bytes for which there is room.
 fn keep(line: &mut Line, more: &[u8])
     ensures { line.new.items ≡ line_front (line.old.items ++ more.now) }
 {
@@ -39,7 +39,7 @@ fn keep(line: &mut Line, more: &[u8])
     prove!(is_kept);
 }
 
-/// Takes what the reader has at hand, up to the next line feed and with it, and keeps the front of the line.
+/// Takes the bytes that the reader has, with the next line feed, and keeps the line's front.
 fn take_piece<R: BufRead>(reader: &mut R, line: &mut Line) -> io::Result<Piece>
     ensures taken { IfOk result (λ piece. TakesPiece piece (R.remaining reader.old) (R.remaining reader.new)
         line.old.items line.new.items) }
@@ -65,12 +65,13 @@ fn take_piece<R: BufRead>(reader: &mut R, line: &mut Line) -> io::Result<Piece>
     }
 }
 
-/// Takes the next line from the reader, with its line feed, and keeps its front in place of that of the line before.
-/// Says whether there was a whole one. A read that is interrupted is made again.
+/// Takes the next line from the reader, with its line feed, and keeps its front.
+///
+/// The front replaces that of the line before. Returns whether there was a whole line. An interrupted read is repeated.
 pub(crate) fn next_line<R: BufRead>(reader: &mut R, line: &mut Line) -> io::Result<bool>
     ensures { IfOk result (λ more. ComesFront more (R.remaining reader.old) (R.remaining reader.new) line.new.items) }
 {
-    // A longer line is read to its end and not kept, so the session goes on with the next.
+    // A longer line is read to its end and not kept, so the session continues with the next.
     line.clear();
     for _ in 0..u64::MAX {
         match take_piece(reader, line) {

@@ -30,12 +30,14 @@ pub(crate) enum Reach {
     Every,
     /// The one of this number.
     Only(u16),
-    /// Whichever a line names.
+    /// Each one that a line names.
     Any,
 }
 
-/// A key under which lines are looked up. Each line leaves four marks: its own, and those with `Any` in place of its
-/// cycles, of its slots or minislots, and of both.
+/// A key under which lines are looked up.
+///
+/// Each line leaves four marks: its own, and those with `Any` in place of its cycles, of its slots or minislots, and of
+/// both.
 #[derive(Clone, Copy, PartialEq, Eq, Hash, Drop)]
 pub(crate) struct Mark {
     pub target: Target,
@@ -112,7 +114,9 @@ impl Reach {
     ghost use Rattle.std.specs.Prelude.{◌≡◌};
     ghost use Rattle.fr_session.specs.Marks.{first_by, other_by};
 
-    /// Returns the first of the two under which what has something in common with it is found.
+    /// Returns the first of two keys.
+    ///
+    /// Each reach that has something in common with this one is found under one of them.
     fn first(self) -> Reach
         ensures { result ≡ first_by self }
     {
@@ -122,7 +126,7 @@ impl Reach {
         }
     }
 
-    /// Returns the other of the two.
+    /// Returns the other of the two keys.
     fn other(self) -> Reach
         ensures { result ≡ other_by self }
     {
@@ -165,7 +169,7 @@ fn add(marks: &mut Marks, mark: Mark) -> Result<(), AllocFailed<Mark>>
     Ok(())
 }
 
-/// Returns whether a line of this mark meets one of those that left the marks.
+/// Returns whether a line of this mark meets one of the lines that left the marks.
 pub(crate) fn is_met(marks: &Marks, own: Mark) -> bool
     ensures { result ≡ finds (contains mark_eq marks.now) own }
 {
@@ -176,7 +180,7 @@ pub(crate) fn is_met(marks: &Marks, own: Mark) -> bool
         || has(marks, own.at(cycles.other(), places.other()))
 }
 
-/// Adds the four marks of a line of this mark. If an allocation fails, some of them may be there.
+/// Adds the four marks of a line of this mark. If an allocation fails, some of them may be present.
 pub(crate) fn add_all(marks: &mut Marks, own: Mark) -> Result<(), AllocFailed<Mark>>
     ensures { OnOk result (AddsMarks marks.old own marks.new) }
 {

@@ -18,7 +18,7 @@ use fr_slots::numbers::NodeId;
 use fr_slots::window::Window;
 use std::alloc::{AllocError, Global};
 
-/// Returns the first refusal that isn't `WrongTurn`: the one found before, or else this.
+/// Returns the first refusal that isn't `WrongTurn`: the one found before, or otherwise this one.
 fn first_refusal(found: Option<StepError>, answer: &Result<Reply, StepError>) -> Option<StepError>
     ensures { result ≡ first_refusal found answer.now }
 {
@@ -30,7 +30,7 @@ fn first_refusal(found: Option<StepError>, answer: &Result<Reply, StepError>) ->
     }
 }
 
-/// Returns what hinders the bus, where its advance has this answer and this refusal was found before.
+/// Returns the hindrance of the bus, from the answer of its advance and the refusal found before.
 fn hindrance(found: Option<StepError>, last: &Result<Reply, StepError>) -> Option<StepError>
     ensures { result ≡ hindrance found last.now }
 {
@@ -41,7 +41,7 @@ fn hindrance(found: Option<StepError>, last: &Result<Reply, StepError>) -> Optio
     }
 }
 
-/// Appends the observe of each of so many nodes.
+/// Appends the observe of each node.
 fn push_observes(events: &mut Vec<Event>, nodes: u8) -> Result<(), AllocError>
     requires { nodes ≤ 16 }
     ensures { OnOk result (events.new.items ≡ events.old.items ++ for_nodes observe_events nodes) }
@@ -53,7 +53,7 @@ fn push_observes(events: &mut Vec<Event>, nodes: u8) -> Result<(), AllocError>
     Ok(())
 }
 
-/// Appends for each of so many nodes the steps that bring its offer to the bus.
+/// Appends for each node the steps that bring its offer to the bus.
 fn push_offers(events: &mut Vec<Event>, nodes: u8) -> Result<(), AllocError>
     requires { nodes ≤ 16 }
     ensures { OnOk result (events.new.items ≡ events.old.items ++ for_nodes offer_events nodes) }
@@ -67,7 +67,7 @@ fn push_offers(events: &mut Vec<Event>, nodes: u8) -> Result<(), AllocError>
     Ok(())
 }
 
-/// Appends for each of so many nodes the steps that bring what it sees to its interface.
+/// Appends for each node the steps that bring its observation to its interface.
 fn push_sights(events: &mut Vec<Event>, nodes: u8) -> Result<(), AllocError>
     requires { nodes ≤ 16 }
     ensures { OnOk result (events.new.items ≡ events.old.items ++ for_nodes see_events nodes) }
@@ -80,9 +80,9 @@ fn push_sights(events: &mut Vec<Event>, nodes: u8) -> Result<(), AllocError>
     Ok(())
 }
 
-// This is the one list of what is due in a window. A session does it after what is left over, a single-threaded run
-// from an untouched window.
-/// Appends what is due in a window of so many nodes in which nothing has been done, but for the advance.
+// This is the one list of the events that are due in a window. A session executes it after the events that are left
+// over, a single-threaded run in an untouched window.
+/// Appends the events that are due in a window in which nothing has been executed, except the advance.
 fn push_whole(events: &mut Vec<Event>, nodes: u8) -> Result<(), AllocError>
     requires { nodes ≤ 16 }
     ensures { OnOk result (events.new.items ≡ events.old.items ++ whole_window nodes) }
@@ -92,10 +92,10 @@ fn push_whole(events: &mut Vec<Event>, nodes: u8) -> Result<(), AllocError>
     push_sights(events, nodes)
 }
 
-/// Returns what is due in a window of so many nodes, at most 16, in which nothing has been done (project-defined): the
-/// look, fetch and put of each node, the seal, and the take and observe of each. The bus's advance isn't among them.
+/// Returns the events that are due in an untouched window of at most 16 nodes (project-defined).
 ///
-/// Refused where memory is.
+/// They are the look, fetch and put of each node, the seal, and the take and observe of each node. The bus's advance
+/// isn't among them. Fails if an allocation fails.
 pub fn whole_window(alloc: Global, nodes: u8) -> Result<Vec<Event>, AllocError>
     requires { nodes ≤ 16 }
     ensures { IfOk result (λ events. events.items ≡ whole_window nodes) }
@@ -105,7 +105,7 @@ pub fn whole_window(alloc: Global, nodes: u8) -> Result<Vec<Event>, AllocError>
     Ok(events)
 }
 
-/// Returns all that can be due in a window of so many nodes, but for the advance.
+/// Returns all events that can be due in a window, except the advance.
 pub(crate) fn window_events(alloc: Global, nodes: u8) -> Result<Vec<Event>, AllocError>
     requires { nodes ≤ 16 }
     ensures { IfOk result (λ events. events.items ≡ window_events nodes) }
@@ -116,7 +116,7 @@ pub(crate) fn window_events(alloc: Global, nodes: u8) -> Result<Vec<Event>, Allo
     Ok(events)
 }
 
-/// Does the events, and tells the first refusal that isn't `WrongTurn`.
+/// Executes the events, and returns the first refusal that isn't `WrongTurn`.
 fn do_all(world: &mut World, events: &[Event]) -> Option<StepError>
     ensures { DoesAll world.old events.now result world.new }
 {
@@ -128,7 +128,7 @@ fn do_all(world: &mut World, events: &[Event]) -> Option<StepError>
     found
 }
 
-/// Returns the number of the run's cycle in which the open window lies, which isn't sealed.
+/// Returns the number of the run's cycle in which the open window lies. The window isn't sealed.
 fn run_cycle_of(bus: &Bus, window: &Window) -> u16
     ensures { result ≡ run_cycle_after bus.now.sealed window.now }
 {
@@ -140,22 +140,23 @@ fn run_cycle_of(bus: &Bus, window: &Window) -> u16
     }
 }
 
-/// Brings into the open window, unless it is sealed, the faults of the lines that come there.
+/// Injects the faults of the open window, unless it is sealed.
 fn strike_open(world: &mut World, faults: &[FaultLine])
     ensures { Strikes faults.now world.old world.new }
 {
     match world.bus().collecting() {
         Some(window) => {
             let cycle = run_cycle_of(world.bus(), &window);
-            // A fault of the same kind, node and channel that the window has stays.
+            // A fault of the window stays, if it has the same kind, node and channel.
             let _struck = strike_all(world, cycle, &window, faults);
         }
         None => {}
     }
 }
 
-/// Brings the faults of the lines into the open window, does all of these events, which are those of a window, that is
-/// still due, and then the bus's advance. Tells what hinders the bus.
+/// Finishes the open window: its faults, the events that are still due, and the bus's advance.
+///
+/// The events are those of a window. Returns the hindrance of the bus.
 pub(crate) fn finish_window(
     world: &mut World,
     faults: &[FaultLine],
@@ -179,7 +180,7 @@ pub fn is_at_cycle(bus: &Bus) -> bool
     }
 }
 
-/// Does windows until the first one of a cycle is open, and tells what hinders the bus before.
+/// Executes windows until the first one of a cycle is open, and returns a hindrance of the bus before.
 fn finish_cycle(world: &mut World, faults: &[FaultLine], events: &[Event]) -> Option<StepError>
     ensures { EndsCycle faults.now events.now world.old result world.new }
 {
@@ -196,7 +197,7 @@ fn finish_cycle(world: &mut World, faults: &[FaultLine], events: &[Event]) -> Op
     None
 }
 
-/// Does so many cycles, and tells what hinders the bus before.
+/// Executes this number of cycles, and returns a hindrance of the bus before.
 pub(crate) fn finish_cycles(
     world: &mut World,
     faults: &[FaultLine],

@@ -351,7 +351,7 @@ fn begins_event(kind: &[u8]) -> bool
     is_host_word(kind) || is_step_word(kind) || is_fault_word(kind)
 }
 
-/// Returns what the words ask for.
+/// Returns the request of the words.
 #[tactic(auto, unfolding(crate::specs::Reading::request_in))]
 fn request_in(words: &mut Words<'_>) -> Option<Request>
     ensures { result ≡ request_in words.old }
@@ -372,8 +372,9 @@ fn fault_in(line: &[u8]) -> Option<Request>
     Some(Request::Fault(fault))
 }
 
-/// Returns what the line, which is given without its line feed, asks for. `None` where it has more than 1200 bytes, no
-/// form of a request, or a number out of its range.
+/// Returns the request of the line, which is given without its line feed.
+///
+/// `None` if it has more than 1200 bytes, no form of a request, or a number out of its range.
 pub(crate) fn request_of(line: &[u8]) -> Option<Request>
     ensures { result ≡ asked_in line.now }
 {

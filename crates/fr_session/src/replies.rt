@@ -88,14 +88,14 @@ pub(crate) fn write_refusal<W: Write>(writer: &mut W, error: StepError) -> io::R
     writeln!(writer, "refused {error}")
 }
 
-/// Writes that what was asked for is done.
+/// Writes that the request is executed.
 pub(crate) fn write_done<W: Write>(writer: &mut W) -> io::Result<()>
     ensures { Writes W.contents writer.old writer.new result (line_text done_words) }
 {
     writeln!(writer, "done")
 }
 
-/// Writes what an accepted event is answered.
+/// Writes the reply to an accepted event.
 fn write_reply<W: Write>(writer: &mut W, reply: &Reply) -> io::Result<()>
     ensures { Writes W.contents writer.old writer.new result (line_text (reply_words reply.now)) }
 {
@@ -108,7 +108,7 @@ fn write_reply<W: Write>(writer: &mut W, reply: &Reply) -> io::Result<()>
     }
 }
 
-/// Writes what an event is answered.
+/// Writes the reply to an event.
 pub(crate) fn write_answer<W: Write>(
     writer: &mut W,
     answer: &Result<Reply, StepError>,
@@ -128,7 +128,7 @@ pub(crate) fn write_bad_line<W: Write>(writer: &mut W, number: u64) -> io::Resul
     writeln!(writer, "refused BadLine {number}")
 }
 
-/// Writes that a run couldn't have the fault line after so many that are kept.
+/// Writes that a run couldn't have the fault line beside those that are kept, with their number.
 pub(crate) fn write_bad_fault<W: Write>(writer: &mut W, kept: usize) -> io::Result<()>
     ensures { Writes W.contents writer.old writer.new result (line_text (bad_fault_words kept)) }
 {

@@ -9,13 +9,13 @@ use fr_slots::numbers::NodeId;
 pub enum Request {
     /// One event of the world.
     Event(Event),
-    /// From now on the faults of this line come where it says.
+    /// The line of a fault, which takes effect from now on in the windows that the line names.
     Fault(FaultLine),
-    /// From now on no faults of lines come.
+    /// The end of all fault lines.
     Forget,
-    /// The faults that come in the open window, and all that is still due in it, up to the bus's advance.
+    /// The faults of the open window, and all events that are still due in it, up to the bus's advance.
     Window,
-    /// Windows up to the start of the next cycle but so many.
+    /// Windows up to the start of the next cycle, this number of times.
     Run(u16),
     /// The state of the bus.
     Now,
@@ -23,7 +23,7 @@ pub enum Request {
     Report(NodeId),
     /// The trace of the node's interface.
     Trace(NodeId),
-    /// The origin of the frame that the last entry of the node's journal returned, if it is a read or a pop.
+    /// The origin of the frame of the node's last entry, if it is a read or a pop.
     Origin(NodeId),
     /// The window of this number in the bus's record.
     Record(u32),

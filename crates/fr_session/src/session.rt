@@ -29,7 +29,7 @@ use std::io::{BufRead, Write};
 /// The terms of a session.
 #[derive(Clone, Copy)]
 struct Terms<'a> {
-    /// All that can be due in a window.
+    /// All events that can be due in a window.
     events: &'a [Event],
     /// The cluster that fault lines have to suit.
     cluster: &'a Cluster,
@@ -45,7 +45,7 @@ struct Session {
     line: Line,
 }
 
-/// Does what is asked for, and writes the reply.
+/// Executes the request, and writes the reply.
 fn do_request<W: Write>(
     alloc: Global,
     terms: &Terms<'_>,
@@ -83,7 +83,7 @@ fn do_request<W: Write>(
     }
 }
 
-/// Does what the line of this number asks for, and writes the reply.
+/// Executes the request of the line of this number, and writes the reply.
 fn answer_line<W: Write>(
     alloc: Global,
     terms: &Terms<'_>,
@@ -103,7 +103,7 @@ fn answer_line<W: Write>(
     }
 }
 
-/// Writes the first line, and hands it on.
+/// Writes the first line, and flushes.
 fn greet<W: Write>(writer: &mut W) -> io::Result<()>
     ensures { Writes W.contents writer.old writer.new result greeting }
 {
@@ -119,7 +119,7 @@ impl Session {
     ghost use Rattle.fr_session.specs.Sessions.{AnswersNext, DoesIf, Served, IsOfStream, state_of};
     ghost use Rattle.fr_session.specs.TermsFields.{terms_in};
 
-    /// Answers the line that was read, which has this number, and hands the reply on.
+    /// Answers the line that was read, which has this number, and flushes the reply.
     fn answer<W: Write>(
         &mut self,
         terms: &Terms<'_>,
@@ -144,7 +144,7 @@ impl Session {
         writer.flush()
     }
 
-    /// Answers the next line, if there is a whole one. Says whether there was.
+    /// Answers the next line, if there is a whole one. Returns whether there was.
     fn answer_next<R: BufRead, W: Write>(
         &mut self,
         terms: &Terms<'_>,
@@ -183,12 +183,14 @@ impl Session {
         ensures headline { Headline world.new }
         ensures early { IfErr result IsOfStream }
     {
+        // For the prover: the clause of this call.
         world.known();
         if greet(writer).is_err() {
             return Err(SessionError::Write);
         }
         for number in 1..u64::MAX {
             let answered = self.answer_next(terms, world, number, reader, writer);
+            // For the prover: the clause of this call.
             world.known();
             match answered {
                 Ok(true) => {}
@@ -196,27 +198,29 @@ impl Session {
                 Err(error) => return Err(error),
             }
         }
+        // For the prover: the clause of this call.
         world.known();
         Err(SessionError::Read)
     }
 }
 
-/// Writes the session's first line, `frworld 1`, and answers each line of the reader, each before the next is read
-/// (project-defined).
+/// Writes the session's first line, `frworld 1`, and answers each line of the reader (project-defined).
 ///
-/// The reply is handed on at once: the writer is flushed after each. A line that is no request, or has more than 1200
-/// bytes before its line feed, is answered with `refused BadLine N`, N its number from 1, and changes nothing. Text
-/// after the last line feed is no request, and is neither executed nor answered.
+/// Each line is answered before the next is read, and the writer is flushed after each reply. A line that is no
+/// request, or has more than 1200 bytes before its line feed, is answered with `refused BadLine N`, N its number from
+/// 1, and changes nothing. Text after the last line feed is no request, and is neither executed nor answered.
 ///
-/// A fault line, as a scenario spells it, is kept. Its fault comes into each window that the line names and that
-/// `window`, `cycle` or `run` executes from then on, if that isn't sealed yet; `forget` ends all lines. A line that a
-/// run of the cluster for so many cycles couldn't have beside those that are kept is answered with `refused BadFault
-/// N`, N the number of those. The cluster is to be the world's, and the cycles those for which the world was opened.
+/// A fault line, as a scenario spells it, is kept. Its fault takes effect in each window that the line names and that
+/// `window`, `cycle` or `run` executes from then on, if the window isn't sealed yet. The request `forget` ends all
+/// lines. A line that a run of the cluster couldn't have beside those that are kept is answered with `refused BadFault
+/// N`, N the number of those. The cluster must be the world's, and the number of cycles that of the opening of the
+/// world.
 ///
-/// Ends early with `Memory` if an allocation for the session itself fails, before anything is read or written; with
-/// `Read` if the reader fails, and with `Write` if the writer does, which may have taken a part of a reply by then. A
-/// failed allocation later on is answered: `refused Bus Memory` of a seal, `refused Memory` of a fault line, a
-/// report, a trace or a window of the record.
+/// Ends early with `Memory` if an allocation for the session itself fails, before anything is read or written. Ends
+/// early with `Read` if the reader fails, and with `Write` if the writer does, which may have taken a part of a reply.
+///
+/// A later failed allocation is answered: `refused Bus Memory` for a seal, `refused Memory` for a fault line, a report,
+/// a trace or a window of the record.
 pub fn serve<R: BufRead, W: Write>(
     alloc: Global,
     cluster: &Cluster,
@@ -228,11 +232,12 @@ pub fn serve<R: BufRead, W: Write>(
     // It writes the first line and then the reply to each line, in order, by the definition of events.
     ensures served { OnOk result (ServedWorld (terms_of cluster.now cycles) (R.remaining reader.old)
         (W.contents writer.old) (W.contents writer.new) world.old world.new) }
-    // A failed allocation ends it only before it has begun.
+    // A failed allocation ends the session only before its first line.
     ensures memory { IsUntouched result (W.contents writer.old) (W.contents writer.new) world.old world.new }
     ensures headline { Headline world.new }
 {
     let Ok(events) = window_events(alloc, cluster.nodes()) else {
+        // For the prover: the clause of this call.
         world.known();
         return Err(SessionError::Memory);
     };

@@ -1,4 +1,4 @@
-//! The faults that come in a window, brought into the world.
+//! The faults of a window, injected into the world.
 ghost use Rattle.std.specs.Prelude.{◌≡◌, ◌∷◌, [], OnOk};
 ghost use Rattle.std.specs.List.{flat_map};
 ghost use Rattle.fr_session.specs.Striking.{first_of, strike_events, Passes, Tells, Tries};
@@ -9,7 +9,7 @@ use fr_core::world::World;
 use fr_runs::fault_line::FaultLine;
 use fr_slots::window::Window;
 
-/// Does the event, and tells whether it was refused.
+/// Executes the event, and returns its refusal.
 fn attempt(world: &mut World, event: &Event) -> Result<(), StepError>
     ensures { Tells world.old (event.now ∷ []) result world.new }
 {
@@ -20,7 +20,7 @@ fn attempt(world: &mut World, event: &Event) -> Result<(), StepError>
     }
 }
 
-/// Brings the line's fault into the open window, if it comes there.
+/// Injects the line's fault into the open window, if it takes effect there.
 fn strike(world: &mut World, cycle: u16, window: &Window, line: &FaultLine) -> Result<(), StepError>
     ensures { Tells world.old (strike_events cycle window.now line.now) result world.new }
 {
@@ -31,7 +31,7 @@ fn strike(world: &mut World, cycle: u16, window: &Window, line: &FaultLine) -> R
     }
 }
 
-/// The first refusal: the one before, or else this.
+/// Returns the first refusal: the one before, or otherwise this one.
 fn first_of(before: Result<(), StepError>, next: Result<(), StepError>) -> Result<(), StepError>
     ensures { result ≡ first_of before next }
 {
@@ -41,18 +41,18 @@ fn first_of(before: Result<(), StepError>, next: Result<(), StepError>) -> Resul
     }
 }
 
-/// Brings into the open window of the world, which has to be this one of the cycle of this number of the run, the
-/// faults that come there, in the order of their lines (project-defined).
+/// Injects the faults of the open window, in the order of their lines (project-defined).
 ///
-/// A fault that the bus refuses, as a second one of its kind, node and channel in the window, doesn't come; those of
-/// the other lines do. The first such refusal is returned.
+/// The window and the number of the run's cycle must be those of the open window. The bus refuses a second fault of its
+/// kind, node and channel in the window; the faults of other lines are still injected. The first such refusal is
+/// returned.
 pub fn strike_all(
     world: &mut World,
     cycle: u16,
     window: &Window,
     faults: &[FaultLine],
 ) -> Result<(), StepError>
-    // If nothing is refused, each fault has come.
+    // If nothing is refused, each fault is injected.
     ensures passes { OnOk result (Passes world.old (flat_map (strike_events cycle window.now) faults.now) world.new) }
     ensures tries { Tries world.old (flat_map (strike_events cycle window.now) faults.now) world.new }
     // It returns the first refusal, if there is one.

@@ -4,14 +4,14 @@ ghost use Rattle.fr_session.specs.RecordWords.{fate_word, kind_word};
 
 use fr_bus::outcome::Fate;
 
-/// Returns the word of whether a transmission is a babble (project-defined).
+/// Returns the word for a babble or an offer (project-defined).
 pub fn kind_word(babble: bool) -> &'static str
     ensures { result.now ≡ kind_word babble }
 {
     if babble { "babble" } else { "offer" }
 }
 
-/// Returns the word of what became of a transmission (project-defined).
+/// Returns the word for the fate of a transmission (project-defined).
 pub fn fate_word(fate: Fate) -> &'static str
     ensures { result.now ≡ fate_word fate }
 {

@@ -60,7 +60,7 @@ module _ (w : WorldState) (node : ℕ) where
       (node_is s (subst (λ (l : List State). node < length l) same lt)
       (subst (λ (l : List State). s ≡ get_or l node s) same is)) one)
 
--- ---- what took it
+-- ---- the receivers
 
 pub takeable : (end : Option End) (ts : List Taker) → is_takeable end ≡ true → ts ≡ takers_by end ts
 takeable None ts is = absurd cc

@@ -1,5 +1,5 @@
--- The first entry that does something to a commit decides what became of it: in a legal journal no entry after it sends
--- the commit or takes it back, unless it was sent.
+-- The first entry that changes a commit decides its fate: in a legal journal no later entry sends or withdraws the
+-- commit, unless it was sent.
 use Rattle.std.proofs.Common.{◌≡◌, ◌⊎◌, inl, inr, ℕ, ◌+◌, ◌<◌, Bool, true, false, cond, not, ◌||◌, ◌&&◌, List, [], ◌∷◌}
 use Rattle.std.proofs.Common.{◌++◌}
 use Rattle.std.proofs.Common.{drop, length, length-append, Option, Some, None, refl, sym, ap, subst, ◌∙◌, arith}
@@ -47,7 +47,7 @@ is_false : (b : Bool) → (b ≡ true → ⊥) → b ≡ false
 is_false true never = absurd (never refl)
 is_false false never = refl
 
--- ---- what an entry does, it does to a commit that is held
+-- ---- an entry changes a commit only while the commit is held
 
 -- a buffer holds the commit
 pub record Holds (xs : List Entry) (k : ℕ) : Type 0 where
@@ -149,7 +149,7 @@ module _ (buffer : ℕ) (xs : List Entry) (e : Entry) (k : ℕ) (lt : k < length
       (e ∷ [])
       ∙ ap (λ (b : Bool). list_any p (drop (k + 1) xs) || b) (or_none (p e))
 
-  -- a withdrawn commit stays one, where the entry doesn't send it
+  -- a withdrawn commit stays withdrawn, if the entry doesn't send it
   stays_withdrawn : withdrawn_at buffer xs k ≡ true → sends k e ≡ false → withdrawn_at buffer (xs ++ e ∷ []) k ≡ true
   stays_withdrawn is unsent =
       let s : Bool = list_any (sends k) (drop (k + 1) xs) in
@@ -221,7 +221,7 @@ module _ (params : Parameters) (plan : Plan) (buffer k : ℕ) where
       → list_any p (e ∷ rest) ≡ false
   any_none p e rest here later = λ i. here i || later i
 
-  -- after that no entry sends it, and none takes it back
+  -- after that no entry sends it, and none withdraws it
   pub undone : (xs rest : List Entry) → AllAfter (IsLegal params plan) xs rest → k < length xs → IsCommitAt buffer xs k
       → IsGone xs
       → (list_any (sends k) rest ≡ false) × (list_any (takes_back k) rest ≡ false)
@@ -234,7 +234,7 @@ module _ (params : Parameters) (plan : Plan) (buffer k : ℕ) where
         any_none (takes_back k) e rest (untaken xs e legal.0 there gone) later.1,
       )
 
-  -- ---- what ends it
+  -- ---- the entry that ends it
 
   pub gone_by_commit : (xs : List Entry) (e : Entry) → k < length xs → is_commit_on buffer e ≡ true
       → IsGone (xs ++ e ∷ [])

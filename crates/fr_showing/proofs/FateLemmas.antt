@@ -1,4 +1,4 @@
--- What became of a commit, entry after entry.
+-- The fate of a commit, entry after entry.
 use Rattle.std.proofs.Common.{◌≡◌, ℕ, ◌+◌, ◌-◌, ◌≤◌, ◌<◌, Bool, true, false, cond, ◌||◌, List, [], ◌∷◌, ◌++◌, length}
 use Rattle.std.proofs.Common.{take, drop}
 use Rattle.std.proofs.Common.{Option, Some, None, option_map, refl, sym, ap, subst, ◌∙◌, append-nil, arith}
@@ -67,7 +67,7 @@ cycles_with es buffer k there = by_entry (slice_get es k) refl there
         ap (λ (b : Bool). cond b 1 0) (no_cycle buffer e on) in
         omega (arith, cycles_more es k e is, none)
 
--- ---- what one entry decides
+-- ---- the fate that one entry decides
 
 module _ (buffer k : ℕ) (xs : List Entry) (e : Entry) (rest : List Entry) where
   abbrev sent_later : Bool
@@ -91,7 +91,7 @@ module _ (buffer k : ℕ) (xs : List Entry) (e : Entry) (rest : List Entry) wher
   abbrev if_commit : Bool → Option Became
   if_commit t = option_or (cond t (Some (Overwritten (cycles_of xs) (length xs))) None) commits_later
 
-  -- by what the entry does: whether it sends the commit, takes it back, takes its place
+  -- the fate by the tests of the entry: it sends the commit, withdraws it, or overwrites it
   abbrev by_tests : Bool → Bool → Bool → Bool → Bool → Became
   by_tests s t u sent taken =
       told_by (fate_by (s || sent) (t || taken) (u || replaced_later)) (if_withdraw t) (if_commit u)
@@ -200,7 +200,7 @@ module _ (s : State) (buffer k : ℕ) (legal : IsLegalInterface s) (there : IsCo
     at_place : became_in buffer k before (drop n s.entries) ≡ became_in buffer k before (e ∷ behind)
     at_place = ap (became_in buffer k before) (here s.entries n e is).left
 
-    -- the entry does nothing to it
+    -- the entry doesn't change it
     pub same_then : (cycle : ℕ) → is_pending (became_with buffer k cycle n e) ≡ true
         → became_in buffer k before (drop n s.entries) ≡ became_in buffer k (take (n + 1) s.entries) behind
     same_then cycle pending =
@@ -230,11 +230,11 @@ module _ (s : State) (buffer k : ℕ) (legal : IsLegalInterface s) (there : IsCo
             (by_commit buffer k before e behind s_is t_is u_is later.0 later.1)
         cases false false false s_is t_is u_is found = absurd cc
 
--- where no entry is left, the commit is pending
+-- if no entry is left, the commit is pending
 pub pending_then : (buffer k : ℕ) (xs left : List Entry) → left ≡ [] → became_in buffer k xs left ≡ Pending
 pending_then buffer k xs left none = ap (became_in buffer k xs) none
 
--- ---- where it is sent
+-- ---- the windows in which it is sent
 
 both_false : (a b : Bool) → (a || b) ≡ false → (a ≡ false) × (b ≡ false)
 both_false true b is = absurd cc
@@ -297,7 +297,7 @@ entry_is w node es cycle number before (Pop task from) cycle_is number_is = refl
 entry_is w node es cycle number before (Fetch window a b) cycle_is number_is = refl
 entry_is w node es cycle number before (Observe number_seen a b) cycle_is number_is = refl
 
--- ---- an entry of a journal that is lent
+-- ---- an entry of a journal, borrowed
 
 pub lent_there : (es journal : List Entry) (n : ℕ) (o : Option LentEntry) (e : LentEntry) → journal ≡ es
     → option_map whole o ≡ slice_get journal n → o ≡ Some e → slice_get es n ≡ Some (whole e)
@@ -309,7 +309,7 @@ pub lent_none : (es journal : List Entry) (n count : ℕ) (o : Option LentEntry)
 lent_none es journal n count o same lent long lt is = none_behind journal n (omega (arith, long, lt))
     (sym lent ∙ ap (option_map whole) is)
 
--- after the next commit on its buffer nothing is left of its sendings
+-- after the next commit on its buffer, none of its sendings is left
 module _ (s : State) (buffer k : ℕ) (legal : IsLegalInterface s) (there : IsCommitAt buffer s.entries k) where
   pub unsent_here : (n : ℕ) (e : Entry) → k < n → slice_get s.entries n ≡ Some e → is_commit_on buffer e ≡ true
       → each_after (sendings_by k) (take n s.entries) (drop n s.entries) ≡ []

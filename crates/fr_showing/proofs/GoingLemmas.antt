@@ -1,4 +1,4 @@
--- Lists along which the code goes: what was passed, what is here, and what is left to be written.
+-- Lists along which the code goes: the elements before, the element here, and the elements that are left.
 use Rattle.std.proofs.Common.{◌≡◌, ℕ, zero, suc, ◌+◌, ◌≤◌, ◌<◌, List, [], ◌∷◌, ◌++◌, length, take, drop, Option, Some}
 use Rattle.std.proofs.Common.{get_or, refl, sym, ap, subst, ◌∙◌, append-nil, arith}
 use Rattle.std.specs.Prelude.{slice_get}
@@ -69,7 +69,7 @@ length_passed xs zero le = refl
 length_passed [] (suc n) le = absurd (omega (arith, le))
 length_passed (x ∷ xs) (suc n) le = ap suc (length_passed xs n (omega (arith, le)))
 
--- what is so of each one after those before it is so of those that are left
+-- a fact of each element after those before it also holds of the elements that are left
 pub AllAfter-rest : {X : Type 0} (P : List X → X → Type 0) (before xs ys : List X) → AllAfter P before (xs ++ ys)
     → AllAfter P (before ++ xs) ys
 unfolding AllAfter
@@ -82,15 +82,15 @@ pub left_after : {X : Type 0} (P : List X → X → Type 0) (xs : List X) (n : �
     → AllAfter P (take n xs) (drop n xs)
 left_after P xs n all = AllAfter-rest P [] (take n xs) (drop n xs) (subst (AllAfter P []) (sym (both xs n)) all)
 
--- ---- what is left to be written
+-- ---- the elements that are left to be written
 
 module _ {X A : Type 0} (f : List X → X → List A) (text : A → List ℕ) (xs : List X) where
-  -- the text of those that are left
+  -- the text of the elements that are left
   abbrev pub text_left : ℕ → List ℕ
   text_left n = flat_map text (each_after f (take n xs) (drop n xs))
 
   pub record IsWritten (all : List ℕ) (old now : Option (List ℕ)) (n : ℕ) : Type 0 where
-    -- where the text of those that are left is written too, all is
+    -- once the text of the elements that are left is written, all is written
     pub then_all : (new : Option (List ℕ)) → Appends now new (text_left n) → Appends old new all
 
   text_here : (n : ℕ) (x : X) → slice_get xs n ≡ Some x → text_left n ≡ flat_map text (f (take n xs) x) ++ text_left
@@ -116,7 +116,7 @@ module _ {X A : Type 0} (f : List X → X → List A) (text : A → List ℕ) (x
         (Appends-trans now mid new (flat_map text (f (take n xs) x)) (text_left (n + 1)) one more));
   }
 
-  -- where nothing is left to be written, all is written
+  -- if no element is left, all is written
   pub ends : (all : List ℕ) (old now : Option (List ℕ)) (n : ℕ) → text_left n ≡ [] → IsWritten all old now n
       → Appends old now all
   ends all old now n none so_far = so_far.then_all now (subst (λ (t : List ℕ). Appends now now t) (sym none)
@@ -139,7 +139,7 @@ range_more first (suc count) =
     ∙ ap (λ (xs : List ℕ). first ∷ xs) (range_more (first + 1) count ∙ ap
     (λ (n : ℕ). range_with_len (first + 1) count ++ n ∷ []) place)
 
--- the texts of one number's list more
+-- with the texts of the list of one more number
 pub one_list_more : {A : Type 0} (text : A → List ℕ) (f : ℕ → List A) (n : ℕ) (old mid new : Option (List ℕ))
     → Appends old mid (flat_map text (flat_map f (range_with_len 0 n)))
     → Appends mid new (flat_map text (f n)) → Appends old new (flat_map text (flat_map f (range_with_len 0 (n + 1))))
@@ -152,7 +152,7 @@ one_list_more text f n old mid new before more =
     (ap (flat_map text) all ∙ flat_map-append text (flat_map f (range_with_len 0 n)) (f n)))
     (Appends-trans old mid new (flat_map text (flat_map f (range_with_len 0 n))) (flat_map text (f n)) before more)
 
--- ---- an element that a loop has
+-- ---- the element of a loop's step
 
 pub left_here : {X : Type 0} (xs : List X) (n : ℕ) (x : X) → n < length xs → x ≡ get_or xs n x
     → drop n xs ≡ x ∷ drop (n + 1) xs

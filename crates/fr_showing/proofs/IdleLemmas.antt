@@ -1,4 +1,4 @@
--- Whether a line struck something, one window more, and the lines that had no effect, one line more.
+-- The effect of a line, with one more window, and the lines without effect, with one more line.
 use Rattle.std.proofs.Common.{◌≡◌, ℕ, ◌+◌, ◌-◌, ◌≤◌, ◌<◌, ◌||◌, Bool, cond, true, false, List, [], ◌∷◌, ◌++◌, length}
 use Rattle.std.proofs.Common.{take, drop, get_or, refl, sym, ap}
 use Rattle.std.proofs.Common.{◌∙◌, ◌⊎◌, inl, inr, append_assoc}
@@ -24,7 +24,7 @@ module _ (rs : List Recorded) (n : ℕ) (r : Recorded) (lt : n < length rs) (is 
   by_front front same = ap (λ (f : List Recorded). has_struck_in p line (cycles_begun f - 1) r
       || has_struck_after p line f (drop (n + 1) rs)) same
 
-  -- the windows that are left, by the first of them
+  -- the windows that are left, from the first of them
   pub struck_by_next : (begun : ℕ) → begun ≡ cycles_begun (take (n + 1) rs)
       → has_struck_after p line (take n rs) (drop n rs) ≡ (has_struck_in p line (begun - 1) r || has_struck_after p line
       (take (n + 1) rs) (drop (n + 1) rs))
@@ -58,7 +58,7 @@ module _ (p : Parameters) (rs : List Recorded) where
     unfolding idle_numbers
     by_first = refl
 
-    -- a line that struck something
+    -- a line that had an effect
     pub line_struck : has_struck p rs line ≡ true → idle ++ idle_numbers p rs lines numbers ≡ all
     line_struck struck = sym (ap (λ (xs : List ℕ). idle ++ xs)
         (by_first ∙ ap (λ (b : Bool). cond b (idle_numbers p rs lines numbers)

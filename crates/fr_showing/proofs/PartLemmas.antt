@@ -1,4 +1,4 @@
--- How many nodes a world has, and their parameters.
+-- The number of nodes of a world, and their parameters.
 use Rattle.std.proofs.Common.{◌≡◌, ◌≤◌, ◌<◌, List, [], ◌∷◌, length, map, get_or, sym, ap, ◌∙◌, arith}
 use Rattle.std.proofs.lemmas.List.{length-map}
 use Rattle.fr_core.specs.Headline.{Headline}

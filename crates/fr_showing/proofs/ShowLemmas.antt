@@ -1,4 +1,4 @@
--- What a command does that shows a run, by what its parts do.
+-- The result of a command that shows a run, from the results of its parts.
 use Rattle.std.proofs.Common.{◌≡◌, ◌⊎◌, ℕ, List, Option, Some, None, Ok, Err, sym, subst, inl, inr}
 use Rattle.std.specs.Prelude.{IfSome}
 use Rattle.std.specs.Io.KnownBytes.{Appends}
@@ -13,7 +13,7 @@ use Rattle.fr_showing.specs.declared.shown.Shown.{Shown}
 use Rattle.fr_showing.specs.Idle.{idle_lines}
 use Rattle.fr_showing.specs.Shows.{Adds, IsShown, LacksNode, Prints, Tells}
 
--- a run that wasn't played isn't shown
+-- a run that wasn't executed isn't shown
 unshown : (d : Description) (cycles : ℕ) (shown : Shown) (text : List ℕ) (e : PlayError)
     → IsPlayOf d cycles text (Err e) → Tells d cycles shown text (Err e)
 unshown d cycles shown text (refusal.Run e) is = is
@@ -35,7 +35,7 @@ pub unshown_of : (d : Description) (cycles : ℕ) (shown : Shown) (text : Option
 unshown_of d cycles shown None e is = tt
 unshown_of d cycles shown (Some t) e is = unshown d cycles shown t e is
 
--- what leaves the writer as it was
+-- the errors that leave the writer unchanged
 pub unwritten : (d : Description) (cycles : ℕ) (shown : Shown) (text old new : Option (List ℕ)) (e : PlayError)
     → new ≡ old → Prints d cycles shown text old new (Err e)
 unwritten d cycles shown text old new (refusal.Run e) same = same
@@ -51,7 +51,7 @@ unwritten d cycles shown text old new (refusal.Text bench.BadNumber) same = same
 unwritten d cycles shown text old new (refusal.Text (bench.Config e)) same = same
 unwritten d cycles shown text old new (refusal.Text (bench.Midpoint e)) same = same
 
--- a node that isn't there, or a failed allocation
+-- a node that the cluster doesn't have, or a failed allocation
 pub node_missing : (d : Description) (cycles : ℕ) (shown : Shown) (text : Option (List ℕ)) (file : PlayedFile)
     (e : PlayError) → IfSome text (λ t. IsPlayOf d cycles t (Ok file))
     → (e ≡ refusal.Text bench.Memory) ⊎ ((e ≡ refusal.UnknownNode) × LacksNode shown file)
@@ -72,7 +72,7 @@ shown_of d cycles shown None old new file written idle is of_run added told = tt
 shown_of d cycles shown (Some t) old new file written idle is of_run added told =
     (file, written, is.1, of_run, added, told)
 
--- it was to be written
+-- the cluster accepts the run
 pub can_be_had : (d : Description) (cycles : ℕ) (text : Option (List ℕ)) (file : PlayedFile)
     → IfSome text (λ t. IsPlayOf d cycles t (Ok file))
     → IfSome text (λ t. RunIsRefused d cycles t None)

@@ -1,4 +1,4 @@
--- What takes a transmission, and its words, step by step.
+-- The receivers of a transmission and their words, step by step.
 use Rattle.std.proofs.Common.{◌≡◌, ℕ, ◌+◌, Bool, true, false, cond, ◌||◌, ◌&&◌, List, [], ◌∷◌, ◌++◌, Option, Some, None}
 use Rattle.std.proofs.Common.{Result, Ok, Err, refl, sym, ap, subst, ◌∙◌}
 use Rattle.std.specs.Prelude.{codes, is_some, IfOk, OnOk}
@@ -52,7 +52,7 @@ pub any-append : (xs ys : List Taker) → is_any (xs ++ ys) ≡ (is_any xs || is
 any-append [] ys = refl
 any-append (x ∷ xs) ys = refl
 
--- where those that are left are written too, all are
+-- once the receivers that are left are written, all are written
 pub record IsGoing (first : Bool) (all : List Taker) (old now : Option (List ℕ)) (any : Bool)
     (left : List Taker) : Type 0 where
   pub then_all : (new : Option (List ℕ)) → Appends now new (after_commas any left)
@@ -109,7 +109,7 @@ any_both any then xs ys then_is =
     ap (λ (b : Bool). b || is_any ys) then_is ∙ sym (or_assoc any (is_any xs) (is_any ys)) ∙ ap (λ (b : Bool). any || b)
     (sym (any-append xs ys))
 
--- ---- the words of all
+-- ---- the words of all receivers
 
 pub word_is : (ts : List Taker) → is_any ts ≡ true → after_commas false ts ≡ takers_word ts
 word_is [] is = absurd cc
@@ -120,7 +120,7 @@ unfolding after_commas
 no_word [] is = refl
 no_word (t ∷ ts) is = absurd cc
 
--- ---- what takes it
+-- ---- the receivers
 
 module _ (p : Parameters) (r : Recorded) (node : ℕ) where
   abbrev on_a : Option Fields
@@ -163,7 +163,7 @@ module _ (p : Parameters) (r : Recorded) (node : ℕ) where
       ∙ (λ i. buffers_from p r channel node 0 plan.buffers ++ taker_if
       (queue_is a b a_is b_is plan channel plan.queue i) node None)
 
--- ---- what is answered
+-- ---- the results
 
 pub any_answered : {E : Type 0} (r : Result Bool E) (any then : Bool) (xs ys ts : List Taker) →
     then ≡ (any || is_any xs) → (xs ++ ys) ≡ ts

@@ -20,9 +20,9 @@ use Rattle.fr_slots.specs.declared.channel.Channel.{Channel}
 use Rattle.fr_text.specs.Spaces.{line_of}
 use Rattle.fr_text.specs.Spelling.{hex_text}
 
--- ---- where a frame came from
+-- ---- the origin of a frame
 
--- where the frame of a read or a pop came from, by the entry that tells of it
+-- the origin of the frame of a read or a pop, from its entry
 abbrev pub origin_of : Entry → Option Origin
 origin_of (entry.Commit task buffer payload) = None
 origin_of (entry.Withdraw task buffer of) = None
@@ -34,14 +34,14 @@ origin_of (entry.Observe window a b) = None
 abbrev pub channel_at : Option Entry → Option Channel
 channel_at e = option_map (λ (origin : Origin). origin.channel) (option_and_then origin_of e)
 
--- the channel of the frame of which the entry of this number tells
+-- the channel of the frame of the entry of this number
 abbrev pub channel_in : Option State → ℕ → Option Channel
 channel_in None number = None
 channel_in (Some s) number = channel_at (slice_get s.entries number)
 
 -- ---- words
 
--- what a task did, in the words of a scenario
+-- the call of a task, in the words of a scenario
 abbrev pub action_words : Action → List (List ℕ)
 action_words (action.Commit buffer payload) = codes "commit" ∷ decimal buffer ∷ hex_text payload ∷ []
 action_words (action.Withdraw buffer) = codes "withdraw" ∷ decimal buffer ∷ []
@@ -67,7 +67,7 @@ answer_words channel Done = absent ∷ []
 
 -- ---- a line
 
--- the node, the task, the cycle of the run, what was done, and how that was answered
+-- the node, the task, the cycle of the run, the call, and its answer
 abbrev pub answer_line : WorldState → Call → List ℕ
 answer_line w call =
     line_text (decimal call.node ∷ decimal call.task ∷ decimal call.cycle ∷ line_of (action_words call.action)

@@ -1,5 +1,5 @@
--- What is written of one entry and of one node, as the code goes along journals. That all of it is what `CommitText`
--- says stands in the proofs.
+-- The text of one entry and of one node, as the code goes along journals. The proofs show that it agrees with
+-- `CommitText`.
 use Rattle.std.specs.Prelude.{ℕ, Bool, true, false, List, [], ◌++◌, Option, Some}
 use Rattle.std.specs.List.{flat_map}
 use Rattle.fr_core.specs.Worlds.{WorldState}
@@ -13,13 +13,13 @@ use Rattle.fr_showing.specs.Fates.{sending_if}
 use Rattle.fr_slots.specs.declared.channel.Channel.TheVariants.{A, B}
 use Rattle.fr_slots.specs.History.{each_after}
 
--- what passed alone can be taken
+-- a transmission that passed alone can be stored
 abbrev pub is_takeable : Option End → Bool
 is_takeable (Some Alone) = true
 is_takeable (Some Turned) = true
 is_takeable end = false
 
--- where an entry of this cycle of the run hands the node's commit to the bus
+-- the transmission by which an entry of this cycle of the run hands the node's commit to the bus
 abbrev pub handed_text : WorldState → ℕ → ℕ → ℕ → Entry → List ℕ
 handed_text w node commit cycle (Commit task buffer payload) = []
 handed_text w node commit cycle (Withdraw task buffer of) = []
@@ -30,7 +30,7 @@ handed_text w node commit cycle (Fetch window a b) =
     ++ flat_map (sending_text w node) (sending_if commit cycle window B b)
 handed_text w node commit cycle (Observe window a b) = []
 
--- the commit that the code has
+-- the commit that the code keeps
 abbrev pub committed : Commitment → Committed
 committed c = record {
   node = c.node;

@@ -1,4 +1,4 @@
--- The commits of a run, each with what became of it (project-defined).
+-- The commits of a run, each with its fate (project-defined).
 use Rattle.std.specs.Prelude.{ℕ, List, [], ◌∷◌, ◌++◌, codes, length, slice_get, Option, Some}
 use Rattle.std.specs.Fmt.{decimal}
 use Rattle.std.specs.List.{flat_map, range_with_len}
@@ -53,50 +53,50 @@ commit_by node before (Observe window a b) = []
 abbrev pub entries_at : WorldState → ℕ → List Entry
 entries_at w node = (interface_at w node).entries
 
--- those of a node's journal, in its order
+-- the commits of a node's journal, in its order
 abbrev pub commits_in : WorldState → ℕ → List Committed
 commits_in w node = each_after (commit_by node) [] (entries_at w node)
 
--- those of all journals, in the order of the nodes
+-- the commits of all journals, in the order of the nodes
 abbrev pub commits : WorldState → List Committed
 commits w = flat_map (commits_in w) (range_with_len 0 (length w.interfaces))
 
--- ---- where they were sent
+-- ---- the windows in which they were sent
 
 -- the recorded window of a sending
 abbrev pub recorded_of : WorldState → Sending → Option Recorded
 recorded_of w s = slice_get w.bus.sealed s.window.number
 
--- how the node's offer ended there
+-- the end of the node's offer there
 abbrev pub end_in : WorldState → ℕ → Sending → Option End
 end_in w node s = offer_end w.bus.cluster.params (recorded_of w s) s.channel node
 
--- What is taken of a transmission that didn't pass alone is nothing.
+-- A transmission that didn't pass alone has no receiver.
 abbrev pub takers_by : Option End → List Taker → List Taker
 takers_by (Some Alone) takers = takers
 takers_by (Some Turned) takers = takers
 takers_by end takers = []
 
--- what took it, where it ended so
+-- its receivers, by its end
 unfoldable pub taken_text : WorldState → Sending → Option End → List ℕ
 taken_text w s end =
     takers_word (takers_by end (takers_in w.bus.cluster.params w.interfaces (recorded_of w s) s.channel))
 
--- a cycle of the run, the slot and the channel, how it ended there, and what took it
+-- a cycle of the run, the slot and the channel, its end there, and its receivers
 abbrev pub sending_words : WorldState → ℕ → Sending → List (List ℕ)
 sending_words w node s =
     decimal s.cycle ∷ optional_number (slot_of s.window s.channel) ∷ letter_of s.channel ∷ ended_word (end_in w node s)
     ∷ taken_text w s (end_in w node s)
     ∷ []
 
--- after a space
+-- the same after a space
 unfoldable pub sending_text : WorldState → ℕ → Sending → List ℕ
 sending_text w node s = 32 ∷ line_of (sending_words w node s)
 
 abbrev pub sendings_text : WorldState → ℕ → List Entry → ℕ → List ℕ
 sendings_text w node entries commit = flat_map (sending_text w node) (sendings entries commit)
 
--- ---- what became of them
+-- ---- their fates
 
 abbrev pub became_text : WorldState → ℕ → List Entry → ℕ → Became → List ℕ
 became_text w node entries commit Sent = codes "sent" ++ sendings_text w node entries commit
@@ -114,7 +114,7 @@ made_text c =
     line_of (decimal c.node ∷ decimal c.buffer ∷ decimal c.task ∷ decimal c.cycle ∷ decimal c.entry ∷ hex_text c.payload
     ∷ [])
 
--- the commit, and what became of it by the entries of its journal
+-- the commit, and its fate by the entries of its journal
 abbrev pub line_in : WorldState → List Entry → Committed → List ℕ
 line_in w entries c =
     line_text (made_text c ∷ codes "="

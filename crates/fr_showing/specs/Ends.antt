@@ -1,4 +1,4 @@
--- How a transmission ended (project-defined).
+-- The end of a transmission (project-defined).
 use Rattle.std.specs.Prelude.{ℕ, ◌/◌, nat_lt, Bool, false, List, codes, length, count_by, Option, Some, None}
 use Rattle.std.specs.Prelude.{option_map, if◌then◌else◌}
 use Rattle.std.specs.List.{find}
@@ -13,12 +13,12 @@ use Rattle.fr_showing.specs.declared.ends.End.TheVariants.{Alone, Turned, Overru
 use Rattle.fr_slots.specs.declared.channel.Channel.{Channel}
 use Rattle.fr_slots.specs.Parameters.{Parameters}
 
--- the bit that is to be turned is one of these bytes
+-- the bit that is to be flipped is in one of these bytes
 abbrev pub is_turned : Option ℕ → List ℕ → Bool
 is_turned None bytes = false
 is_turned (Some bit) bytes = nat_lt (bit / 8) (length bytes)
 
--- it was too long, or one of its bits was turned, or neither
+-- it was too long, or one of its bits was flipped, or neither
 abbrev pub end_alone : Parameters → Recorded → Sent → End
 end_alone p r t =
     if overruns p r.window (length t.bytes.items) then Overrun
@@ -38,7 +38,7 @@ end_by fate.Muted p r t = Muted
 abbrev pub end_of : Parameters → Recorded → Sent → End
 end_of p r t = end_by t.fate p r t
 
--- how the node's offer on the channel ended, if there was one in the window, and the record has the window
+-- the end of the node's offer on the channel, if there was one in the window, and the record has the window
 abbrev pub offer_end : Parameters → Option Recorded → Channel → ℕ → Option End
 offer_end p None channel node = None
 offer_end p (Some r) channel node = option_map (end_of p r) (find (is_offer_of channel node) r.sent)

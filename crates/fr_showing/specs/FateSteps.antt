@@ -1,5 +1,5 @@
--- What one entry does to a commit that was pending before it, as the code goes along a journal. That the first entry
--- which does something to it decides stands in the proofs.
+-- The effect of one entry on a commit that was pending before it, as the code goes along a journal. The proofs show
+-- that the first entry with an effect decides.
 use Rattle.std.specs.Prelude.{ℕ, Bool, true, false, if◌then◌else◌}
 use Rattle.fr_journal.specs.Forms.{Entry}
 use Rattle.fr_journal.specs.Fate.{is_commit_on, sends, takes_back}

@@ -1,5 +1,5 @@
--- What became of a commit, by which entry of its journal and in which cycle of the run, and where it was sent
--- (project-defined).
+-- The fate of a commit, with the entry of its journal and the cycle of the run that decided it, and the windows in
+-- which it was sent (project-defined).
 use Rattle.std.specs.Prelude.{ℕ, ◌+◌, List, [], ◌∷◌, ◌++◌, length, take, drop, count_by, Option, Some, None, unwrap_or}
 use Rattle.std.specs.Prelude.{if◌then◌else◌}
 use Rattle.std.specs.Option.{option_or}
@@ -18,14 +18,14 @@ use Rattle.fr_slots.specs.declared.channel.Channel.TheVariants.{A, B}
 use Rattle.fr_slots.specs.History.{each_after}
 use Rattle.fr_slots.specs.Windows.{Opportunity}
 
--- How many cycles of the run the node has begun. What a task does then it does in the cycle of that number, before its
--- windows, as a line of a scenario is done.
+-- The number of cycles of the run that the node has begun. A call of a task then belongs to the cycle of that number,
+-- before its windows, like a line of a scenario.
 abbrev pub cycles_of : List Entry → ℕ
 cycles_of entries = count_by begins_cycle_at entries
 
--- ---- what became of it
+-- ---- the fate
 
--- what the first entry gives that gives something
+-- the result of the first entry that gives one
 unfoldable pub first_after : (List Entry → Entry → Option Became) → List Entry → List Entry → Option Became
 first_after f before [] = None
 first_after f before (e ∷ later) = option_or (f before e) (first_after f (before ++ e ∷ []) later)
@@ -37,14 +37,14 @@ abbrev pub overwritten_by : ℕ → List Entry → Entry → Option Became
 overwritten_by buffer before e = if is_commit_on buffer e then Some (Overwritten (cycles_of before) (length before))
     else None
 
--- By the fate of a commit. Where a later entry took it back or took its place, the first such entry is reported.
+-- The fate of a commit. If a later entry withdrew or overwrote it, the first such entry is given.
 abbrev pub told_by : Fate → Option Became → Option Became → Became
 told_by fate.Sent withdrawn overwritten = Sent
 told_by fate.Withdrawn withdrawn overwritten = unwrap_or withdrawn Pending
 told_by fate.Overwritten withdrawn overwritten = unwrap_or overwritten Pending
 told_by fate.Pending withdrawn overwritten = Pending
 
--- the commit of this number on the buffer, where these are the entries up to it and those after it
+-- the fate of the commit of this number on the buffer, from the entries up to it and those after it
 abbrev pub became_in : ℕ → ℕ → List Entry → List Entry → Became
 became_in buffer commit before later =
     told_by (fate_of buffer commit later) (first_after (withdrawn_by commit) before later)
@@ -53,9 +53,9 @@ became_in buffer commit before later =
 abbrev pub became : ℕ → List Entry → ℕ → Became
 became buffer entries commit = became_in buffer commit (take (commit + 1) entries) (drop (commit + 1) entries)
 
--- ---- where it was sent
+-- ---- the windows in which it was sent
 
--- a cycle of the run, a window and a channel, where the commit is what was offered
+-- a cycle of the run, a window and a channel, if the commit is the offer there
 abbrev pub sending_if : ℕ → ℕ → Opportunity → Channel → Offered → List Sending
 sending_if commit cycle window channel o =
     if is_data_of commit o then record { cycle = cycle; window = window; channel = channel } ∷ [] else []
@@ -70,6 +70,6 @@ sendings_by commit before (Fetch window a b) =
     ++ sending_if commit (run_cycle (before ++ Fetch window a b ∷ [])) window B b
 sendings_by commit before (Observe window a b) = []
 
--- all times and channels at which a later entry hands it to the bus
+-- all windows and channels in which a later entry hands it to the bus
 abbrev pub sendings : List Entry → ℕ → List Sending
 sendings entries commit = each_after (sendings_by commit) (take (commit + 1) entries) (drop (commit + 1) entries)

@@ -1,4 +1,4 @@
--- Which fault lines of a scenario had no effect in a run (project-defined).
+-- The fault lines of a scenario that had no effect in a run (project-defined).
 use Rattle.std.specs.Prelude.{ℕ, ◌-◌, Bool, true, false, ◌&&◌, ◌||◌, List, [], ◌∷◌, ◌++◌, if◌then◌else◌}
 use Rattle.std.specs.List.{list_any}
 use Rattle.fr_bus.specs.declared.fault.Fault.{Fault}
@@ -16,7 +16,7 @@ use Rattle.fr_slots.specs.Parameters.{Parameters}
 
 -- ---- a window, which lies in the cycle of this number of the run
 
--- it passed alone, with one of its bits turned
+-- it passed alone, with one of its bits flipped
 abbrev pub is_turned_end : End → Bool
 is_turned_end Alone = false
 is_turned_end Turned = true
@@ -25,8 +25,8 @@ is_turned_end Collided = false
 is_turned_end Muted = false
 is_turned_end Blocked = false
 
--- The transmission shows what the fault did: a node babbled it, or it was lost, or it passed alone on the channel of a
--- bit that is turned, and the bit was one of its own.
+-- The transmission shows the effect of the fault: a node babbled it, or it was muted, or it passed alone on the channel
+-- with a flipped bit of its own.
 abbrev pub shows : Parameters → Recorded → Fault → Sent → Bool
 shows p r fault t = brings t fault || (turns t.channel fault && is_turned_end (end_of p r t))
 
@@ -36,26 +36,26 @@ has_struck_in p line cycle r = strikes line cycle r.window && list_any (shows p 
 
 -- ---- a record
 
--- in one of these windows, which come after those of `before`
+-- the same in one of these windows, which come after those of `before`
 unfoldable pub has_struck_after : Parameters → FaultLine → List Recorded → List Recorded → Bool
 has_struck_after p line before [] = false
 has_struck_after p line before (r ∷ rs) =
     has_struck_in p line (cycles_begun (before ++ r ∷ []) - 1) r || has_struck_after p line (before ++ r ∷ []) rs
 
--- the line struck something in a window of the record
+-- the line had an effect in a window of the record
 abbrev pub has_struck : Parameters → List Recorded → FaultLine → Bool
 has_struck p rs line = has_struck_after p line [] rs
 
--- ---- the lines that didn't
+-- ---- the lines without effect
 
--- The numbers of the lines that had no effect, in the order of the lines, where the lines have these numbers.
+-- The numbers of the lines without effect, in the order of the lines, given the numbers of all lines.
 unfoldable pub idle_numbers : Parameters → List Recorded → List FaultLine → List ℕ → List ℕ
 idle_numbers p rs [] numbers = []
 idle_numbers p rs (line ∷ lines) [] = []
 idle_numbers p rs (line ∷ lines) (n ∷ numbers) =
     if has_struck p rs line then idle_numbers p rs lines numbers else n ∷ idle_numbers p rs lines numbers
 
--- those of a scenario with which a run was played
+-- the lines without effect, of the scenario of an executed run
 abbrev pub idle_lines : PlayedFile → List ℕ
 idle_lines file =
     idle_numbers file.played.world.bus.cluster.params file.played.world.bus.sealed file.scenario.faults

@@ -1,4 +1,4 @@
--- Which line of a scenario each fault of a record comes from (project-defined).
+-- The line of a scenario from which each fault of a record comes (project-defined).
 use Rattle.std.specs.Prelude.{ℕ, Bool, false, ◌&&◌, Option, option_and_then, position, slice_get}
 use Rattle.fr_bus.specs.declared.fault.Fault.{Fault}
 use Rattle.fr_bus.specs.declared.fault.Fault.TheVariants.{Babble, Mute, Corrupt}
@@ -12,13 +12,13 @@ use Rattle.fr_slots.specs.Admission.{is_channel}
 use Rattle.fr_slots.specs.declared.channel.Channel.{Channel}
 use Rattle.fr_slots.specs.Windows.{Opportunity}
 
--- ---- what a fault brings
+-- ---- the effect of a fault
 
 -- the node sent it on the channel
 abbrev pub is_sent_by : ℕ → Channel → Sent → Bool
 is_sent_by node channel t = is_of node t && is_channel t.channel channel
 
--- the transmission is what the fault has a node babble, or an offer that it lost
+-- the transmission is a babble of the fault, or an offer that the fault muted
 abbrev pub brings : Sent → Fault → Bool
 brings t (Babble node channel bytes) = t.babble && is_sent_by node channel t
 brings t (Mute node channel) = is_muted t.fate && is_sent_by node channel t
@@ -30,7 +30,7 @@ turns channel (Babble node on bytes) = false
 turns channel (Mute node on) = false
 turns channel (Corrupt on bit) = is_channel on channel
 
--- ---- a line that does so in a window, which lies in the cycle of this number of the run
+-- ---- a line with such an effect in a window, which lies in the cycle of this number of the run
 
 abbrev pub has_brought : ℕ → Opportunity → Sent → FaultLine → Bool
 has_brought cycle w t line = strikes line cycle w && brings t line.fault
@@ -40,13 +40,13 @@ has_turned cycle w channel line = strikes line cycle w && turns channel line.fau
 
 -- ---- its number in the text of the scenario
 
--- The number of the first fault line of which this holds, if there is one. Of the lines that do the same in one window
--- there is at most one in a run that the cluster accepts.
+-- The number of the first fault line of which this holds, if there is one. In a run that the cluster accepts, at most
+-- one line has the same effect in one window.
 abbrev pub number_of : (FaultLine → Bool) → Contents → Option ℕ
 number_of holds s = option_and_then (slice_get s.numbers) (position holds s.faults)
 
--- the line that a transmission comes from: a babble from the one that has the node babble, and an offer that was lost
--- from the one that lost it; any other comes from none
+-- The line from which a transmission comes: for a babble the line of the babble, and for a muted offer the line of the
+-- mute. Any other transmission comes from none.
 abbrev pub origin_of_sent : Contents → ℕ → Opportunity → Sent → Option ℕ
 origin_of_sent s cycle w t = number_of (has_brought cycle w t) s
 

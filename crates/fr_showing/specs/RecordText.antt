@@ -1,5 +1,5 @@
--- The bus's record, a line for each transmission and each flipped bit, with the line of the scenario that it comes from
--- (project-defined).
+-- The bus's record, a line for each transmission and each flipped bit, with the line of the scenario from which it
+-- comes (project-defined).
 use Rattle.std.specs.Prelude.{ℕ, ◌-◌, List, [], ◌∷◌, ◌++◌, codes, Option, Some, None}
 use Rattle.std.specs.Prelude.{if◌then◌else◌}
 use Rattle.std.specs.Fmt.{decimal}
@@ -40,7 +40,7 @@ abbrev pub frame_words : Option Fields → List (List ℕ)
 frame_words None = absent ∷ absent ∷ []
 frame_words (Some f) = decimal f.id ∷ indicators f ∷ []
 
--- the node, what it was, what became of it, and how it ended
+-- the node, the kind, the fate and the end of a transmission
 abbrev pub sent_words : Parameters → Recorded → Sent → List (List ℕ)
 sent_words p r t = decimal t.node ∷ kind_word t.babble ∷ fate_word t.fate ∷ end_word (end_of p r t) ∷ []
 
@@ -52,30 +52,29 @@ place_text cycle w channel = line_of (place_words cycle w channel)
 unfoldable pub fate_text : Parameters → Recorded → Sent → List ℕ
 fate_text p r t = line_of (sent_words p r t)
 
--- the frame that the bytes are, if they are one
+-- the frame that the bytes spell, if they spell one
 unfoldable pub frame_text : Channel → List ℕ → List ℕ
 frame_text channel bytes = line_of (frame_words (decoded channel bytes))
 
 -- ---- lines
 
--- the frame that it is, its bytes as they were sent, and the number of the scenario's line that it comes from, if it
--- comes from one
+-- the frame, its bytes as they were sent, and the number of the scenario's line from which it comes, if there is one
 unfoldable pub bytes_line : Option ℕ → Sent → List ℕ
 bytes_line number t =
     line_text (frame_text t.channel t.bytes.items ∷ hex_text t.bytes.items ∷ optional_number number ∷ [])
 
--- where it was, what became of it, and the rest
+-- its place, its fate, and the rest
 abbrev pub sent_line : Contents → Parameters → ℕ → Recorded → Sent → List ℕ
 sent_line s p cycle r t =
     line_of (place_text cycle r.window t.channel ∷ fate_text p r t ∷ []) ++ (32 ∷ [])
     ++ bytes_line (origin_of_sent s cycle r.window t) t
 
--- which bit was to be turned, counted from the most significant bit of the first byte, and the number of the scenario's
--- line that it comes from
+-- the bit that was to be flipped, counted from the most significant bit of the first byte, and the number of the
+-- scenario's line from which it comes
 unfoldable pub turned_line : Option ℕ → ℕ → List ℕ
 turned_line number bit = line_text (absent ∷ codes "corrupt" ∷ decimal bit ∷ optional_number number ∷ [])
 
--- where it was to be turned, and the rest
+-- the place where it was to be flipped, and the rest
 abbrev pub bit_lines : Contents → ℕ → Recorded → Channel → Option ℕ → List ℕ
 bit_lines s cycle r channel None = []
 bit_lines s cycle r channel (Some bit) =

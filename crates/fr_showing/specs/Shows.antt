@@ -1,4 +1,4 @@
--- What is shown of a run (project-defined).
+-- The views of a run (project-defined).
 use Rattle.std.specs.Prelude.{⊤, ◌≡◌, ℕ, List, length, slice_get, Option, Some, None, option_map, IfSome, IsSome}
 use Rattle.std.specs.Prelude.{Result, Ok, Err}
 use Rattle.std.specs.Global.{Vec}
@@ -26,12 +26,12 @@ use Rattle.fr_trace.specs.TraceText.{trace_text}
 
 -- ---- the texts
 
--- the cluster has the node through whose eyes a run is to be shown, if it is one
+-- the cluster has the node whose observations are shown, if the view names one
 abbrev pub HasViewer : Option ℕ → WorldState → Type 0
 HasViewer None w = ⊤
 HasViewer (Some node) w = IsSome (slice_get w.interfaces node)
 
--- this is what is shown of a run
+-- this is the view of a run
 abbrev pub IsShown : Shown → PlayedFile → List ℕ → Type 0
 IsShown Outcome file text = text ≡ outcome_text file.played.world.interfaces (length file.played.world.bus.sealed)
 IsShown Answers file text = text ≡ flat_map (answer_line file.played.world) file.played.calls.items
@@ -46,7 +46,7 @@ IsShown (Matrix view) file text =
 IsShown (Trace node) file text =
     option_map (trace_text Three) (slice_get file.played.world.interfaces node) ≡ Some text
 
--- the cluster doesn't have the node that is to be shown, or through whose eyes
+-- the cluster doesn't have the node that is to be shown, or whose observations are to be shown
 abbrev pub LacksViewer : Option ℕ → WorldState → Type 0
 LacksViewer None w = ⊥
 LacksViewer (Some node) w = slice_get w.interfaces node ≡ None
@@ -60,7 +60,7 @@ LacksNode Heard file = ⊥
 LacksNode (Matrix view) file = LacksViewer view.node file.played.world
 LacksNode (Trace node) file = slice_get file.played.world.interfaces node ≡ None
 
--- ---- what is written
+-- ---- the output
 
 -- the text of a run with that scenario was written, and nothing else, and these fault lines had no effect in the run
 abbrev pub Adds : Description → ℕ → Shown → Option (List ℕ) → Option (List ℕ) → List ℕ → List ℕ → Type 0
@@ -68,8 +68,8 @@ Adds d cycles shown old new idle text =
     (file : PlayedFile) × (written : List ℕ) × IsPlayIn d cycles text file × IsShown shown file written
     × Appends old new written × (idle ≡ idle_lines file)
 
--- Where the text of the scenario is known, that of a run with it was written, and the lines are reported that struck
--- nothing in it. A refusal but `Write` leaves the writer as it was.
+-- If the text of the scenario is known, the view of a run with it was written, and the lines without effect are
+-- returned. A refusal other than `Write` leaves the writer unchanged.
 abbrev pub Prints : Description → ℕ → Shown → Option (List ℕ) → Option (List ℕ) → Option (List ℕ)
     → Result (Vec ℕ) PlayError
     → Type 0
@@ -77,9 +77,9 @@ Prints d cycles shown text old new (Ok idle) = IfSome text (Adds d cycles shown 
 Prints d cycles shown text old new (Err (refusal.Text bench.Write)) = ⊤
 Prints d cycles shown text old new (Err e) = new ≡ old
 
--- ---- why nothing was written
+-- ---- the reason why no view was written
 
--- The run is refused so, or the cluster doesn't have the node, or nothing is refused but what the writer did.
+-- The run is refused with this error, or the cluster doesn't have the node, or only the writer failed.
 abbrev pub Tells : Description → ℕ → Shown → List ℕ → Result (Vec ℕ) PlayError → Type 0
 Tells d cycles shown text (Ok idle) = RunIsRefused d cycles text None
 Tells d cycles shown text (Err refusal.UnknownNode) =

@@ -1,4 +1,4 @@
--- What is taken and written step by step, as the code goes. That it is what `Takers` says stands in the proofs.
+-- The receivers and their words step by step, as the code goes. The proofs show that they agree with `Takers`.
 use Rattle.std.specs.Prelude.{ℕ, ◌+◌, Bool, true, false, List, [], ◌∷◌, ◌++◌, Some}
 use Rattle.fr_capture.specs.TakingSteps.{takes_by}
 use Rattle.fr_showing.specs.declared.takers.Taker.{Taker}
@@ -7,7 +7,7 @@ use Rattle.fr_slots.specs.declared.channel.Channel.{Channel}
 use Rattle.fr_slots.specs.declared.plan.Buffer.{Buffer}
 use Rattle.fr_slots.specs.Windows.{Opportunity}
 
--- those of a node's buffers that take it, from this number on
+-- the buffers of a node that store the frame, from this number on
 abbrev pub buffers_by : Opportunity → Bool → Bool → Channel → ℕ → ℕ → List Buffer → List Taker
 buffers_by w a b channel node number [] = []
 buffers_by w a b channel node number (line ∷ lines) =

@@ -1,5 +1,5 @@
--- What took a transmission: the receive buffers and the queues of the nodes, each by what its node sees of the window
--- (chapter 9; the queue, and channel A before B, are project-defined).
+-- The receivers of a transmission: the receive buffers and receive FIFOs of the nodes, by each node's observation of
+-- the window (chapter 9; the receive FIFO, and channel A before B, are project-defined).
 use Rattle.std.specs.Prelude.{ℕ, ◌+◌, Bool, true, false, List, [], ◌∷◌, ◌++◌, codes, Option, Some, None}
 use Rattle.std.specs.Prelude.{if◌then◌else◌}
 use Rattle.std.specs.Fmt.{decimal}
@@ -14,7 +14,7 @@ use Rattle.fr_slots.specs.declared.plan.Buffer.{Buffer}
 use Rattle.fr_slots.specs.Parameters.{Parameters}
 use Rattle.fr_slots.specs.Plans.{Plan}
 
--- ---- all that take it
+-- ---- all receivers
 
 abbrev pub taker_if : Bool → ℕ → Option ℕ → List Taker
 taker_if takes node buffer = if takes then record { node = node; buffer = buffer } ∷ [] else []
@@ -26,13 +26,13 @@ buffers_from p r channel node number (b ∷ bs) =
     taker_if (buffer_takes p r.window (seen_by p r A node) (seen_by p r B node) channel b) node (Some number)
     ++ buffers_from p r channel node (number + 1) bs
 
--- the buffers of a node, and then its queue
+-- the buffers of a node, and then its receive FIFO
 abbrev pub takers_of : Parameters → Plan → Recorded → Channel → ℕ → List Taker
 takers_of p plan r channel node =
     buffers_from p r channel node 0 plan.buffers
     ++ taker_if (queue_takes p plan r.window channel (seen_by p r channel node) plan.queue) node None
 
--- of all nodes from this one on, in their order
+-- the receivers of all nodes from this one on, in their order
 abbrev pub takers_from : Parameters → Recorded → Channel → ℕ → List State → List Taker
 takers_from p r channel node [] = []
 takers_from p r channel node (s ∷ ss) =
@@ -51,7 +51,7 @@ place_word (Some number) = codes ":b" ++ decimal number
 abbrev pub taker_word : Taker → List ℕ
 taker_word t = decimal t.node ++ place_word t.buffer
 
--- each after a comma, but for the first where none was before it
+-- each after a comma, except the first if none was before it
 unfoldable pub after_commas : Bool → List Taker → List ℕ
 after_commas any [] = []
 after_commas any (t ∷ ts) = (if any then codes "," else []) ++ taker_word t ++ after_commas true ts

@@ -19,7 +19,7 @@ use fr_text::hexes::write_hex;
 use std::io;
 use std::io::Write;
 
-/// Returns where the frame of a read or a pop came from.
+/// Returns the origin of the frame of a read or a pop.
 fn origin_of(entry: &Entry) -> Option<Origin>
     ensures { result ≡ origin_of entry.now }
 {
@@ -29,7 +29,7 @@ fn origin_of(entry: &Entry) -> Option<Origin>
     }
 }
 
-/// Returns the channel from which the frame came that the entry of this number tells of.
+/// Returns the channel of the frame of the entry of this number.
 fn channel_of(world: &World, node: NodeId, number: u32) -> Option<Channel>
     ensures { result ≡ channel_in (slice_get world.now.interfaces node) number }
 {
@@ -39,7 +39,7 @@ fn channel_of(world: &World, node: NodeId, number: u32) -> Option<Channel>
     Some(origin.channel)
 }
 
-/// Writes what a task did.
+/// Writes the call of a task.
 fn write_action<W: Write>(writer: &mut W, action: &Action) -> io::Result<()>
     ensures { Writes W.contents writer.old writer.new result (line_of (action_words action.now)) }
 {
@@ -74,7 +74,7 @@ fn write_frame<W: Write>(writer: &mut W, channel: Option<Channel>, frame: &Frame
     write_hex(writer, frame.payload.as_slice())
 }
 
-/// Writes the answer, with the channel from which a frame came.
+/// Writes the answer, with the channel of a frame.
 fn write_answer<W: Write>(writer: &mut W, channel: Option<Channel>, reply: &Reply) -> io::Result<()>
     ensures { Writes W.contents writer.old writer.new result (line_of (answer_words channel reply.now)) }
 {
@@ -86,7 +86,7 @@ fn write_answer<W: Write>(writer: &mut W, channel: Option<Channel>, reply: &Repl
     }
 }
 
-/// Writes the line of a call: what was done, and how it was answered.
+/// Writes the line of a call, with its answer.
 fn write_call<W: Write>(writer: &mut W, world: &World, call: &Call) -> io::Result<()>
     ensures { Writes W.contents writer.old writer.new result (answer_line world.now call.now) }
 {
@@ -99,12 +99,13 @@ fn write_call<W: Write>(writer: &mut W, world: &World, call: &Call) -> io::Resul
     writeln!(writer)
 }
 
-/// Writes a line for each of the calls, in their order (project-defined): the node, the task, the cycle of the run,
-/// the call in the words of a scenario, `=`, and the answer. The answer of a commit is the number of its entry, that of
-/// a withdraw the number of the commit that it took back. For a read or a pop it is the cycle count, the slot, the
-/// channel and the payload of the frame. It is `-` for none.
+/// Writes a line for each of the calls, in their order (project-defined).
 ///
-/// Fails where the writer fails, and then a part of the text may have gone out.
+/// A line has the node, the task, the cycle of the run, the call in the words of a scenario, `=`, and the answer. The
+/// answer of a commit is the number of its entry, that of a withdraw the number of the withdrawn commit. For a read or
+/// a pop it is the cycle count, the slot, the channel and the payload of the frame. It is `-` for none.
+///
+/// Fails if the writer fails. Then a part of the text may have gone out.
 pub fn write_answers<W: Write>(writer: &mut W, world: &World, calls: &[Call]) -> io::Result<()>
     ensures { Writes W.contents writer.old writer.new result (flat_map (answer_line world.now) calls.now) }
 {

@@ -1,4 +1,4 @@
-//! The commits of a run, each with what became of it.
+//! The commits of a run, each with its fate.
 ghost use Rattle.std.specs.Prelude.{◌≡◌, ◌-◌, true, take, slice_get, IsSomeAnd, Some};
 ghost use Rattle.std.specs.List.{flat_map};
 ghost use Rattle.fr_frame.specs.Payload.{IsPayload};
@@ -43,7 +43,7 @@ struct Commitment<'a> {
     payload: &'a [u8],
 }
 
-/// Returns how the node's offer ended where it was sent.
+/// Returns the end of the node's offer in the window of a sending.
 fn end_in(world: &World, node: usize, sending: &Sending) -> Option<End>
     ensures { result ≡ end_in world.now node sending.now }
 {
@@ -51,14 +51,14 @@ fn end_in(world: &World, node: usize, sending: &Sending) -> Option<End>
     offer_end(params_of(world), record, window, sending.channel, node)
 }
 
-/// Returns whether what ended so can be taken.
+/// Returns whether a transmission with this end can be stored.
 fn is_takeable(end: Option<End>) -> bool
     ensures { result ≡ is_takeable end }
 {
     matches!(end, Some(End::Alone | End::Turned))
 }
 
-/// Writes what took a transmission that passed alone, or a dash.
+/// Writes the receivers of a transmission that passed alone, or a dash.
 fn write_takers_of<W: Write>(writer: &mut W, world: &World, sending: &Sending) -> io::Result<()>
     ensures { Writes W.contents writer.old writer.new result
         (takers_word (takers_in world.now.bus.cluster.params world.now.interfaces
@@ -73,7 +73,7 @@ fn write_takers_of<W: Write>(writer: &mut W, world: &World, sending: &Sending) -
     }
 }
 
-/// Writes what took a transmission that ended so, or a dash.
+/// Writes the receivers of a transmission with this end, or a dash.
 fn write_taken<W: Write>(
     writer: &mut W,
     world: &World,
@@ -89,7 +89,7 @@ fn write_taken<W: Write>(
     }
 }
 
-/// Writes a space, and where the node's commit was sent.
+/// Writes a space, and the window in which the node's commit was sent.
 #[tactic(auto, unfolding(crate::specs::CommitText::sending_text))]
 fn write_sending<W: Write>(
     writer: &mut W,
@@ -106,7 +106,7 @@ fn write_sending<W: Write>(
     write_taken(writer, world, sending, end)
 }
 
-/// The same, where the commit is what was offered on the channel.
+/// Writes the same, if the commit is the offer on the channel.
 fn write_if_sent<W: Write>(
     writer: &mut W,
     world: &World,
@@ -126,7 +126,9 @@ fn write_if_sent<W: Write>(
     }
 }
 
-/// Writes where the entry hands the node's commit to the bus, if it does. So many cycles began up to it and with it.
+/// Writes the windows in which the entry hands the node's commit to the bus, if it does.
+///
+/// The number of cycles that began up to this entry, and with it, is given.
 fn write_handed<W: Write>(
     writer: &mut W,
     world: &World,
@@ -158,8 +160,10 @@ fn write_handed<W: Write>(
     }
 }
 
-/// Writes where the commit on the buffer was sent, before which so many cycles began. After the next commit on its
-/// buffer a legal journal sends it no more.
+/// Writes the windows in which the commit on the buffer was sent.
+///
+/// The number of cycles that began before it is given. After the next commit on its buffer, a legal journal no longer
+/// sends it.
 fn write_sendings<W: Write>(
     writer: &mut W,
     world: &World,
@@ -190,7 +194,7 @@ fn write_sendings<W: Write>(
     Ok(())
 }
 
-/// Writes what became of the commit on the buffer, before which so many cycles began.
+/// Writes the fate of the commit on the buffer, given the number of cycles that began before it.
 fn write_became<W: Write>(
     writer: &mut W,
     world: &World,
@@ -216,7 +220,7 @@ fn write_became<W: Write>(
     }
 }
 
-/// Writes what a line begins with: what the commit was.
+/// Writes the commit at the start of its line.
 #[tactic(auto, unfolding(crate::specs::CommitText::made_text))]
 fn write_made<W: Write>(writer: &mut W, commit: &Commitment<'_>) -> io::Result<()>
     requires { IsPayload commit.now.payload.now }
@@ -257,7 +261,7 @@ fn write_commit<W: Write>(
     writeln!(writer)
 }
 
-/// Writes the line of the entry, if it is a commit. So many cycles began before it.
+/// Writes the line of the entry, if it is a commit, given the number of cycles that began before it.
 fn write_entry<W: Write>(
     writer: &mut W,
     world: &World,
@@ -315,15 +319,19 @@ fn write_node<W: Write>(
 }
 
 // Commits come from journals, not from scripts, so each has its line by construction. Receivers come from the record
-// and the plans: by the headline promise each node observed that.
-/// Writes a line for each commit of each node's journal, in the order of the nodes and of the entries
-/// (project-defined): the node, the buffer, the task, the cycle of the run, the entry, the payload, `=`, and the fate.
-/// The fate is `pending`; `withdrawn` or `overwritten`, with the cycle and the entry that did it; or `sent`. After
-/// `sent` stand, for each time and channel on which it was handed to the bus: the cycle of the run, the slot, the
-/// channel, its end there (`End`), and the receive buffers and receive FIFOs that stored it, in the order of the nodes,
-/// or a dash.
+// and the plans: it is proved that each node observed this.
+/// Writes a line for each commit of each node's journal (project-defined).
 ///
-/// Fails where the writer fails, and then a part of the text may have gone out.
+/// They are in the order of the nodes and of the entries.
+///
+/// A line has the node, the buffer, the task, the cycle of the run, the entry, the payload, `=`, and the fate. The fate
+/// is `pending`; `withdrawn` or `overwritten`, with the cycle and the entry that decided it; or `sent`.
+///
+/// After `sent` stands each transmission of the commit: the cycle of the run, the slot, the channel, its end (`End`),
+/// and its receivers. The receivers are the receive buffers and receive FIFOs that stored it, in the order of the
+/// nodes, or a dash.
+///
+/// Fails if the writer fails. Then a part of the text may have gone out.
 pub fn write_commits<W: Write>(writer: &mut W, world: &World) -> io::Result<()>
     ensures { Writes W.contents writer.old writer.new result (flat_map (commit_line world.now) (commits world.now)) }
 {

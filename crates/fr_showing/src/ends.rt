@@ -15,26 +15,26 @@ use fr_slots::window::Window;
 pub enum End {
     /// It passed alone, as it was sent.
     Alone,
-    /// It passed alone, with one of its bits turned.
+    /// It passed alone, with one of its bits flipped.
     Turned,
     /// It passed alone, and was too long for its slot or for the rest of the dynamic segment.
     Overrun,
     /// It passed, and so did others on its channel.
     Collided,
-    /// A fault lost it.
+    /// A fault muted it.
     Muted,
     /// The guardian of its node stopped it.
     Blocked,
 }
 
-/// Returns how many passed on the channel.
+/// Returns the number of transmissions that passed on the channel.
 fn count_passed(channel: Channel, sent: &[Sent]) -> usize
     ensures { result ≡ count_by (passed_on channel) sent.now }
 {
     sent.iter().filter(|t| t.passed_on(channel)).count()
 }
 
-/// Returns whether the bit that is to be turned is one of these bytes.
+/// Returns whether the bit that is to be flipped is in one of these bytes.
 fn is_turned(corrupt: Option<u16>, bytes: &[u8]) -> bool
     ensures { result ≡ is_turned corrupt bytes.now }
 {
@@ -44,7 +44,7 @@ fn is_turned(corrupt: Option<u16>, bytes: &[u8]) -> bool
     }
 }
 
-/// Returns how the only transmission ended that passed on its channel.
+/// Returns the end of the only transmission that passed on its channel.
 fn end_alone(params: &Params, sealed: &Sealed, sent: &Sent) -> End
     ensures { result ≡ end_alone params.now sealed.now sent.now }
 {
@@ -57,7 +57,7 @@ fn end_alone(params: &Params, sealed: &Sealed, sent: &Sent) -> End
     }
 }
 
-/// Returns how a transmission ended that passed.
+/// Returns the end of a transmission that passed.
 fn end_passed(params: &Params, sealed: &Sealed, sent: &Sent) -> End
     ensures { result ≡ end_passed params.now sealed.now sent.now }
 {
@@ -68,7 +68,7 @@ fn end_passed(params: &Params, sealed: &Sealed, sent: &Sent) -> End
     }
 }
 
-/// Returns how a transmission of the window ended (project-defined).
+/// Returns the end of a transmission of the window (project-defined).
 pub fn end_of(params: &Params, sealed: &Sealed, sent: &Sent) -> End
     ensures { result ≡ end_of params.now sealed.now sent.now }
 {
@@ -112,7 +112,7 @@ pub(crate) fn sent_in(sealed: &Sealed) -> &[Sent]
     sealed.sent.as_slice()
 }
 
-/// Returns how the node's offer on the channel ended in the window of this number, if there was one.
+/// Returns the end of the node's offer on the channel in the window of this number, if there was one.
 pub(crate) fn offer_end(
     params: &Params,
     record: &[Sealed],
@@ -127,7 +127,7 @@ pub(crate) fn offer_end(
     Some(end_of(params, sealed, sent))
 }
 
-/// Returns the word of how a transmission ended, if there was one.
+/// Returns the word of the end of a transmission, if there was one.
 pub(crate) fn ended_word(end: Option<End>) -> &'static str
     ensures { result.now ≡ ended_word end }
 {
@@ -137,7 +137,7 @@ pub(crate) fn ended_word(end: Option<End>) -> &'static str
     }
 }
 
-/// Returns the word of how a transmission ended.
+/// Returns the word of the end of a transmission.
 pub(crate) fn end_word(end: End) -> &'static str
     ensures { result.now ≡ end_word end }
 {

@@ -13,16 +13,16 @@ use fr_journal::lent::LentEntry;
 use fr_slots::channel::Channel;
 use fr_slots::window::Window;
 
-/// The fate of a commit, and the entry that decided it: its cycle of the run, and its number in the journal.
+/// The fate of a commit, with the cycle of the run and the number of the entry that decided it.
 #[derive(Clone, Copy)]
 pub(crate) enum Became {
     /// A later fetch handed it to the bus.
     Sent,
-    /// A later withdraw took it back.
+    /// A later withdraw withdrew it.
     Withdrawn { cycle: u32, entry: u32 },
-    /// A later commit took its place.
+    /// A later commit overwrote it.
     Overwritten { cycle: u32, entry: u32 },
-    /// None of these.
+    /// None of these entries.
     Pending,
 }
 
@@ -37,7 +37,7 @@ pub(crate) struct Sending {
     pub(crate) channel: Channel,
 }
 
-/// Returns how many cycles of the run began up to this entry and with it, where so many began before it.
+/// Returns the number of cycles that began up to this entry and with it, from the number before.
 pub(crate) fn begun_with(begun: u32, entry: &LentEntry<'_>) -> u32
     requires { begun + 1 < 2 ^ 32 }
     ensures { result ≡ begun + (if begins_cycle_at (whole entry.now) then 1 else 0) }
@@ -72,7 +72,7 @@ pub(crate) fn is_commit_on(buffer: u8, entry: &LentEntry<'_>) -> bool
     }
 }
 
-/// Returns what the entry makes of a commit on the buffer that was pending before it.
+/// Returns the fate of a commit on the buffer after the entry, if it was pending before.
 fn became_with(commit: u32, buffer: u8, cycle: u32, number: u32, entry: &LentEntry<'_>) -> Became
     ensures { result ≡ became_with buffer commit cycle number (whole entry.now) }
 {
@@ -92,16 +92,17 @@ fn became_with(commit: u32, buffer: u8, cycle: u32, number: u32, entry: &LentEnt
     }
 }
 
-/// Returns whether nothing was done to it.
+/// Returns whether the commit is still pending.
 fn is_pending(became: Became) -> bool
     ensures { result ≡ is_pending became }
 {
     matches!(became, Became::Pending)
 }
 
-/// Returns what became of the commit of this number on the buffer, where so many cycles began before it. The first
-/// later entry that does something to it decides, since in a legal journal none does anything to it after that but to
-/// send it again.
+/// Returns the fate of the commit of this number on the buffer.
+///
+/// The number of cycles that began before it is given. The first later entry that changes it decides. In a legal
+/// journal no entry after that changes it, except that it may be sent again.
 pub(crate) fn became_of(interface: &Interface, buffer: u8, commit: u32, begun: u32) -> Became
     requires there { IsSomeAnd (slice_get interface.now.entries commit) (λ e. is_commit_on buffer e ≡ true) }
     requires cycle { begun ≡ cycles_of (take commit interface.now.entries) }
@@ -109,7 +110,7 @@ pub(crate) fn became_of(interface: &Interface, buffer: u8, commit: u32, begun: u
 {
     let journal = interface.journal();
     let end = journal.len();
-    // A whole walk for each commit would be quadratic.
+    // A walk along the whole journal for each commit would be quadratic.
     let mut begun = begun;
     for number in commit + 1..end {
         let Some(entry) = journal.lent(number) else {

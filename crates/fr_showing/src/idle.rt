@@ -14,14 +14,14 @@ use fr_runs::fault_line::FaultLine;
 use fr_slots::params::Params;
 use std::alloc::{AllocError, Global};
 
-/// Returns whether it passed alone, with one of its bits turned.
+/// Returns whether the transmission passed alone, with one of its bits flipped.
 fn is_turned_end(end: End) -> bool
     ensures { result ≡ is_turned_end end }
 {
     end == End::Turned
 }
 
-/// Returns whether the transmission of the window shows what the fault did.
+/// Returns whether the transmission of the window shows the effect of the fault.
 fn shows(params: &Params, sealed: &Sealed, fault: &Fault, sent: &Sent) -> bool
     ensures { result ≡ shows params.now sealed.now fault.now sent.now }
 {
@@ -29,7 +29,7 @@ fn shows(params: &Params, sealed: &Sealed, fault: &Fault, sent: &Sent) -> bool
         || (turns(sent.channel, fault) && is_turned_end(end_of(params, sealed, sent)))
 }
 
-/// Returns whether a transmission of the window shows what the fault did.
+/// Returns whether a transmission of the window shows the effect of the fault.
 fn is_shown(params: &Params, sealed: &Sealed, fault: &Fault) -> bool
     ensures { result ≡ list_any (shows params.now sealed.now fault.now) sealed.now.sent }
 {
@@ -37,14 +37,16 @@ fn is_shown(params: &Params, sealed: &Sealed, fault: &Fault) -> bool
     sent.iter().any(|t| shows(params, sealed, fault, t))
 }
 
-/// Returns whether the line struck something in the window, which lies in the cycle of this number of the run.
+/// Returns whether the line had an effect in the window.
+///
+/// The window lies in the cycle of this number of the run.
 fn has_struck_in(params: &Params, line: &FaultLine, cycle: usize, sealed: &Sealed) -> bool
     ensures { result ≡ has_struck_in params.now line.now cycle sealed.now }
 {
     strikes(line, cycle, &sealed.window) && is_shown(params, sealed, &line.fault)
 }
 
-/// Returns whether the line struck something in a window of the record.
+/// Returns whether the line had an effect in a window of the record.
 fn has_struck(params: &Params, record: &[Sealed], line: &FaultLine) -> bool
     ensures { result ≡ has_struck params.now record.now line.now }
 {
@@ -58,7 +60,7 @@ fn has_struck(params: &Params, record: &[Sealed], line: &FaultLine) -> bool
     false
 }
 
-/// Returns the numbers of the lines that had no effect, where the lines have these numbers.
+/// Returns the numbers of the lines without effect, given the numbers of all lines.
 fn idle_numbers(
     alloc: Global,
     params: &Params,
@@ -77,13 +79,14 @@ fn idle_numbers(
     Ok(idle)
 }
 
-/// Returns the numbers of the scenario's fault lines that had no effect in the run, in their order (project-defined).
+/// Returns the numbers of the scenario's fault lines without effect, in order (project-defined).
 ///
-/// A line had an effect if a transmission shows it, in a window in which the fault of the line comes. For a babble line
-/// that is one that its node babbled on its channel, for a mute line one of its node on its channel that is muted, and
-/// for a corrupt line one that passed alone on its channel with a flipped bit.
+/// A line had an effect if a transmission shows it, in a window in which the fault of the line comes:
+/// - a babble line by a babble of its node on its channel;
+/// - a mute line by a muted offer of its node on its channel;
+/// - a corrupt line by a transmission that passed alone on its channel with a flipped bit.
 ///
-/// Refused where memory is refused.
+/// Fails if an allocation fails.
 pub fn idle_lines(alloc: Global, file: &PlayedFile) -> Result<Vec<u32>, AllocError>
     ensures { IfOk result (λ idle. idle.items ≡ idle_lines file.now) }
 {

@@ -1,4 +1,4 @@
-//! Which line of a scenario each fault of a record comes from.
+//! The line of a scenario from which each fault of a record comes.
 ghost use Rattle.std.specs.Prelude.{◌≡◌, option_and_then, position, slice_get};
 ghost use Rattle.fr_runs.specs.Striking.{strikes};
 ghost use Rattle.fr_showing.specs.Origins.{brings, has_brought, has_turned, is_sent_by, origin_of_bit, origin_of_sent};
@@ -12,12 +12,14 @@ use fr_slots::channel::Channel;
 use fr_slots::numbers::NodeId;
 use fr_slots::window::Window;
 
-/// Returns whether the fault of the line comes in the window, which lies in the cycle of this number of the run.
+/// Returns whether the fault of the line takes effect in the window.
+///
+/// The window lies in the cycle of this number of the run.
 pub(crate) fn strikes(line: &FaultLine, cycle: usize, window: &Window) -> bool
     ensures { result ≡ strikes line.now cycle window.now }
 {
     match line.cycles {
-        // The number of the cycle doesn't matter then.
+        // In this case the number of the cycle doesn't matter.
         FaultCycles::Every => line.strikes(0, window),
         FaultCycles::Only(only) => usize::from(only) == cycle && line.strikes(only, window),
     }
@@ -30,7 +32,7 @@ fn is_sent_by(node: NodeId, channel: Channel, sent: &Sent) -> bool
     sent.node == node && sent.channel == channel
 }
 
-/// Returns whether the transmission is what the fault has a node babble, or an offer that it lost.
+/// Returns whether the transmission is a babble of the fault, or an offer that the fault muted.
 pub(crate) fn brings(sent: &Sent, fault: &Fault) -> bool
     ensures { result ≡ brings sent.now fault.now }
 {
@@ -67,7 +69,7 @@ fn has_turned(cycle: usize, window: &Window, channel: Channel, line: &FaultLine)
     strikes(line, cycle, window) && turns(channel, &line.fault)
 }
 
-/// Returns the place of the first line that the transmission comes from.
+/// Returns the place of the first line from which the transmission comes.
 fn first_brought(lines: &[FaultLine], cycle: usize, window: &Window, sent: &Sent) -> Option<usize>
     ensures { result ≡ position (has_brought cycle window.now sent.now) lines.now }
 {
@@ -97,8 +99,10 @@ fn number_at(numbers: &[u32], place: Option<usize>) -> Option<u32>
     numbers.get(place?).copied()
 }
 
-/// Returns the number of the scenario's line that a transmission of the window comes from: of a babble the line that
-/// has the node babble, of a muted offer the one that lost it. The window lies in the cycle of this number of the run.
+/// Returns the number of the scenario's line from which a transmission of the window comes.
+///
+/// For a babble it is the line of the babble, for a muted offer that of the mute. The window lies in the cycle of this
+/// number of the run.
 pub(crate) fn origin_of_sent(
     scenario: &Scenario,
     cycle: usize,

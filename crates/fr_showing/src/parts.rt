@@ -5,7 +5,7 @@ use fr_core::world::World;
 use fr_interface::interface::Interface;
 use fr_slots::params::Params;
 
-/// Returns the interfaces, in the order of the nodes, of which there are at most 16.
+/// Returns the interfaces, in the order of the nodes. There are at most 16.
 #[tactic(auto, using(crate::proofs::PartLemmas::few_nodes))]
 pub(crate) fn interfaces_of(world: &World) -> &[Interface]
     ensures value { result.now ≡ world.now.interfaces }

@@ -1,4 +1,4 @@
-//! The bus's record, a line for each transmission and each flipped bit, with the scenario's line that it comes from.
+//! The bus's record, a line for each transmission and each flipped bit, with the scenario's line from which it comes.
 ghost use Rattle.std.specs.Prelude.{◌≡◌, ◌∷◌, ◌+◌, ◌<◌, ◌^◌, if◌then◌else◌};
 ghost use Rattle.std.specs.List.{flat_map};
 ghost use Rattle.fr_bus.specs.Record.{corrupt_on};
@@ -37,7 +37,9 @@ fn write_minislot<W: Write>(writer: &mut W, window: &Window) -> io::Result<()>
     }
 }
 
-/// Writes where a transmission was: the window, the cycle of the run, the minislot, the slot and the channel.
+/// Writes the place of a transmission.
+///
+/// It is the window, the cycle of the run, the minislot, the slot and the channel.
 #[tactic(auto, unfolding(crate::specs::RecordText::place_text))]
 fn write_place<W: Write>(
     writer: &mut W,
@@ -53,7 +55,7 @@ fn write_place<W: Write>(
     write!(writer, " {channel}")
 }
 
-/// Writes the ID and the flags of the frame that the bytes are, and dashes where they are none.
+/// Writes the ID and the flags of the frame that the bytes spell, or dashes if they spell none.
 #[tactic(auto, unfolding(crate::specs::RecordText::frame_text))]
 fn write_frame<W: Write>(writer: &mut W, channel: Channel, bytes: &[u8]) -> io::Result<()>
     ensures { Writes W.contents writer.old writer.new result (frame_text channel bytes.now) }
@@ -67,7 +69,7 @@ fn write_frame<W: Write>(writer: &mut W, channel: Channel, bytes: &[u8]) -> io::
     }
 }
 
-/// Writes the node of a transmission, what it was, what became of it and how it ended.
+/// Writes the node, the kind, the fate and the end of a transmission.
 #[tactic(auto, unfolding(crate::specs::RecordText::fate_text))]
 fn write_fate<W: Write>(
     writer: &mut W,
@@ -99,8 +101,9 @@ fn write_origin<W: Write>(writer: &mut W, number: Option<u32>) -> io::Result<()>
     }
 }
 
-/// Writes the end of the line of a transmission: the frame that it is, its bytes, and the number of the scenario's line
-/// that it comes from.
+/// Writes the end of the line of a transmission.
+///
+/// It is the frame, its bytes, and the number of the scenario's line from which it comes.
 #[tactic(auto, unfolding(crate::specs::RecordText::bytes_line))]
 fn write_bytes<W: Write>(writer: &mut W, number: Option<u32>, sent: &Sent) -> io::Result<()>
     ensures { Writes W.contents writer.old writer.new result (bytes_line number sent.now) }
@@ -150,7 +153,9 @@ fn write_transmissions<W: Write>(
     Ok(())
 }
 
-/// Writes the end of the line of a bit: which one it is, and the number of the scenario's line that it comes from.
+/// Writes the end of the line of a bit.
+///
+/// It is its number, and the number of the scenario's line from which it comes.
 #[tactic(auto, unfolding(crate::specs::RecordText::turned_line))]
 fn write_turned<W: Write>(writer: &mut W, number: Option<u32>, bit: u16) -> io::Result<()>
     ensures { Writes W.contents writer.old writer.new result (turned_line number bit) }
@@ -160,7 +165,7 @@ fn write_turned<W: Write>(writer: &mut W, number: Option<u32>, bit: u16) -> io::
     writer.write_all(b"\n")
 }
 
-/// Writes the line of the bit that was to be turned on the channel, if there is one.
+/// Writes the line of the bit that was to be flipped on the channel, if there is one.
 fn write_bit<W: Write>(
     writer: &mut W,
     scenario: &Scenario,
@@ -198,7 +203,7 @@ fn write_window<W: Write>(
     write_bit(writer, scenario, cycle, sealed, Channel::B)
 }
 
-/// Returns how many cycles of the run began up to this window and with it, where so many began before it.
+/// Returns the number of cycles that began up to this window and with it, from the number before.
 pub(crate) fn begun_with(begun: usize, sealed: &Sealed) -> usize
     requires { begun + 1 < 2 ^ 64 }
     ensures { result ≡ begun + (if begins_cycle sealed.now then 1 else 0) }
@@ -210,18 +215,21 @@ pub(crate) fn begun_with(begun: usize, sealed: &Sealed) -> usize
     }
 }
 
-/// Writes the bus's record of a run with the scenario (project-defined): for each window, in their order, a line for
-/// each of its transmissions, in the order of the nodes, of a node on channel A before B and its offer before its
-/// babble, and then one for each bit that was to be flipped.
+/// Writes the bus's record of a run with the scenario (project-defined).
+///
+/// The windows come in order. Each window has a line for each of its transmissions, and then one for each bit that was
+/// to be flipped. The transmissions are in the order of the nodes; of a node, channel A comes before B, and its offer
+/// before its babble.
 ///
 /// A line has the window's number, the cycle of the run, the minislot or a dash in a static slot, the slot and the
 /// channel. For a transmission follow the node, `offer` or `babble`, `passed`, `blocked` or `muted`, and its end
-/// (`End`). Then come the ID and the flags of the frame that its bytes are, or two dashes, and the bytes as sent. For a
-/// bit follow a dash, `corrupt`, and the bit, counted from the most significant one of the first byte. The last word is
-/// the number of the scenario's line behind it, where line 1 names the version, or a dash. That line has the node
-/// babble, loses the muted offer, or flips the bit.
+/// (`End`). Then come the ID and the flags of the frame that its bytes spell, or two dashes, and the bytes as sent. For
+/// a bit follow a dash, `corrupt`, and the bit, counted from the most significant one of the first byte.
 ///
-/// Fails where the writer fails, and then a part of the text may have gone out.
+/// The last word is the number of the scenario's line from which it comes, where line 1 names the version, or a dash.
+/// This line babbles, mutes the offer, or flips the bit.
+///
+/// Fails if the writer fails. Then a part of the text may have gone out.
 pub fn write_record<W: Write>(
     writer: &mut W,
     scenario: &Scenario,

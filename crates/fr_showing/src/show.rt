@@ -15,7 +15,7 @@ use fr_schedule::cluster::Cluster;
 use std::alloc::Global;
 use std::io::{Read, Write};
 
-/// Returns the numbers of the fault lines that had no effect.
+/// Returns the numbers of the fault lines without effect.
 fn idle_in(alloc: Global, file: &PlayedFile) -> Result<Vec<u32>, PlayError>
     ensures numbers { IfOk result (λ idle. idle.items ≡ idle_lines file.now) }
     ensures refused { IfErr result (λ e. e ≡ refusal.Text bench.Memory) }
@@ -26,12 +26,15 @@ fn idle_in(alloc: Global, file: &PlayedFile) -> Result<Vec<u32>, PlayError>
     }
 }
 
-/// Reads a scenario file to its end, plays a run of the cluster with it for so many cycles, and writes what is to be
-/// shown of it (project-defined). Gives the numbers of the scenario's fault lines that had no effect in the run, in
-/// their order, as `idle_lines` does.
+/// Runs the cluster with the scenario of a file, and writes a view of the run (project-defined).
 ///
-/// Refused as `play_file` refuses, and then as `text_of` does. On every refusal but `Write`, which comes where the
-/// writer fails, nothing is written.
+/// The scenario file is read to its end.
+///
+/// It returns the numbers of the scenario's fault lines without effect in the run, in their order, as `idle_lines`
+/// does.
+///
+/// Returns the error of `play_file`, then that of `text_of`, then `Write` if the writer fails. Nothing is written on an
+/// error other than `Write`.
 #[tactic(auto, using(crate::proofs::ShowLemmas::unshown_of, crate::proofs::ShowLemmas::unwritten, crate::proofs::ShowLemmas::node_missing, crate::proofs::ShowLemmas::shown_of, crate::proofs::ShowLemmas::can_be_had))]
 pub fn show_run<R: Read, W: Write>(
     alloc: Global,

@@ -36,18 +36,17 @@ use std::alloc::Global;
 /// A view of a run (project-defined).
 #[derive(Clone, Copy, PartialEq, Eq)]
 pub enum Shown {
-    /// Each node's report, the number of windows and that all agrees, as a run in threads prints it.
+    /// Each node's report, the number of windows and `settled`, as `fr_bench run` prints them.
     Outcome,
     /// A line for each line of a script, with its answer.
     Answers,
-    /// A line for each commit, with what became of it.
+    /// A line for each commit, with its fate.
     Commits,
-    /// A line for each transmission and each flipped bit of the bus's record, with the number of the scenario's line
-    /// that it comes from.
+    /// A line for each transmission and each flipped bit, with the number of the scenario's line.
     Record,
-    /// A capture of what a listener on the bus hears that sends nothing.
+    /// A capture of the frames at a passive listener on the bus.
     Heard,
-    /// A picture of what a channel carried, or of what a node saw there.
+    /// A picture of the transmissions on a channel, or of a node's observations there.
     Matrix(View),
     /// The trace of this node, in version 3.
     Trace(NodeId),
@@ -63,7 +62,7 @@ fn outcome_in(alloc: Global, world: &World) -> Result<Vec<u8>, PlayError>
     let windows = world.bus().record().len();
     match write_outcome(&mut text, world.interfaces(), windows) {
         Ok(()) => Ok(text),
-        // A list of bytes takes no more only if an allocation fails, here and below.
+        // Here and below, a list of bytes fails to grow only if an allocation fails.
         Err(_) => Err(PlayError::Text(BenchError::Memory)),
     }
 }
@@ -106,7 +105,7 @@ fn record_in(alloc: Global, scenario: &Scenario, world: &World) -> Result<Vec<u8
     }
 }
 
-/// Returns the capture of what a listener hears.
+/// Returns the capture of a listener.
 fn heard_in(alloc: Global, world: &World) -> Result<Vec<u8>, PlayError>
     ensures text { IfOk result (λ text. text.items
         ≡ capture_of world.now.bus.cluster.params world.now.bus.sealed) }
@@ -131,7 +130,7 @@ fn drawn_in(alloc: Global, world: &World, view: &View) -> Result<Vec<u8>, PlayEr
     }
 }
 
-/// Returns the matrix of the record, unless it is to be seen through the eyes of a node that isn't there.
+/// Returns the matrix of the record, unless its node isn't one of the cluster.
 fn matrix_in(alloc: Global, world: &World, view: &View) -> Result<Vec<u8>, PlayError>
     ensures viewer { OnOk result (HasViewer view.now.node world.now) }
     ensures text { IfOk result (λ text.
@@ -157,10 +156,9 @@ fn trace_in(alloc: Global, interface: &Interface) -> Result<Vec<u8>, PlayError>
     }
 }
 
-/// Returns what is to be shown of the run (project-defined).
+/// Returns the view of the run (project-defined).
 ///
-/// Refused with `UnknownNode` where the cluster doesn't have the node that is to be shown, and with `Memory` where
-/// memory is refused.
+/// Returns `UnknownNode` if the cluster doesn't have the node that is to be shown, and `Memory` if an allocation fails.
 pub fn text_of(alloc: Global, shown: Shown, file: &PlayedFile) -> Result<Vec<u8>, PlayError>
     ensures text { IfOk result (λ text. IsShown shown file.now text.items) }
     ensures refused { IfErr result (λ e. (e ≡ refusal.Text bench.Memory)

@@ -22,12 +22,12 @@ use fr_status::status::lent_status_of;
 use std::io;
 use std::io::Write;
 
-/// A receive buffer of a node, or its queue.
+/// A receive buffer of a node, or its receive FIFO.
 #[derive(Clone, Copy)]
 pub(crate) struct Taker {
     /// The node.
     pub(crate) node: NodeId,
-    /// The buffer, and none for the queue.
+    /// The buffer, or none for the receive FIFO.
     pub(crate) buffer: Option<usize>,
 }
 
@@ -41,7 +41,7 @@ fn is_data(frame: Option<LentFrame<'_>>) -> bool
     }
 }
 
-/// Returns whether a valid data frame was seen on the channel.
+/// Returns whether a valid data frame was observed on the channel.
 fn has_frame(params: &Params, window: &Window, channel: Channel, seen: &Seen) -> bool
     ensures { result ≡ is_some (data_frame_seen params.now window.now channel seen.now) }
 {
@@ -67,7 +67,7 @@ fn came_on(params: &Params, sealed: &Sealed, channel: Channel, node: NodeId) -> 
     has_frame(params, window_of(sealed), channel, &seen)
 }
 
-/// Returns what a node sees of the window.
+/// Returns the data frames that came to the node in the window.
 fn came_to(params: &Params, sealed: &Sealed, node: NodeId) -> Came
     ensures a { result.a ≡ is_some
         (data_frame_seen params.now sealed.now.window on.A (seen_by params.now sealed.now on.A node)) }
@@ -80,7 +80,7 @@ fn came_to(params: &Params, sealed: &Sealed, node: NodeId) -> Came
     }
 }
 
-/// Writes a receiver, after a comma where one was written before.
+/// Writes a receiver, after a comma if one was written before.
 #[tactic(auto, unfolding(crate::specs::Takers::after_commas))]
 fn write_taker<W: Write>(writer: &mut W, any: bool, taker: &Taker) -> io::Result<()>
     ensures { Writes W.contents writer.old writer.new result (after_commas any (taker.now ∷ [])) }
@@ -92,7 +92,7 @@ fn write_taker<W: Write>(writer: &mut W, any: bool, taker: &Taker) -> io::Result
     }
 }
 
-/// Writes a receiver, if it is one, and says whether any was written by then.
+/// Writes a receiver, if it is one, and returns whether any was written by then.
 #[tactic(auto, unfolding(crate::specs::Takers::after_commas))]
 fn write_if<W: Write>(
     writer: &mut W,
@@ -112,7 +112,7 @@ fn write_if<W: Write>(
     }
 }
 
-/// Writes the buffers of the node that take what came on the channel, and says whether any was written by then.
+/// Writes the node's buffers that store the frame, and returns whether any was written by then.
 fn write_buffers<W: Write>(
     writer: &mut W,
     any: bool,
@@ -135,8 +135,7 @@ fn write_buffers<W: Write>(
     Ok(any)
 }
 
-/// Writes the buffers of the node and its queue that take what came on the channel, and says whether any was written
-/// by then.
+/// Writes the receivers of the node: its buffers and its receive FIFO. Returns whether any was written by then.
 fn write_node<W: Write>(
     writer: &mut W,
     any: bool,
@@ -157,7 +156,9 @@ fn write_node<W: Write>(
     write_if(writer, any, takes, node, None)
 }
 
-/// Writes what took the transmission that came on the channel of the window, and says whether anything did.
+/// Writes the receivers of the transmission, and returns whether there were any.
+///
+/// It was on the channel of the window.
 fn write_nodes<W: Write>(
     writer: &mut W,
     params: &Params,
@@ -179,8 +180,9 @@ fn write_nodes<W: Write>(
     Ok(any)
 }
 
-/// Writes what took the transmission that came on the channel of the window: the buffers and queues, with commas
-/// between them, or a dash.
+/// Writes the receivers of the transmission, with commas between them, or a dash.
+///
+/// They are the buffers and receive FIFOs that stored it on the channel of the window.
 pub(crate) fn write_takers<W: Write>(
     writer: &mut W,
     params: &Params,

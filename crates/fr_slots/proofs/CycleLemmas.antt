@@ -1,4 +1,4 @@
--- The rest of a division by a repetition stands in the bits below it.
+-- The remainder of a division by a repetition is in the bits below the repetition.
 use Rattle.std.proofs.Common.{◌≡◌, ℕ, ◌-◌, ◌%◌, ◌^◌, ◌==◌, ◌||◌, true, List, [], ◌∷◌, map, bit_and, inl, inr, sym, ap}
 use Rattle.std.proofs.Common.{subst, ◌∙◌}
 use Rattle.std.proofs.lemmas.Bool.{cases_Bool, eqb-true}

@@ -1,4 +1,4 @@
--- The first of numbers in a row, whether one of them passes a test, and slots that are divided with nobody.
+-- The first of numbers in a row, tests of numbers in a row, and undivided slots.
 use Rattle.std.proofs.Common.{◌≡◌, ℕ, zero, suc, ◌+◌, ◌-◌, ◌%◌, ◌<◌, ◌≤◌, ◌==◌, not, Bool, true, false, ◌&&◌, ◌||◌}
 use Rattle.std.proofs.Common.{List, []}
 use Rattle.std.proofs.Common.{◌∷◌, Option, Some, None, refl, sym, ap, ◌∙◌, inl, inr, ◌⊎◌, arith}
@@ -14,7 +14,7 @@ use Rattle.fr_slots.specs.Admission.{includes, cycle_admitted, is_every_cycle}
 use Rattle.fr_slots.specs.Faults.{numbers_from, first_of, claims, is_owned, is_undivided, is_owned_always}
 use Rattle.fr_slots.specs.Faults.{is_unowned_in, any_unowned}
 
--- ---- the first of numbers that a loop goes through
+-- ---- the first of the numbers of a loop
 
 numbers-from_first : (n end : ℕ) → n < end → numbers_from n (end - n) ≡ n ∷ numbers_from (n + 1) (end - (n + 1))
 unfolding numbers_from
@@ -37,7 +37,7 @@ module _ {A : Type 0} (f : ℕ → Option A) where
       sym (ap (λ r. option_or r (first_of f (numbers_from (n + 1) (end - (n + 1))))) found)
       ∙ sym (ap (first_of f) (numbers-from_first n end below)) ∙ first
 
-  -- where none is left, none gives something
+  -- if none is left, none gives something
   pub first-ended : (n end : ℕ) (o : Option A) → end ≤ n → first_of f (numbers_from n (end - n)) ≡ o → None ≡ o
   unfolding first_of numbers_from
   first-ended n end o all first = let none : end - n ≡ 0 = omega arith in sym
@@ -90,7 +90,7 @@ module _ {A : Type 0} (f : ℕ → Option A) where
         | inr some ↦ cc (ap (λ o. option_or o (first_of f (numbers_from (least + 1) more))) some.1, first)
       ]
 
-  -- the number at which the first one is
+  -- the first number that gives something
   pub record IsFirstNumber (least more : ℕ) (x : A) (n : ℕ) : Type 0 where
     pub from : least ≤ n
     pub below : n < least + more
@@ -131,7 +131,7 @@ module _ {A : Type 0} (f : ℕ → Option A) where
         )
       ]
 
--- ---- whether one of numbers passes a test
+-- ---- one of the numbers passes a test
 
 module _ (test : ℕ → Bool) where
   -- a number that fails is passed over
@@ -148,13 +148,13 @@ module _ (test : ℕ → Bool) where
       sym (ap (λ r. r || list_any test (numbers_from (n + 1) (end - (n + 1)))) passes)
       ∙ sym (ap (list_any test) (numbers-from_first n end below)) ∙ any
 
-  -- where none is left, none passes
+  -- if none is left, none passes
   pub any-ended : (n end : ℕ) (b : Bool) → end ≤ n → list_any test (numbers_from n (end - n)) ≡ b → false ≡ b
   unfolding numbers_from
   any-ended n end b all any = let none : end - n ≡ 0 = omega arith in sym
       (ap (λ m. list_any test (numbers_from n m)) none) ∙ any
 
-  -- where none is found, each fails
+  -- if none is found, each fails
   pub any-none : (least more : ℕ) → list_any test (numbers_from least more) ≡ false → (k : ℕ) → least ≤ k
       → k < least + more → test k ≡ false
   unfolding numbers_from
@@ -166,14 +166,14 @@ module _ (test : ℕ → Bool) where
         | inr other ↦ any-none (least + 1) more later k (omega arith) (omega arith)
       ]
 
-  -- where each fails, none is found
+  -- if each fails, none is found
   pub any-is_none : (least more : ℕ) → ((k : ℕ) → test k ≡ false) → list_any test (numbers_from least more) ≡ false
   unfolding numbers_from
   any-is_none least zero none = refl
   any-is_none least (suc more) none =
       ap (λ b. b || list_any test (numbers_from (least + 1) more)) (none least) ∙ any-is_none (least + 1) more none
 
--- ---- a slot that is divided with nobody
+-- ---- an undivided slot
 
 module _ (slot : ℕ) (channel : Channel) where
   one_pass : (cycle : ℕ) (own : Own) → is_undivided slot channel own ≡ true → claims slot channel cycle own ≡ true
@@ -195,7 +195,7 @@ module _ (slot : ℕ) (channel : Channel) where
         | inr later ↦ or_right _ _ (owned_always owned cycle later)
       ]
 
--- what is owned in every cycle is unowned in none
+-- a slot that is owned in all cycles is unowned in none
 pub none_unowned : (owned : List Own) (f : Filter) (channel : Channel) → is_owned_always owned f.slot channel ≡ true
     → any_unowned owned f channel ≡ false
 none_unowned owned f channel always =

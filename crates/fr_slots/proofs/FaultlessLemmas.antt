@@ -1,4 +1,4 @@
--- What a plan without fault gives.
+-- The properties of a plan without fault.
 use Rattle.std.proofs.Common.{◌≡◌, ℕ, zero, suc, ◌+◌, ◌-◌, ◌<◌, ◌≤◌, nat_lt}
 use Rattle.std.proofs.Common.{leb, not, Bool, true, false, cond, ◌&&◌, ◌||◌}
 use Rattle.std.proofs.Common.{List, [], ◌∷◌, Option, Some, None, refl, sym, ap, ◌∙◌, inl, inr, arith}
@@ -106,7 +106,7 @@ any_channel : (test : Channel → Bool) (channel : Channel) → list_any test ch
 any_channel test A none = (or_parts (test A) (test B || false) none).0
 any_channel test B none = (or_parts (test B) false (or_parts (test A) (test B || false) none).1).0
 
--- what is true of a cycle is found among all
+-- a test that passes for a cycle passes for one of all cycles
 any_cycle : (test : ℕ → Bool) (cycle : ℕ) → cycle < 64 → list_any test cycles ≡ false → test cycle ≡ false
 any_cycle test cycle below none = any-none test 0 64 none cycle (omega arith) (omega arith)
 
@@ -137,7 +137,7 @@ one_sender plan none slot channel cycle m n b c in_cycles is_slot sender_b sende
 
 -- ---- each buffer
 
--- what is false of both, is false of one where the other is true
+-- if a conjunction is false and its first part true, its second part is false
 and_second : (b c : Bool) → (b && c) ≡ false → b ≡ true → c ≡ false
 and_second true c none pass = none
 and_second false c none pass = cc pass

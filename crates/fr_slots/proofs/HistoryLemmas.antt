@@ -1,4 +1,4 @@
--- One more at the end of a history.
+-- One more event at the end of a history.
 use Rattle.std.proofs.Common.{◌≡◌, ℕ, ◌+◌, Bool, cond, List, [], ◌∷◌, ◌++◌, Option, Some, None, refl, sym, ap, subst}
 use Rattle.std.proofs.Common.{◌∙◌, arith}
 use Rattle.std.specs.Prelude.{IfSome}
@@ -71,7 +71,7 @@ module _ {X : Type 0} where
       → AllAfter P [] (xs ++ e ∷ [])
   AllAfter-snoc P xs e all here = AllAfter-snoc_from P [] xs e all here
 
-  -- what holds at the start and after each step holds at the end
+  -- a property of the start that each step keeps holds at the end
   pub AllAfter-induction : (P : List X → X → Type 0) (Q : List X → Type 0) (before xs : List X) → Q before
       → ((sofar : List X) (e : X) → Q sofar → P sofar e → Q (sofar ++ e ∷ [])) → AllAfter P before xs → Q (before ++ xs)
   unfolding AllAfter

@@ -1,4 +1,4 @@
--- Where in a history something comes from.
+-- The place in a history from which a value comes.
 use Rattle.std.proofs.Common.{◌≡◌, ◌≤◌, ℕ, zero, suc, ◌+◌, List, [], ◌∷◌, ◌++◌, drop, take, length, length-append, map}
 use Rattle.std.proofs.Common.{arith, Option, Some, None, refl, sym, ap, subst, ◌∙◌, inl, inr, ◌⊎◌, slice_get}
 use Rattle.std.specs.Option.{option_or}
@@ -16,7 +16,7 @@ same_head x y xs ys e = cc
 pub same_tail : {X : Type 0} (x y : X) (xs ys : List X) → x ∷ xs ≡ y ∷ ys → xs ≡ ys
 same_tail x y xs ys e = cc
 
--- the place of one in a list
+-- the place of an item in a list
 pub record IsAmong {X : Type 0} (xs : List X) (x : X) : Type 0 where
   pub place : ℕ
   pub at : slice_get xs place ≡ Some x
@@ -27,7 +27,7 @@ get-append [] ys k x e = cc
 get-append (y ∷ xs) ys zero x e = e
 get-append (y ∷ xs) ys (suc k) x e = get-append xs ys k x e
 
--- the one after a list
+-- the item after a list
 pub get-after : {X : Type 0} (xs ys : List X) (x : X) → slice_get (xs ++ x ∷ ys) (length xs) ≡ Some x
 get-after [] ys x = refl
 get-after (y ∷ xs) ys x = get-after xs ys x
@@ -40,7 +40,7 @@ in_either : {X : Type 0} (y : X) (xs ys : List X) (x : X) → (IsAmong xs x ⊎ 
 in_either y xs ys x (inl h) = inl (later_among y xs x h)
 in_either y xs ys x (inr h) = inr h
 
--- what is among two lists is among one of them
+-- an item of two lists is an item of one of them
 pub among-append : {X : Type 0} (xs ys : List X) (k : ℕ) (x : X) → slice_get (xs ++ ys) k ≡ Some x
     → IsAmong xs x ⊎ IsAmong ys x
 among-append [] ys k x e = inr (record { place = k; at = e })
@@ -52,7 +52,7 @@ among-drop zero xs k x e = record { place = k; at = e }
 among-drop (suc n) [] k x e = record { place = k; at = e }
 among-drop (suc n) (y ∷ xs) k x e = later_among y xs x (among-drop n xs k x e)
 
--- what a map has there
+-- the item of a map at a place
 pub record IsMapped {X Y : Type 0} (f : X → Y) (xs : List X) (k : ℕ) (y : Y) : Type 0 where
   pub source : X
   pub at : slice_get xs k ≡ Some source
@@ -93,7 +93,7 @@ cut-at (y ∷ xs) (suc k) x e =
     }
 
 module _ {X : Type 0} where
-  -- a cut of a history at one of which this holds after those before it
+  -- a cut of a history at an event that satisfies the predicate after those before it
   pub record IsCutAt (P : List X → X → Type 0) (before xs : List X) : Type 0 where
     pub inner : List X
     pub here : X
@@ -150,7 +150,7 @@ module _ {X : Type 0} where
   last_step f before x xs a None deeper e = first_here (λ b e. f b e ≡ Some a) before x xs e
   last_step f before x xs a (Some y) deeper e = later_cut (λ b e. f b e ≡ Some a) before x xs (deeper e)
 
-  -- what the last one gives, one of them gives
+  -- one of the events gives the last value
   pub last_after-at : {A : Type 0} (f : List X → X → Option A) (before xs : List X) (a : A)
       → last_after f before xs ≡ Some a → IsCutAt (λ b e. f b e ≡ Some a) before xs
   unfolding last_after
@@ -166,7 +166,7 @@ module _ {X : Type 0} where
   each_step f before x xs a deeper (inl h) = first_here (λ b e. IsAmong (f b e) a) before x xs h
   each_step f before x xs a deeper (inr h) = later_cut (λ b e. IsAmong (f b e) a) before x xs (deeper h.place h.at)
 
-  -- what all of them give, one of them gives
+  -- one of the events gives each value
   pub each_after-at : {A : Type 0} (f : List X → X → List A) (before xs : List X) (k : ℕ) (a : A)
       → slice_get (each_after f before xs) k ≡ Some a → IsCutAt (λ b e. IsAmong (f b e) a) before xs
   unfolding each_after
@@ -177,7 +177,7 @@ module _ {X : Type 0} where
 
 -- ---- cuts with their places
 
--- a place of two lists is one of the first, or this far in the second
+-- a place in two lists is in the first, or so far in the second
 pub record IsInSecond {X : Type 0} (xs ys : List X) (k : ℕ) (x : X) : Type 0 where
   pub place : ℕ
   pub place_is : length xs + place ≡ k
@@ -195,7 +195,7 @@ place-append (y ∷ xs) ys (suc k) x e = later (place-append xs ys k x e)
     later (inr h) = let is = h.place_is in inr (record { place = h.place; place_is = omega (arith, is); at = h.at })
 
 module _ {X A : Type 0} (f : List X → X → List A) where
-  -- a cut at one that gives this, with how much was given before it
+  -- a cut at an event that gives this value, with the number of values before it
   pub record IsPlaced (before xs : List X) (k : ℕ) (a : A) : Type 0 where
     pub inner : List X
     pub here : X
@@ -238,7 +238,7 @@ module _ {X A : Type 0} (f : List X → X → List A) where
         at = ap (λ (b : List X). slice_get (f b h.here) h.place) (sym (append_assoc before (x ∷ []) h.inner)) ∙ h.at;
       }
 
-  -- what stands at a place of all that they give, one of them gives
+  -- one of the events gives the value at a place of all values
   pub each_after-placed : (before xs : List X) (k : ℕ) (a : A) → slice_get (each_after f before xs) k ≡ Some a
       → IsPlaced before xs k a
   unfolding each_after
@@ -253,14 +253,14 @@ module _ {X A : Type 0} (f : List X → X → List A) where
       step (inl h) deeper = placed_here before x xs k a h
       step (inr h) deeper = placed_later before x xs k h.place a h.place_is (deeper h.place h.at)
 
--- the first ones are as they should be
+-- the first events satisfy the predicate
 pub AllAfter-front : {X : Type 0} (P : List X → X → Type 0) (before xs ys : List X) → AllAfter P before (xs ++ ys)
     → AllAfter P before xs
 unfolding AllAfter
 AllAfter-front P before [] ys all = tt
 AllAfter-front P before (x ∷ xs) ys all = (all.0, AllAfter-front P (before ++ x ∷ []) xs ys all.1)
 
--- each one is as it should be after those before its place
+-- the event at each place satisfies the predicate
 AllAfter-at_from : {X : Type 0} (P : List X → X → Type 0) (before xs : List X) (k : ℕ) (x : X) → AllAfter P before xs
     → slice_get xs k ≡ Some x → P (before ++ take k xs) x
 unfolding AllAfter
@@ -275,7 +275,7 @@ pub AllAfter-at : {X : Type 0} (P : List X → X → Type 0) (xs : List X) (k : 
     → slice_get xs k ≡ Some x → P (take k xs) x
 AllAfter-at P xs k x all e = AllAfter-at_from P [] xs k x all e
 
--- and so are the first of them
+-- so do the first events
 pub AllAfter-take : {X : Type 0} (P : List X → X → Type 0) (n : ℕ) (before xs : List X) → AllAfter P before xs
     → AllAfter P before (take n xs)
 unfolding AllAfter
@@ -283,7 +283,7 @@ AllAfter-take P zero before xs all = tt
 AllAfter-take P (suc n) before [] all = tt
 AllAfter-take P (suc n) before (x ∷ xs) all = (all.0, AllAfter-take P n (before ++ x ∷ []) xs all.1)
 
--- the front of a list that is a map, and more, is the map of a front
+-- the front of a list that is a map is the map of a front
 pub front-map : {X Y : Type 0} (f : X → Y) (front rest more : List Y) (xs : List X) → front ++ rest ≡ map f xs ++ more
     → length front ≤ length xs → front ≡ map f (take (length front) xs)
 front-map f [] rest more xs e few = refl

@@ -40,7 +40,7 @@ module _ {X : Type 0} (g : ℕ → Channel → Option X) where
   pub slots-none : ((slot : ℕ) (channel : Channel) → g slot channel ≡ None) → first_of in_slot slots ≡ None
   slots-none none = first-is_none in_slot 1 2047 (λ slot low high. no-slot slot (none slot A) (none slot B))
 
-  -- nothing is given at a slot and channel before this one
+  -- no slot and channel before this one gives anything
   abbrev pub IsNoneBefore : ℕ → Channel → Type 0
   IsNoneBefore slot channel = (s : ℕ) (c : Channel) → place_of s c 0 < place_of slot channel 0 → g s c ≡ None
 
@@ -133,12 +133,12 @@ module _ {X : Type 0} (t u : X → Bool) (same : (x : X) → t x ≡ u x) where
       ∙ ap (λ b. u x && b || two_pass t xs) (list_any-same xs)
       ∙ ap (λ b. u x && list_any u xs || b) (two_pass-same xs)
 
--- two filters of ownership lines admit what two lines claim
+-- two filters of ownership lines admit the slots that two lines claim
 claimed-shared : (owned : List Own) (slot : ℕ) (channel : Channel) (cycle : ℕ)
     → is_shared (own_filters owned) slot channel cycle ≡ two_pass (claims slot channel cycle) owned
 claimed-shared owned slot channel cycle = two_pass-map (admits_at slot channel cycle) own_filter owned
 
--- two filters of transmit buffers admit what two of these buffers do
+-- two filters of transmit buffers admit the slots that two of these buffers do
 sent-shared : (buffers : List Buffer) (slot : ℕ) (channel : Channel) (cycle : ℕ)
     → is_shared (transmit_filters buffers) slot channel cycle ≡ two_pass (sends_at slot channel cycle) buffers
 sent-shared buffers slot channel cycle =

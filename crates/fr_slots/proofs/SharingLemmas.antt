@@ -55,7 +55,7 @@ regroup false false y false = refl
 
 -- ---- the first of two
 
--- the last test passes where one of the others does
+-- the last test passes if one of the others does
 abbrev pub IsEither : Test → Test → Test → Type 0
 IsEither s t u = (slot : ℕ) (channel : Channel) (cycle : ℕ) → u slot channel cycle ≡
     (s slot channel cycle || t slot channel cycle)
@@ -211,7 +211,7 @@ no_cycle f g none slot channel cycle in_cycles =
     cc (sym (cond-true _ (Some cycle) None (both_parts f g slot channel cycle pass).cycle_is)
     ∙ first-none (common_in f.cycles g.cycles) 0 64 none cycle (omega arith) (omega arith)))
 
--- the first channel that both include, and no other one comes before it
+-- the first channel that both include, with none before it
 record IsFirstChannel (a b : Bool) (channel : Channel) : Type 0 where
   pub passes : picked_by a b channel ≡ true
   pub first : (other : Channel) (slot m n : ℕ) → picked_by a b other ≡ true → m < 64 → m ≤ n

@@ -43,11 +43,11 @@ first_common_cycles = (refl, refl)
 pub filters_refused : (cycle_class 0 3 ≡ Err RepetitionNotPower) × (cycle_class 64 64 ≡ Err BaseTooLarge)
 filters_refused = (refl, refl)
 
--- the cycle that comes after 63 is 0, as `Cycle::next` has it
+-- the cycle after 63 is 0, as for `Cycle::next`
 pub cycles_wrap_after_sixty_three : ((63 + 1) % 64 ≡ 0) × ((62 + 1) % 64 ≡ 63)
 cycles_wrap_after_sixty_three = (refl, refl)
 
--- a cycle of ten minislots, of four words each, one of which stays idle behind a transmission
+-- a cycle of ten minislots of four words each, one of which stays idle after a transmission
 abbrev small_cycle : Parameters
 small_cycle = record {
   static_slots = 3;
@@ -65,14 +65,14 @@ small_cycle = record {
 abbrev plan_with_latest : ℕ → ℕ → Plan
 plan_with_latest latest_a latest_b = empty_plan 1 latest_a latest_b 1 2
 
--- a frame of four words fills two minislots: from the ninth it ends in time, from the tenth too late, and with no
--- latest minislot it never begins
+-- A frame of four words fills two minislots. From the ninth minislot it ends in time, and from the tenth too late. With
+-- pLatestTx of 0 it never begins.
 pub four_words_end_late : (ends_late small_cycle (plan_with_latest 10 0) 4 channel.A ≡ true)
     × (ends_late small_cycle (plan_with_latest 9 0) 4 channel.A ≡ false)
     × (ends_late small_cycle (plan_with_latest 10 0) 4 channel.B ≡ false)
 four_words_end_late = (refl, refl, refl)
 
--- each channel has a latest minislot of its own
+-- each channel has its own pLatestTx
 pub each_channel_has_its_latest : (ends_late small_cycle (plan_with_latest 0 10) 4 channel.A ≡ false)
     × (ends_late small_cycle (plan_with_latest 0 10) 4 channel.B ≡ true)
     × (ends_late small_cycle (plan_with_latest 10 9) 4 channel.B ≡ false)
@@ -90,7 +90,7 @@ lowest = 2 ∷ 0 ∷ 0 ∷ 1 ∷ 1 ∷ 0 ∷ 1 ∷ 4 ∷ 0 ∷ 1 ∷ []
 abbrev highest : List ℕ
 highest = 1023 ∷ 8000 ∷ 127 ∷ 1000 ∷ 100 ∷ 1000 ∷ 1000 ∷ 20000 ∷ 2 ∷ 127 ∷ []
 
--- these bounds are admitted, and the numbers next to them aren't
+-- these bounds are admitted, and their neighbours aren't
 pub twenty_bounds : (map least_of keys ≡ lowest) × (map greatest_of keys ≡ highest)
     × (list_all (λ key. admits key (pos (least_of key)) && admits key (pos (greatest_of key))) keys ≡ true)
     × (list_any (λ key. admits key (pos (greatest_of key + 1))) keys ≡ false)
@@ -104,17 +104,17 @@ twenty_bounds = (refl, refl, refl, refl, refl, refl)
 abbrev at_minislot : ℕ → ℕ → Option ℕ → Opportunity
 at_minislot minislot a b = record { number = 0; cycle = 0; minislot = minislot; a = Some a; b = b }
 
--- the last static slot is one, the next slot is not
+-- the last static slot is static, and the next slot isn't
 pub static_windows_end_at_the_last_slot : (window_fits small_cycle (static_window 0 0 3) ≡ true) ×
     (window_fits small_cycle (static_window 0 0 4) ≡ false)
 static_windows_end_at_the_last_slot = (refl, refl)
 
--- minislots are numbered from 1, so there is the tenth and no eleventh
+-- minislots are numbered from 1, so the tenth is the last
 pub dynamic_windows_end_at_the_last_minislot : (window_fits small_cycle (at_minislot 10 13 (Some 13)) ≡ true)
     × (window_fits small_cycle (at_minislot 11 14 (Some 14)) ≡ false)
 dynamic_windows_end_at_the_last_minislot = (refl, refl)
 
--- a dynamic window has no static slot, on neither channel
+-- a dynamic window has a static slot on neither channel
 pub no_static_slot_in_a_dynamic_window : (window_fits small_cycle (at_minislot 1 4 None) ≡ true)
     × (window_fits small_cycle (at_minislot 1 3 (Some 4)) ≡ false)
     × (window_fits small_cycle (at_minislot 1 4 (Some 3)) ≡ false)

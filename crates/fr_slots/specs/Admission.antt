@@ -1,4 +1,4 @@
--- What a filter admits (chapter 9; the division of slots by cycle is that of a cycle filter).
+-- Admission by filters (chapter 9; slots are divided by cycle as a cycle filter does).
 use Rattle.std.specs.Prelude.{◌≡◌, ℕ, ◌%◌, ◌<◌, ◌==◌, nat_le, not, Bool, true, false, ◌&&◌, List, [], ◌∷◌}
 use Rattle.std.specs.Prelude.{codes, Result, Ok, Err, if◌then◌else◌}
 use Rattle.std.specs.List.{list_any}
@@ -9,12 +9,12 @@ use Rattle.fr_slots.specs.declared.channel.Channels.TheVariants as channels
 use Rattle.fr_slots.specs.declared.filter.FilterError.{FilterError}
 use Rattle.fr_slots.specs.declared.filter.FilterError.TheVariants.{RepetitionNotPower, BaseTooLarge}
 
--- the letter of a channel, as it is printed
+-- the letter of a channel in printed texts
 abbrev pub letter_of : Channel → List ℕ
 letter_of channel.A = codes "A"
 letter_of channel.B = codes "B"
 
--- these two are one channel
+-- the channels are the same
 abbrev pub is_channel : Channel → Channel → Bool
 is_channel channel.A channel.A = true
 is_channel channel.A channel.B = false

@@ -1,5 +1,5 @@
--- The faults of a plan, and what a plan without fault gives (chapters 5 and 9; the limits, the order, and that nodes
--- divide a static slot by cycles are project-defined).
+-- The faults of a plan, and the properties of a plan without fault. Chapters 5 and 9; the limits, the order, and the
+-- division of a static slot by cycles are project-defined.
 use Rattle.std.specs.Prelude.{◌≡◌, ℕ, suc, zero, ◌+◌, ◌-◌, ◌<◌, ◌≤◌, ◌==◌, nat_lt, nat_le, not, Bool, true, false, ◌&&◌}
 use Rattle.std.specs.Prelude.{◌||◌, List, [], ◌∷◌, Option, Some, None, is_some, unwrap_or, option_map, slice_get}
 use Rattle.std.specs.Prelude.{position, if◌then◌else◌}
@@ -20,18 +20,18 @@ use Rattle.fr_slots.specs.Plans.{Plan, filter_admits, is_receive}
 
 -- ---- the first of a list, and two of a list
 
--- so many numbers, from the least one on
+-- so many numbers, from the least one up
 unfoldable pub numbers_from : ℕ → ℕ → List ℕ
 numbers_from least zero = []
 numbers_from least (suc more) = least ∷ numbers_from (least + 1) more
 
 module _ {X : Type 0} where
-  -- what the first one gives that gives something
+  -- the first thing that the function gives for an item of the list
   unfoldable pub first_of : {A : Type 0} → (X → Option A) → List X → Option A
   first_of f [] = None
   first_of f (x ∷ xs) = option_or (f x) (first_of f xs)
 
-  -- one and a later one pass the test
+  -- an item and a later one pass the test
   unfoldable pub two_pass : (X → Bool) → List X → Bool
   two_pass test [] = false
   two_pass test (x ∷ xs) = test x && list_any test xs || two_pass test xs
@@ -48,7 +48,7 @@ cycles = numbers_from 0 cycle_count
 
 -- ---- cycles that two filters have in common
 
--- the cycle, where both admit it
+-- the cycle, if both admit it
 abbrev pub common_in : CycleClass → CycleClass → ℕ → Option ℕ
 common_in c d cycle = if cycle_admitted c cycle && cycle_admitted d cycle then Some cycle else None
 
@@ -56,7 +56,7 @@ common_in c d cycle = if cycle_admitted c cycle && cycle_admitted d cycle then S
 abbrev pub first_common : CycleClass → CycleClass → Option ℕ
 first_common c d = first_of (common_in c d) cycles
 
--- ---- what lines and buffers do
+-- ---- lines and buffers
 
 -- the ownership line is for the slot on the channel in the cycle
 abbrev pub claims : ℕ → Channel → ℕ → Own → Bool
@@ -66,7 +66,7 @@ claims slot channel cycle own = own.slot == slot && includes own.channels channe
 abbrev pub is_owned : List Own → ℕ → Channel → ℕ → Bool
 is_owned owned slot channel cycle = list_any (claims slot channel cycle) owned
 
--- The ownership line is for the slot on the channel, and divides it with nobody. The code asks this first.
+-- The ownership line is for the slot on the channel in all cycles. The code tests this first.
 abbrev pub is_undivided : ℕ → Channel → Own → Bool
 is_undivided slot channel own = own.slot == slot && includes own.channels channel && is_every_cycle own.cycles
 
@@ -87,17 +87,17 @@ transmits_static p b = transmits b && is_static_slot p b.filter.slot
 abbrev pub transmits_dynamic : Parameters → Buffer → Bool
 transmits_dynamic p b = transmits b && not (is_static_slot p b.filter.slot)
 
--- the words of two bytes that a transmit buffer sends: a static one the cluster's, a dynamic one its own
+-- the two-byte words that a transmit buffer sends: the cluster's if it is static, its own if it is dynamic
 abbrev pub words_of : Parameters → Buffer → ℕ
 words_of p b = if is_static_slot p b.filter.slot then p.static_words else unwrap_or b.words 0
 
--- the last minislot at which the node begins a dynamic transmission on the channel, or 0
+-- pLatestTx: the last minislot at which the node begins a dynamic transmission on the channel, or 0
 abbrev pub latest_on : Plan → Channel → ℕ
 latest_on plan A = plan.latest_a
 latest_on plan B = plan.latest_b
 
--- the minislots that a frame of so many words fills, those that stay idle after it aside: its bytes are eight more than
--- those of its payload, so its words four more
+-- The minislots that a frame of so many words fills, without those that stay idle after it. Header and trailer are
+-- eight bytes, so a frame has four words more than its payload.
 abbrev pub minislots_filled : Parameters → ℕ → ℕ
 minislots_filled p words = div_ceil (words + 4) p.words_per_minislot
 
@@ -113,7 +113,7 @@ is_owned_beyond p own = not (is_static_slot p own.slot)
 abbrev pub has_late_latest : Parameters → Plan → Bool
 has_late_latest p plan = nat_lt p.minislots plan.latest_a || nat_lt p.minislots plan.latest_b
 
--- the plan isn't one for these parameters
+-- the plan doesn't fit the parameters
 abbrev pub is_out_of_params : Parameters → Plan → Bool
 is_out_of_params p plan = list_any (is_owned_beyond p) plan.owned || has_late_latest p plan
     || list_any (has_wrong_words p) plan.buffers
@@ -125,7 +125,7 @@ out_of_params p plan = if is_out_of_params p plan then Some OutOfParams else Non
 abbrev pub first_buffer : (ℕ → PlanFault) → (Buffer → Bool) → List Buffer → Option PlanFault
 first_buffer fault test buffers = option_map fault (position test buffers)
 
--- the filter admits the cycle, in which its slot isn't owned on the channel
+-- the filter admits the cycle, and its slot isn't owned on the channel in that cycle
 abbrev pub is_unowned_in : List Own → Filter → Channel → ℕ → Bool
 is_unowned_in owned f channel cycle = cycle_admitted f.cycles cycle && not (is_owned owned f.slot channel cycle)
 
@@ -161,7 +161,7 @@ overlap_in owned buffers slot = first_of (overlap_on owned buffers slot) channel
 abbrev pub first_overlap : List Own → List Buffer → Option PlanFault
 first_overlap owned buffers = first_of (overlap_in owned buffers) slots
 
--- a frame of so many words that begins at the channel's latest minislot fills more minislots than there are
+-- a frame of so many words that begins at pLatestTx of the channel fills more minislots than there are
 abbrev pub ends_late : Parameters → Plan → ℕ → Channel → Bool
 ends_late p plan words channel =
     nat_le 1 (latest_on plan channel) && nat_lt p.minislots (latest_on plan channel - 1 + minislots_filled p words)
@@ -172,8 +172,7 @@ ends_late_on p plan b channel = includes b.filter.channels channel && ends_late 
 abbrev pub too_long : Parameters → Plan → Buffer → Bool
 too_long p plan b = transmits_dynamic p b && list_any (ends_late_on p plan b) channels
 
--- the first fault of the parameters and of what the buffers need of the ownership lines, and the first fault of these
--- lines among themselves and of the buffers
+-- The first fault of the parameters and of buffers without owned slots, and the first fault of another kind.
 unfoldable pub ownership_fault : Parameters → Plan → Option PlanFault
 ownership_fault p plan = option_or (out_of_params p plan) (first_buffer NotOwned (not_owned p plan.owned) plan.buffers)
 
@@ -187,9 +186,9 @@ buffer_fault p plan =
 unfoldable pub plan_fault : Parameters → Plan → Option PlanFault
 plan_fault p plan = option_or (ownership_fault p plan) (buffer_fault p plan)
 
--- ---- what a plan without fault gives to the layers above
+-- ---- properties of a plan without fault, for the layers above
 
--- the buffer of this number, where it is a transmit buffer that admits the slot on the channel in the cycle
+-- the buffer of this number is a transmit buffer that admits the slot on the channel in the cycle
 pub record IsSender (plan : Plan) (slot : ℕ) (channel : Channel) (cycle : ℕ) (number : ℕ) (b : Buffer) : Type 0 where
   pub at : slice_get plan.buffers number ≡ Some b
   pub sends : sends_at slot channel cycle b ≡ true

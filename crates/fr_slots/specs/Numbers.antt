@@ -1,7 +1,7 @@
 -- Numbers that have a least and a greatest value.
 use Rattle.std.specs.Prelude.{ℕ, ◌+◌, ◌≤◌, nat_le, ◌&&◌, Option, Some, None, if◌then◌else◌}
 
--- the number, where it lies between these two
+-- the number, if it lies between these two
 abbrev pub number_within : ℕ → ℕ → ℕ → Option ℕ
 number_within least greatest n = if nat_le least n && nat_le n greatest then Some n else None
 
@@ -11,7 +11,7 @@ number_within least greatest n = if nat_le least n && nat_le n greatest then Som
 abbrev pub last_slot : ℕ
 last_slot = 2047
 
--- static slots are the first ones, and no cluster has more of them (chapter 5)
+-- static slots are the first ones, and every cluster has at most so many (chapter 5)
 abbrev pub last_static_slot : ℕ
 last_static_slot = 1023
 
@@ -33,11 +33,11 @@ last_node = 15
 abbrev pub last_task : ℕ
 last_task = 7
 
--- the words of two bytes of a payload (chapter 4)
+-- the two-byte words of a payload (chapter 4)
 abbrev pub most_words : ℕ
 most_words = 127
 
--- the host tasks, the ownership lines or buffers, and the frames in the queue of a node (project-defined)
+-- the host tasks, the ownership lines or buffers, and the frames in the receive FIFO of a node (project-defined)
 abbrev pub most_tasks : ℕ
 most_tasks = 8
 

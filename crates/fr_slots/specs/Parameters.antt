@@ -1,4 +1,4 @@
--- The ten parameters of a cluster, their ranges, and how they add up.
+-- The ten parameters of a cluster, their ranges, and their sum.
 use Rattle.std.specs.Prelude.{◌≡◌, ℕ, ◌+◌, ◌*◌, ◌≤◌, ◌==◌, nat_le, ℤ, pos, Bool, ◌&&◌, List, codes, slice_index_or}
 use Rattle.std.specs.Prelude.{Result, Ok, Err, if◌then◌else◌}
 use Rattle.std.specs.Int.Signed.{le_z}
@@ -97,12 +97,12 @@ is_static_slot p slot = nat_le slot p.static_slots
 
 -- ---- ten numbers as parameters
 
--- the number, where it isn't negative
+-- the number, if it isn't negative
 abbrev pub unsigned : ℤ → ℕ
 unsigned (pos n) = n
 unsigned z = 0
 
--- the number under the key, or the key where it is out of range
+-- the number under the key, or the key if the number is out of its range
 unfoldable pub number_at : Key → ℤ → Result ℕ RangeError
 number_at key number = if admits key number then Ok (unsigned number) else Err (OutOfRange key)
 
@@ -111,7 +111,7 @@ abbrev pub ◌>>=◌ : {A B : Type 0} → Result A RangeError → (A → Result 
 (Ok x) >>= f = f x
 (Err e) >>= f = Err e
 
--- the parameters, where their parts fill the cycle
+-- the parameters, if their parts fill the cycle
 abbrev pub summed : Parameters → Result Parameters RangeError
 summed p = if macroticks_of p == p.cycle_mt then Ok p else Err CycleSum
 
@@ -165,8 +165,8 @@ assembled a b = record {
   words_per_minislot = b.4;
 }
 
--- The parameters that these numbers are, in the order of the keys: the first key whose number is out of range, then the
--- sum.
+-- The parameters with these numbers, in the order of the keys. The first key whose number is out of range is reported,
+-- then the sum.
 unfoldable pub parameters_of : List ℤ → Result Parameters RangeError
 parameters_of numbers = do
   first ← first_five numbers

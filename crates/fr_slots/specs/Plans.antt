@@ -1,4 +1,4 @@
--- What the plan of a node may hold.
+-- The contents of a node's plan.
 use Rattle.std.specs.Prelude.{◌≡◌, ℕ, ◌≤◌, ◌==◌, nat_le, not, Bool, true, false, ◌&&◌, ◌||◌, List, [], ◌∷◌, ◌++◌}
 use Rattle.std.specs.Prelude.{length, Option, Some, None, is_some, slice_get, Result, Ok, Err, if◌then◌else◌}
 use Rattle.fr_slots.specs.declared.channel.Channel.{Channel}
@@ -19,7 +19,7 @@ use Rattle.fr_slots.specs.Windows.{Opportunity, slot_of}
 abbrev pub filter_admits : Filter → ℕ → ℕ → Channel → Bool
 filter_admits f cycle slot channel = f.slot == slot && includes f.channels channel && cycle_admitted f.cycles cycle
 
--- the slot is in the queue's range, and channel and cycle are the queue's
+-- the slot is in the range of the receive FIFO, and its channels and cycles have the channel and the cycle
 abbrev pub queue_admits : Queue → ℕ → ℕ → Channel → Bool
 queue_admits q cycle slot channel = nat_le q.first slot && nat_le slot q.last && includes q.channels channel
     && cycle_admitted q.cycles cycle
@@ -32,7 +32,7 @@ admits_slot f cycle channel (Some slot) = filter_admits f cycle slot channel
 abbrev pub admits_window : Filter → Opportunity → Channel → Bool
 admits_window f window channel = admits_slot f window.cycle channel (slot_of window channel)
 
--- what a node is configured to do
+-- the configuration of a node
 pub record Plan : Type 0 where
   pub tasks : ℕ
   pub latest_a : ℕ
@@ -62,7 +62,7 @@ is_receive Event = false
 is_receive State = false
 is_receive Receive = true
 
--- a receive buffer has no words and no preamble of its own
+-- a receive buffer has no words and no payload preamble indicator of its own
 abbrev pub buffer_fits : Buffer → Bool
 buffer_fits b = words_fit b.words && (not (is_receive b.mode) || not (is_some b.words || b.preamble))
 

@@ -16,7 +16,7 @@ use Rattle.fr_slots.specs.Plans.{filter_admits}
 
 -- ---- the order of slots, then of channels, then of cycles
 
--- the place of a slot on a channel in a cycle: a slot has two channels, and a channel so many cycles
+-- the place of a slot on a channel in a cycle: a slot has two channels, and a channel has all cycles
 abbrev pub place_of : ℕ → Channel → ℕ → ℕ
 place_of slot A cycle = slot * (2 * cycle_count) + cycle
 place_of slot B cycle = slot * (2 * cycle_count) + cycle_count + cycle
@@ -24,7 +24,7 @@ place_of slot B cycle = slot * (2 * cycle_count) + cycle_count + cycle
 abbrev pub is_before : Occasion → Occasion → Bool
 is_before p q = nat_lt (place_of p.slot p.channel p.cycle) (place_of q.slot q.channel q.cycle)
 
--- the one that comes first, of two that may be there
+-- the earlier one of two occasions, if there is one
 abbrev pub earlier : Option Occasion → Option Occasion → Option Occasion
 earlier None q = q
 earlier (Some p) None = Some p
@@ -38,7 +38,7 @@ pub record IsFirstAt (test : ℕ → Channel → ℕ → Bool) (o : Occasion) : 
   pub first : (slot : ℕ) (channel : Channel) (cycle : ℕ) → cycle < cycle_count → test slot channel cycle ≡ true
       → place_of o.slot o.channel o.cycle ≤ place_of slot channel cycle
 
--- the first slot on a channel in a cycle at which the test passes, or none where it passes at none
+-- the first slot on a channel in a cycle at which the test passes, or none if it passes nowhere
 abbrev pub IsFirst : (ℕ → Channel → ℕ → Bool) → Option Occasion → Type 0
 IsFirst test None = (slot : ℕ) (channel : Channel) (cycle : ℕ) → cycle < cycle_count → test slot channel cycle ≡ false
 IsFirst test (Some o) = IsFirstAt test o
@@ -52,12 +52,12 @@ admits_at slot channel cycle f = filter_admits f cycle slot channel
 abbrev pub is_shared : List Filter → ℕ → Channel → ℕ → Bool
 is_shared filters slot channel cycle = two_pass (admits_at slot channel cycle) filters
 
--- one of the filters and a further one do
+-- the filter and one of the others admit it
 abbrev pub is_shared_with : Filter → List Filter → ℕ → Channel → ℕ → Bool
 is_shared_with f filters slot channel cycle = list_any (admits_at slot channel cycle) filters
     && admits_at slot channel cycle f
 
--- these two do
+-- both filters admit it
 abbrev pub is_shared_by : Filter → Filter → ℕ → Channel → ℕ → Bool
 is_shared_by f g slot channel cycle = admits_at slot channel cycle g && admits_at slot channel cycle f
 

@@ -1,4 +1,4 @@
--- Windows: one opportunity to send, on both channels (project-defined).
+-- Windows: one transmission opportunity on both channels (project-defined).
 use Rattle.std.specs.Prelude.{◌≡◌, ℕ, ◌≤◌, ◌<◌, ◌^◌, ◌==◌, nat_le, not, Bool, true, ◌&&◌, ◌||◌, Option, Some, None}
 use Rattle.std.specs.Prelude.{is_some, if◌then◌else◌}
 use Rattle.fr_slots.specs.declared.channel.Channel.{Channel}
@@ -6,8 +6,8 @@ use Rattle.fr_slots.specs.declared.channel.Channel.TheVariants.{A, B}
 use Rattle.fr_slots.specs.Numbers.{IsSlot, last_minislot, cycle_count}
 use Rattle.fr_slots.specs.Parameters.{Parameters, is_static_slot}
 
--- A window of a run: its number, its cycle, the minislot at which it opens, counted from 1, and the slot that each
--- channel opens. A static window has minislot 0.
+-- A window of a run: its number, its cycle, the minislot at which it opens, and the slot that each channel opens.
+-- Minislots are counted from 1, and a static window has minislot 0.
 pub record Opportunity : Type 0 where
   pub number : ℕ
   pub cycle : ℕ
@@ -59,8 +59,8 @@ abbrev pub dynamic_slot_fits : Parameters → Option ℕ → Bool
 dynamic_slot_fits params None = true
 dynamic_slot_fits params (Some slot) = not (is_static_slot params slot)
 
--- The window is one of the cluster's: a static slot is no higher than the last, a minislot no higher than the last, and
--- a dynamic slot is above the static ones.
+-- The window is one of the cluster's. Static slots and minislots are at most the last ones, and dynamic slots come
+-- after the static ones.
 abbrev pub window_fits : Parameters → Opportunity → Bool
 window_fits params window =
     if is_static window then static_slot_fits params window.a && static_slot_fits params window.b

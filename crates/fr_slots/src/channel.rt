@@ -26,7 +26,7 @@ impl fmt::Display for Channel {
     }
 }
 
-/// The channels that a line of a plan speaks of: one of them, or both.
+/// The channels that a line of a plan is for: one of them, or both.
 #[derive(Clone, Copy, Default, PartialEq, Eq)]
 pub enum Channels {
     A,

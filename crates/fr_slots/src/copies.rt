@@ -1,10 +1,10 @@
-//! Copies in a place of a fixed size.
+//! Copies into arrays of a fixed capacity.
 
 ghost use Rattle.std.specs.Prelude.{◌≡◌, ◌≤◌, length};
 
 use arrayvec::ArrayVec;
 
-/// Returns a copy of the items, in an array that has room for them.
+/// Returns a copy of the items in an array that has room for them.
 pub fn array_of<T: Copy + Default + Drop, const N: usize>(items: &[T]) -> ArrayVec<T, N>
     requires { length items.now ≤ N }
     ensures { result.items ≡ items.now }

@@ -1,4 +1,4 @@
-//! What is at fault in the plan of a node, by the parameters of its cluster.
+//! The faults of a node's plan, by the parameters of its cluster.
 
 ghost use Rattle.std.specs.Prelude.{◌≡◌, ◌<◌, ◌≤◌, length, position, IfSome};
 ghost use Rattle.std.specs.List.{list_any};
@@ -19,31 +19,31 @@ use crate::sharing::{earlier, first_shared};
 use arrayvec::ArrayVec;
 use thiserror::Error;
 
-/// Why a plan can't be kept. Buffers go by their numbers.
+/// Reasons to refuse a plan. A buffer is named by its number.
 #[derive(Clone, Copy, Debug, PartialEq, Eq, Error)]
 pub enum PlanFault {
-    /// The transmit buffer is for a static slot that the node doesn't own on all the buffer's channels and in all the
-    /// cycles that the buffer admits (chapter 5; the division by cycles is project-defined).
+    /// A static transmit buffer whose slot the node doesn't own. The node has to own it on all of the buffer's
+    /// channels, in all cycles that the buffer admits (chapter 5; the division by cycles is project-defined).
     #[error("NotOwned {0}")]
     NotOwned(u8),
-    /// The transmit buffer is for a dynamic slot on both channels (project-defined).
+    /// A dynamic transmit buffer for both channels (project-defined).
     #[error("DynamicBoth {0}")]
     DynamicBoth(u8),
-    /// Two ownership lines are for the slot on the channel in the cycle, or two transmit buffers admit it: in a cycle
-    /// one node sends there, and from one buffer (chapter 5).
+    /// Two ownership lines for the slot on the channel in the cycle, or two transmit buffers that admit it. In a cycle
+    /// one node sends there, from one buffer (chapter 5).
     #[error("Overlap {0} {1} {2}")]
     Overlap(SlotId, Channel, Cycle),
-    /// A frame of the dynamic transmit buffer that begins at its channel's latest minislot would end after
-    /// the dynamic segment, where the minislots that stay idle after it don't count (project-defined).
+    /// A dynamic transmit buffer whose frame could end after the dynamic segment (project-defined). The frame begins at
+    /// pLatestTx of its channel, and the minislots that stay idle after it don't count.
     #[error("TooLong {0}")]
     TooLong(u8),
-    /// The plan isn't one for these parameters: an owned slot isn't static, a latest minislot isn't there, or
-    /// a transmit buffer has words of its own in a static slot or none in a dynamic one (project-defined).
+    /// A plan that doesn't fit the parameters (project-defined). An owned slot isn't static, pLatestTx is above the
+    /// number of minislots, a static transmit buffer has words of its own, or a dynamic one has none.
     #[error("OutOfParams")]
     OutOfParams,
 }
 
-/// Returns the first fault of the parameters, and of what the buffers need of the ownership lines.
+/// Returns the first `OutOfParams` or `NotOwned` of the plan.
 #[tactic(auto, unfolding(crate::specs::Faults::ownership_fault))]
 pub(crate) fn ownership_fault(params: &Params, plan: &NodePlan) -> Option<PlanFault>
     ensures { result ≡ ownership_fault params.now plan.now }
@@ -51,7 +51,7 @@ pub(crate) fn ownership_fault(params: &Params, plan: &NodePlan) -> Option<PlanFa
     out_of_params(params, plan).or_else(|| plan.first_not_owned(params).map(PlanFault::NotOwned))
 }
 
-/// Returns the first fault of the ownership lines among themselves and of the buffers.
+/// Returns the first fault of another kind: of the ownership lines among themselves, or of the buffers.
 #[tactic(auto, unfolding(crate::specs::Faults::buffer_fault))]
 pub(crate) fn buffer_fault(params: &Params, plan: &NodePlan) -> Option<PlanFault>
     ensures { result ≡ buffer_fault params.now plan.now }
@@ -61,7 +61,7 @@ pub(crate) fn buffer_fault(params: &Params, plan: &NodePlan) -> Option<PlanFault
         .or_else(|| plan.first_too_long(params).map(PlanFault::TooLong))
 }
 
-/// Returns the fault of a plan that isn't one for these parameters.
+/// Returns the fault of a plan that doesn't fit the parameters.
 fn out_of_params(params: &Params, plan: &NodePlan) -> Option<PlanFault>
     ensures { result ≡ out_of_params params.now plan.now }
 {
@@ -89,7 +89,7 @@ fn is_owned_beyond(params: &Params, own: &Own) -> bool
     !params.is_static(own.slot)
 }
 
-/// Returns whether a channel's latest minislot is after the last one.
+/// Returns whether pLatestTx of a channel is above the number of minislots.
 fn has_late_latest(params: &Params, plan: &NodePlan) -> bool
     ensures { result ≡ has_late_latest params.now plan.now }
 {
@@ -134,8 +134,8 @@ fn own_filter(own: &Own) -> Filter
     }
 }
 
-/// Returns the place of the first transmit buffer for a static slot that, on one of the buffer's channels and in a
-/// cycle that the buffer admits, isn't owned.
+/// Returns the place of the first static transmit buffer whose slot isn't owned. A channel of the buffer and a cycle
+/// that it admits are enough.
 pub(crate) fn not_owned_place(params: &Params, owned: &[Own], buffers: &[Buffer]) -> Option<usize>
     ensures value { result ≡ position (not_owned params.now owned.now) buffers.now }
     ensures within { IfSome result (λ place. place < length buffers.now) }
@@ -154,7 +154,7 @@ fn not_owned(params: &Params, owned: &[Own], buffer: &Buffer) -> bool
             || is_unowned_on(owned, &buffer.filter, Channel::B))
 }
 
-/// Returns whether the channel is among the filter's, and its slot isn't owned there in a cycle that the filter admits.
+/// Returns whether the channel is the filter's, and the slot isn't owned there in an admitted cycle.
 fn is_unowned_on(owned: &[Own], filter: &Filter, channel: Channel) -> bool
     ensures { result ≡ is_unowned_on owned.now filter.now channel }
 {
@@ -165,7 +165,7 @@ fn is_unowned_on(owned: &[Own], filter: &Filter, channel: Channel) -> bool
 fn any_unowned(owned: &[Own], filter: &Filter, channel: Channel) -> bool
     ensures { result ≡ any_unowned owned.now filter.now channel }
 {
-    // Most slots are divided with nobody, which one look at each line tells.
+    // Most slots are undivided, and one pass over the lines is enough for them.
     if is_owned_always(owned, filter.slot, channel) {
         return false;
     }
@@ -177,14 +177,14 @@ fn any_unowned(owned: &[Own], filter: &Filter, channel: Channel) -> bool
     false
 }
 
-/// Returns whether the filter admits the cycle, in which its slot isn't owned on the channel.
+/// Returns whether the filter admits the cycle, and its slot isn't owned on the channel in that cycle.
 fn is_unowned_in(owned: &[Own], filter: &Filter, channel: Channel, cycle: Cycle) -> bool
     ensures { result ≡ is_unowned_in owned.now filter.now channel cycle }
 {
     filter.cycles.admits(cycle) && !is_owned(owned, cycle, filter.slot, channel)
 }
 
-/// Returns whether an ownership line that divides the slot with nobody is for it on the channel.
+/// Returns whether an undivided ownership line is for the slot on the channel.
 fn is_owned_always(owned: &[Own], slot: SlotId, channel: Channel) -> bool
     ensures { result ≡ is_owned_always owned.now slot channel }
 {
@@ -218,8 +218,7 @@ fn dynamic_both(params: &Params, buffer: &Buffer) -> bool
         && channels.includes(Channel::B)
 }
 
-/// Returns the fault of the first slot, channel and cycle that two ownership lines are for, or that two transmit
-/// buffers admit.
+/// Returns the fault of the first overlap of two ownership lines or of two transmit buffers.
 fn first_overlap(owned: &[Own], buffers: &[Buffer]) -> Option<PlanFault>
     requires few_owned { length owned.now ≤ most_lines }
     requires few_buffers { length buffers.now ≤ most_lines }
@@ -231,7 +230,7 @@ fn first_overlap(owned: &[Own], buffers: &[Buffer]) -> Option<PlanFault>
     Some(PlanFault::Overlap(shared.slot, shared.channel, shared.cycle))
 }
 
-/// Returns the filters of the transmit buffers among these, which are at most 64.
+/// Returns the filters of the transmit buffers, which are at most 64.
 pub fn transmit_filters(buffers: &[Buffer]) -> ArrayVec<Filter, LINES>
     requires { length buffers.now ≤ most_lines }
     ensures { result.items ≡ transmit_filters buffers.now }
@@ -245,7 +244,7 @@ pub fn transmit_filters(buffers: &[Buffer]) -> ArrayVec<Filter, LINES>
     filters
 }
 
-/// Returns the place of the first dynamic transmit buffer whose frame would end after the dynamic segment.
+/// Returns the place of the first dynamic transmit buffer whose frame would end too late.
 pub(crate) fn too_long_place(params: &Params, plan: &NodePlan, buffers: &[Buffer]) -> Option<usize>
     ensures value { result ≡ position (too_long params.now plan.now) buffers.now }
     ensures within { IfSome result (λ place. place < length buffers.now) }
@@ -255,7 +254,7 @@ pub(crate) fn too_long_place(params: &Params, plan: &NodePlan, buffers: &[Buffer
         .position(|buffer| too_long(params, plan, buffer))
 }
 
-/// Returns whether a frame of a dynamic transmit buffer would end after the dynamic segment on one of its channels.
+/// Returns whether a frame of a dynamic transmit buffer would end too late on one of its channels.
 fn too_long(params: &Params, plan: &NodePlan, buffer: &Buffer) -> bool
     ensures { result ≡ too_long params.now plan.now buffer.now }
 {
@@ -264,8 +263,8 @@ fn too_long(params: &Params, plan: &NodePlan, buffer: &Buffer) -> bool
             || ends_late_on(params, plan, buffer, Channel::B))
 }
 
-/// Returns whether the channel is among the buffer's, and a frame of the buffer that begins at the channel's latest
-/// minislot would end after the dynamic segment.
+/// Returns whether the channel is the buffer's, and its frame would end too late there. The frame begins at pLatestTx
+/// of the channel.
 fn ends_late_on(params: &Params, plan: &NodePlan, buffer: &Buffer, channel: Channel) -> bool
     ensures { result ≡ ends_late_on params.now plan.now buffer.now channel }
 {
@@ -273,8 +272,8 @@ fn ends_late_on(params: &Params, plan: &NodePlan, buffer: &Buffer, channel: Chan
         && ends_late(params, plan, buffer.words(params), channel)
 }
 
-/// Returns whether a frame of so many words that begins at the channel's latest minislot would end after the dynamic
-/// segment.
+/// Returns whether a frame of so many words would end after the dynamic segment. The frame begins at pLatestTx of the
+/// channel.
 fn ends_late(params: &Params, plan: &NodePlan, words: u16, channel: Channel) -> bool
     requires { words < 256 }
     ensures { result ≡ ends_late params.now plan.now words channel }
@@ -283,7 +282,7 @@ fn ends_late(params: &Params, plan: &NodePlan, words: u16, channel: Channel) -> 
     1 <= latest && params.minislots < latest - 1 + minislots_filled(params, words)
 }
 
-/// Returns the minislots that a frame of so many words fills.
+/// Returns the number of minislots that a frame of so many words fills.
 fn minislots_filled(params: &Params, words: u16) -> u16
     requires { words < 256 }
     ensures value { result ≡ minislots_filled params.now words }

@@ -9,18 +9,18 @@ use crate::window::Window;
 use std::marker::Model;
 use thiserror::Error;
 
-/// Why a base and a repetition are no cycle filter.
+/// Reasons to refuse a base and a repetition.
 #[derive(Clone, Copy, Debug, PartialEq, Eq, Error)]
 pub enum FilterError {
-    /// The repetition isn't 1, 2, 4, 8, 16, 32 or 64.
+    /// A repetition other than 1, 2, 4, 8, 16, 32 and 64.
     #[error("the repetition isn't 1, 2, 4, 8, 16, 32 or 64")]
     RepetitionNotPower,
-    /// The base isn't below the repetition.
+    /// A base that isn't below the repetition.
     #[error("the base isn't below the repetition")]
     BaseTooLarge,
 }
 
-/// The cycles that leave the base when their number is divided by the repetition (chapter 9).
+/// The cycles whose number leaves the base when divided by the repetition (chapter 9).
 #[derive(Clone, Copy, PartialEq, Eq)]
 pub struct CycleFilter {
     base: u8,
@@ -42,7 +42,7 @@ impl Model for CycleFilter {
 impl Default for CycleFilter {
     ghost is_default = { λ f. f ≡ record { base = 0; repetition = 1 } };
 
-    /// Returns the filter of every cycle.
+    /// Returns the filter of all cycles.
     fn default() -> CycleFilter {
         CycleFilter {
             base: 0,
@@ -55,10 +55,10 @@ impl CycleFilter {
     ghost use Rattle.fr_slots.specs.Admission.{IsCycleClass};
     ghost use Rattle.fr_slots.specs.Faults.{first_common};
 
-    /// Returns the filter of every cycle whose number leaves `base` when divided by `repetition`.
+    /// Returns the filter of the cycles whose number leaves `base` when divided by `repetition`.
     ///
-    /// Refused with `RepetitionNotPower` where the repetition isn't 1, 2, 4, 8, 16, 32 or 64, and then
-    /// with `BaseTooLarge` where the base isn't below it.
+    /// Fails with `RepetitionNotPower` if the repetition isn't 1, 2, 4, 8, 16, 32 or 64, then with `BaseTooLarge` if
+    /// the base isn't below it.
     pub fn new(base: u8, repetition: u8) -> Result<CycleFilter, FilterError>
         ensures { result ≡ cycle_class base repetition }
     {
@@ -71,7 +71,7 @@ impl CycleFilter {
         Ok(CycleFilter { base, repetition })
     }
 
-    /// Returns the rest that the admitted cycles leave.
+    /// Returns the remainder of the admitted cycles.
     pub fn base(self) -> u8
         ensures value { result ≡ self.base }
         ensures lawful { IsCycleClass self }
@@ -79,7 +79,7 @@ impl CycleFilter {
         self.base
     }
 
-    /// Every how many cycles one is admitted: 1, 2, 4, 8, 16, 32 or 64.
+    /// Returns the distance between admitted cycles: 1, 2, 4, 8, 16, 32 or 64.
     pub fn repetition(self) -> u8
         ensures value { result ≡ self.repetition }
         ensures lawful { IsCycleClass self }
@@ -87,15 +87,15 @@ impl CycleFilter {
         self.repetition
     }
 
-    /// Returns whether the cycle is one of these.
+    /// Returns whether the filter admits the cycle.
     pub fn admits(self, cycle: Cycle) -> bool
         ensures { result ≡ cycle_admitted self cycle }
     {
-        // The repetition is a power of two, so the rest stands in the bits below it.
+        // The repetition is a power of two, so the remainder is in the bits below it.
         cycle.number() & (self.repetition - 1) == self.base
     }
 
-    /// Returns whether every cycle is one of these.
+    /// Returns whether the filter admits every cycle.
     pub fn is_every_cycle(self) -> bool
         ensures { result ≡ is_every_cycle self }
     {
@@ -116,7 +116,7 @@ impl CycleFilter {
     }
 }
 
-/// Returns whether the cycle is among those of both filters.
+/// Returns whether both filters admit the cycle.
 fn both_admit(one: CycleFilter, other: CycleFilter, cycle: Cycle) -> bool
     ensures { result ≡ (cycle_admitted one cycle && cycle_admitted other cycle) }
 {
@@ -141,7 +141,7 @@ impl Filter {
         self.slot == slot && self.channels.includes(channel) && self.cycles.admits(cycle)
     }
 
-    /// Returns whether the filter admits the slot that the window has on the channel, and so whether it has one there.
+    /// Returns whether the window has a slot on the channel that the filter admits.
     pub fn admits_window(self, window: &Window, channel: Channel) -> bool
         ensures { result ≡ admits_window self window.now channel }
     {

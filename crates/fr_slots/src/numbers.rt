@@ -9,13 +9,13 @@ use std::marker::Model;
 /// The number of the last slot (chapter 5).
 pub const LAST_SLOT: u16 = 2047;
 
-/// How many cycles there are, after which they are counted from 0 again (chapter 5).
+/// The number of cycles, after which they are counted from 0 again (chapter 5).
 pub const CYCLES: u8 = 64;
 
-/// The most nodes of a cluster (project-defined).
+/// The greatest number of nodes of a cluster (project-defined).
 pub const NODES: u8 = 16;
 
-/// The most host tasks of a node (project-defined).
+/// The greatest number of host tasks of a node (project-defined).
 pub const TASKS: u8 = 8;
 
 /// The number of a slot: 1 to 2047 (chapter 5).
@@ -59,7 +59,7 @@ impl fmt::Display for SlotId {
 impl SlotId {
     ghost use Rattle.fr_slots.specs.Numbers.{IsSlot};
 
-    /// None for 0 and for a number above 2047.
+    /// Returns the slot of this number, or none for 0 and above 2047.
     pub fn new(number: u16) -> Option<SlotId>
         ensures { result ≡ number_within 1 last_slot number }
     {
@@ -79,7 +79,7 @@ impl SlotId {
     }
 }
 
-/// The number of a cycle: 0 to 63, after which comes 0 again (chapter 5).
+/// The number of a cycle: 0 to 63, then 0 again (chapter 5).
 #[derive(Clone, Copy, Debug, PartialEq, Eq, PartialOrd, Ord, Hash)]
 pub struct Cycle(u8);
 
@@ -109,7 +109,7 @@ impl fmt::Display for Cycle {
 }
 
 impl Cycle {
-    /// None for a number above 63.
+    /// Returns the cycle of this number, or none above 63.
     pub fn new(number: u8) -> Option<Cycle>
         ensures { result ≡ number_within 0 last_cycle number }
     {
@@ -136,7 +136,7 @@ impl Cycle {
         self.0
     }
 
-    /// Returns the cycle after this one: after 63 comes 0.
+    /// Returns the next cycle, which is 0 after 63.
     pub fn next(self) -> Cycle
         ensures { result ≡ (self + 1) % cycle_count }
     {
@@ -173,7 +173,7 @@ impl fmt::Display for NodeId {
 }
 
 impl NodeId {
-    /// None for a number above 15.
+    /// Returns the node of this number, or none above 15.
     pub fn new(number: u8) -> Option<NodeId>
         ensures { result ≡ number_within 0 last_node number }
     {
@@ -184,7 +184,7 @@ impl NodeId {
         }
     }
 
-    /// Returns the node of a number that is known to name one.
+    /// Returns the node of a number that is known to be in range.
     pub fn from_number(number: u8) -> NodeId
         requires { number < 16 }
         ensures { result ≡ number }
@@ -230,7 +230,7 @@ impl fmt::Display for TaskId {
 }
 
 impl TaskId {
-    /// None for a number above 7.
+    /// Returns the task of this number, or none above 7.
     pub fn new(number: u8) -> Option<TaskId>
         ensures { result ≡ number_within 0 last_task number }
     {
@@ -241,7 +241,7 @@ impl TaskId {
         }
     }
 
-    /// Returns the task of a number that is known to name one.
+    /// Returns the task of a number that is known to be in range.
     pub fn from_number(number: u8) -> TaskId
         requires { number < 8 }
         ensures { result ≡ number }

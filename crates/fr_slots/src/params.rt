@@ -13,14 +13,14 @@ use thiserror::Error;
 /// The last static slot that a cluster can have (chapter 5).
 pub const LAST_STATIC_SLOT: u16 = 1023;
 
-/// The last minislot that a cluster can have, where they are counted from 1 (project-defined).
+/// The last minislot that a cluster can have, counted from 1 (project-defined).
 pub const LAST_MINISLOT: u16 = 8000;
 
-/// The most words of two bytes of a payload (chapter 4).
+/// The greatest length of a payload in two-byte words (chapter 4).
 pub const MOST_WORDS: u16 = 127;
 
-/// A parameter, as cluster files name it. The order is that of a cluster file's refusals and of a
-/// trace's line `params`.
+/// A parameter, as cluster files name it. The order is that of a cluster file's refusals and of the line `params` of a
+/// trace.
 #[derive(Clone, Copy, Debug, PartialEq, Eq)]
 pub enum Key {
     StaticSlots,
@@ -99,26 +99,26 @@ impl fmt::Display for Key {
     }
 }
 
-/// Why numbers are no parameters.
+/// Reasons to refuse ten numbers as parameters.
 #[derive(Clone, Copy, Debug, PartialEq, Eq, Error)]
 pub enum RangeError {
-    /// The first key, in order, whose number is out of its range.
+    /// The first key, in order, with a number out of its range.
     #[error("{0} is out of its range")]
     OutOfRange(Key),
-    /// Static slots, minislots, symbol window and network idle time don't fill the cycle.
+    /// A sum of static slots, minislots, symbol window and network idle time that isn't the cycle.
     #[error("the parts don't fill the cycle")]
     CycleSum,
 }
 
-/// The parameters of a cluster, each in its range, which together fill the cycle (chapter 5; the
-/// ranges and the sum are project-defined).
+/// The parameters of a cluster, each in its range, which together fill the cycle. Chapter 5; the ranges and the sum are
+/// project-defined.
 #[derive(Clone, Copy, PartialEq, Eq)]
 pub struct Params {
     /// The number of static slots.
     pub static_slots: u16,
     /// The number of minislots of the dynamic segment.
     pub minislots: u16,
-    /// The payload of a static frame, in words of two bytes.
+    /// The payload of a static frame, in two-byte words.
     pub static_words: u16,
     /// The length of a static slot, in macroticks.
     pub static_mt: u16,
@@ -130,9 +130,9 @@ pub struct Params {
     pub nit_mt: u16,
     /// The length of the cycle, in macroticks.
     pub cycle_mt: u16,
-    /// The minislots that stay idle after a dynamic transmission.
+    /// The number of minislots that stay idle after a dynamic transmission.
     pub idle: u16,
-    /// How many words of two bytes a minislot carries.
+    /// The number of two-byte words that a minislot carries.
     pub words_per_minislot: u16,
 }
 
@@ -150,10 +150,10 @@ impl Model for Params {
     ghost inverse = { fields_of };
 }
 
-/// The numbers of five keys: of the first five, or of the last five, in the order of `Key`.
+/// The numbers of the first five keys or of the last five, in the order of `Key`.
 pub type Five = (u16, u16, u16, u16, u16);
 
-/// Returns the number under the key, where the key admits it.
+/// Returns the number under the key, if it is in the key's range.
 #[tactic(auto, unfolding(crate::specs::Parameters::number_at))]
 fn number_at(key: Key, number: i64) -> Result<u16, RangeError>
     ensures value { result ≡ number_at key number }
@@ -205,9 +205,9 @@ impl Params {
     ghost use Rattle.fr_slots.specs.Parameters.{AreFirst, AreLast, assembled, summed};
     ghost use Rattle.fr_slots.specs.Windows.{window_fits, static_slot_fits, dynamic_slot_fits};
 
-    /// Returns the parameters that these numbers are, in the order of `Key`.
+    /// Returns the parameters with these numbers, in the order of `Key`.
     ///
-    /// Refused with `OutOfRange` and the first key whose number is out of range, and then as by `assemble`.
+    /// Fails with `OutOfRange` and the first key whose number is out of range, then as `assemble` does.
     #[tactic(auto, unfolding(crate::specs::Parameters::parameters_of))]
     pub fn new(numbers: [i64; 10]) -> Result<Params, RangeError>
         ensures { result ≡ parameters_of numbers }
@@ -217,9 +217,9 @@ impl Params {
         Params::assemble(first, last)
     }
 
-    /// Returns the parameters that these numbers are, each of which is in its key's range.
+    /// Returns the parameters with these numbers, each of which is in its key's range.
     ///
-    /// Refused with `CycleSum` where `static_slots * static_mt + minislots * minislot_mt + symbol_mt + nit_mt` isn't
+    /// Fails with `CycleSum` if `static_slots * static_mt + minislots * minislot_mt + symbol_mt + nit_mt` isn't
     /// `cycle_mt` (project-defined).
     pub fn assemble(first: Five, last: Five) -> Result<Params, RangeError>
         requires first_within { AreFirst first }
@@ -249,15 +249,15 @@ impl Params {
         })
     }
 
-    /// Returns whether the slot is a static one (chapter 5).
+    /// Returns whether the slot is static (chapter 5).
     pub fn is_static(&self, slot: SlotId) -> bool
         ensures { result ≡ is_static_slot self.now slot }
     {
         slot.number() <= self.static_slots
     }
 
-    /// Returns whether the window is one of the cluster's (project-defined): in a static window a static slot, and in a
-    /// dynamic one a minislot that there is, and slots after the static ones.
+    /// Returns whether the cluster has the window (project-defined). A static window has a static slot. A dynamic
+    /// window has a minislot in range, and slots after the static ones.
     pub fn has_window(&self, window: &Window) -> bool
         ensures { result ≡ window_fits self.now window.now }
     {
@@ -270,14 +270,14 @@ impl Params {
         }
     }
 
-    /// Returns whether the slot, if there is one, is a static one.
+    /// Returns whether the slot, if there is one, is static.
     fn is_static_or_none(&self, slot: Option<SlotId>) -> bool
         ensures { result ≡ static_slot_fits self.now slot }
     {
         slot.is_none_or(|slot| self.is_static(slot))
     }
 
-    /// Returns whether the slot, if there is one, is a dynamic one.
+    /// Returns whether the slot, if there is one, is dynamic.
     fn is_dynamic_or_none(&self, slot: Option<SlotId>) -> bool
         ensures { result ≡ dynamic_slot_fits self.now slot }
     {

@@ -1,4 +1,4 @@
-//! The plan of a node: what it owns, its buffers and its queue.
+//! The plan of a node: its static slots, its buffers and its receive FIFO.
 
 ghost use Rattle.std.specs.Prelude.{◌≡◌, ◌↔◌, IsTrue};
 ghost use Rattle.std.specs.Result.{result_err};
@@ -16,30 +16,30 @@ use arrayvec::ArrayVec;
 use std::marker::Model;
 use thiserror::Error;
 
-/// The most ownership lines, and the most buffers, of a node (project-defined).
+/// The greatest number of ownership lines, and of buffers, of a node (project-defined).
 pub const LINES: usize = 64;
 
-/// The most frames in the receive queue of a node (project-defined).
+/// The greatest number of frames in the receive FIFO of a node (project-defined).
 pub const FRAMES: u16 = 256;
 
-/// The most host entries in the journal of a node (project-defined).
+/// The greatest number of host entries in the journal of a node (project-defined).
 pub const HOST_ENTRIES: u16 = 16384;
 
-/// The most slot entries in the journal of a node (project-defined).
+/// The greatest number of slot entries in the journal of a node (project-defined).
 pub const SLOT_ENTRIES: u32 = 65536;
 
-/// A static slot that a node owns in the cycles that a filter admits (chapter 5; that nodes divide a static slot by
-/// cycles is project-defined).
+/// A static slot that a node owns in the cycles that a filter admits. Chapter 5; the division of a static slot by
+/// cycles is project-defined.
 #[derive(Clone, Copy, Default, PartialEq, Eq)]
 pub struct Own {
     /// The slot, 1 to 1023.
     pub slot: SlotId,
     pub channels: Channels,
-    /// The cycles in which the slot is the node's: every cycle by default.
+    /// The cycles in which the node owns the slot, by default all.
     pub cycles: CycleFilter,
-    /// The node's frames there carry the sync frame indicator.
+    /// The sync frame indicator of the node's frames there.
     pub sync: bool,
-    /// They carry the startup frame indicator too, which only sync frames do.
+    /// The startup frame indicator of these frames, which only sync frames can have.
     pub startup: bool,
 }
 
@@ -47,15 +47,15 @@ impl Own {
     ghost use Rattle.std.specs.Prelude.{◌≡◌};
     ghost use Rattle.fr_slots.specs.Faults.{claims, is_undivided};
 
-    /// Returns whether the line is for the slot on the channel in the cycle (chapter 5; the division by cycles is
-    /// project-defined).
+    /// Returns whether the line is for the slot on the channel in the cycle. Chapter 5; the division by cycles is
+    /// project-defined.
     pub fn claims(&self, cycle: Cycle, slot: SlotId, channel: Channel) -> bool
         ensures { result ≡ claims slot channel cycle self.now }
     {
         self.slot == slot && self.channels.includes(channel) && self.cycles.admits(cycle)
     }
 
-    /// Returns whether the line is for the slot on the channel, and divides it with nobody.
+    /// Returns whether the line is for the slot on the channel in all cycles.
     pub(crate) fn is_undivided(&self, slot: SlotId, channel: Channel) -> bool
         ensures { result ≡ is_undivided slot channel self.now }
     {
@@ -63,7 +63,7 @@ impl Own {
     }
 }
 
-/// What a buffer does (chapter 9; the names are project-defined).
+/// The mode of a buffer (chapter 9; the names are project-defined).
 #[derive(Clone, Copy, Default, PartialEq, Eq)]
 pub enum Mode {
     /// Sends each commit at most once.
@@ -79,7 +79,7 @@ impl Mode {
     ghost use Rattle.std.specs.Prelude.{◌≡◌};
     ghost use Rattle.fr_slots.specs.Plans.{is_receive};
 
-    /// Returns whether a buffer of this mode receives. One of the others transmits.
+    /// Returns whether a buffer of this mode receives; all other buffers transmit.
     pub fn is_receive(self) -> bool
         ensures { result ≡ is_receive self }
     {
@@ -95,10 +95,10 @@ impl Mode {
 pub struct Buffer {
     pub mode: Mode,
     pub filter: Filter,
-    /// The payload of a dynamic transmit buffer in words of two bytes, 0 to 127. A static one has the
-    /// cluster's, and a receive buffer none.
+    /// The payload of a dynamic transmit buffer, 0 to 127 two-byte words. A static transmit buffer has the cluster's
+    /// words, and a receive buffer none.
     pub words: Option<u8>,
-    /// The payload preamble indicator of what is sent.
+    /// The payload preamble indicator of its frames.
     pub preamble: bool,
 }
 
@@ -127,8 +127,9 @@ impl Buffer {
         self.transmits() && !params.is_static(self.filter.slot)
     }
 
-    /// Returns the words of two bytes that a transmit buffer sends: in a static slot those of the cluster's static
-    /// frames, and in a dynamic slot its own, or 0 where it has none (chapter 5). At most 127 for a buffer of a plan.
+    /// Returns the payload of a transmit buffer, in two-byte words (chapter 5). In a static slot it is that of the
+    /// cluster's static frames. In a dynamic slot it is the buffer's own, or 0 if it has none. For a buffer of a plan
+    /// it is at most 127.
     pub fn words(&self, params: &Params) -> u16
         ensures value { result ≡ words_of params.now self.now }
         ensures fits { result < 256 }
@@ -141,10 +142,10 @@ impl Buffer {
     }
 }
 
-/// The receive queue of a node (project-defined).
+/// The receive FIFO of a node (project-defined).
 #[derive(Clone, Copy, PartialEq, Eq)]
 pub struct Queue {
-    /// How many frames it holds, 1 to 256.
+    /// The number of frames that it holds, 1 to 256.
     pub capacity: u16,
     /// The first slot of its range.
     pub first: SlotId,
@@ -158,7 +159,7 @@ impl Queue {
     ghost use Rattle.std.specs.Prelude.{◌≡◌};
     ghost use Rattle.fr_slots.specs.Plans.{queue_admits};
 
-    /// Returns whether the slot is in the queue's range, and channel and cycle are the queue's.
+    /// Returns whether the slot is in the range of the receive FIFO, and channel and cycle are admitted.
     pub fn admits(&self, cycle: Cycle, slot: SlotId, channel: Channel) -> bool
         ensures { result ≡ queue_admits self.now cycle slot channel }
     {
@@ -169,18 +170,18 @@ impl Queue {
     }
 }
 
-/// Why a plan or a line of it is refused.
+/// Reasons to refuse a plan or a line of it.
 #[derive(Clone, Copy, Debug, PartialEq, Eq, Error)]
 pub enum PlanError {
-    /// A number is out of its range.
+    /// A number out of its range.
     #[error("a number is out of its range")]
     OutOfRange,
-    /// There is no room for a further line.
+    /// A line for which there is no room.
     #[error("there is no room for a further line")]
     TooMany,
 }
 
-/// The plan of a node. It takes no memory.
+/// The plan of a node, which allocates no memory.
 #[derive(Drop)]
 pub struct NodePlan {
     tasks: u8,
@@ -214,11 +215,13 @@ impl NodePlan {
 
     /// Returns a plan with no lines yet.
     ///
-    /// `latest` is the last minislot, counted from 1, at which the node begins a dynamic transmission, on
-    /// channel A and on B, 0 to 8000, where 0 lets it begin none (chapter 5; a value for each channel is
-    /// project-defined). `tasks` is the number of host tasks, 0 to 8, and `host_entries` and `slot_entries`
-    /// are the room of its journal, 1 to 16384 and 2 to 65536 (project-defined). Refused with `OutOfRange`
-    /// where one of these is out of its range.
+    /// - `latest`: pLatestTx for channel A and for B, the last minislot at which the node begins a dynamic
+    ///   transmission. Minislots are counted from 1, and 0 means that it begins none. 0 to 8000 (chapter 5; a value for
+    ///   each channel is project-defined).
+    /// - `tasks`: the number of host tasks, 0 to 8 (project-defined).
+    /// - `host_entries`, `slot_entries`: the room of its journal, 1 to 16384 and 2 to 65536 entries (project-defined).
+    ///
+    /// Fails with `OutOfRange` if one of these is out of its range.
     pub fn new(
         tasks: u8,
         latest: [u16; 2],
@@ -250,14 +253,14 @@ impl NodePlan {
 
     /// Appends an ownership line.
     ///
-    /// Refused with `OutOfRange` for a slot above 1023 and for startup without sync, and then with `TooMany`
-    /// for the 65th line; the plan is then unchanged.
+    /// Fails with `OutOfRange` for a slot above 1023 and for startup without sync, then with `TooMany` for the 65th
+    /// line. A refusal leaves the plan unchanged.
     pub fn add_own(&mut self, own: Own) -> Result<(), PlanError>
         ensures refusal { result_err result ≡ own_refusal self.old own }
         ensures accepted { OnOk result (self.new ≡ with_own self.old own) }
         ensures refused { OnErr result (self.new ≡ self.old) }
     {
-        // Only the line by itself is looked at, at any time: faults between lines are for `fault`.
+        // Only the line by itself is tested here; `fault` finds faults between lines.
         if !own_fits(&own) {
             return Err(PlanError::OutOfRange);
         }
@@ -270,8 +273,8 @@ impl NodePlan {
 
     /// Appends a buffer; buffers are numbered from 0 in this order.
     ///
-    /// Refused with `OutOfRange` for more than 127 words and for a receive buffer with words or with the
-    /// preamble, and then with `TooMany` for the 65th buffer; the plan is then unchanged.
+    /// Fails with `OutOfRange` for more than 127 words, and for a receive buffer with words or with the payload
+    /// preamble indicator. Then it fails with `TooMany` for the 65th buffer. A refusal leaves the plan unchanged.
     pub fn add_buffer(&mut self, buffer: Buffer) -> Result<(), PlanError>
         ensures refusal { result_err result ≡ buffer_refusal self.old buffer }
         ensures accepted { OnOk result (self.new ≡ with_buffer self.old buffer) }
@@ -287,10 +290,10 @@ impl NodePlan {
         Ok(())
     }
 
-    /// Gives the node its receive queue.
+    /// Gives the node its receive FIFO.
     ///
-    /// Refused with `OutOfRange` for a capacity of 0 or above 256 and for a first slot above the last, and then with
-    /// `TooMany` where there is a queue already; the plan is then unchanged.
+    /// Fails with `OutOfRange` for a capacity of 0 or above 256 and for a first slot above the last, then with
+    /// `TooMany` if the node has a receive FIFO already. A refusal leaves the plan unchanged.
     pub fn set_queue(&mut self, queue: Queue) -> Result<(), PlanError>
         ensures refusal { result_err result ≡ queue_refusal self.old queue }
         ensures accepted { OnOk result (self.new ≡ with_queue self.old queue) }
@@ -306,11 +309,11 @@ impl NodePlan {
         Ok(())
     }
 
-    /// Another plan of the same content.
+    /// Returns a copy of the plan.
     pub fn duplicate(&self) -> NodePlan
         ensures { result ≡ self.now }
     {
-        // It stands in place of `Clone`, which may run out of memory.
+        // `Clone` is avoided, since it may run out of memory.
         NodePlan {
             tasks: self.tasks,
             latest: self.latest,
@@ -322,8 +325,7 @@ impl NodePlan {
         }
     }
 
-    /// Returns whether the other plan has the same content: the same numbers, lines, buffers and queue, in the same
-    /// order.
+    /// Returns whether the plans have the same numbers, lines, buffers and receive FIFO, in the same order.
     pub fn is_same(&self, other: &NodePlan) -> bool
         ensures { IsTrue result ↔ (self.now ≡ other.now) }
     {
@@ -352,8 +354,9 @@ impl NodePlan {
         self.tasks
     }
 
-    /// Returns the last minislot, counted from 1, at which the node begins a dynamic transmission on the channel,
-    /// up to 8000, or 0 where it begins none (chapter 5; a value for each channel is project-defined).
+    /// Returns pLatestTx: the last minislot at which the node begins a dynamic transmission on the channel. It is
+    /// counted from 1 up to 8000, and 0 means that the node begins none (chapter 5; a value for each channel is
+    /// project-defined).
     pub fn latest(&self, channel: Channel) -> u16
         ensures value { result ≡ latest_on self.now channel }
         ensures lawful { IsPlan self.now }
@@ -365,7 +368,7 @@ impl NodePlan {
         }
     }
 
-    /// Returns the host entries that a journal of the node has room for, 1 to 16384.
+    /// Returns the number of host entries that the node's journal has room for, 1 to 16384.
     pub fn host_entries(&self) -> u16
         ensures value { result ≡ self.now.host_entries }
         ensures lawful { IsPlan self.now }
@@ -373,7 +376,7 @@ impl NodePlan {
         self.host_entries
     }
 
-    /// Returns the slot entries that a journal of the node has room for, 2 to 65536.
+    /// Returns the number of slot entries that the node's journal has room for, 2 to 65536.
     pub fn slot_entries(&self) -> u32
         ensures value { result ≡ self.now.slot_entries }
         ensures lawful { IsPlan self.now }
@@ -389,7 +392,7 @@ impl NodePlan {
         self.buffers.as_slice()
     }
 
-    /// Returns the buffer of this number, where the plan has it.
+    /// Returns the buffer of this number, if the plan has it.
     pub fn buffer(&self, number: u8) -> Option<Buffer>
         ensures { result ≡ buffer_at self.now number }
     {
@@ -404,7 +407,7 @@ impl NodePlan {
         self.owned.as_slice()
     }
 
-    /// Returns the receive queue, where the node has one.
+    /// Returns the receive FIFO, if the node has one.
     pub fn queue(&self) -> Option<Queue>
         ensures value { result ≡ self.now.queue }
         ensures lawful { IsPlan self.now }
@@ -414,9 +417,8 @@ impl NodePlan {
 
     /// Returns the first fault of the plan by these parameters, if it has one.
     ///
-    /// `OutOfParams` comes first, then the faults in the order in which `PlanFault` has them: each kind is looked
-    /// for in the whole plan before the next, and of a kind the first in order of its numbers is named, channel A
-    /// before B.
+    /// `OutOfParams` comes first, then the faults in the order of `PlanFault`. Each kind is looked for in the whole
+    /// plan before the next. Of a kind, the first in the order of its numbers is named, channel A before B.
     #[tactic(auto, using(crate::proofs::FaultlessLemmas::faultless_if), unfolding(crate::specs::Faults::plan_fault))]
     pub fn fault(&self, params: &Params) -> Option<PlanFault>
         ensures value { result ≡ plan_fault params.now self.now }
@@ -425,8 +427,8 @@ impl NodePlan {
         ownership_fault(params, self).or_else(|| buffer_fault(params, self))
     }
 
-    /// Returns the number of the first transmit buffer for a static slot that, on one of the buffer's channels and in a
-    /// cycle that the buffer admits, isn't the node's.
+    /// Returns the number of the first static transmit buffer whose slot isn't owned. A channel of the buffer and a
+    /// cycle that it admits are enough.
     pub fn first_not_owned(&self, params: &Params) -> Option<u8>
         ensures value { result ≡ position (not_owned params.now self.now.owned) self.now.buffers }
         ensures within { IfSome result (λ number. number < length self.now.buffers) }
@@ -444,8 +446,8 @@ impl NodePlan {
         Some(place as u8)
     }
 
-    /// Returns the number of the first dynamic transmit buffer with a frame that, begun at its channel's latest
-    /// minislot, would end after the dynamic segment.
+    /// Returns the number of the first dynamic transmit buffer whose frame would end too late. The frame begins at
+    /// pLatestTx of its channel, and would end after the dynamic segment.
     pub fn first_too_long(&self, params: &Params) -> Option<u8>
         ensures value { result ≡ position (too_long params.now self.now) self.now.buffers }
         ensures within { IfSome result (λ number. number < length self.now.buffers) }
@@ -455,21 +457,21 @@ impl NodePlan {
     }
 }
 
-/// Returns whether these are the same ownership lines.
+/// Returns whether the ownership lines are the same.
 fn is_same_owned(owned: &[Own], other: &[Own]) -> bool
     ensures { IsTrue result ↔ (owned.now ≡ other.now) }
 {
     owned == other
 }
 
-/// Returns whether these are the same buffers.
+/// Returns whether the buffers are the same.
 fn are_same_buffers(buffers: &[Buffer], other: &[Buffer]) -> bool
     ensures { IsTrue result ↔ (buffers.now ≡ other.now) }
 {
     buffers == other
 }
 
-/// Returns whether this is the same queue.
+/// Returns whether the receive FIFOs are the same.
 fn is_same_queue(queue: &Option<Queue>, other: &Option<Queue>) -> bool
     ensures { IsTrue result ↔ (queue.now ≡ other.now) }
 {
@@ -481,6 +483,7 @@ pub fn own_fits(own: &Own) -> bool
     ensures value { result ≡ own_fits own.now }
     ensures ranges { IsOwn own.now }
 {
+    // For the prover: the clause of this call.
     let _base = own.cycles.base();
     own.slot.number() <= LAST_STATIC_SLOT && (!own.startup || own.sync)
 }
@@ -490,6 +493,7 @@ pub fn buffer_fits(buffer: &Buffer) -> bool
     ensures value { result ≡ buffer_fits buffer.now }
     ensures ranges { IsBuffer buffer.now }
 {
+    // For the prover: the clauses of these calls.
     let _slot = buffer.filter.slot.number();
     let _base = buffer.filter.cycles.base();
     let few_words = match buffer.words {
@@ -499,11 +503,12 @@ pub fn buffer_fits(buffer: &Buffer) -> bool
     few_words && (!buffer.mode.is_receive() || !(buffer.words.is_some() || buffer.preamble))
 }
 
-/// Returns whether a queue is in range by itself.
+/// Returns whether a receive FIFO is in range by itself.
 pub fn queue_fits(queue: &Queue) -> bool
     ensures value { result ≡ queue_fits queue.now }
     ensures ranges { IsQueue queue.now }
 {
+    // For the prover: the clause of this call.
     let _base = queue.cycles.base();
     let (first, last) = (queue.first.number(), queue.last.number());
     1 <= queue.capacity && queue.capacity <= FRAMES && first <= last

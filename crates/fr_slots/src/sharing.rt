@@ -16,12 +16,12 @@ pub struct Occasion {
     pub cycle: Cycle,
 }
 
-/// Returns the first occasion that two of the filters admit, if there is one: the least slot, then channel A
-/// before B, then the least cycle.
+/// Returns the first occasion that two of the filters admit, if there is one. The order is by slot, then channel A
+/// before B, then by cycle.
 pub fn first_shared(filters: &[Filter]) -> Option<Occasion>
     ensures { IsFirst (is_shared filters.now) result }
 {
-    // At most 64 lines and 64 buffers give some four thousand pairs, so pairs need no table. `fr_schedule` has up to
+    // At most 64 lines and 64 buffers give about four thousand pairs, so pairs need no table. `fr_schedule` has up to
     // 1,024 of each, about a million pairs, and a table.
     let mut first = None;
     for (number, filter) in filters.iter().enumerate() {
@@ -57,7 +57,7 @@ fn first_shared_by(one: &Filter, other: &Filter) -> Option<Occasion>
     })
 }
 
-/// Returns the first channel that is among both.
+/// Returns the first channel that both include.
 fn common_channel(one: Channels, other: Channels) -> Option<Channel>
     ensures { result ≡ common_channel one other }
 {
@@ -70,14 +70,14 @@ fn common_channel(one: Channels, other: Channels) -> Option<Channel>
     }
 }
 
-/// Returns whether the channel is among both.
+/// Returns whether both include the channel.
 fn both_include(one: Channels, other: Channels, channel: Channel) -> bool
     ensures { result ≡ both_include one other channel }
 {
     one.includes(channel) && other.includes(channel)
 }
 
-/// Returns the one of the two that comes first, where they are there.
+/// Returns the earlier one of two occasions, if there is one.
 pub fn earlier(one: Option<Occasion>, other: Option<Occasion>) -> Option<Occasion>
     ensures { result ≡ earlier one other }
 {
@@ -88,7 +88,7 @@ pub fn earlier(one: Option<Occasion>, other: Option<Occasion>) -> Option<Occasio
     }
 }
 
-/// Returns whether one comes before the other: in the order of slots, then of channels, then of cycles.
+/// Returns whether one comes before the other: by slot, then by channel, then by cycle.
 fn is_before(one: Occasion, other: Occasion) -> bool
     ensures { result ≡ is_before one other }
 {

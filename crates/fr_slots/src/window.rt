@@ -1,4 +1,4 @@
-//! Windows: the opportunities to send.
+//! Windows: transmission opportunities.
 
 ghost use Rattle.std.specs.Prelude.{◌≡◌};
 
@@ -7,8 +7,7 @@ use crate::numbers::{Cycle, SlotId};
 use crate::params::LAST_MINISLOT;
 use std::marker::Model;
 
-/// One opportunity to send: a static slot, or a minislot at which a channel opens a slot
-/// (project-defined).
+/// One transmission opportunity (project-defined): a static slot, or a minislot at which a slot opens.
 #[derive(Clone, Copy, PartialEq, Eq)]
 pub struct Window {
     /// The window's number in its run, from 0.
@@ -52,10 +51,9 @@ impl Window {
         }
     }
 
-    /// Returns the window of a minislot, counted from 1, at which one channel or both open a slot
-    /// (project-defined).
+    /// Returns the window of a minislot at which one channel or both open a slot (project-defined).
     ///
-    /// None for minislot 0 or above 8000, and where neither channel has a slot.
+    /// Returns none for minislot 0 or above 8000, counted from 1, and if neither channel has a slot.
     pub fn dynamic(
         number: u32,
         cycle: Cycle,

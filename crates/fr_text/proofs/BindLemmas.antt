@@ -1,4 +1,4 @@
--- What a value after a bind shows.
+-- The value of `o >>= f` shows the values of its steps.
 use Rattle.std.proofs.Common.{◌≡◌, Option, Some, None, refl}
 use Rattle.fr_text.specs.Reading.{◌>>=◌}
 

@@ -1,4 +1,4 @@
--- Digits read by their values are those of the bytes that they make.
+-- Digits that are read by their values are the digits of the bytes made of these values.
 use Rattle.std.proofs.Common.{◌≡◌, ◌≢◌, ℕ, zero, suc, ◌+◌, ◌-◌, ◌*◌, ◌/◌, ◌%◌, ◌<◌, ◌≤◌, List, [], ◌∷◌, ◌++◌}
 use Rattle.std.proofs.Common.{length, length-take, get_or, set, take, take-add, drop, replicate, slice_index, bit_or}
 use Rattle.std.proofs.Common.{Option, Some, None, IfSome, inl, inr, refl, sym, ap, subst, ◌∙◌, arith, lit<}
@@ -29,13 +29,13 @@ high_digit_of high low h l = ap (λ (x : ℕ). x / 16) (byte_of high low h l) �
 low_digit_of : (high low : ℕ) → high < 16 → low < 16 → bit_or (high * 16 % 256) low % 16 ≡ low
 low_digit_of high low h l = ap (λ (x : ℕ). x % 16) (byte_of high low h l) ∙ omega arith
 
--- the two digits at a place are those of the byte there
+-- the two digits at a place are those of the byte at this place
 abbrev pub SpelledAt : List ℕ → List ℕ → ℕ → Type 0
 SpelledAt room digits k =
     (slice_index lower_digits (get_or room k 0 / 16) ≡ get_or digits (2 * k) 0)
     × (slice_index lower_digits (get_or room k 0 % 16) ≡ get_or digits (2 * k + 1) 0)
 
--- what holds of each number so far, with one number more
+-- a fact of each number so far, with one number more
 pub set_each : (P : ℕ → ℕ → Type 0) (xs : List ℕ) (place x : ℕ) → place < length xs → P place x
     → ((k : ℕ) → k < place → P k (slice_index xs k))
     → (k : ℕ) → k < place + 1 → P k (slice_index (set xs place x) k)
@@ -51,7 +51,7 @@ set_each P xs place x within here before k lt =
           subst (λ (n : ℕ). P n (get_or (set xs place x) n 0)) is (subst (P place) (sym now) here)
     ]
 
--- this is the byte of the two values at a place, where both are those of digits
+-- the byte at a place is made of the two values there, if both are values of digits
 abbrev IsPackedAt : List ℕ → ℕ → ℕ → Type 0
 IsPackedAt values k byte =
     get_or values (2 * k) 0 < 16 → get_or values (2 * k + 1) 0 < 16
@@ -155,7 +155,7 @@ take_block i digits =
     let more : 32 * (i + 1) ≡ 32 * i + 32 = omega arith in
     sym (ap (λ (n : ℕ). take n digits) more ∙ take-add (32 * i) 32 digits)
 
--- what is spelled is found, and where nothing is spelled nothing is
+-- the bytes whose digits these are; none if the digits are those of no bytes
 pub bytes_found : (most : ℕ) (digits bs : List ℕ) → IsBytes bs → encode_lower bs ≡ digits → length bs ≤ most
     → bytes_as most digits (decode_of digits) ≡ Some bs
 bytes_found most digits bs fits is few =
@@ -174,7 +174,7 @@ bytes_missing most digits none =
 pub spelled_length : (bs digits : List ℕ) → encode_lower bs ≡ digits → length digits ≡ 2 * length bs
 spelled_length bs digits is = ap length (sym is) ∙ length-encode_with lower_digits bs
 
--- each digit of bytes is one
+-- each digit of bytes is a lower-case hexadecimal digit
 pub digits_of_bytes : (digits bs : List ℕ) → IsBytes bs → encode_lower bs ≡ digits → AreDigits (length digits) digits
 digits_of_bytes digits bs fits is k lt =
     let twice = spelled_length bs digits is in
@@ -204,7 +204,7 @@ pub encode-none : encode_lower [] ≡ []
 unfolding encode_with
 encode-none = refl
 
--- a block of digits has digits alone
+-- a block of digits contains only digits
 pub digits_in_block : (i : ℕ) (digits block : List ℕ) → block ≡ take 32 (drop (32 * i) digits)
     → AreDigits (32 * (i + 1)) digits → AreDigits 32 block
 digits_in_block i digits block is are k lt =
@@ -212,7 +212,7 @@ digits_in_block i digits block is are k lt =
     ap (λ (b : List ℕ). get_or b k 0) is ∙ get_or-chunk (32 * i) 32 digits k 0 lt in
     subst IsDigit (sym at) (are (32 * i + k) (omega arith))
 
--- so has the last one, which is filled with zeros
+-- so does the last block, which is filled with zeros
 pub digits_in_last : (i : ℕ) (digits rest block : List ℕ) → rest ≡ drop (32 * i) digits
     → block ≡ rest ++ replicate (32 - length rest) 48
     → length rest + 32 * i ≡ length digits → AreDigits (length digits) digits → AreDigits 32 block
@@ -230,7 +230,7 @@ digits_in_last i digits rest block rest_is is long are k lt =
           subst IsDigit (sym at) (0, lit< tt, refl)
     ]
 
--- the digits of the blocks and of the last one are all
+-- the digits of the blocks and of the last block are all digits
 pub blocks_spelled : (i : ℕ) (digits rest head last : List ℕ) → rest ≡ drop (32 * i) digits → length rest % 2 ≡ 0
     → encode_lower head ≡ take (32 * i) digits → encode_lower last ≡ rest ++ replicate (32 - length rest) 48
     → encode_lower (head ++ take (length rest / 2) last) ≡ digits
@@ -257,7 +257,7 @@ IsBytes-take (suc n) (x ∷ xs) fits (suc i) = IsBytes-take n xs (λ j. fits (su
 
 -- ---- the word in front of a text
 
--- the digits of the blocks and of the first of another
+-- the digits of the blocks and the first digits of another block
 front_whole : (i c : ℕ) (digits head read block : List ℕ) → encode_lower head ≡ take (32 * i) digits
     → encode_lower (take (c / 2) read) ≡ take (2 * (c / 2)) block → c ≡ 2 * (c / 2)
     → take c block ≡ take c (drop (32 * i) digits) → encode_lower (head ++ take (c / 2) read) ≡ take (32 * i + c) digits
@@ -266,7 +266,7 @@ front_whole i c digits head read block head_is read_is even block_is =
     read_is ∙ ap (λ (n : ℕ). take n block) (sym even) ∙ block_is in
     encode-append head (take (c / 2) read) ∙ (λ j. head_is j ++ tail j) ∙ sym (take-add (32 * i) c digits)
 
--- are as many as the bytes have
+-- the first `n` digits are twice as many as their bytes
 front_long : (n : ℕ) (digits bytes : List ℕ) → encode_lower bytes ≡ take n digits → n ≤ length digits
     → 2 * length bytes ≡ n
 front_long n digits bytes is within =
@@ -274,7 +274,7 @@ front_long n digits bytes is within =
     let taken = length-take n digits in
     omega arith
 
--- with the letter before them they are a word
+-- with the letter `x` in front they are a word
 pub word_found : (most i c : ℕ) (digits head read block : List ℕ) → encode_lower head ≡ take (32 * i) digits
     → encode_lower (take (c / 2) read) ≡ take (2 * (c / 2)) block → c ≡ 2 * (c / 2)
     → take c block ≡ take c (drop (32 * i) digits) → 32 * i + c ≤ length digits → IsBytes head → IsBytes read
@@ -292,7 +292,7 @@ word_found most i c digits head read block head_is read_is even block_is within 
     let fits = IsBytes-append head (take (c / 2) read) head_fits (IsBytes-take (c / 2) read read_fits) in
     (omega arith, rw word (bytes_again most bytes fits few))
 
--- where what was read is found to end
+-- the word ends after the bytes that were read
 pub word_if : (most i c : ℕ) (text digits head read block new : List ℕ) (found : Option ℕ) → text ≡ 120 ∷ digits
     → encode_lower head ≡ take (32 * i) (drop 1 text) → encode_lower (take (c / 2) read) ≡ take (2 * (c / 2)) block
     → take c block ≡ take c (drop (32 * i) digits) → 32 * i + c ≤ length digits → IsBytes head → IsBytes read

@@ -10,7 +10,7 @@ use Rattle.hex.specs.declared.error.FromHexError.{FromHexError}
 use Rattle.fr_text.specs.Reading.{bytes_as, bytes_in}
 use Rattle.fr_text.specs.Spelling.{hex_text}
 
--- what is read is spelled so
+-- bytes that are read have the word as their spelling
 pub as_takes : (most : ℕ) (digits bs : List ℕ) (r : Result (List ℕ) FromHexError) → bytes_as most digits r ≡ Some bs
     → (r ≡ Ok bs) × (encode_lower bs ≡ digits) × (length bs ≤ most)
 as_takes most digits bs (Err e) read = cc read
@@ -28,7 +28,7 @@ pub none_from : (o : Option (List ℕ)) → ((bs : List ℕ) → o ≡ Some bs �
 none_from None h = refl
 none_from (Some bs) h = absurd (h bs refl)
 
--- more digits than the bytes could have
+-- more digits than `most` bytes have
 pub too_long : (most : ℕ) (digits : List ℕ) → 2 * most < length digits → bytes_as most digits (decode_of digits) ≡ None
 too_long most digits long =
     none_from (bytes_as most digits (decode_of digits)) (λ bs read.
@@ -52,7 +52,7 @@ bytes_takes most (mark ∷ digits) bs read =
       | inr fail ↦ cc (rw fail at read)
     ]
 
--- what is spelled so is read
+-- the spelling of bytes is read as these bytes
 pub bytes_again : (most : ℕ) (bs : List ℕ) → IsBytes bs → length bs ≤ most → bytes_in most (hex_text bs) ≡ Some bs
 unfolding bytes_in
 bytes_again most bs fits few =

@@ -1,4 +1,4 @@
--- A line and its words are one another's.
+-- Joining words to a line and cutting the line at its spaces are inverse.
 use Rattle.std.proofs.Common.{◌≡◌, ℕ, ◌+◌, ◌≤◌, true, List, [], ◌∷◌, length, refl, ap, ◌∙◌, arith, length-append}
 use Rattle.std.proofs.lemmas.List.Splits.{slice_split_at, slice_split_none, join_with_byte-slice_split}
 use Rattle.fr_text.proofs.PlainLemmas.{no_space, has_no_feed-plain, has_no_feed-append}

@@ -20,7 +20,7 @@ use Rattle.fr_text.specs.Reading.{number_in}
 pub own : IsNumeralModel (AllDigits 10) (digits_value 10)
 own = numerals_by_value (AllDigits 10) tells_digits
 
--- no number below the bound is spelled so
+-- the word spells no number below the bound
 pub number_none : (bound : ℕ) (word : List ℕ) → ((n : ℕ) → n < bound → decimal n ≡ word → ⊥)
     → number_in bound word ≡ None
 unfolding number_in
@@ -33,7 +33,7 @@ number_none bound word none =
       | inr fail ↦ rw fail refl
     ]
 
--- this number is spelled so
+-- the word spells this number
 pub number_some : (bound : ℕ) (word : List ℕ) (n : ℕ) → n < 2 ^ 64 → n < bound → decimal n ≡ word
     → number_in bound word ≡ Some n
 unfolding number_in
@@ -41,7 +41,7 @@ number_some bound word n small below same =
     let value : digits_value 10 word ≡ n = rw (← same) (digits_value-decimal own n small) in
     rw (value, (bytes_eq-Decides (decimal n) word).1 same, lt-ltb n bound below) refl
 
--- what is read is spelled so
+-- a number that is read has the word as its spelling
 pub number_takes : (bound : ℕ) (word : List ℕ) (n : ℕ) → number_in bound word ≡ Some n
     → (decimal n ≡ word) × (n < bound)
 unfolding number_in
@@ -55,11 +55,11 @@ number_takes bound word n read =
       | inr fail ↦ cc (rw fail at read)
     ]
 
--- what is spelled so is read
+-- the spelling of a number is read as this number
 pub number_again : (bound n : ℕ) → n < bound → bound ≤ 2 ^ 64 → number_in bound (decimal n) ≡ Some n
 number_again bound n below small = number_some bound (decimal n) n (omega arith) below refl
 
--- a word that begins with another byte than a digit is no number's; the premise is `refl` at a literal
+-- a word that begins with a byte other than a digit spells no number; the premise is `refl` at a literal
 pub decimal_other : (n : ℕ) (word : List ℕ) → n < 2 ^ 64
     → (leb 48 (get_or word 0 0) && leb (get_or word 0 0) 57) ≡ false → bytes_eq (decimal n) word ≡ false
 decimal_other n word small other =
@@ -73,22 +73,22 @@ decimal_other n word small other =
       | inr differ ↦ differ
     ]
 
--- ---- what `number_of` finds
+-- ---- the results of `number_of`
 
--- a decimal text is text
+-- a decimal spelling is text
 pub not_text : (bound : ℕ) (word : List ℕ) → bound ≤ 2 ^ 64 → (IsUtf8 word → ⊥) → number_in bound word ≡ None
 not_text bound word small bad =
     number_none bound word
     (λ n below same. bad (rw (← same) (IsUtf8-from_ascii (decimal n) (IsAscii-decimal n (omega arith)))))
 
--- what `parse` refuses is no decimal text
+-- a word that `parse` rejects is no decimal spelling
 pub not_parsed : {E : Type 0} (bound : ℕ) (word : List ℕ) (r : Result ℕ E) (e : E) → bound ≤ 2 ^ 64
     → ParsesUnsigned 64 10 word r → r ≡ Err e → number_in bound word ≡ None
 not_parsed bound word r e small parses refused =
     number_none bound word
     (λ n below same. cc (parse-decimal 64 n word r (omega arith) (omega arith) (sym same) parses, refused))
 
--- a decimal text begins with a digit
+-- a decimal spelling begins with a digit
 pub not_sign : (bound : ℕ) (word : List ℕ) → bound ≤ 2 ^ 64 → get_or word 0 0 ≡ 43 → number_in bound word ≡ None
 not_sign bound word small sign =
     number_none bound word (λ n below same.
@@ -97,7 +97,7 @@ not_sign bound word small sign =
     let plus : get_or (decimal n) 0 0 ≡ 43 = rw same sign in
     omega arith)
 
--- and not with a 0 before another
+-- and not with a 0 before another digit
 pub not_padded : (bound : ℕ) (word : List ℕ) → bound ≤ 2 ^ 64 → get_or word 0 0 ≡ 48 → 1 < length word
     → number_in bound word ≡ None
 not_padded bound word small zero_first long =
@@ -113,7 +113,7 @@ not_padded bound word small zero_first long =
           omega arith
     ])
 
--- a number from the bound on
+-- a number that is the bound or more
 pub not_below : {E : Type 0} (bound : ℕ) (word : List ℕ) (r : Result ℕ E) (n : ℕ) → bound ≤ 2 ^ 64
     → ParsesUnsigned 64 10 word r → r ≡ Ok n → bound ≤ n → number_in bound word ≡ None
 not_below bound word r n small parses read high =
@@ -122,7 +122,7 @@ not_below bound word r n small parses read high =
     let same_number : n ≡ m = cc is in
     omega arith)
 
--- what `parse` reads, with no sign and no 0 before it
+-- a word that `parse` reads, with no sign and no 0 before it
 pub parsed : {E : Type 0} (bound : ℕ) (word : List ℕ) (r : Result ℕ E) (n : ℕ) → ParsesUnsigned 64 10 word r → r ≡ Ok n
     → get_or word 0 0 ≢ 43
     → (get_or word 0 0 ≡ 48 → length word ≤ 1) → n < bound → number_in bound word ≡ Some n
@@ -134,7 +134,7 @@ parsed bound word r n parses read sign padded below =
     decimal-digits_value own word text.0 text.1 (λ z. let le = padded z in let some = text.1 in omega arith) text.2 in
     number_some bound word n (rw value text.2) below (rw value canonical)
 
--- ---- what few digits write
+-- ---- the number that few digits write
 
 digit_byte : (b : ℕ) → b < 256 → (b + 208) % 256 ≤ 9 → (48 ≤ b) × (b ≤ 57)
 digit_byte b small few = (omega arith, omega arith)
@@ -154,7 +154,7 @@ digits-all_more word i within all small few =
     let range = digit_byte (get_or word i 0) small few in
     digits_more 10 word i within all (omega (arith, digit_value_digit (get_or word i 0) range, range.1))
 
--- what digits write of a word of at most nine is small
+-- the number of at most nine digits is small
 pub digits-small : (word : List ℕ) (i n : ℕ) → length word ≤ 9 → n ≡ digits_value 10 (take i word)
     → AllDigits 10 (take i word) → n < 10 ^ 9
 digits-small word i n few is all =
@@ -165,7 +165,7 @@ pub digits-few : (bytes : List ℕ) (i n : ℕ) → i ≤ 9 → n ≡ digits_val
 digits-few bytes i n few is all =
     omega (arith, is, digits_value_short own (take i bytes) 9 all (omega (arith, length-take i bytes)))
 
--- a byte that is no digit
+-- a byte other than a digit
 pub digits-other : (word : List ℕ) (i : ℕ) → i < length word → 9 < (get_or word i 0 + 208) % 256 → AllDigits 10 word → ⊥
 digits-other word i within high all = let range = digit_at word i all within in omega (arith, range.0, range.1)
 

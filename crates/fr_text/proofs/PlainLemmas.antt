@@ -1,4 +1,4 @@
--- Numbers, bytes and whatever is made of plain words.
+-- Numbers, bytes and lists of plain words contain no space and no line feed.
 use Rattle.std.proofs.Common.{◌≡◌, ℕ, ◌/◌, ◌%◌, ◌<◌, ◌≤◌, ◌^◌, ◌&&◌, Bool, true, false, not, zero, suc, List, [], ◌∷◌}
 use Rattle.std.proofs.Common.{◌++◌, get_or, refl, arith}
 use Rattle.std.proofs.lemmas.Bool.{and_parts}
@@ -19,7 +19,7 @@ use Rattle.fr_text.specs.Spelling.{hex_text}
 abbrev is_plain_byte : ℕ → Bool
 is_plain_byte b = not (is_space b) && not (is_feed b)
 
--- what the test shows of a first byte and of the others
+-- the test of a word is the tests of its first byte and of the others
 pub plain_parts : (b : ℕ) (bytes : List ℕ) → IsPlain (b ∷ bytes)
     → (is_space b ≡ false) × (is_feed b ≡ false) × IsPlain bytes
 plain_parts b bytes h =

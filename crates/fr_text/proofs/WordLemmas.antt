@@ -30,7 +30,7 @@ split_none (x ∷ xs) h =
           slice_split-cons_no is_space x xs fail ∙ ap (onto_first x) (split_none xs (omega arith))
     ]
 
--- at the first space
+-- the line has its first space at this place
 pub cut_at : (line : List ℕ) (at : ℕ) → position is_space line ≡ Some at
     → words_of line ≡ take at line ∷ words_of (drop (at + 1) line)
 cut_at line at found =
@@ -42,7 +42,7 @@ cut_at line at found =
       | inr fail ↦ cc (rw fail at found)
     ]
 
--- with no space in it
+-- the line has no space
 pub cut_none : (line : List ℕ) → position is_space line ≡ None → words_of line ≡ line ∷ []
 cut_none line none =
     let first = position_or_len is_space line in
@@ -55,11 +55,11 @@ words_by : (line : List ℕ) (at : Option ℕ) → position is_space line ≡ at
 words_by line (Some at) found = rw (cut_at line at found) refl
 words_by line None none = rw (cut_none line none) refl
 
--- a line has a word, be it the empty one
+-- each line has a word, perhaps the empty one
 pub words_some : (line : List ℕ) → ended (words_of line) ≡ None
 words_some line = words_by line _ refl
 
--- ---- the first space, by what a search of it says
+-- ---- the first space, from the result of a search
 
 first_at : (line : List ℕ) (k : ℕ) → k < length line → is_space (get_or line k 0) ≡ true
     → ((j : ℕ) → j < k → is_space (get_or line j 0) ≡ true → ⊥) → position_or_len is_space line ≡ k
@@ -100,7 +100,7 @@ first_space line (Some k) first =
     space_at line k first.0.high first.1 (λ j less is. first.0.before j (omega arith) less is)
 first_space line None none = space_nowhere line (λ j less is. none j (omega arith) less is)
 
--- ---- a word in front, without a space
+-- ---- the word in front, without a space in it
 
 abbrev pub HasNoSpace : ℕ → List ℕ → Type 0
 HasNoSpace k line = (j : ℕ) → j < k → is_space (get_or line j 0) ≡ true → ⊥
@@ -120,7 +120,7 @@ no_space-bytes most line bs k read j less is =
 whole_at : (line : List ℕ) (k : ℕ) → k ≡ length line → take k line ≡ line
 whole_at line k is = take_all k line (omega arith)
 
--- up to the end
+-- the word is the whole line
 pub first_whole : {A : Type 0} (read : List ℕ → Option A) (words : List (List ℕ)) (line : List ℕ) (k : ℕ) (x : A)
     → words_of line ≡ words → k ≡ length line → HasNoSpace k line → read (take k line) ≡ Some x
     → (first_in read words ≡ Some x) × ([] ≡ drop 1 words)
@@ -131,7 +131,7 @@ first_whole read words line k x left is bare found =
     let told : read line ≡ Some x = rw all at found in
     (rw (← left, one) told, rw (← left, one) refl)
 
--- up to a space
+-- the word ends at a space
 pub first_before : {A : Type 0} (read : List ℕ → Option A) (words : List (List ℕ)) (line : List ℕ) (k : ℕ) (x : A)
     → words_of line ≡ words → k < length line → get_or line k 0 ≡ 32 → HasNoSpace k line
     → read (take k line) ≡ Some x → (first_in read words ≡ Some x) × (words_of (drop (k + 1) line) ≡ drop 1 words)

@@ -1,4 +1,4 @@
--- Words that stand in a line as they are: no byte of theirs ends a word or a line.
+-- Plain words: no byte of such a word ends a word or a line.
 use Rattle.std.specs.Prelude.{ℕ, ◌≡◌, ◌==◌, ◌&&◌, Bool, true, not, List, [], ◌∷◌}
 use Rattle.fr_text.specs.Spaces.{is_space}
 

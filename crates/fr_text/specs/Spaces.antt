@@ -1,4 +1,4 @@
--- Where a line is cut into words, and how words make a line.
+-- A line and its words: words are cut at spaces, and joined by spaces.
 use Rattle.std.specs.Prelude.{ℕ, ◌+◌, ◌==◌, Bool, List, [], ◌∷◌, length}
 use Rattle.std.specs.List.{slice_split, join_with_byte}
 
@@ -13,7 +13,7 @@ words_of line = slice_split is_space line
 abbrev pub line_of : List (List ℕ) → List ℕ
 line_of words = join_with_byte 32 words
 
--- how many bytes the words take, each with one byte after it
+-- the number of bytes that the words take, each with one byte after it
 abbrev pub room_of : List (List ℕ) → ℕ
 room_of [] = 0
 room_of (word ∷ words) = length word + 1 + room_of words

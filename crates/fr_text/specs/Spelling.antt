@@ -1,4 +1,4 @@
--- How bytes are spelled. A number is spelled as std's `decimal` says.
+-- The spelling of bytes. Std's `decimal` defines the spelling of a number.
 use Rattle.std.specs.Prelude.{ℕ, List, ◌∷◌}
 use Rattle.hex.specs.Hex.{encode_lower}
 

@@ -6,7 +6,7 @@ use Rattle.fr_text.specs.Spaces.{words_of}
 abbrev pub left_of : Inside → List (List ℕ)
 left_of w = if w.done then [] else words_of w.rest.now
 
--- whether no word is left
+-- no word is left
 abbrev pub ended : List (List ℕ) → Option Unit
 ended [] = Some tt
 ended (word ∷ words) = None

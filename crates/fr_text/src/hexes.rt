@@ -12,13 +12,13 @@ use arrayvec::ArrayVec;
 use std::io;
 use std::io::Write;
 
-/// The most bytes that a word spells.
+/// The largest number of bytes that a word spells.
 pub const MOST_BYTES: usize = 262;
 
-/// The digits of that word.
+/// The number of digits of a word of `MOST_BYTES` bytes.
 const MOST_DIGITS: usize = 2 * MOST_BYTES;
 
-/// So many digits are read at once, and so many bytes are made of them.
+/// The number of digits that are read at once.
 const BLOCK: usize = 32;
 
 const BLOCK_BYTES: usize = 16;
@@ -33,7 +33,7 @@ fn digit_value(digit: u8) -> u8
     if number < 10 { number } else { letter }
 }
 
-/// Returns the bytes of each two values.
+/// Returns the byte of each pair of values.
 fn packed_bytes(values: &[u8; BLOCK]) -> [u8; BLOCK_BYTES]
     ensures { ArePacked BLOCK_BYTES values.now result }
 {
@@ -44,9 +44,9 @@ fn packed_bytes(values: &[u8; BLOCK]) -> [u8; BLOCK_BYTES]
     bytes
 }
 
-/// Returns the values of the digits of a block, and how many digits stand before the first byte that is none.
+/// Returns the values of the digits of a block, and the number of digits at its front.
 ///
-/// Each digit is a value of its own, and none is answered early: so the compiler reads many of them at once.
+/// Each byte gets a value and the loop has no early return, so the compiler vectorises it.
 fn values_in_front(digits: &[u8; BLOCK]) -> ([u8; BLOCK], u8)
     ensures few { result.1 ≤ BLOCK }
     ensures are { AreValues result.1 result.0 digits.now }
@@ -63,10 +63,10 @@ fn values_in_front(digits: &[u8; BLOCK]) -> ([u8; BLOCK], u8)
     (values, front)
 }
 
-/// Returns the bytes that the digits in front of a block spell, of which there are at most so many, and how many digits
-/// these are.
+/// Returns the bytes that the digits at the front of a block spell, and the number of these digits.
 ///
-/// It is inlined, so that the compiler keeps what it compares digits with from block to block.
+/// The number of digits is at most `most`. The function is inlined, so that the compiler keeps the constants of the
+/// comparisons between blocks.
 #[inline(always)]
 fn front_of(digits: &[u8; BLOCK], most: usize) -> ([u8; BLOCK_BYTES], usize)
     ensures few { (result.1 ≤ BLOCK) × (result.1 ≤ most) }
@@ -78,7 +78,7 @@ fn front_of(digits: &[u8; BLOCK], most: usize) -> ([u8; BLOCK_BYTES], usize)
     (packed_bytes(&values), usize::from(front).min(most))
 }
 
-/// Returns the block of these digits and zeros after them.
+/// Returns the block of these digits, filled with zeros.
 fn whole_block(digits: &[u8]) -> [u8; BLOCK]
     requires { length digits.now < BLOCK }
     ensures { result ≡ digits.now ++ replicate (BLOCK - length digits.now) 48 }
@@ -88,7 +88,7 @@ fn whole_block(digits: &[u8]) -> [u8; BLOCK]
     block
 }
 
-/// Reads the bytes that the digits spell, in lower case, in place of what the bytes were. Says whether it could.
+/// Replaces the bytes by those that the digits spell in lower case. Returns whether the digits spell bytes.
 fn digits_into<const N: usize>(digits: &[u8], bytes: &mut ArrayVec<u8, N>) -> bool
     requires { N ≤ MOST_BYTES }
     ensures { read_as result bytes.new.items ≡ bytes_as N digits.now (decode_of digits.now) }
@@ -117,7 +117,7 @@ fn lesser(first: u8, second: u8) -> u8
     if second < first { second } else { first }
 }
 
-/// Appends bytes for which there is room.
+/// Appends bytes. The caller ensures that there is room.
 fn append<const N: usize>(bytes: &mut ArrayVec<u8, N>, more: &[u8])
     requires { array_vec_len bytes.old + length more.now ≤ N }
     ensures { bytes.new.items ≡ bytes.old.items ++ more.now }
@@ -127,8 +127,8 @@ fn append<const N: usize>(bytes: &mut ArrayVec<u8, N>, more: &[u8])
     prove!(fits);
 }
 
-/// Appends the bytes of the last digits, if these are even and there is room. Answers how long the word is that spells
-/// all bytes.
+/// Appends the bytes of the last digits if their number is even and there is room. Returns the length of the word that
+/// spells all bytes.
 fn finish<const N: usize>(
     bytes: &mut ArrayVec<u8, N>,
     read: &[u8; BLOCK_BYTES],
@@ -148,9 +148,10 @@ fn finish<const N: usize>(
     Some(2 * bytes.len() + 1)
 }
 
-/// Reads the bytes that a word in front of the text spells, in place of what the bytes were, and answers how long that
-/// word is: it ends with its digits, whatever stands after them. `None` where no word is found so, and then what the
-/// bytes are isn't told.
+/// Replaces the bytes by those of a word at the front of the text, and returns its length.
+///
+/// The word ends with its digits, whatever follows. `None` if the text begins with no such word; the bytes are then
+/// unspecified.
 pub(crate) fn bytes_in_front<const N: usize>(
     text: &[u8],
     bytes: &mut ArrayVec<u8, N>,
@@ -179,9 +180,10 @@ pub(crate) fn bytes_in_front<const N: usize>(
     finish(bytes, &read, front)
 }
 
-/// Reads the bytes that the word spells in place of what the bytes were: the letter `x`, and two lower-case digits for
-/// each byte. Says whether it could: it can't where the word, which may be empty, is no such spelling, or where it has
-/// more than `N` bytes, and then what the bytes are isn't told. `N` is at most `MOST_BYTES`.
+/// Replaces the bytes by those that the word spells. Returns whether the word spells at most `N` bytes.
+///
+/// The spelling is the letter `x` and two lower-case digits for each byte; the word may be empty. If the result is
+/// false, the bytes are unspecified. `N` is at most `MOST_BYTES`.
 #[tactic(auto, unfolding(crate::specs::Reading::bytes_in))]
 pub fn bytes_into<const N: usize>(word: &[u8], bytes: &mut ArrayVec<u8, N>) -> bool
     requires { N ≤ MOST_BYTES }
@@ -197,8 +199,10 @@ pub fn bytes_into<const N: usize>(word: &[u8], bytes: &mut ArrayVec<u8, N>) -> b
     }
 }
 
-/// Returns the bytes that the word spells: the letter `x`, and two lower-case digits for each byte. `None` where the
-/// word, which may be empty, is no such spelling, or where it has more than `N` bytes. `N` is at most `MOST_BYTES`.
+/// Returns the bytes that the word spells. `N` is at most `MOST_BYTES`.
+///
+/// The spelling is the letter `x` and two lower-case digits for each byte. `None` if the word, which may be empty, is
+/// no such spelling, or has more than `N` bytes.
 pub fn bytes_of<const N: usize>(word: &[u8]) -> Option<ArrayVec<u8, N>>
     requires { N ≤ MOST_BYTES }
     ensures { option_map (λ p. p.items) result ≡ bytes_in N word.now }
@@ -211,7 +215,9 @@ pub fn bytes_of<const N: usize>(word: &[u8]) -> Option<ArrayVec<u8, N>>
     }
 }
 
-/// Writes the word of at most `MOST_BYTES` bytes: the letter `x`, and two lower-case digits for each byte.
+/// Writes the word of at most `MOST_BYTES` bytes.
+///
+/// It is the letter `x`, and two lower-case digits for each byte.
 pub fn write_hex<W: Write>(writer: &mut W, bytes: &[u8]) -> io::Result<()>
     requires { length bytes.now ≤ MOST_BYTES }
     ensures { Writes W.contents writer.old writer.new result (hex_text bytes.now) }
@@ -219,7 +225,7 @@ pub fn write_hex<W: Write>(writer: &mut W, bytes: &[u8]) -> io::Result<()>
     let mut room = [0u8; MOST_DIGITS + 1];
     room[0] = b'x';
     let digits = &mut room[1..2 * bytes.len() + 1];
-    // The library `hex` reads upper case too, so it is used for writing alone.
+    // The library `hex` also reads upper case, so it is used only for writing.
     let _ = hex::encode_to_slice(bytes, digits);
     writer.write_all(&room[..2 * bytes.len() + 1])
 }

@@ -1,5 +1,5 @@
-//! What each text of the bench is made of: the words of a line, decimal numbers with one spelling, and bytes as
-//! hexadecimal digits.
+//! The parts of all texts of the bench: words of a line, decimal numbers with one spelling, and bytes as hexadecimal
+//! digits.
 //!
 //! ```text
 //! let mut words = Words::new(b"pop 7 x0a0b");
@@ -9,15 +9,15 @@
 //! write_hex(&mut out, bytes.as_slice())?; // x0a0b
 //! ```
 //!
-//! A chapter in parentheses is one of the FlexRay Protocol Specification 2.1, revision A, whose rule it is.
-//! *(project-defined)* marks a rule of this project's own, which says nothing of the standard.
+//! A chapter in parentheses is one of the FlexRay Protocol Specification 2.1, revision A.
+//! *(project-defined)* marks a rule of this project, and makes no claim about the standard.
 //!
 //! # Definitions
 //!
-//! - `Spaces`, `Words`, `Plain`, `Reading`, `Spelling`, `Writing`: the words of a line and the words that are left;
-//!   words that end nothing; the one spelling of numbers and bytes; the effect of a function that writes.
+//! - `Spaces`, `Words`, `Plain`: the words of a line and the words that are left; words without a space or line feed.
+//! - `Reading`, `Spelling`, `Writing`: the one spelling of numbers and bytes; the effect of a function that writes.
 //!
-//! Modules that go the way of the code, for private functions, with the module that has the meaning:
+//! Modules that follow the steps of the code, for private functions, with the module that has the meaning:
 //!
 //! - `Digits`: the values of a block of digits. Meaning: `Reading`, `Spelling`.
 #![tactic(auto)]

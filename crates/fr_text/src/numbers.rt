@@ -3,10 +3,10 @@ ghost use Rattle.std.specs.Prelude.{◌≡◌, ◌<◌, ◌≤◌, length, take,
 ghost use Rattle.std.specs.Str.Parse.{AllDigits, digits_value};
 ghost use Rattle.fr_text.specs.Reading.{number_in};
 
-/// So many digits always write a number that 64 bits hold.
+/// A number of digits that always write a number of 64 bits.
 const FEW_DIGITS: usize = 9;
 
-/// Returns the number that few digits write, leading zeros included. `None` where a byte is no digit.
+/// Returns the number that few digits write, leading zeros included. `None` if a byte is no digit.
 fn few_digits(word: &[u8]) -> Option<u64>
     requires { length word.now ≤ 9 }
     ensures value { IfSome result (λ n. n ≡ digits_value 10 word.now) }
@@ -24,7 +24,7 @@ fn few_digits(word: &[u8]) -> Option<u64>
     Some(number)
 }
 
-/// Returns the number below `bound` that the word of few digits spells.
+/// Returns the number below `bound` that a word of few digits spells.
 fn short_number_of(word: &[u8], bound: u64) -> Option<u64>
     requires { length word.now ≤ 9 }
     ensures number { result ≡ number_in bound word.now }
@@ -43,9 +43,9 @@ fn short_number_of(word: &[u8], bound: u64) -> Option<u64>
     Some(number)
 }
 
-/// Returns the number below `bound` that the word of any length spells.
+/// Returns the number below `bound` that a word of any length spells.
 ///
-/// It isn't inlined, so that a word of few digits doesn't pay for the room of the other one.
+/// It isn't inlined, so that a word of few digits doesn't pay for the stack of this function.
 #[inline(never)]
 fn long_number_of(word: &[u8], bound: u64) -> Option<u64>
     ensures number { result ≡ number_in bound word.now }
@@ -57,7 +57,7 @@ fn long_number_of(word: &[u8], bound: u64) -> Option<u64>
     let Ok(number) = text.parse::<u64>() else {
         return None;
     };
-    // `parse` takes a sign and leading zeros, too.
+    // `parse` also takes a sign and leading zeros.
     if word[0] == b'+' {
         return None;
     }
@@ -70,8 +70,9 @@ fn long_number_of(word: &[u8], bound: u64) -> Option<u64>
     Some(number)
 }
 
-/// Returns the number below `bound` that the word spells in decimal, without sign and without leading zeros. `None`
-/// where the word, which may be empty, is no such spelling, or where the number is `bound` or more.
+/// Returns the number below `bound` that the word spells in decimal, without sign and leading zeros.
+///
+/// `None` if the word, which may be empty, is no such spelling, or if the number is `bound` or more.
 pub fn number_of(word: &[u8], bound: u64) -> Option<u64>
     ensures number { result ≡ number_in bound word.now }
     ensures below { IfSome result (λ n. n < bound) }
@@ -83,7 +84,7 @@ pub fn number_of(word: &[u8], bound: u64) -> Option<u64>
     }
 }
 
-/// Returns how many digits stand in front of the bytes, few at most, and the number that they write.
+/// Returns the number of digits at the front of the bytes, few at most, and the number that they write.
 #[inline(always)]
 fn digits_in_front(bytes: &[u8]) -> (usize, u64)
     ensures few { result.0 ≤ 9 }
@@ -103,8 +104,8 @@ fn digits_in_front(bytes: &[u8]) -> (usize, u64)
     (most, number)
 }
 
-/// Returns how many digits stand in front of the bytes, where these are few and spell a number below `bound`, and the
-/// number.
+/// Returns the number of digits at the front of the bytes, and the number that they spell. `None` if the digits are
+/// more than few, or don't spell a number below `bound`.
 #[inline(always)]
 pub(crate) fn number_in_front(bytes: &[u8], bound: u64) -> Option<(usize, u64)>
     ensures within { IfSome result (λ found. found.0 ≤ length bytes.now) }

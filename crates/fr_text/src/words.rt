@@ -9,8 +9,10 @@ use arrayvec::ArrayVec;
 use memchr::memchr;
 use std::marker::Model;
 
-/// The words that a line has left. The line is cut at each space, so an empty line has one word, the empty one, and a
-/// word is empty where a space stands beside another or at an end of the line.
+/// The words that a line has left.
+///
+/// The line is cut at each space. An empty line has one word, the empty one. A word is also empty between two spaces,
+/// and between a space and an end of the line.
 #[derive(Drop)]
 pub struct Words<'a> {
     rest: &'a [u8],
@@ -44,7 +46,7 @@ impl<'a> Words<'a> {
         }
     }
 
-    /// Takes the next word, from left to right. `None` comes when all words are taken, and from then on.
+    /// Takes the next word, from left to right. Returns `None` once all words are taken.
     pub fn next_word(&mut self) -> Option<&'a [u8]>
         ensures words { self.old ≡ option_to_list (option_copied result) ++ self.new }
         ensures end { IfNone result (self.old ≡ []) }
@@ -65,11 +67,12 @@ impl<'a> Words<'a> {
         }
     }
 
-    /// Takes the next word, from left to right, and gives the number below `bound` that it spells, as `number_of` reads
-    /// it, or else the word. `None` comes when all words are taken, and from then on.
+    /// Takes the next word, and gives the number below `bound` that it spells, or otherwise the word.
     ///
-    /// A number of few digits is read while the end of its word is looked for, and `-` stands for none in lines, so
-    /// both are reported without a search.
+    /// The number is the one that `number_of` reads. `None` once all words are taken.
+    ///
+    /// A number of few digits is read while the end of its word is sought, and a dash means "none" in lines. So both
+    /// are found without a search for the next space.
     #[inline(always)]
     pub fn next_number_or(&mut self, bound: u64) -> Option<Result<u64, &'a [u8]>>
         ensures number { IfSome result (λ r. IfOk r (λ n. first_in (number_in bound) self.old ≡ Some n)) }
@@ -106,8 +109,9 @@ impl<'a> Words<'a> {
         }
     }
 
-    /// Takes the next word, and gives the number below `bound` that it spells, as `number_of` reads it. `None` where it
-    /// spells none, and where all words are taken.
+    /// Takes the next word, and gives the number below `bound` that it spells.
+    ///
+    /// The number is the one that `number_of` reads. `None` if the word spells none, and once all words are taken.
     #[inline(always)]
     pub fn next_number(&mut self, bound: u64) -> Option<u64>
         ensures number { result ≡ first_in (number_in bound) self.old }
@@ -120,13 +124,14 @@ impl<'a> Words<'a> {
         }
     }
 
-    // Bytes that are read as their digits come save 2 to 4 % of an audit. A payload of a commit read so took 1 % more,
-    // so the word of a payload is found by `memchr` first.
-    /// Takes the next word, from left to right, and reads the bytes that it spells, at most `N`, in place of what the
-    /// bytes were, as `bytes_into` does, or else gives the word, and then what the bytes are isn't told. `None` comes
-    /// when all words are taken, and from then on.
+    // Bytes that are read as their digits come save 2 to 4 % of an audit. A payload of a commit that was read like this
+    // took 1 % more, so the word of a payload is found by `memchr` first.
+    /// Takes the next word and replaces the bytes by those that it spells, or otherwise gives the word.
     ///
-    /// Digits are read while the end of their word is looked for, so a word of digits is reported without a search.
+    /// At most `N` bytes are read, as `bytes_into` reads them. If the word is given, the bytes are unspecified. `None`
+    /// once all words are taken.
+    ///
+    /// Digits are read while the end of their word is sought, so a word of digits is found without a search.
     #[inline(always)]
     pub fn next_bytes_or<const N: usize>(
         &mut self,
@@ -161,7 +166,7 @@ impl<'a> Words<'a> {
         }
     }
 
-    /// Takes the next four words, from left to right. `None` where fewer are left, which are taken then.
+    /// Takes the next four words, from left to right. `None` if fewer are left; these are then taken.
     pub fn next_four(&mut self) -> Option<(&'a [u8], &'a [u8], &'a [u8], &'a [u8])>
         ensures found { IfSome result (λ words.
             self.old ≡ words.0.now ∷ words.1.now ∷ words.2.now ∷ words.3.now ∷ self.new) }
@@ -174,7 +179,7 @@ impl<'a> Words<'a> {
         Some((first, second, third, fourth))
     }
 
-    /// Takes the next five words, from left to right. `None` where fewer are left, which are taken then.
+    /// Takes the next five words, from left to right. `None` if fewer are left; these are then taken.
     pub fn next_five(&mut self) -> Option<(&'a [u8], &'a [u8], &'a [u8], &'a [u8], &'a [u8])>
         ensures found { IfSome result (λ words.
             self.old ≡ words.0.now ∷ words.1.now ∷ words.2.now ∷ words.3.now ∷ words.4.now ∷ self.new) }
@@ -185,7 +190,7 @@ impl<'a> Words<'a> {
         Some((first, second, third, fourth, fifth))
     }
 
-    /// Returns the two words that are left, from left to right. `None` where they are more or fewer.
+    /// Returns the two words that are left, from left to right. `None` if there are more or fewer.
     pub fn two(&mut self) -> Option<(&'a [u8], &'a [u8])>
         ensures found { IfSome result (λ words. self.old ≡ words.0.now ∷ words.1.now ∷ []) }
         ensures left { IfSome result (λ _. self.new ≡ []) }
@@ -197,7 +202,7 @@ impl<'a> Words<'a> {
         Some((first, second))
     }
 
-    /// Returns the three words that are left, from left to right. `None` where they are more or fewer.
+    /// Returns the three words that are left, from left to right. `None` if there are more or fewer.
     pub fn three(&mut self) -> Option<(&'a [u8], &'a [u8], &'a [u8])>
         ensures found { IfSome result (λ words. self.old ≡ words.0.now ∷ words.1.now ∷ words.2.now ∷ []) }
         ensures left { IfSome result (λ _. self.new ≡ []) }
@@ -210,7 +215,7 @@ impl<'a> Words<'a> {
         Some((first, second, third))
     }
 
-    /// Returns the four words that are left, from left to right. `None` where they are more or fewer.
+    /// Returns the four words that are left, from left to right. `None` if there are more or fewer.
     pub fn four(&mut self) -> Option<(&'a [u8], &'a [u8], &'a [u8], &'a [u8])>
         ensures found { IfSome result (λ words. self.old ≡ words.0.now ∷ words.1.now ∷ words.2.now ∷ words.3.now ∷ []) }
         ensures left { IfSome result (λ _. self.new ≡ []) }
@@ -221,7 +226,7 @@ impl<'a> Words<'a> {
         Some(words)
     }
 
-    /// Returns the five words that are left, from left to right. `None` where they are more or fewer.
+    /// Returns the five words that are left, from left to right. `None` if there are more or fewer.
     pub fn five(&mut self) -> Option<(&'a [u8], &'a [u8], &'a [u8], &'a [u8], &'a [u8])>
         ensures found { IfSome result (λ words.
             self.old ≡ words.0.now ∷ words.1.now ∷ words.2.now ∷ words.3.now ∷ words.4.now ∷ []) }
@@ -233,7 +238,7 @@ impl<'a> Words<'a> {
         Some(words)
     }
 
-    /// Returns whether all words are taken: `None` comes where the line has one more.
+    /// Checks that all words are taken: `None` if the line has another one.
     pub fn end(&self) -> Option<()>
         ensures none { IfSome result (λ _. self.now ≡ []) }
         ensures more { result ≡ ended self.now }
@@ -242,7 +247,7 @@ impl<'a> Words<'a> {
     }
 }
 
-/// Returns where the first space stands.
+/// Returns the place of the first space.
 fn space_in(line: &[u8]) -> Option<usize>
     ensures { result ≡ position is_space line.now }
 {

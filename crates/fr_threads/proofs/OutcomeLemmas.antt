@@ -1,5 +1,5 @@
--- That what is written is the outcome of a run with the scenario of a file, and that a run is refused as that with its
--- contents.
+-- The written text is the outcome of a run with the scenario of a file. The refusal of such a run is that of a run with
+-- the scenario's contents.
 use Rattle.std.proofs.Common.{◌≡◌, ℕ, Bool, List, Option, Some, None, Ok, Err, refl}
 use Rattle.std.specs.Prelude.{IfSome, not}
 use Rattle.std.specs.Io.KnownBytes.{Appends}
@@ -16,7 +16,7 @@ use Rattle.fr_schedule.specs.Descriptions.{Description}
 use Rattle.fr_threads.specs.declared.run.Run.{Run}
 use Rattle.fr_threads.specs.Running.{IsRunOf}
 
--- a file that is refused is refused by the command
+-- the command rejects a file that is no scenario
 not_read : (d : Description) (cycles : ℕ) (text : List ℕ) (e : FileError) → IsScenarioOf text (Err e)
     → Answers d cycles text (Err (file_failure e))
 not_read d cycles text (file.Scenario e) is = is
@@ -46,7 +46,7 @@ unwritten d cycles free text old new (file.Text bench.BadNumber) same = same
 unwritten d cycles free text old new (file.Text (bench.Config e)) same = same
 unwritten d cycles free text old new (file.Text (bench.Midpoint e)) same = same
 
--- what was written is the outcome of a run with the scenario that the text is
+-- the written text is the outcome of a run with the scenario that the text spells
 pub printed : (d : Description) (cycles : ℕ) (free : Bool) (text old new : Option (List ℕ)) (contents : Contents)
     (run : Run)
     → IfSome text (λ t. IsScenarioOf t (Ok contents)) → IsRunOf d contents.scripts contents.faults cycles (not free) run
@@ -58,7 +58,7 @@ printed d cycles free (Some t) old new contents run of_text is_run written = (
   written,
 )
 
--- the run with the scenario that the text is, is refused as the run with its contents
+-- the run with the scenario that the text spells is refused as the run with its contents
 pub run_refused : (d : Description) (cycles : ℕ) (text : Option (List ℕ)) (contents : Contents)
     (told : Option RunRefusal)
     → IfSome text (λ t. IsScenarioOf t (Ok contents)) → Refuses d contents.scripts contents.faults cycles told

@@ -1,16 +1,16 @@
--- What the steps of the pace come to.
+-- The result of several steps of the cycle barrier.
 use Rattle.std.proofs.Common.{◌≡◌, ℕ, zero, suc, ◌-◌, Bool, true, false, cond, Some, refl, ap, arith, ◌∙◌}
 use Rattle.std.specs.Prelude.{nat_le}
 use Rattle.std.proofs.lemmas.Bool.Decides.{nat_tests}
 use Rattle.fr_threads.specs.declared.pace.Progress.{Progress}
 use Rattle.fr_threads.specs.Pacing.{is_last, arrived, task_done}
 
--- so many times the same step
+-- the same step, `n` times
 unfoldable pub repeated : (Progress → Progress) → ℕ → Progress → Progress
 repeated f zero p = p
 repeated f (suc k) p = repeated f k (f p)
 
--- once each task that has lines has done them none is busy
+-- once each task that has lines has executed them, none is busy
 pub all_done : (k : ℕ) (p : Progress) → p.busy ≡ k → (repeated task_done k p).busy ≡ 0
 unfolding repeated
 all_done zero p busy = busy
@@ -23,7 +23,7 @@ module _ (nodes cycle tasks : ℕ) where
   abbrev pub one_less : Progress → Progress
   one_less p = record p { missing = p.missing - 1 }
 
-  -- With the last of the controllers, and not before, the lines of the cycle are due, and the tasks that have some are
+  -- When the last controller arrives, and not before, the lines of the cycle are due, and the tasks that have some are
   -- busy.
   pub all_came : (k : ℕ) (p : Progress) → p.missing ≡ suc k → repeated (arrived nodes cycle tasks) (suc k) p ≡ all_due p
   unfolding repeated

@@ -1,4 +1,4 @@
--- Which failure of a run is reported, and as what (project-defined).
+-- The failure of a run that is reported, and its error (project-defined).
 use Rattle.std.specs.Prelude.{◌≡◌, ℕ, nat_lt, List, Option, Some, None, Result, Ok, Err, if◌then◌else◌}
 use Rattle.std.specs.List.{fold}
 use Rattle.fr_bus.specs.declared.error.BusError.{BusError}
@@ -13,7 +13,7 @@ use Rattle.fr_threads.specs.declared.failure.Failure.{Failure}
 use Rattle.fr_threads.specs.declared.failure.Failure.TheVariants.{Host, Slot, Bus, Thread, Settle, Memory, Stopped}
 use Rattle.fr_threads.specs.declared.run.Run.{Run}
 
--- ---- of several failures one
+-- ---- one of several failures
 
 abbrev pub rank : Failure → ℕ
 rank (Host e) = 0
@@ -24,7 +24,7 @@ rank (Settle e) = 4
 rank Memory = 5
 rank Stopped = 6
 
--- the one of the lesser rank, and of two of one rank the earlier
+-- the failure of the lesser rank; of two failures of one rank, the earlier
 abbrev pub least_of : Option Failure → Failure → Failure
 least_of None failure = failure
 least_of (Some earlier) failure = if nat_lt (rank failure) (rank earlier) then failure else earlier
@@ -33,13 +33,13 @@ abbrev pub told_after : Option Failure → Option Failure → Option Failure
 told_after earlier None = earlier
 told_after earlier (Some failure) = Some (least_of earlier failure)
 
--- of those that failed the first of the least rank
+-- the first failure of the least rank
 abbrev pub told_of_all : List (Option Failure) → Option Failure
 told_of_all failures = fold told_after None failures
 
--- ---- as what it is reported
+-- ---- the error of a failure
 
--- a failed allocation is one failure wherever it was met
+-- a failed allocation is one failure, wherever it occurred
 abbrev pub failure_of_bus : BusError → Failure
 failure_of_bus bus.Memory = Memory
 failure_of_bus e = Bus e
@@ -60,7 +60,7 @@ abbrev pub error_of_settling : SettleError → RunError
 error_of_settling settle.Memory = told.Memory
 error_of_settling e = told.Settle e
 
--- a run in which every thread was stopped has none that failed, and didn't come to its end
+-- a run in which every thread was stopped has no failed thread, and didn't come to its end
 abbrev pub error_of : Failure → RunError
 error_of (Host e) = told.Host e
 error_of (Slot e) = told.Slot e
@@ -70,7 +70,7 @@ error_of (Settle e) = error_of_settling e
 error_of Memory = told.Memory
 error_of Stopped = told.Thread
 
--- a failed allocation isn't told as a refusal of the bus or of the cross-check
+-- a failed allocation isn't reported as a refusal of the bus or of the cross-check
 abbrev pub IsMemoryTold : RunError → Type 0
 IsMemoryTold (told.Bus e) = ¬ (e ≡ bus.Memory)
 IsMemoryTold (told.Settle e) = ¬ (e ≡ settle.Memory)

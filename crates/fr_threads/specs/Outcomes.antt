@@ -1,4 +1,4 @@
--- What `run` does with the text of a scenario (project-defined).
+-- The effect of `run` on the text of a scenario (project-defined).
 use Rattle.std.specs.Prelude.{⊤, ◌≡◌, ◌<◌, ℕ, Bool, not, List, length, Option, None, IfSome, Result, Ok, Err}
 use Rattle.std.specs.Io.KnownBytes.{Appends}
 use Rattle.fr_commands.specs.ClusterFiles.{IsClusterOf}
@@ -18,15 +18,15 @@ use Rattle.fr_threads.specs.Running.{IsRunOf, refusal_of}
 
 -- ---- the file of a scenario
 
--- an error of a scenario file as one of the command
+-- an error of a scenario file, as an error of the command
 abbrev pub file_failure : FileError → OutcomeError
 file_failure (file.Text e) = refusal.Text e
 file_failure (file.Scenario e) = refusal.Scenario e
 
 -- ---- the outcome
 
--- This is the outcome of a run of the cluster for so many cycles, free or stepped, with the scenario that the text is:
--- with its scripts, and with its faults and no others.
+-- This is the outcome of a run of the cluster for this number of cycles, free-running or in lockstep, with the scenario
+-- that the text spells. The run has the scenario's scripts, and exactly its faults.
 pub record IsOutcome (d : Description) (cycles : ℕ) (free : Bool) (text outcome : List ℕ) : Type 0 where
   pub contents : Contents
   pub spelled : IsScenarioText text contents
@@ -38,8 +38,8 @@ pub record IsOutcome (d : Description) (cycles : ℕ) (free : Bool) (text outcom
 abbrev pub Adds : Description → ℕ → Bool → Option (List ℕ) → Option (List ℕ) → List ℕ → Type 0
 Adds d cycles free old new text = (outcome : List ℕ) × IsOutcome d cycles free text outcome × Appends old new outcome
 
--- Where the text of the scenario is known, it was the outcome of a run with it that was written. A refusal but `Write`
--- leaves the writer as it was.
+-- If the text of the scenario is known, the outcome of a run with it was written. A refusal other than `Write` leaves
+-- the writer unchanged.
 abbrev pub Prints : Description → ℕ → Bool → Option (List ℕ) → Option (List ℕ) → Option (List ℕ)
     → Result (Unit {0}) OutcomeError
     → Type 0
@@ -47,10 +47,10 @@ Prints d cycles free text old new (Ok done) = IfSome text (Adds d cycles free ol
 Prints d cycles free text old new (Err (refusal.Text bench.Write)) = ⊤
 Prints d cycles free text old new (Err e) = new ≡ old
 
--- ---- why nothing was written
+-- ---- the reason why no outcome was written
 
--- The text of the scenario is refused so, or the run with it, or neither is. Of a failing reader and of a failed
--- allocation nothing is said, nor of a failure that threads met in a run that the cluster accepts.
+-- The text of the scenario is rejected with this error, or the run with it, or the cluster accepts the run. Nothing is
+-- stated for a failing reader, a failed allocation, or a failure of threads in a run that the cluster accepts.
 abbrev pub Answers : Description → ℕ → List ℕ → Result (Unit {0}) OutcomeError → Type 0
 Answers d cycles text (Ok done) = RunIsRefused d cycles text None
 Answers d cycles text (Err (refusal.Run e)) = RunIsRefused d cycles text (refusal_of e)
@@ -63,7 +63,7 @@ Answers d cycles text (Err e) = ⊥
 
 -- ---- a cluster file and a scenario
 
--- The cluster file is refused so, and neither is a byte of the scenario read nor anything written.
+-- The cluster file is rejected with this error, no byte of the scenario is read, and nothing is written.
 pub record IsFileRefused (file text rest old new : Option (List ℕ))
     (answer : Result (Unit {0}) OutcomeError) : Type 0 where
   pub error : BenchError
@@ -72,7 +72,7 @@ pub record IsFileRefused (file text rest old new : Option (List ℕ))
   pub unread : rest ≡ text
   pub unwritten : new ≡ old
 
--- The cluster file describes a cluster, with which this is what `run` does.
+-- The cluster file describes a cluster, and this is the effect of `run` with it.
 pub record IsFileRun (file : Option (List ℕ)) (cycles : ℕ) (free : Bool) (text old new : Option (List ℕ))
     (answer : Result (Unit {0}) OutcomeError)
     : Type 0 where

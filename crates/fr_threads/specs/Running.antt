@@ -1,4 +1,4 @@
--- What a run in threads answers (project-defined).
+-- The result of a run in threads (project-defined).
 use Rattle.std.specs.Prelude.{◌≡◌, ℕ, Bool, true, List, length, map, Option, Some, None, IsSome, Result, Ok, Err}
 use Rattle.std.specs.Prelude.{option_map, slice_get}
 use Rattle.std.specs.List.{All}
@@ -43,7 +43,7 @@ pub record AreAnswered (given scripts : List Scripted) : Type 0 where
   pub same_lines : map bare_script scripts ≡ map bare_script given
   pub answered : All (λ (s : Scripted). All IsAnswered s.lines) scripts
 
--- the answers that a task of a node got, where these are those of all tasks of all nodes
+-- the answers that a task of a node got, from those of all tasks of all nodes
 abbrev pub replies_at : List (Vec (Vec Reply)) → ℕ → ℕ → Option (List Reply)
 replies_at answers node task =
     option_map (λ (replies : Vec Reply). replies.items)
@@ -51,7 +51,7 @@ replies_at answers node task =
 
 -- ---- refusals
 
--- why the run can't be had, where the error says that
+-- the reason why the cluster doesn't accept the run, if the error is such a reason
 abbrev pub refusal_of : RunError → Option RunRefusal
 refusal_of BadCycles = Some refusal.BadCycles
 refusal_of (BadScript place) = Some (refusal.BadScript place)
@@ -68,20 +68,21 @@ abbrev pub refusal_told : Result Run RunError → Option RunRefusal
 refusal_told (Ok run) = None
 refusal_told (Err e) = refusal_of e
 
--- The run is refused exactly where it can't be had, and as that is reported.
+-- The run is refused exactly if the cluster doesn't accept it, and with that reason.
 abbrev pub RefusesRun : Description → List Scripted → List FaultLine → ℕ → Result Run RunError → Type 0
 RefusesRun d scripts faults cycles answer = Refuses d scripts faults cycles (refusal_told answer)
 
 -- ---- a run
 
--- This is what a run of the cluster with these scripts, these fault lines and so many cycles leaves, stepped or free.
+-- These are the results of a run of the cluster with these scripts, these fault lines and this number of cycles, in
+-- lockstep or free-running.
 pub record IsRunOf (d : Description) (given : List Scripted) (lines : List FaultLine) (cycles : ℕ) (is_stepped : Bool)
     (run : Run) : Type 0 where
   -- the interfaces are those of the cluster's nodes, and their journals and the scripts agree with the record
   pub agrees : Agrees d run.interfaces.items run.bus.sealed run.scripts.items
-  -- all windows of the record were settled
+  -- all windows of the record were cross-checked
   pub windows : run.settled.windows ≡ length run.bus.sealed
-  -- from a fault-free slot receivers hold what its owner committed
+  -- a frame that a receiver holds from a fault-free slot was committed by the slot's owner
   pub receivers : Receivers d run.interfaces.items run.bus.sealed
   -- no static slot of a guarded channel carried two senders
   pub one_sender : OneSenderEach d run.bus.sealed
@@ -89,11 +90,12 @@ pub record IsRunOf (d : Description) (given : List Scripted) (lines : List Fault
   pub commits : run.commits.items ≡ map commits_of run.interfaces.items
   -- the bus came to its end
   pub finished : run.bus.phase ≡ Finished
-  -- the record has so many windows of static slot 1
+  -- the record has this number of windows of static slot 1
   pub cycles_done : cycles_begun run.bus.sealed ≡ cycles
   -- the scripts are the given ones, and every line has an answer
   pub scripts : AreAnswered given run.scripts.items
   -- each window of the record has the faults of the lines that take effect there, and no others
   pub faults : HaveFaults lines run.bus.sealed
-  -- in a stepped run each line of the scripts was done in its cycle, between all windows before it and its first
+  -- in a lockstep run, each line of the scripts was executed in its cycle, before its first window and after all
+  -- earlier windows
   pub stepped : is_stepped ≡ true → AreStepped run.bus.sealed given run.interfaces.items

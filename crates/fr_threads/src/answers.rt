@@ -9,7 +9,7 @@ use fr_core::event::Reply;
 use fr_core::script::{Action, Line, Script};
 use std::alloc::Global;
 
-/// The same reply.
+/// Returns a copy of the reply.
 fn duplicate_reply(reply: &Reply) -> Reply
     ensures { result ≡ reply.now }
 {
@@ -40,7 +40,7 @@ fn answered_lines(alloc: Global, lines: &[Line], replies: &[Reply]) -> Result<Ve
     ensures given { IfOk result (λ list. map bare list.items ≡ map bare lines.now) }
     ensures answered { IfOk result (λ list. All IsAnswered list.items) }
 {
-    // A task that was joined has answered each line, but what a thread hands back says nothing of how it came about.
+    // A task that was joined has answered each line, but the type of a thread's result doesn't show this.
     if lines.len() != replies.len() {
         return Err(Failure::Thread);
     }
@@ -51,7 +51,7 @@ fn answered_lines(alloc: Global, lines: &[Line], replies: &[Reply]) -> Result<Ve
     Ok(list)
 }
 
-/// Returns the answers that the script's task got, where these are those of all tasks of all nodes.
+/// Returns the answers that the script's task got, from those of all tasks of all nodes.
 fn replies_to<'a>(script: &Script, answers: &'a [Vec<Vec<Reply>>]) -> Option<&'a [Reply]>
     ensures { option_map (λ replies. replies.now) result ≡ replies_at answers.now script.now.node script.now.task }
 {
@@ -69,7 +69,7 @@ fn answered_script(
     ensures given { IfOk result (λ s. bare_script s ≡ bare_script script.now) }
     ensures answered { IfOk result (λ s. All IsAnswered s.lines) }
 {
-    // The script suits the cluster, and each node and task was joined; neither stands in a type.
+    // The script suits the cluster, and each node and task was joined. Neither fact stands in a type.
     let Some(replies) = replies_to(script, answers) else {
         return Err(Failure::Thread);
     };

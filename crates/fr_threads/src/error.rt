@@ -1,4 +1,4 @@
-//! Why a run is refused, or fails.
+//! Reasons why a run is refused, or fails.
 
 ghost use Rattle.std.specs.Prelude.{◌≡◌, Some, None};
 ghost use Rattle.fr_threads.specs.Failures.{error_of, IsMemoryTold};
@@ -12,7 +12,7 @@ use fr_runs::check::RunRefusal;
 use fr_slots::numbers::NodeId;
 use thiserror::Error;
 
-/// Why a run is refused, or fails (project-defined).
+/// Reasons why a run is refused, or fails (project-defined).
 #[derive(Clone, Copy, Debug, PartialEq, Eq, Error)]
 pub enum RunError {
     /// The number of cycles is 0 or above 1024.
@@ -36,14 +36,14 @@ pub enum RunError {
     /// The bus refused a call.
     #[error("Bus {0}")]
     Bus(BusError),
-    /// The thread of a task, a controller or the bus couldn't be started, or the bus didn't come to its end with the
-    /// run's faults and, in a stepped run, each line in its cycle.
+    /// The thread of a task, a controller or the bus couldn't be started. Or the bus didn't come to its end with the
+    /// run's faults and, in a lockstep run, each line in its cycle.
     #[error("Thread")]
     Thread,
-    /// What the threads left doesn't agree.
+    /// The results of the threads don't agree.
     #[error("Settle {0}")]
     Settle(SettleError),
-    /// Memory was refused.
+    /// An allocation failed.
     #[error("Memory")]
     Memory,
 }
@@ -61,8 +61,9 @@ pub(crate) fn error_of_refusal(refusal: RunRefusal) -> RunError
     }
 }
 
-/// Returns the failure as an error. A run in which every thread was stopped has none that failed, and didn't come to
-/// its end.
+/// Returns the failure as an error.
+///
+/// A run in which every thread was stopped has no failed thread, and didn't come to its end.
 pub(crate) fn error_of_failure(failure: Failure) -> RunError
     ensures error { result ≡ error_of failure }
     ensures no_refusal { refusal_of result ≡ None }

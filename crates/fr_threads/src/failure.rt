@@ -1,4 +1,4 @@
-//! Why threads of a run end before it is over.
+//! Reasons why threads of a run end before it is over.
 
 ghost use Rattle.std.specs.Prelude.{◌≡◌, IfNone, IsOk};
 ghost use Rattle.std.specs.Result.{result_err};
@@ -12,7 +12,7 @@ use fr_desks::wire::WireError;
 use fr_interface::errors::{HostError, InterfaceError, SlotError};
 use std::alloc::AllocError;
 
-/// Why a thread of a run, or the run, ends before it is over.
+/// Reasons why a thread of a run, or the run, ends before it is over.
 #[derive(Clone, Copy, PartialEq, Eq)]
 pub(crate) enum Failure {
     /// An interface refused the call of a task.
@@ -23,15 +23,15 @@ pub(crate) enum Failure {
     Bus(BusError),
     /// A thread couldn't be started, or the bus didn't come to its end.
     Thread,
-    /// What the threads left doesn't agree.
+    /// The results of the threads don't agree.
     Settle(SettleError),
-    /// Memory was refused.
+    /// An allocation failed.
     Memory,
     /// Another thread failed.
     Stopped,
 }
 
-/// Returns its rank among several: that of the least number is reported.
+/// Returns the rank of a failure: of several failures, the one of the least rank is reported.
 fn rank(failure: &Failure) -> u8
     ensures { result ≡ rank failure.now }
 {
@@ -46,7 +46,7 @@ fn rank(failure: &Failure) -> u8
     }
 }
 
-/// Of a failure and the one before it the one that is to be told.
+/// Returns the one of two failures that is reported.
 pub(crate) fn least_of(earlier: Option<Failure>, failure: Failure) -> Failure
     ensures { result ≡ least_of earlier failure }
 {
@@ -62,7 +62,7 @@ pub(crate) fn least_of(earlier: Option<Failure>, failure: Failure) -> Failure
     }
 }
 
-/// Of a thread's answer and a failure before it the failure that is to be told.
+/// Returns the failure that is reported, of a thread's result and a failure before it.
 pub(crate) fn told_with(earlier: Option<Failure>, answer: Result<(), Failure>) -> Option<Failure>
     ensures told { result ≡ told_after earlier (result_err answer) }
     ensures none { IfNone result (IsOk answer) }
@@ -73,7 +73,7 @@ pub(crate) fn told_with(earlier: Option<Failure>, answer: Result<(), Failure>) -
     }
 }
 
-/// Returns the failure that a refusal of the bus is.
+/// Returns the failure for a refusal of the bus.
 fn failure_of_bus(error: BusError) -> Failure
     ensures { result ≡ failure_of_bus error }
 {

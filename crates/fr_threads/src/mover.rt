@@ -14,7 +14,7 @@ use std::alloc::Global;
 use std::sync::Wait;
 use std::time::Clock;
 
-/// Injects the faults that come in this window, which lies in the run's cycle of this number.
+/// Injects the faults of this window, which lies in the run's cycle of this number.
 fn inject_all<R: Wait + Clock>(
     rt: &R,
     wire: &Wire,
@@ -41,7 +41,7 @@ fn move_on<R: Wait + Clock, G: Gate>(
     let mut begun = 0u16;
     let mut kept = Vec::new(alloc);
     for _ in rt.forever() {
-        // A look changes nothing, and each node sees the same window.
+        // `next` changes nothing, and each node gets the same window.
         let Some(window) = wire.next(rt, NodeId::from_number(0))? else {
             return Ok(());
         };
@@ -56,7 +56,7 @@ fn move_on<R: Wait + Clock, G: Gate>(
     unreachable!()
 }
 
-/// The thread of the bus. Where it fails the run is stopped.
+/// Runs the thread of the bus. If it fails, the run is stopped.
 pub(crate) fn run_bus<R: Wait + Clock, G: Gate>(
     rt: &R,
     alloc: Global,

@@ -29,8 +29,9 @@ use std::thread;
 use std::thread::{JoinHandle, Scope, Threads};
 use std::time::Clock;
 
-/// What a node leaves: its interface, the posts of all its shares, which are the interface's commits, and the answers
-/// that each of its tasks got.
+/// The results of a node: its interface, the posts of its shares, and the answers of its tasks.
+///
+/// The posts are the interface's commits.
 #[derive(Drop)]
 pub(crate) struct NodeDone {
     pub interface: Interface,
@@ -39,14 +40,14 @@ pub(crate) struct NodeDone {
     pub ghost counted: { commits ≡ commits_of interface },
 }
 
-/// What a node's tasks leave, in their order.
+/// The results of a node's tasks, in their order.
 #[derive(Drop)]
 struct TasksDone<L: Ledger> {
     shares: Vec<Share<L>>,
     answers: Vec<Vec<Reply>>,
 }
 
-/// What a node's tasks hand back, in their order.
+/// The values that a node's tasks return, in their order.
 #[derive(Drop)]
 struct TasksJoined<L: Ledger> {
     shares: Vec<Share<L>>,
@@ -54,7 +55,7 @@ struct TasksJoined<L: Ledger> {
 }
 
 impl<L: Ledger> TasksJoined<L> {
-    /// Room for what so many tasks hand back.
+    /// Returns room for the values of this number of tasks.
     fn with_room(alloc: Global, count: usize) -> Result<TasksJoined<L>, AllocError>
         ensures no_shares { IfOk result (λ joined. vec_len joined.shares ≡ 0) }
         ensures no_answers { IfOk result (λ joined. vec_len joined.answers ≡ 0) }
@@ -68,7 +69,7 @@ impl<L: Ledger> TasksJoined<L> {
     }
 }
 
-/// Does all that the controller does in the run.
+/// Executes all steps of the controller in the run.
 fn control<L: Ledger, R: Wait + Clock, G: Gate>(
     rt: &R,
     desk: &Desk<L>,
@@ -97,7 +98,7 @@ fn control<L: Ledger, R: Wait + Clock, G: Gate>(
     unreachable!()
 }
 
-/// Starts the thread of each task. Where one can't be started those before it run.
+/// Starts the thread of each task. If one can't be started, those before it run.
 fn start_tasks<'s, E, L: Ledger + Send + Sync, R: Wait + Sync, G: Gate + Sync>(
     scope: &'s Scope<'s, E>,
     alloc: Global,
@@ -129,7 +130,7 @@ fn start_tasks<'s, E, L: Ledger + Send + Sync, R: Wait + Sync, G: Gate + Sync>(
     Ok(())
 }
 
-/// Joins the tasks, in their order. There is room for what they hand back.
+/// Joins the tasks, in their order. There is room for their values.
 fn join_tasks<L: Ledger, R: Threads>(
     rt: &R,
     running: Vec<JoinHandle<TaskDone<L>>>,
@@ -147,8 +148,9 @@ fn join_tasks<L: Ledger, R: Threads>(
     }
 }
 
-/// Keeps the answers of those that didn't fail, and answers which failure of the others is to be told. There is room
-/// for all.
+/// Keeps the answers of tasks that didn't fail, and returns the failure that is reported.
+///
+/// There is room for all answers.
 fn keep_answers(
     answers: Vec<Result<Vec<Reply>, Failure>>,
     kept: &mut Vec<Vec<Reply>>,
@@ -166,8 +168,9 @@ fn keep_answers(
     told
 }
 
-/// Returns what the tasks leave, if neither they nor their controller failed, and else the failure that is to be told.
-/// There is room for their answers.
+/// Returns the results of the tasks, or the failure that is reported.
+///
+/// It is reported if one of the tasks or their controller failed. There is room for their answers.
 fn all_answered<L: Ledger>(
     joined: TasksJoined<L>,
     ended: Result<(), Failure>,
@@ -188,7 +191,7 @@ fn all_answered<L: Ledger>(
     }
 }
 
-/// Runs the node's tasks and its controller, and joins them. Where one of them fails the run is stopped.
+/// Runs the node's tasks and its controller, and joins them. If one of them fails, the run is stopped.
 fn serve<'s, E, L: Ledger + Send + Sync, R: Threads + Wait + Clock + Sync, G: Gate + Sync>(
     scope: &'s Scope<'s, E>,
     alloc: Global,
@@ -232,7 +235,7 @@ fn run_in_scope<L: Ledger + Send + Sync, R: Threads + Wait + Clock + Sync, G: Ga
     )
 }
 
-/// Opens the node's desk, runs its tasks and its controller, closes the desk and gathers the shares.
+/// Opens the node's `Desk`, runs its tasks and its controller, and gathers the shares.
 fn run_desk<L: Ledger + Send + Sync, R: Threads + Wait + Clock + Sync, G: Gate + Sync>(
     alloc: Global,
     common: &Common<'_, R, G>,
@@ -263,7 +266,7 @@ fn run_ledger<R: Threads + Wait + Clock + Sync, G: Gate + Sync>(
     common: &Common<'_, R, G>,
     number: u8,
 ) -> Result<NodeDone, Failure> {
-    // A node that the cluster doesn't have has no thread, but neither its number nor its thread says so.
+    // A node that the cluster doesn't have has no thread, but the type of a number doesn't show this.
     let Some(node) = NodeId::new(number) else {
         return Err(Failure::Thread);
     };
@@ -275,7 +278,7 @@ fn run_ledger<R: Threads + Wait + Clock + Sync, G: Gate + Sync>(
     run_desk::<Brand, R, G>(alloc, common, Blank::new(parts), interface, node)
 }
 
-/// Returns the thread of the node of this number. Where it fails the run is stopped.
+/// Runs the thread of the node of this number. If it fails, the run is stopped.
 pub(crate) fn run_node<R: Threads + Wait + Clock + Sync, G: Gate + Sync>(
     rt: &R,
     alloc: Global,

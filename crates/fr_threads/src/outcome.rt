@@ -17,11 +17,14 @@ use std::sync::Wait;
 use std::thread::Threads;
 use std::time::Clock;
 
-/// Reads a scenario file to its end, runs the cluster with it for so many cycles, and writes each node's report, the
-/// number of windows and that all agrees (project-defined). A free run does a task's lines at any moment, and any other
-/// each in its cycle.
+/// Runs the cluster with the scenario of a file, and writes the outcome (project-defined).
 ///
-/// Refused as the file of the scenario is, then as the run is. On every refusal but `Write` nothing is written.
+/// The scenario file is read to its end.
+///
+/// The outcome is each node's report, the number of windows and `settled`. In a free-running run a task's lines are
+/// executed at any moment, in a lockstep run each in its cycle.
+///
+/// Returns the error of the scenario's file, then that of the run. Nothing is written on an error other than `Write`.
 #[tactic(auto, using(crate::proofs::OutcomeLemmas::not_read_of, crate::proofs::OutcomeLemmas::unwritten))]
 pub fn run_cluster<T: Threads + Wait + Clock + Sync, R: Read, W: Write>(
     rt: &T,
@@ -52,14 +55,14 @@ pub fn run_cluster<T: Threads + Wait + Clock + Sync, R: Read, W: Write>(
     let windows = run.settled.windows as usize;
     match write_outcome(&mut text, run.interfaces.as_slice(), windows) {
         Ok(()) => Ok(write_whole(writer, text.as_slice())?),
-        // A list of bytes takes no more only if an allocation fails.
+        // A list of bytes fails to grow only if an allocation fails.
         Err(_) => Err(OutcomeError::Text(BenchError::Memory)),
     }
 }
 
-/// Reads a cluster file to its end, and then does the same with it (project-defined).
+/// Reads a cluster file to its end, and then executes `run` with the cluster (project-defined).
 ///
-/// Refused as the file of the cluster is before a byte of the scenario is read.
+/// If the cluster's file is rejected, no byte of the scenario is read.
 pub fn run_text<T: Threads + Wait + Clock + Sync, F: Read, R: Read, W: Write>(
     rt: &T,
     alloc: Global,

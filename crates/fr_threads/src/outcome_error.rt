@@ -1,4 +1,4 @@
-//! Why the outcome of a run isn't printed.
+//! Reasons why the outcome of a run isn't printed.
 
 ghost use Rattle.std.specs.Prelude.{◌≡◌};
 ghost use Rattle.fr_threads.specs.declared.outcome_error.OutcomeError.TheVariants as refusal;
@@ -10,16 +10,16 @@ use fr_outcome::file_error::FileError;
 use fr_scenario::error::ScenarioError;
 use thiserror::Error;
 
-// `BenchError` would have to stand above the threads to hold these errors.
-/// Why `run` hasn't printed the outcome of a run (project-defined). Printed, it is the error's name, and for an error
-/// of a crate below the names and values of that error.
+// `BenchError` would have to depend on the threads to hold these errors.
+/// Reasons why `run` didn't print the outcome of a run (project-defined).
+///
+/// An error prints as its name. An error of a crate below prints as the names and values of that error.
 #[derive(Clone, Copy, Debug, Drop, PartialEq, Eq, Error)]
 pub enum OutcomeError {
-    /// The cluster file is refused, an input couldn't be read or was too long, the output couldn't be written, or
-    /// memory was refused.
+    /// The cluster file is rejected, a stream failed, an input is too long, or an allocation failed.
     #[error("{0}")]
     Text(BenchError),
-    /// The scenario file is refused.
+    /// The scenario file is rejected.
     #[error("{0}")]
     Scenario(ScenarioError),
     /// The run is refused, or failed.

@@ -1,4 +1,4 @@
-//! The pace of a stepped run: a cycle's script lines come between the cycle before and its first fetch.
+//! The cycle barrier of a lockstep run: a cycle's script lines come between the cycle before and its first fetch.
 
 ghost use Rattle.std.specs.Prelude.{◌≡◌};
 ghost use Rattle.fr_threads.specs.Pacing.{is_due};
@@ -10,25 +10,26 @@ use std::sync::{Condvar, Mutex, Wait};
 /// A cycle of the run.
 #[derive(Drop)]
 struct Turn {
-    /// How many tasks have lines in it.
+    /// The number of tasks that have lines in it.
     tasks: u16,
-    /// Its lines are due, or the run was stopped. Each cycle has its own, so that only its tasks are woken.
+    /// The signal that its lines are due, or the run was stopped. Each cycle has its own, so that only its tasks are
+    /// woken.
     due: Condvar,
 }
 
-/// How far the run has come.
+/// The progress of a run.
 #[derive(Drop)]
 pub(crate) struct Progress {
-    /// How many controllers are still to come for the cycle that they are to begin.
+    /// The number of controllers that are still missing for the cycle that they are to begin.
     pub missing: u8,
-    /// The cycle whose lines came due last, if any did.
+    /// The cycle whose lines came due last, if there is one.
     pub due: Option<u16>,
-    /// How many tasks have lines of that cycle, and haven't done all of them.
+    /// The number of tasks that have lines of that cycle and haven't executed all of them.
     pub busy: u16,
     pub stopped: bool,
 }
 
-/// Returns whether the lines of the cycle came due, where those of this one came due last.
+/// Returns whether the lines of the cycle came due, given the cycle whose lines came due last.
 fn is_due(cycle: u16, due: Option<u16>) -> bool
     ensures { result ≡ is_due cycle due }
 {
@@ -42,22 +43,22 @@ impl Progress {
     ghost use Rattle.std.specs.Prelude.{◌≡◌, ◌==◌};
     ghost use Rattle.fr_threads.specs.Pacing.{awaits_due, awaits_done, is_last, arrived, task_done, halted};
 
-    /// Returns whether a task that has lines in the cycle waits for them to be due.
+    /// Returns whether a task that has lines in the cycle waits until they are due.
     fn awaits_due(&self, cycle: u16) -> bool
         ensures { result ≡ awaits_due cycle self.now }
     {
         !is_due(cycle, self.due) && !self.stopped
     }
 
-    /// Returns whether a controller that is to begin the cycle waits for its lines to be done.
+    /// Returns whether a controller that is to begin the cycle waits until its lines are executed.
     fn awaits_done(&self, cycle: u16) -> bool
         ensures { result ≡ awaits_done cycle self.now }
     {
         (!is_due(cycle, self.due) || self.busy > 0) && !self.stopped
     }
 
-    /// Counts a controller that is to begin the cycle, and answers whether it is the last, with which the lines are
-    /// due.
+    /// Counts a controller that is to begin the cycle, and returns whether it is the last. With the last one the lines
+    /// are due.
     fn arrive(&mut self, nodes: u8, cycle: u16, tasks: u16) -> bool
         ensures last { result ≡ is_last self.old }
         ensures after { self.new ≡ arrived nodes cycle tasks self.old }
@@ -72,8 +73,9 @@ impl Progress {
         true
     }
 
-    /// Counts a task that has done its lines of the cycle that came due last, and answers whether none is left that
-    /// hasn't.
+    /// Counts a task that has executed its lines of the cycle, and returns whether it is the last.
+    ///
+    /// The cycle is the one whose lines came due last.
     fn finish_task(&mut self) -> bool
         ensures none_left { result ≡ (self.new.busy == 0) }
         ensures after { self.new ≡ task_done self.old }
@@ -82,7 +84,7 @@ impl Progress {
         self.busy == 0
     }
 
-    /// From now on nobody waits.
+    /// Stops the run: from now on no thread waits.
     fn stop(&mut self)
         ensures { self.new ≡ halted self.old }
     {
@@ -90,18 +92,21 @@ impl Progress {
     }
 }
 
-/// When tasks may do the lines of a cycle, and controllers fetch in it. For a cycle in which no task has lines nobody
-/// waits.
+/// The cycle barrier: tasks wait for the lines of a cycle, and controllers for the fetches in it.
+///
+/// In a cycle without lines, no thread waits.
 #[derive(Drop)]
 pub(crate) struct Pace {
     nodes: u8,
     turns: Vec<Turn>,
     progress: Mutex<Progress>,
-    /// All tasks have done their lines of the cycle that came due last, or the run was stopped.
+    /// The signal that all tasks have executed their lines, or the run was stopped.
+    ///
+    /// The lines are those of the cycle that came due last.
     done: Condvar,
 }
 
-/// Returns a turn for each of so many cycles, in which no task has lines.
+/// Returns a turn for each cycle, in which no task has lines.
 fn idle_turns(alloc: Global, cycles: u16) -> Result<Vec<Turn>, AllocError> {
     let mut turns = Vec::new(alloc);
     for _cycle in 0..cycles {
@@ -113,7 +118,7 @@ fn idle_turns(alloc: Global, cycles: u16) -> Result<Vec<Turn>, AllocError> {
     Ok(turns)
 }
 
-/// Counts a task in each cycle in which it has lines, which stand in order of their cycles.
+/// Counts a task in each cycle in which it has lines. The lines stand in order of their cycles.
 fn count_task(turns: &mut Vec<Turn>, lines: &[Line]) {
     let mut last = None;
     for line in lines {
@@ -127,7 +132,7 @@ fn count_task(turns: &mut Vec<Turn>, lines: &[Line]) {
 }
 
 impl Pace {
-    /// Returns the pace of a run of so many nodes and cycles with these scripts, at most one for each task.
+    /// Returns the cycle barrier of a run with these scripts, at most one for each task.
     pub(crate) fn new(
         alloc: Global,
         nodes: u8,
@@ -151,7 +156,7 @@ impl Pace {
         })
     }
 
-    /// Waits, as a task that has lines in the cycle, until these are due. False where the run was stopped.
+    /// Waits, as a task that has lines in the cycle, until these are due. Returns false if the run was stopped.
     pub(crate) fn wait_due<R: Wait>(&self, rt: &R, cycle: u16) -> bool {
         let Some(turn) = self.turns.get(usize::from(cycle)) else {
             return false;
@@ -162,7 +167,7 @@ impl Pace {
         !progress.stopped
     }
 
-    /// Tells that a task has done all its lines of the cycle that came due last.
+    /// Reports that a task has executed all its lines of the cycle that came due last.
     pub(crate) fn tell_done<R: Wait>(&self, rt: &R) {
         let mut progress = self.progress.lock(rt);
         let all = progress.finish_task();
@@ -172,8 +177,9 @@ impl Pace {
         }
     }
 
-    /// Waits, as a controller that has observed all cycles before, until all lines of the cycle are done. False where
-    /// the run was stopped.
+    /// Waits, as a controller, until all lines of the cycle are executed.
+    ///
+    /// The controller has observed all cycles before. Returns false if the run was stopped.
     pub(crate) fn wait_done<R: Wait>(&self, rt: &R, cycle: u16) -> bool {
         let Some(turn) = self.turns.get(usize::from(cycle)) else {
             return true;
@@ -190,7 +196,7 @@ impl Pace {
         !progress.stopped
     }
 
-    /// Counts a controller that is to begin the cycle. With the last the cycle's lines are due.
+    /// Counts a controller that is to begin the cycle. With the last one the cycle's lines are due.
     fn arrive<R: Wait>(&self, rt: &R, cycle: u16, turn: &Turn) {
         let mut progress = self.progress.lock(rt);
         let all = progress.arrive(self.nodes, cycle, turn.tasks);
@@ -200,7 +206,7 @@ impl Pace {
         }
     }
 
-    /// From now on nobody waits.
+    /// Stops the run: from now on no thread waits.
     pub(crate) fn stop<R: Wait>(&self, rt: &R) {
         let mut progress = self.progress.lock(rt);
         progress.stop();

@@ -38,22 +38,22 @@ use std::thread;
 use std::thread::{JoinHandle, Scope, Threads};
 use std::time::Clock;
 
-/// What a run leaves (project-defined).
+/// The results of a run (project-defined).
 #[derive(Drop)]
 pub struct Run {
     /// The interface of each node.
     pub interfaces: Vec<Interface>,
-    /// How many commits each of them took, by the shares of its tasks.
+    /// The number of commits of each interface, by the shares of its tasks.
     pub commits: Vec<u64>,
     /// The given scripts, with the answers that the tasks got.
     pub scripts: Vec<Script>,
     /// The bus, at its end.
     pub bus: Bus,
-    /// What was found to agree.
+    /// The result of the cross-check.
     pub settled: Settled,
 }
 
-/// What the nodes leave, in their order.
+/// The results of the nodes, in their order.
 #[derive(Drop)]
 struct NodesDone {
     interfaces: Vec<Interface>,
@@ -62,7 +62,7 @@ struct NodesDone {
 }
 
 impl NodesDone {
-    /// Room for what so many nodes leave.
+    /// Returns room for the results of this number of nodes.
     fn with_room(alloc: Global, count: usize) -> Result<NodesDone, AllocError>
         ensures interfaces { IfOk result (λ done. vec_len done.interfaces + count ≤ vec_capacity done.interfaces) }
         ensures commits { IfOk result (λ done. vec_len done.commits + count ≤ vec_capacity done.commits) }
@@ -76,7 +76,7 @@ impl NodesDone {
         })
     }
 
-    /// Adds what a node leaves. There is room for it.
+    /// Adds the results of a node. There is room for them.
     fn add(&mut self, done: NodeDone)
         requires interfaces { vec_len self.old.interfaces < vec_capacity self.old.interfaces }
         requires commits { vec_len self.old.commits < vec_capacity self.old.commits }
@@ -101,7 +101,7 @@ impl NodesDone {
     }
 }
 
-/// Starts the thread of each node. Where one can't be started those before it run.
+/// Starts the thread of each node. If one can't be started, those before it run.
 fn start_nodes<'s, E, R: Threads + Wait + Clock + Sync, G: Gate + Sync>(
     scope: &'s Scope<'s, E>,
     rt: &'s R,
@@ -126,7 +126,7 @@ fn start_nodes<'s, E, R: Threads + Wait + Clock + Sync, G: Gate + Sync>(
     Ok(())
 }
 
-/// Joins the nodes, in their order. There is room for what they answer.
+/// Joins the nodes, in their order. There is room for their results.
 fn join_nodes<R: Threads>(
     rt: &R,
     running: Vec<JoinHandle<Result<NodeDone, Failure>>>,
@@ -140,8 +140,9 @@ fn join_nodes<R: Threads>(
     }
 }
 
-/// Adds what the nodes leave that didn't fail, and answers which failure of the others is to be told. There is room for
-/// what they leave.
+/// Adds the results of nodes that didn't fail, and returns the failure that is reported.
+///
+/// There is room for the results.
 fn keep_nodes(answers: Vec<Result<NodeDone, Failure>>, nodes: &mut NodesDone) -> Option<Failure>
     requires interfaces { vec_len nodes.old.interfaces + vec_len answers ≤ vec_capacity nodes.old.interfaces }
     requires commits { vec_len nodes.old.commits + vec_len answers ≤ vec_capacity nodes.old.commits }
@@ -160,8 +161,9 @@ fn keep_nodes(answers: Vec<Result<NodeDone, Failure>>, nodes: &mut NodesDone) ->
     told
 }
 
-/// Returns what the nodes leave, if none of them failed, nor the bus, and all were started, and else the failure that
-/// is to be told. There is room for what they leave.
+/// Returns the results of the nodes, or the failure that is reported.
+///
+/// They are returned if no node failed, nor the bus, and all threads were started. There is room for the results.
 fn all_done(
     answers: Vec<Result<NodeDone, Failure>>,
     bus: Result<(), Failure>,
@@ -185,7 +187,7 @@ fn all_done(
 
 // The threads of the bus and the nodes take their arguments one by one, since a struct in the closure of a thread scope
 // fails to check.
-/// Runs the bus and the nodes, and joins them. Where one of them fails the run is stopped.
+/// Runs the bus and the nodes, and joins them. If one of them fails, the run is stopped.
 fn serve<'s, E, R: Threads + Wait + Clock + Sync, G: Gate + Sync>(
     scope: &'s Scope<'s, E>,
     rt: &'s R,
@@ -257,8 +259,9 @@ fn count_cycles(recorded: &[Sealed]) -> usize
     count
 }
 
-/// Returns whether the bus came to its end after so many cycles, and each window had the faults of these lines and no
-/// others.
+/// Returns whether the bus came to its end after this number of cycles, with these faults.
+///
+/// The faults of its windows are exactly those of the lines.
 fn is_at_end(alloc: Global, bus: &Bus, faults: &[FaultLine], cycles: u16) -> Result<bool, Failure>
     ensures finished { IfOk result (λ answer. IsTrue answer → bus.now.phase ≡ Finished) }
     ensures cycles { IfOk result (λ answer. IsTrue answer → cycles_begun bus.now.sealed ≡ cycles) }
@@ -270,8 +273,10 @@ fn is_at_end(alloc: Global, bus: &Bus, faults: &[FaultLine], cycles: u16) -> Res
     Ok(bus.phase() == Phase::Finished && has_cycles && is_faulted)
 }
 
-/// Returns the run, if the bus came to its end with these faults, what the nodes left agrees with it and the scripts,
-/// and in a stepped run each line was done in its cycle.
+/// Returns the run, if it passes all checks.
+///
+/// The bus came to its end with these faults, the results of the nodes agree with it and the scripts, and in a lockstep
+/// run each line was executed in its cycle.
 fn settled_run<R: Threads + Sync>(
     rt: &R,
     alloc: Global,
@@ -316,7 +321,7 @@ fn settled_run<R: Threads + Sync>(
     })
 }
 
-/// Returns the bus and the pace of a run.
+/// Returns the bus and the cycle barrier of a run.
 fn shared_by_all(
     alloc: Global,
     cluster: &Cluster,
@@ -336,7 +341,7 @@ fn shared_by_all(
     })
 }
 
-/// Runs the threads, and settles what they leave.
+/// Runs the threads, and cross-checks their results.
 fn run_all<R: Threads + Wait + Clock + Sync, G: Gate + Sync>(
     rt: &R,
     alloc: Global,
@@ -359,19 +364,25 @@ fn run_all<R: Threads + Wait + Clock + Sync, G: Gate + Sync>(
     )
 }
 
-/// Runs the cluster for so many cycles: a thread for each task does the lines of its script, one for each controller
-/// does all windows, and one for the bus injects the faults and moves the bus on (project-defined).
+/// Runs the cluster for this number of cycles, in threads (project-defined).
 ///
-/// In a stepped run the lines of a cycle are done once all controllers have observed the whole of the cycle before, and
-/// before any of them fetches in the cycle. Else they are done at any moment, in the order of each script.
+/// A thread for each task executes the lines of its script, one for each controller executes all windows, and one for
+/// the bus injects the faults and moves the bus on.
 ///
-/// Refused with `BadCycles`, `BadScript`, `BadFault` and `NoRoom`, in this order and as `check_run` refuses, before any
-/// thread starts. Of several failures that threads meet the first of these is reported: `Host`, `Slot`, `Bus`, `Thread`
-/// and
-/// `Memory`. Where they meet none, a bus that isn't at its end after so many cycles is `Thread`, and what doesn't agree
-/// by then is `Settle`. A record with other faults than those of the lines, or in a stepped run a line that wasn't done
-/// in its cycle, is `Thread` too. All threads are joined before it answers. Its cross-check walks the journals in
-/// threads where these can be had, and one after another where not, and refuses nothing for that.
+/// In a lockstep run, the lines of a cycle are executed once all controllers have observed the whole of the cycle
+/// before, and before any of them fetches in the cycle. Otherwise they are executed at any moment, in the order of each
+/// script.
+///
+/// Returns `BadCycles`, `BadScript`, `BadFault` or `NoRoom`, in this order and as `check_run` does, before any thread
+/// starts. Of several failures that threads meet, the first of these is reported: `Host`, `Slot`, `Bus`, `Thread` and
+/// `Memory`.
+///
+/// If the threads meet no failure, a bus that isn't at its end after this number of cycles gives `Thread`, and results
+/// that don't agree give `Settle`. A record with faults other than those of the lines also gives `Thread`, and so does
+/// a line of a lockstep run that wasn't executed in its cycle.
+///
+/// All threads are joined before it returns. Its cross-check walks the journals in threads if these can be started,
+/// otherwise one after another. A thread that can't be started there is no failure.
 pub fn run_threads<R: Threads + Wait + Clock + Sync, G: Gate + Sync>(
     rt: &R,
     alloc: Global,

@@ -1,4 +1,4 @@
-//! What all threads of a run share.
+//! The state that all threads of a run share.
 
 use crate::failure::Failure;
 use crate::pace::Pace;
@@ -7,15 +7,15 @@ use fr_desks::wire::Wire;
 use fr_schedule::cluster::Cluster;
 use std::sync::Wait;
 
-/// What all threads of a run share: the bus, and in a stepped run its pace.
+/// The state that all threads of a run share: the bus, and in a lockstep run its cycle barrier.
 #[derive(Drop)]
 pub(crate) struct Shared {
     pub wire: Wire,
     pub pace: Option<Pace>,
 }
 
-// It keeps the arguments of `start_tasks` in `node` at seven.
-/// What the threads of a node are given.
+// A struct keeps the arguments of `start_tasks` in `node` at seven.
+/// The arguments of a node's threads.
 #[derive(Drop)]
 pub(crate) struct Common<'a, R, G> {
     pub rt: &'a R,
@@ -38,14 +38,14 @@ impl Shared {
         }
     }
 
-    /// Tells that a task has done all its lines of the cycle that came due last.
+    /// Reports that a task has executed all its lines of the cycle that came due last.
     pub(crate) fn tell_done<R: Wait>(&self, rt: &R) {
         if let Some(pace) = &self.pace {
             pace.tell_done(rt);
         }
     }
 
-    /// Waits, as a controller that is to begin the cycle, until all lines of the cycle are done.
+    /// Waits, as a controller that is to begin the cycle, until all lines of the cycle are executed.
     pub(crate) fn wait_done<R: Wait>(&self, rt: &R, cycle: u16) -> Result<(), Failure> {
         match &self.pace {
             Some(pace) => if pace.wait_done(rt, cycle) {
@@ -57,7 +57,7 @@ impl Shared {
         }
     }
 
-    /// Has each thread end at its next call that may wait.
+    /// Lets each thread end at its next call that may wait.
     pub(crate) fn stop<R: Wait>(&self, rt: &R) {
         self.wire.stop(rt);
         if let Some(pace) = &self.pace {

@@ -12,14 +12,16 @@ use std::alloc::Global;
 use std::sync::Wait;
 use std::sync::ledger::Ledger;
 
-/// What a task leaves: its share, and the answers that it got in the order of its lines, if it has done all of them.
+/// The results of a task: its share, and its answers in the order of its lines.
+///
+/// It has answers only if it has executed all its lines.
 #[derive(Drop)]
 pub(crate) struct TaskDone<L: Ledger> {
     pub share: Share<L>,
     pub answers: Result<Vec<Reply>, Failure>,
 }
 
-/// Does one line.
+/// Executes one line.
 fn do_line<L: Ledger, R: Wait, G: Gate>(
     rt: &R,
     desk: &Desk<L>,
@@ -47,7 +49,7 @@ fn do_line<L: Ledger, R: Wait, G: Gate>(
     }
 }
 
-/// Does the lines, those of a cycle once they are due.
+/// Executes the lines, those of a cycle once they are due.
 fn do_lines<L: Ledger, R: Wait, G: Gate>(
     rt: &R,
     alloc: Global,
@@ -75,7 +77,7 @@ fn do_lines<L: Ledger, R: Wait, G: Gate>(
     Ok(answers)
 }
 
-/// Returns the thread of a task. Where it fails the run is stopped.
+/// Runs the thread of a task. If it fails, the run is stopped.
 pub(crate) fn run_task<L: Ledger, R: Wait, G: Gate>(
     rt: &R,
     alloc: Global,

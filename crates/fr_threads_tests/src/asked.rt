@@ -1,4 +1,4 @@
-//! The cluster of three nodes, of which one babbles, and what its tasks are to do.
+//! The cluster of three nodes, of which one babbles, and the scripts of its tasks.
 
 use fr_bus::fault::Fault;
 use fr_core::script::{Action, Line, Script};
@@ -48,12 +48,12 @@ buffer = [
 ]
 ";
 
-/// The cluster of the three nodes.
+/// Returns the cluster of the three nodes.
 pub(crate) fn three_nodes(alloc: Global) -> Result<Cluster, Fail> {
     Ok(Cluster::from_text(alloc, THREE_NODES)?)
 }
 
-/// A line that has no answer yet.
+/// Returns a line that has no answer yet.
 fn line(cycle: u16, action: Action) -> Line {
     Line {
         cycle,
@@ -62,7 +62,7 @@ fn line(cycle: u16, action: Action) -> Line {
     }
 }
 
-/// A script that commits on buffer 0, each payload in its cycle.
+/// Returns a script that commits on buffer 0, each payload in its cycle.
 pub(crate) fn commits(
     alloc: Global,
     number: u8,
@@ -81,7 +81,7 @@ pub(crate) fn commits(
     })
 }
 
-/// The scripts of all tasks, in order of nodes and tasks.
+/// Returns the scripts of all tasks, in order of nodes and tasks.
 pub(crate) fn scripts(alloc: Global) -> Result<Vec<Script>, Fail> {
     let mut pops = commits(alloc, 0, 1, &[(2, [0x0c, 0x0d])])?;
     pops.lines.push(line(2, Action::Pop))?;
@@ -97,7 +97,7 @@ pub(crate) fn scripts(alloc: Global) -> Result<Vec<Script>, Fail> {
     Ok(scripts)
 }
 
-/// A babble of one byte by node 2, in every static slot.
+/// Returns a babble of one byte by node 2, in every static slot.
 fn babble(channel: Channel) -> Result<FaultLine, Fail> {
     let fault = Fault::Babble {
         node: node(2)?,
@@ -111,12 +111,12 @@ fn babble(channel: Channel) -> Result<FaultLine, Fail> {
     })
 }
 
-/// Node 2 babbles on both channels.
+/// Returns the babbles of node 2 on both channels.
 pub(crate) fn babbles() -> Result<[FaultLine; 2], Fail> {
     Ok([babble(Channel::A)?, babble(Channel::B)?])
 }
 
-/// A mute of node 0 in slot 1 on channel A, in this cycle alone.
+/// Returns a mute of node 0 in slot 1 on channel A, only in this cycle.
 pub(crate) fn mute(cycle: u16) -> Result<FaultLine, Fail> {
     let fault = Fault::Mute {
         node: node(0)?,

@@ -12,7 +12,7 @@ use std::test::Fail;
 use std::thread;
 use std::thread::Threads;
 
-/// What books for so many tasks gather after one post of the desk.
+/// Returns the number of posts in books for this number of tasks, after one post of the desk.
 fn posts_of_desk<L: Ledger>(alloc: Global, blank: Blank, tasks: u8) -> Result<u64, Fail>
     requires name { blank.name ≡ L.name }
     requires parts { blank.parts ≡ L.parts }
@@ -35,7 +35,7 @@ fn books_open_for_no_task_and_for_many(rt: HostRuntime) -> Result<(), Fail> {
     Ok(())
 }
 
-/// A book under its lock, which takes 255 posts at most.
+/// A book under its lock, with room for 255 posts.
 #[derive(Drop)]
 struct Till<L: Ledger> {
     book: Book<L>,
@@ -53,7 +53,7 @@ impl<L: Ledger> Till<L> {
     }
 }
 
-/// Posts so often with the share, and hands it back.
+/// Posts this often with the share, and returns it.
 fn posts_with<L: Ledger, R: Wait>(
     rt: &R,
     till: &Mutex<Till<L>>,
@@ -66,7 +66,7 @@ fn posts_with<L: Ledger, R: Wait>(
     share
 }
 
-/// The posts that two threads make, three with one share and four with the other.
+/// Returns the number of posts of two threads, three with one share and four with the other.
 fn posts_of_two<L: Ledger + Send + Sync, R: Threads + Wait + Sync>(
     rt: &R,
     alloc: Global,

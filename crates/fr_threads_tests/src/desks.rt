@@ -1,4 +1,5 @@
-//! What a desk answers and stores. Each test opens its desk in a function of its own, which names the ledger.
+//! The answers of a desk, and the values that it stores. Each test opens its desk in a function of its own, which names
+//! the ledger.
 
 ghost use Rattle.std.specs.Prelude.{◌≡◌, []};
 ghost use Rattle.fr_ledger.specs.Posts.{parts_for};
@@ -25,12 +26,12 @@ use std::thread;
 use std::thread::Threads;
 use std::time::Clock;
 
-/// The next pass of these.
+/// Returns the next of these handles.
 fn next_pass<L: Ledger>(passes: &mut Vec<TaskPass<L>>) -> Result<TaskPass<L>, Fail> {
     Ok(passes.pop().ok_or("a pass")?)
 }
 
-/// The node sees these bytes on channel A in the window of this number, and noise on channel B.
+/// Observes these bytes on channel A in the window of this number, and noise on channel B.
 fn see<L: Ledger, R: Wait>(rt: &R, desk: &Desk<L>, number: u8, bytes: Bytes) -> Result<(), Fail> {
     let _offer = desk.fetch(rt, &OpenGate, &window(number, 2)?)?;
     desk.observe(
@@ -43,8 +44,9 @@ fn see<L: Ledger, R: Wait>(rt: &R, desk: &Desk<L>, number: u8, bytes: Bytes) -> 
     Ok(())
 }
 
-/// What two commits of two threads leave: the lesser and the greater entry of the receipts, the length of the journal,
-/// and what the shares add up to.
+/// Returns the results of two commits of two threads.
+///
+/// They are the lesser and the greater entry of the receipts, the length of the journal, and the sum of the shares.
 fn left_by_two<L: Ledger + Send + Sync, R: Threads + Wait + Clock + Sync>(
     rt: &R,
     alloc: Global,
@@ -94,7 +96,7 @@ fn two_commits_of_two_threads_are_both_counted(rt: HostRuntime) -> Result<(), Fa
     Ok(())
 }
 
-/// What the task reads before anything was seen, and after each of two windows.
+/// Returns the frames that the task reads before any observation, and after each of two windows.
 fn read_frames<L: Ledger, R: Wait>(
     rt: &R,
     alloc: Global,
@@ -133,7 +135,7 @@ fn desk_answers_the_held_frame(rt: HostRuntime) -> Result<(), Fail> {
     Ok(())
 }
 
-/// What the task takes from the queue after two windows, three times.
+/// Returns the frames that the task pops from the receive FIFO after two windows, three times.
 fn popped_frames<L: Ledger, R: Wait>(
     rt: &R,
     alloc: Global,
@@ -172,8 +174,9 @@ fn desk_answers_the_queued_frames(rt: HostRuntime) -> Result<(), Fail> {
     Ok(())
 }
 
-/// What a commit through a desk leaves in the journal, and the frame that the next window of slot 1 is offered on
-/// channel A.
+/// Returns the journal's entry of a commit through a desk, and the frame that is sent for it.
+///
+/// The frame is that of the next window of slot 1, on channel A.
 fn left_by_commit<L: Ledger, R: Wait>(
     rt: &R,
     alloc: Global,

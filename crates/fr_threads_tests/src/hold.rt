@@ -1,5 +1,5 @@
-//! Gates that hold one actor: until another has come far enough, or so long that another that doesn't wait for it goes
-//! on.
+//! Gates that hold one actor: until another has come far enough, or for some time, in which an actor that doesn't wait
+//! for it continues.
 
 use fr_desks::gate::{Actor, Gate, Point, Side};
 use fr_testing::{node, task};
@@ -7,22 +7,23 @@ use std::sync::atomic::{AtomicU64, Ordering};
 use std::test::Fail;
 use std::thread;
 
-/// How often the gate lets other threads go first before it gives way.
+/// The number of times that the gate yields to other threads before it gives up.
 const TURNS: u32 = 1_000_000;
 
-/// A gate that holds an actor at its first pass of a point, until another has passed a point of its own. Up to then the
-/// other is held before its first call, so that it can't have gone first by chance.
+/// A gate that holds an actor at a point until another actor has passed a point of its own.
+///
+/// Until then the other actor is held before its first call, so that it can't go first accidentally.
 #[derive(Drop)]
 pub(crate) struct Hold {
     held: Point,
     until: Point,
-    /// 1 once the actor came to the point at which it is held, and 2 if the other gave way before.
+    /// 1 once the actor came to the point at which it is held, and 2 if the other actor gave up before.
     came: AtomicU64,
-    /// 1 once the other has passed its point after that, and 2 if the actor gave way before.
+    /// 1 once the other actor has passed its point after that, and 2 if the first actor gave up before.
     passed: AtomicU64,
 }
 
-/// Lets other threads go first until the word is 1. It gives way after many turns, and then the word is 2.
+/// Yields to other threads until the word is 1. It gives up after many turns, and then the word is 2.
 fn wait_for(word: &AtomicU64) {
     for _turn in 0..TURNS {
         if word.load(Ordering::SeqCst) != 0 {
@@ -34,7 +35,7 @@ fn wait_for(word: &AtomicU64) {
 }
 
 impl Hold {
-    /// A gate that holds whoever comes to the first point until the second was passed.
+    /// Returns a gate that holds the actor of the first point there until the second point was passed.
     pub(crate) fn new(held: Point, until: Point) -> Hold {
         Hold {
             held,
@@ -44,7 +45,7 @@ impl Hold {
         }
     }
 
-    /// Whether both were held until then, and neither gave way.
+    /// Returns whether both actors were held until then, and neither gave up.
     pub(crate) fn was_kept(&self) -> bool {
         self.came.load(Ordering::SeqCst) == 1 && self.passed.load(Ordering::SeqCst) == 1
     }
@@ -65,22 +66,24 @@ impl Gate for Hold {
     }
 }
 
-/// For how many turns of other threads a late actor is held.
+/// The number of turns of other threads for which a late actor is held.
 const LATE: u32 = 10_000;
 
-/// A gate that holds an actor at its first pass of a point so long that another goes on that doesn't wait for it.
+/// A gate that holds an actor at its first pass of a point for some time.
+///
+/// Another actor that doesn't wait for it continues in that time.
 #[derive(Drop)]
 pub(crate) struct Late {
     held: Point,
     other: Actor,
-    /// 1 once the other has passed a point.
+    /// 1 once the other actor has passed a point.
     passed: AtomicU64,
-    /// Once the actor was let go, 1 if the other hadn't passed any point before, and else 2.
+    /// Once the actor was released, 1 if the other actor hadn't passed any point before, and otherwise 2.
     let_go: AtomicU64,
 }
 
 impl Late {
-    /// A gate that holds whoever comes to the point, and looks whether the other goes on meanwhile.
+    /// Returns a gate that holds the actor of the point, and watches whether the other continues.
     pub(crate) fn new(held: Point, other: Actor) -> Late {
         Late {
             held,
@@ -90,7 +93,7 @@ impl Late {
         }
     }
 
-    /// Whether the actor was held, and the other didn't pass any point before it was let go.
+    /// Returns whether the actor was held, and the other actor passed no point before its release.
     pub(crate) fn was_awaited(&self) -> bool {
         self.let_go.load(Ordering::SeqCst) == 1
     }
@@ -112,7 +115,7 @@ impl Gate for Late {
     }
 }
 
-/// A point of this task of the node.
+/// Returns a point of this task of the node.
 pub(crate) fn task_point(number: u8, of: u8, side: Side) -> Result<Point, Fail> {
     Ok(Point {
         actor: Actor::Task(node(number)?, task(of)?),
@@ -120,7 +123,7 @@ pub(crate) fn task_point(number: u8, of: u8, side: Side) -> Result<Point, Fail> 
     })
 }
 
-/// A point of the node's controller.
+/// Returns a point of the node's controller.
 pub(crate) fn controller_point(number: u8, side: Side) -> Result<Point, Fail> {
     Ok(Point {
         actor: Actor::Controller(node(number)?),

@@ -1,5 +1,5 @@
-//! The tests of books, desks and wires, and of runs in threads and their outcome. `tests/commands` tries each command
-//! of the program, runs too, on many texts.
+//! The tests of books, `Desk` and `Wire`, and of runs in threads and their outcome. `tests/commands` tests each command
+//! of the program, also runs, with many texts.
 #![tactic(auto)]
 
 #[cfg(test)]

@@ -1,4 +1,4 @@
-//! The interfaces that desks are opened with, and the windows and frames that they meet.
+//! The interfaces with which desks are opened, and their windows and frames.
 
 ghost use Rattle.std.specs.Prelude.{◌≡◌, [], IfOk};
 ghost use Rattle.fr_ledger.specs.Posts.{parts_for};
@@ -15,8 +15,9 @@ use fr_testing::{ONE_WORD_CYCLE, cycle, slot};
 use std::alloc::Global;
 use std::test::Fail;
 
-/// The interface of a node with this plan, in a cluster of three static slots of one word; a plan with a fault fails
-/// the test.
+/// Returns the interface of a node with this plan, in a cluster of three static slots of one word.
+///
+/// A plan with a fault fails the test.
 pub(crate) fn interface(alloc: Global, plan: &NodePlan) -> Result<Interface, Fail>
     ensures { IfOk result (λ interface. interface.entries ≡ []) }
 {
@@ -27,12 +28,12 @@ pub(crate) fn interface(alloc: Global, plan: &NodePlan) -> Result<Interface, Fai
     Ok(Interface::new(alloc, &params, plan)?)
 }
 
-/// A plan of so many tasks, with room for eight host entries and eight slot entries.
+/// Returns a plan of this number of tasks, with room for eight host entries and eight slot entries.
 fn plan_of(tasks: u8) -> Result<NodePlan, Fail> {
     Ok(NodePlan::new(tasks, [0, 0], 8, 8)?)
 }
 
-/// A buffer of this mode for a static slot, on both channels.
+/// Returns a buffer of this mode for a static slot, on both channels.
 fn buffer(mode: Mode, number: u16) -> Result<Buffer, Fail> {
     Ok(Buffer {
         mode,
@@ -46,7 +47,7 @@ fn buffer(mode: Mode, number: u16) -> Result<Buffer, Fail> {
     })
 }
 
-/// A node of two tasks with an event buffer for slot 1, which it owns.
+/// Returns a node of two tasks with an event buffer for slot 1, which it owns.
 pub(crate) fn sender(alloc: Global) -> Result<Interface, Fail>
     ensures { IfOk result (λ interface. interface.entries ≡ []) }
 {
@@ -62,7 +63,7 @@ pub(crate) fn sender(alloc: Global) -> Result<Interface, Fail>
     interface(alloc, &plan)
 }
 
-/// A node of one task with a receive buffer for slot 2.
+/// Returns a node of one task with a receive buffer for slot 2.
 pub(crate) fn receiver(alloc: Global) -> Result<Interface, Fail>
     ensures { IfOk result (λ interface. interface.entries ≡ []) }
 {
@@ -71,7 +72,7 @@ pub(crate) fn receiver(alloc: Global) -> Result<Interface, Fail>
     interface(alloc, &plan)
 }
 
-/// A node of one task with a queue of two frames for slot 2.
+/// Returns a node of one task with a receive FIFO of two frames for slot 2.
 pub(crate) fn queuer(alloc: Global) -> Result<Interface, Fail>
     ensures { IfOk result (λ interface. interface.entries ≡ []) }
 {
@@ -86,12 +87,12 @@ pub(crate) fn queuer(alloc: Global) -> Result<Interface, Fail>
     interface(alloc, &plan)
 }
 
-/// The window of this number, of a static slot in the cycle of the same number.
+/// Returns the window of this number, of a static slot in the cycle of the same number.
 pub(crate) fn window(number: u8, of: u16) -> Result<Window, Fail> {
     Ok(Window::fixed(u32::from(number), cycle(number)?, slot(of)?))
 }
 
-/// The data frame of a static slot in this cycle.
+/// Returns the data frame of a static slot in this cycle.
 pub(crate) fn data_frame(of: u16, number: u8, payload: &[u8]) -> Result<Frame, Fail> {
     Ok(Frame {
         preamble: false,
@@ -104,7 +105,7 @@ pub(crate) fn data_frame(of: u16, number: u8, payload: &[u8]) -> Result<Frame, F
     })
 }
 
-/// How many parts the ledger of a desk has, over this interface.
+/// Returns the number of parts of the ledger of a desk over this interface.
 pub(crate) fn parts(interface: &Interface) -> u64
     ensures { result ≡ parts_for interface.now.plan.tasks }
 {

@@ -25,14 +25,14 @@ buffer = [{kind = \"event\", slot = 1, channels = \"AB\"}]
 /// One commit, in the first cycle.
 const ONE_COMMIT: &str = "frscenario 1\ncommit 0 0 0 0 x0a0b\nend\n";
 
-/// The commit is sent, and its node counts nothing of what it sends itself.
+/// The outcome: the commit is sent, and its node doesn't count its own transmissions.
 const OUTCOME: &str = "node 0\ntx 0 1 1 0 0 0\nA 0 0 0 0 0\nB 0 0 0 0 0\nwindows 2\nsettled\n";
 
 #[test]
 fn an_outcome_from_two_texts(rt: HostRuntime) -> Result<(), Fail> {
     let mut cluster = ONE_NODE.as_bytes();
     let mut scenario = ONE_COMMIT.as_bytes();
-    // With room of its own, so that memory refused later is the run's and not the writer's.
+    // The writer has room of its own, so that a later failed allocation is the run's and not the writer's.
     let mut written = Vec::with_capacity(rt.alloc(), 512)?;
     let answer = run_text(
         &rt,

@@ -1,5 +1,4 @@
-//! Whether threads really overlap: gates that hold one actor until another has come far enough, which only another
-//! thread can bring about.
+//! Overlap of threads: gates that hold one actor until another, which needs another thread, has come far enough.
 
 use crate::asked::{babbles, commits, scripts, three_nodes};
 use crate::hold::{Hold, Late, controller_point, task_point};
@@ -14,7 +13,7 @@ use std::test::Fail;
 use std::thread::Threads;
 use std::time::Clock;
 
-/// Whether a run of four cycles comes to its end while the gate holds an actor until another has come far enough.
+/// Returns whether a run of four cycles ends while the gate holds an actor.
 fn overlaps<R: Threads + Wait + Clock + Sync>(
     rt: &R,
     alloc: Global,
@@ -37,7 +36,7 @@ fn overlaps<R: Threads + Wait + Clock + Sync>(
     Ok(gate.was_kept() && run.settled.windows == 28)
 }
 
-/// Whether a task of a node, held at this side of its first call, has the other task go first.
+/// Returns whether the other task goes first if a task is held at this side of its first call.
 fn tasks_overlap<R: Threads + Wait + Clock + Sync>(
     rt: &R,
     alloc: Global,
@@ -55,7 +54,7 @@ fn tasks_overlap<R: Threads + Wait + Clock + Sync>(
     overlaps(rt, alloc, stepped, &gate)
 }
 
-/// Whether a node's controller, held before its first call, has the other node's go first.
+/// Returns whether the other controller goes first if one is held before its first call.
 fn controllers_overlap<R: Threads + Wait + Clock + Sync>(
     rt: &R,
     alloc: Global,
@@ -74,10 +73,10 @@ fn two_tasks_really_overlap(rt: HostRuntime) -> Result<(), Fail> {
     let rows = [
         (true, Side::Before, [0, 0], [1, 0]),
         (true, Side::Before, [1, 0], [0, 0]),
-        // Two tasks of one node, in a free run.
+        // Two tasks of one node, in a free-running run.
         (false, Side::Before, [0, 0], [0, 1]),
         (false, Side::Before, [0, 1], [0, 0]),
-        // A lock that is held holds no other node.
+        // A lock that one node holds delays no other node.
         (true, Side::Inside, [0, 0], [1, 0]),
         (true, Side::Inside, [1, 0], [0, 0]),
     ];
@@ -95,7 +94,7 @@ fn two_controllers_really_overlap(rt: HostRuntime) -> Result<(), Fail> {
     Ok(())
 }
 
-/// Whether the controller of a cluster's only node, in a stepped run, waits for a task's line.
+/// Returns whether the controller of a cluster's only node, in a lockstep run, waits for a task's line.
 fn lone_controller_waits<R: Threads + Wait + Clock + Sync>(
     rt: &R,
     alloc: Global,

@@ -1,4 +1,4 @@
-//! What runs of the three nodes leave, and which are refused.
+//! The results of runs of the three nodes, and runs that are refused.
 
 use crate::asked::{babbles, commits, mute, scripts, three_nodes};
 use fr_core::script::Script;
@@ -13,7 +13,7 @@ use std::test::Fail;
 use std::thread::Threads;
 use std::time::Clock;
 
-/// The answer to a run of the three nodes.
+/// Returns the result of a run of the three nodes.
 fn answer<R: Threads + Wait + Clock + Sync>(
     rt: &R,
     alloc: Global,
@@ -28,7 +28,7 @@ fn answer<R: Threads + Wait + Clock + Sync>(
     ))
 }
 
-/// What is counted of four cycles of the three nodes, while node 2 babbles: the commits of the nodes, and the windows.
+/// Returns the numbers of commits and of windows in four cycles, while node 2 babbles.
 fn counts<R: Threads + Wait + Clock + Sync>(
     rt: &R,
     alloc: Global,
@@ -50,7 +50,7 @@ fn stepped_and_free_runs_count_commits_and_windows(rt: HostRuntime) -> Result<()
     Ok(())
 }
 
-/// The scripts of two tasks, and if it is asked for that of a task that node 0 doesn't have.
+/// Returns the scripts of two tasks, and if requested that of a task that node 0 doesn't have.
 fn few_scripts(alloc: Global, third: bool) -> Result<Vec<Script>, Fail> {
     let mut scripts = Vec::new(alloc);
     scripts.push(commits(alloc, 0, 0, &[(0, [0x0a, 0x0b])])?)?;
@@ -61,7 +61,7 @@ fn few_scripts(alloc: Global, third: bool) -> Result<Vec<Script>, Fail> {
     Ok(scripts)
 }
 
-/// The babbles of node 2, and a mute in cycle 4.
+/// Returns the babbles of node 2, and a mute in cycle 4.
 fn late_mute(alloc: Global) -> Result<Vec<FaultLine>, Fail> {
     let mut faults = Vec::new(alloc);
     for line in babbles()? {
@@ -71,7 +71,9 @@ fn late_mute(alloc: Global) -> Result<Vec<FaultLine>, Fail> {
     Ok(faults)
 }
 
-/// The refusal of so many cycles with these, with the script of a task that isn't there or without it.
+/// Returns the refusal of a run of this number of cycles.
+///
+/// With `third`, it has the script of a task that doesn't exist.
 fn refusal<R: Threads + Wait + Clock + Sync>(
     rt: &R,
     alloc: Global,

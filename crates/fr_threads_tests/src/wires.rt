@@ -1,4 +1,4 @@
-//! What a wire answers.
+//! The answers of a wire.
 
 ghost use Rattle.std.specs.Prelude.{◌≡◌, []};
 ghost use Rattle.fr_ledger.specs.Posts.{parts_for};
@@ -40,13 +40,13 @@ words_per_minislot = 5
 tasks = 1
 ";
 
-/// The wire of one node for a run of one cycle.
+/// Returns the wire of one node for a run of one cycle.
 fn one_node(alloc: Global) -> Result<Wire, Fail> {
     let cluster = Cluster::from_text(alloc, ONE_NODE)?;
     Ok(Wire::new(Bus::new(alloc, &cluster, 1)?))
 }
 
-/// A fault that loses what the node offers on channel A.
+/// Returns a fault that mutes the node's offer on channel A.
 fn mute(me: NodeId) -> Fault {
     Fault::Mute {
         node: me,
@@ -54,7 +54,7 @@ fn mute(me: NodeId) -> Fault {
     }
 }
 
-/// The node's part in one window, and the bus's, with a fault.
+/// Executes the calls of the node and of the bus in one window, with a fault.
 fn one_window<L: Ledger, R: Wait + Clock>(
     rt: &R,
     wire: &Wire,
@@ -72,7 +72,7 @@ fn one_window<L: Ledger, R: Wait + Clock>(
     Ok(())
 }
 
-/// How many entries two windows leave in the journal of a desk.
+/// Returns the number of entries in the journal of a desk after two windows.
 fn entries_of_two<L: Ledger, R: Wait + Clock>(
     rt: &R,
     alloc: Global,
@@ -102,7 +102,7 @@ fn desk_and_wire_do_answer(rt: HostRuntime) -> Result<(), Fail> {
     let entries = entries_of_two::<Brand, _>(&rt, alloc, blank, interface, &wire)?;
     let over = wire.next(&rt, node(0)?)?;
     assert!(rt; over.is_none());
-    // A wire whose run is over can be stopped too, and then says so.
+    // A wire whose run is over can still be stopped. Then its calls return `Stopped`.
     wire.stop(&rt);
     let stopped = wire.next(&rt, node(0)?).err();
     assert_eq!(rt; stopped, Some(WireError::Stopped));
@@ -110,7 +110,7 @@ fn desk_and_wire_do_answer(rt: HostRuntime) -> Result<(), Fail> {
     Ok(())
 }
 
-/// The refusals of all calls in the order of a window.
+/// Returns the refusals of all calls in the order of a window.
 fn refusals<R: Wait + Clock>(rt: &R, wire: &Wire, me: NodeId) -> [Option<WireError>; 6] {
     let nothing = Offer { a: None, b: None };
     [
@@ -142,7 +142,7 @@ fn stop_late<R: Wait>(rt: &R, wire: &Wire) {
     wire.stop(rt);
 }
 
-/// What a node's call and the bus's answer that wait for what doesn't come, when their wires are stopped.
+/// Returns the results of a node's call and of a bus call that wait while their wires are stopped.
 fn ended_by_stop<R: Threads + Wait + Clock + Sync>(
     rt: &R,
     alloc: Global,

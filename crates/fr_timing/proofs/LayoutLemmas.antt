@@ -1,4 +1,4 @@
--- Places by multiplying and dividing are the places of the layout.
+-- Places by multiplication and division are the places of the layout.
 use Rattle.std.proofs.Common.{◌≡◌, ℕ, zero, suc, ◌+◌, ◌-◌, ◌*◌, ◌/◌, ◌%◌, ◌<◌, ◌≤◌, inl, inr, List, [], ◌∷◌, ◌++◌}
 use Rattle.std.proofs.Common.{length, refl, sym, ap, subst, ◌∙◌, arith, Option, Some, None}
 use Rattle.std.specs.Prelude.{Contains}
@@ -314,7 +314,7 @@ layout_from_names p m (Idle offset) h =
       before_end = omega arith;
     }
 
--- ---- places by multiplying
+-- ---- places by multiplication
 
 row_found : (first count size number offset m : ℕ) → start_in_row first count size number offset ≡ Some m
     → IsNamed first count size number offset m
@@ -344,7 +344,7 @@ start_only p m (Minislot number offset) h = row_only _ _ _ _ _ _ h
 start_only p m (Symbol offset) h = row_only _ _ _ _ _ _ h
 start_only p m (Idle offset) h = row_only _ _ _ _ _ _ h
 
--- ---- places by dividing
+-- ---- places by division
 
 place-static : (p : Parameters) (m : ℕ) → m < dynamic_start p
     → place_at p m ≡ Some (Static (m / p.static_mt + 1) (m % p.static_mt))
@@ -370,7 +370,7 @@ place-none : (p : Parameters) (m : ℕ) → cycle_end p ≤ m → place_at p m �
 unfolding place_at
 place-none p m h = grind (arith, nat_tests)
 
--- the part of a row that a macrotick lies in, by dividing
+-- the part of a row in which a macrotick lies, by division
 row_divides : (first count size m : ℕ) → 0 < size → first ≤ m → m < first + count * size
     → IsNamed first count size ((m - first) / size + 1) ((m - first) % size) m
 row_divides first count size m some from until =
@@ -422,7 +422,7 @@ place_only p m (Symbol offset) h = place-symbol p m (omega arith) (omega arith) 
     (omega arith)
 place_only p m (Idle offset) h = place-idle p m (omega arith) (omega arith) ∙ ap (λ n. Some (Idle n)) (omega arith)
 
--- a macrotick has a place, or lies behind the cycle
+-- a macrotick has a place, or lies after the end of the cycle
 data Located (p : Parameters) (m : ℕ) : Type 0 where
   at : (x : Place) → place_at p m ≡ Some x → Names p x m → Located p m
   behind : place_at p m ≡ None → p.cycle_mt ≤ m → Located p m
@@ -465,7 +465,7 @@ located p lawful m =
           ]
     ]
 
--- nothing named lies behind the cycle
+-- no place lies after the end of the cycle
 names_end : (p : Parameters) → IsParameters p → (m : ℕ) (x : Place) → Names p x m → m < p.cycle_mt
 names_end p lawful m (Static slot offset) h =
     omega (arith, (row_divided 0 p.static_slots p.static_mt slot offset m h).until, lawful.fills_the_cycle)
@@ -478,7 +478,7 @@ names_end p lawful m (Minislot number offset) h =
 names_end p lawful m (Symbol offset) h = omega (arith, lawful.fills_the_cycle)
 names_end p lawful m (Idle offset) h = omega (arith, lawful.fills_the_cycle)
 
--- ---- what the calls answer
+-- ---- the answers of the calls
 
 pub located_found : (p : Parameters) → IsParameters p → (m : ℕ) (answer : Option Place) → answer ≡ place_at p m
     → IfSome answer (λ x. IsAt p m x)

@@ -1,4 +1,4 @@
--- Macroticks and places by multiplying and dividing, equal to the layout by the lemmas on it.
+-- Macroticks and places by multiplication and division, which lemmas show to be those of the layout.
 use Rattle.std.specs.Prelude.{ℕ, ◌+◌, ◌-◌, ◌*◌, ◌/◌, ◌%◌, nat_lt, nat_le, ◌&&◌, Option, Some, None, if◌then◌else◌}
 use Rattle.fr_slots.specs.Parameters.{Parameters}
 use Rattle.fr_timing.specs.declared.place.Place.{Place}
@@ -18,7 +18,7 @@ place_at p macrotick =
     else if nat_lt macrotick (cycle_end p) then Some (Idle (macrotick - idle_start p))
     else None
 
--- in parts of one length, numbered from 1, of which the first starts at a macrotick
+-- a macrotick in a row of parts of one length, numbered from 1, the first of which starts at a given macrotick
 abbrev pub start_in_row : ℕ → ℕ → ℕ → ℕ → ℕ → Option ℕ
 start_in_row first count length number offset =
     if nat_le 1 number && nat_le number count && nat_lt offset length

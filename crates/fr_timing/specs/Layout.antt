@@ -1,5 +1,5 @@
--- The layout of a cycle: the static slots, the minislots of the dynamic segment, the symbol window and the network idle
--- time, one after another (chapter 5). All numbers are macroticks, counted from 0 at the start of the cycle.
+-- The layout of a cycle (chapter 5). The static slots, the minislots of the dynamic segment, the symbol window and the
+-- network idle time follow one another. All numbers are macroticks, counted from 0 at the start of the cycle.
 use Rattle.std.specs.Prelude.{◌≡◌, ℕ, ◌+◌, ◌<◌, List, [], ◌∷◌, ◌++◌, map, Contains}
 use Rattle.std.specs.List.{range_with_len}
 use Rattle.fr_slots.specs.Parameters.{Parameters}
@@ -39,7 +39,7 @@ pub record Interval : Type 0 where
   pub start : ℕ
   pub end : ℕ
 
--- one after another: each starts where the one before it ends
+-- one after another: each starts at the end of the one before it
 unfoldable pub laid_from : ℕ → List Stretch → List Interval
 laid_from start [] = []
 laid_from start (s ∷ rest) =
@@ -62,7 +62,7 @@ offset_of (Minislot number offset) = offset
 offset_of (Symbol offset) = offset
 offset_of (Idle offset) = offset
 
--- The macrotick is at the place: it lies in the interval of the place's part, as far from its start as the place says.
+-- The macrotick is at the place: it lies in the interval of the place's part, at the place's offset from the start.
 pub record IsAt (p : Parameters) (macrotick : ℕ) (place : Place) : Type 0 where
   pub interval : Interval
   pub of_layout : Contains (layout p) interval

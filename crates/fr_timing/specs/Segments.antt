@@ -1,5 +1,6 @@
--- Where the segments of a cycle start: the static segment at macrotick 0, then the dynamic segment, the symbol window
--- and the network idle time, with which the cycle ends (chapter 5). All numbers are macroticks from its start.
+-- The starts of a cycle's segments (chapter 5). The static segment starts at macrotick 0, then come the dynamic
+-- segment, the symbol window and the network idle time, which ends with the cycle. All numbers are macroticks from its
+-- start.
 use Rattle.std.specs.Prelude.{ℕ, ◌+◌, ◌*◌}
 use Rattle.fr_slots.specs.Parameters.{Parameters}
 

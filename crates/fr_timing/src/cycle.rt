@@ -1,4 +1,4 @@
-//! From a macrotick to its place in the cycle, and back.
+//! The place of a macrotick in the cycle, and the macrotick of a place.
 
 ghost use Rattle.std.specs.Prelude.{◌≡◌, ◌↔◌, ◌≤◌, ◌<◌, ◌+◌, ◌*◌, ◌^◌, ℕ, IfSome, IsNone};
 ghost use Rattle.fr_slots.specs.Parameters.{IsParameters};
@@ -13,7 +13,7 @@ use fr_slots::params::Params;
 
 /// Returns the place of a macrotick of a cycle, counted from 0 (chapter 5).
 ///
-/// None from the end of the cycle on.
+/// Returns none from the end of the cycle on.
 pub fn locate(params: &Params, macrotick: u32) -> Option<Place>
     ensures found { IfSome result (λ place. IsAt params.now macrotick place) }
     ensures only { (place : Place) → IsAt params.now macrotick place → result ≡ Some place }
@@ -24,10 +24,10 @@ pub fn locate(params: &Params, macrotick: u32) -> Option<Place>
     place_at(params, macrotick)
 }
 
-/// Returns the macrotick of the cycle that a place names, counted from 0 (chapter 5).
+/// Returns the macrotick of a place in the cycle, counted from 0 (chapter 5).
 ///
-/// None where the cycle has no such place: a static slot or a minislot that it doesn't have, or an
-/// offset that isn't below the length of its part.
+/// Returns none if the cycle has no such place: no such static slot or minislot, or an offset that isn't below the
+/// length of its part.
 pub fn start_of(params: &Params, place: Place) -> Option<u32>
     ensures found { IfSome result (λ macrotick. IsAt params.now macrotick place) }
     ensures only { (macrotick : ℕ) → IsAt params.now macrotick place → result ≡ Some macrotick }
@@ -72,8 +72,8 @@ fn place_at(params: &Params, macrotick: u32) -> Option<Place>
     None
 }
 
-/// Returns the macrotick at an offset in one of `count` parts of a length, which are numbered from 1, one
-/// after another from `first`.
+/// Returns the macrotick at an offset in one of `count` parts of one length. The parts are numbered from 1, and follow
+/// one another from `first`.
 fn start_in_row(first: u32, count: u16, length: u16, number: u16, offset: u32) -> Option<u32>
     requires { first + count * length < 2 ^ 32 }
     ensures { result ≡ start_in_row first count length number offset }

@@ -1,5 +1,5 @@
-//! The layout of a cycle: where its segments start, and which macrotick lies in which static slot, which minislot, the
-//! symbol window or the network idle time.
+//! The layout of a cycle: the starts of its segments, and the static slot, minislot, symbol window or network idle time
+//! in which a macrotick lies.
 //!
 //! ```text
 //! let params = Params::new([3, 10, 1, 20, 5, 4, 6, 120, 1, 4])?;
@@ -9,16 +9,16 @@
 //! let segments = segments_of(&params); // segments.dynamic is 60, segments.symbol 110
 //! ```
 //!
-//! A chapter in parentheses is one of the FlexRay Protocol Specification 2.1, revision A, whose rule it is.
-//! *(project-defined)* marks a rule of this project's own, which says nothing of the standard.
+//! A chapter in parentheses is one of the FlexRay Protocol Specification 2.1, revision A.
+//! *(project-defined)* marks a rule of this project, and makes no claim about the standard.
 //!
 //! # Definitions
 //!
 //! - `Layout`, `Segments`: the layout of the cycle as a list of intervals; the starts of its segments.
 //!
-//! Modules that go the way of the code, for private functions, with the module that has the meaning:
+//! Modules that follow the steps of the code, for private functions, with the module that has the meaning:
 //!
-//! - `Division`: multiplying and dividing. Meaning: `Layout`: a list of intervals.
+//! - `Division`: multiplication and division. Meaning: `Layout`, a list of intervals.
 #![tactic(auto)]
 
 pub mod cycle;

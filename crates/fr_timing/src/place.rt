@@ -2,18 +2,18 @@
 
 use fr_slots::numbers::SlotId;
 
-/// A macrotick of a cycle, as its part of the cycle and how far it is from the start of that part
-/// (chapter 5; action points aren't modelled).
+/// A macrotick of a cycle: a part of the cycle, and the distance from the start of that part. Chapter 5; action points
+/// aren't modelled.
 ///
 /// An `offset` is in macroticks, 0 for the first macrotick of the part.
 #[derive(Clone, Copy, PartialEq, Eq)]
 pub enum Place {
-    /// In a static slot. Static slots run together on both channels.
+    /// A macrotick of a static slot, which starts at the same time on both channels.
     Static { slot: SlotId, offset: u32 },
-    /// In a minislot of the dynamic segment, counted from 1.
+    /// A macrotick of a minislot of the dynamic segment, counted from 1.
     Minislot { number: u16, offset: u32 },
-    /// In the symbol window.
+    /// A macrotick of the symbol window.
     Symbol { offset: u32 },
-    /// In the network idle time.
+    /// A macrotick of the network idle time.
     Idle { offset: u32 },
 }

@@ -6,20 +6,20 @@ ghost use Rattle.fr_timing.specs.Segments.{dynamic_start, symbol_start, idle_sta
 
 use fr_slots::params::Params;
 
-/// Where the segments of a cycle start, in macroticks from its start (chapter 5). The static segment starts at 0.
+/// The starts of a cycle's segments, in macroticks from its start (chapter 5). The static segment starts at 0.
 #[derive(Clone, Copy, PartialEq, Eq)]
 pub struct Segments {
-    /// Where the dynamic segment starts, and the static one ends.
+    /// The start of the dynamic segment, and the end of the static one.
     pub dynamic: u32,
-    /// Where the symbol window starts, and the dynamic segment ends.
+    /// The start of the symbol window, and the end of the dynamic segment.
     pub symbol: u32,
-    /// Where the network idle time starts, and the symbol window ends.
+    /// The start of the network idle time, and the end of the symbol window.
     pub idle: u32,
-    /// Where the cycle ends, and the network idle time with it: the length of the cycle.
+    /// The end of the network idle time and of the cycle: the cycle's length.
     pub end: u32,
 }
 
-/// Returns where the segments of a cycle with these parameters start.
+/// Returns the starts of the segments of a cycle with these parameters.
 pub fn segments_of(params: &Params) -> Segments
     ensures dynamic { result.dynamic ≡ dynamic_start params.now }
     ensures symbol { result.symbol ≡ symbol_start params.now }

@@ -85,7 +85,7 @@ bare_read : (v : Version) (p : Parameters) (plan : Plan) → IsParameters p → 
 bare_read v p plan is plan_is = ap (take_bytes fresh) (bare_text v p (bare_plan plan) refl refl refl)
     ∙ node_read v p plan is plan_is
 
--- the plan with these lines and no queue
+-- the plan with these lines and no receive FIFO
 abbrev with_lines : Plan → List Own → List Buffer → Plan
 with_lines plan owned buffers = record (bare_plan plan) { owned = owned; buffers = buffers }
 
@@ -157,7 +157,7 @@ buffers_read v p plan owned (b ∷ more) before few fit ranges came =
     (buffers_read v p plan owned more (before ++ b ∷ []) (omega (arith, length-append before (b ∷ []))) fit.1 ranges.1
     next)
 
--- the queue
+-- the receive FIFO
 queue_line_read : (v : Version) (p : Parameters) (plan : Plan) (q : Queue) → plan.queue ≡ None → IsSpelledQueue q
     → take_line (lines v p plan) (line_of (queue_words q)) ≡ Ok (lines v p (with_queue plan q))
 queue_line_read v p plan q none spelled =
@@ -221,7 +221,7 @@ get_below [] buffer P h = absurd h
 get_below (b ∷ buffers) zero P h = omega arith
 get_below (b ∷ buffers) (suc buffer) P h = let lt = get_below buffers buffer P h in omega arith
 
--- a buffer that is there is one of at most 64
+-- each buffer that exists has a number below 64
 spelled_entry : (s : State) (e : Entry) → IsPlan s.plan → IsEntry e → IsLegal s.params s.plan s.entries e
     → IsSpelledEntry e
 spelled_entry s (Commit task buffer payload) plan_is ranges legal =
@@ -278,7 +278,7 @@ text_again v s is owned told =
     (begin_text v s.params s.plan) is.plan_is is.legal is.entries_are told begun in
     next_line fresh (body_text v s) end_line (body v s) (finished v s) entries refl refl (omega arith) refl
 
--- its line feed of `begin` comes after the plan
+-- the line feed of `begin` comes after the plan
 pub text_begins : (v : Version) (s : State) → IsLegalInterface s → AreOwnedTold v s.plan.owned
     → Begins fresh (trace_text v s)
 text_begins v s is owned =

@@ -1,4 +1,4 @@
--- The call of an entry that is legal is accepted, and makes that entry again.
+-- The call of a legal entry is accepted, and makes this entry again.
 use Rattle.std.proofs.Common.{◌≡◌, ℕ, ◌+◌, ◌*◌, ◌<◌, true, false, eqb, leb, ltb, List, length, Option, Some, None, refl}
 use Rattle.std.proofs.Common.{sym, ap, option_map}
 use Rattle.std.specs.Prelude.{IfSome, IsSomeAnd, is_some, count_by}
@@ -30,7 +30,7 @@ use Rattle.fr_slots.specs.Windows.{Opportunity}
 use Rattle.fr_trace.specs.Answers.{same_channel, same_number, same_origin, same_offered}
 use Rattle.fr_trace.specs.Answers.{is_refused, made_by, is_answered, fault_of}
 
--- ---- equal answers
+-- ---- answers that are equal
 
 same_channel_is : (made told : Channel) → same_channel made told ≡ true → made ≡ told
 same_channel_is A A h = refl

@@ -1,4 +1,4 @@
--- A line that is taken at once is what its bytes make one after another.
+-- A line that is taken at once gives the same as its bytes one after another.
 use Rattle.std.proofs.Common.{◌≡◌, ◌≢◌, ℕ, zero, suc, ◌+◌, ◌<◌, ◌≤◌, ◌==◌, true, false, not, inl, inr, List, [], ◌∷◌}
 use Rattle.std.proofs.Common.{◌++◌}
 use Rattle.std.proofs.Common.{length, get_or, take, drop, refl, sym, ap, ◌∙◌, arith, subst, append_assoc, length-append}
@@ -45,7 +45,7 @@ overflow p line (b ∷ more) opened plain fits long =
           ap (λ s. take_bytes s more) one ∙ overflow p (line ++ b ∷ []) more opened parts.1 (omega arith) (omega arith)
     ]
 
--- a line feed ends whatever is held
+-- a line feed ends the line that is held
 pub ends_read : (mid new : Progress) → EndsLine mid new → Reads mid (10 ∷ []) new
 ends_read (failed e) new ends = inl ends
 ends_read (reading (finished v s) line) new (inl is) = inl is
@@ -83,12 +83,12 @@ direct_read (reading (lines v p plan) line) rest new empty plain fits ends =
 direct_read (reading (body v s) line) rest new empty plain fits ends =
     direct_open (body v s) line rest new refl empty plain fits ends
 
--- what was held and the rest of the line
+-- the front that was held, and the rest of the line
 pub carried_read : (old mid : Progress) (rest : List ℕ) (new : Progress) → mid ≡ take_bytes old rest → EndsLine mid new
     → Reads old (rest ++ 10 ∷ []) new
 carried_read old mid rest new is ends = reads_more old rest (10 ∷ []) mid new (inl is) (ends_read mid new ends)
 
--- ---- where the line feeds stand
+-- ---- the places of the line feeds
 
 pub no_feed : (bytes : List ℕ) → ((k : ℕ) → k < length bytes → (get_or bytes k 0 == 10) ≡ true → ⊥)
     → has_no_feed bytes ≡ true

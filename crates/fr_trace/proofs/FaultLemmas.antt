@@ -1,4 +1,4 @@
--- What a text is refused for is never a failed allocation, a reader or a writer.
+-- An error that is the text's own is never a failed allocation, nor an error of the reader or the writer.
 use Rattle.std.proofs.Common.{ℕ, ◌==◌, ◌&&◌, List, [], ◌∷◌, length, Option, Some, None, Result, Ok, Err, inl, inr}
 use Rattle.std.specs.Prelude.{ℤ, is_none}
 use Rattle.std.specs.Str.{bytes_eq}

@@ -10,7 +10,7 @@ use Rattle.fr_trace.proofs.TextLemmas.{is_open, take_in-open}
 use Rattle.fr_trace.specs.Stream.{Phase, Progress, reading, take_line, after_line, take_in, take_byte, take_bytes}
 use Rattle.fr_lines.specs.Spelling.{line_feed}
 
--- bytes that are no line feed fill the line
+-- bytes other than a line feed fill the line
 pub fill : (p : Phase) (rest front : List ℕ) → is_open p ≡ true → has_no_feed rest ≡ true
     → length front + length rest ≤ 1200 → take_bytes (reading p front) rest ≡ reading p (front ++ rest)
 fill p [] front opened plain room = ap (λ l. reading p l) (sym (append-nil front))

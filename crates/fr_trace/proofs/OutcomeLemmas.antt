@@ -1,4 +1,4 @@
--- What is accepted is the text of an interface, and the text of a legal interface is accepted.
+-- An accepted text is the text of an interface, and the text of a legal interface is accepted.
 use Rattle.std.proofs.Common.{◌≡◌, ℕ, true}
 use Rattle.std.proofs.Common.{List, [], ◌∷◌, ◌++◌, Option, Some, None, Result, Ok, Err, refl, sym, ap, subst, ◌∙◌}
 use Rattle.std.proofs.lemmas.List.{append-nil}
@@ -37,7 +37,7 @@ found_in (reading (finished v t) line) text s spelled told h =
     (trace_text v t)) in
     subst (λ (x : State). IsTraceOf x text) same (v, whole, told.0, told.1)
 
--- what is accepted is a text of that interface
+-- an accepted text is a text of that interface
 pub accepted_text : (text : List ℕ) (s : State) → outcome_of (take_bytes fresh text) ≡ Ok s → IsTraceOf s text
 accepted_text text s h = found_in (take_bytes fresh text) text s (text_spelled text) (text_told text) h
 
@@ -65,7 +65,7 @@ all_owned_told : (owned : List Own) → AreOwnedTold Three owned
 all_owned_told [] = tt
 all_owned_told (o ∷ owned) = (refl, all_owned_told owned)
 
--- what is written is accepted
+-- a text that is written is accepted
 pub written_outcome : (s : State) → IsLegalInterface s → outcome_of (take_bytes fresh (trace_text Three s)) ≡ Ok s
 written_outcome s is = legal_outcome (trace_text Three s) s is
     (Three, refl, all_owned_told s.plan.owned, all_told s.entries)
@@ -77,7 +77,7 @@ text_given None rest s h = tt
 text_given (Some text) None s h = absurd h
 text_given (Some text) (Some rest) s h = accepted_text text s h.1
 
--- a text that is accepted has the line at which its interface is made
+-- an accepted text has the line at which its interface is made
 pub accepted_begins : (text : Option (List ℕ)) (s : State) → IsLegalInterface s → IsTextOf s text → HasBegin text
 accepted_begins None s is same = tt
 accepted_begins (Some text) s is trace =
@@ -188,7 +188,7 @@ through_understood (Some text) None (Err Write) legal h = h
 through_understood (Some text) (Some rest) (Err Write) legal h = h
 through_understood text rest (Err Memory) legal h = through_begins text rest h
 
--- what is done with such a text where nothing is written
+-- reading such a text through, without writing
 pub understood_leaves : (text rest : Option (List ℕ)) (r : Result State TraceError) → IfOk r IsLegalInterface
     → ReadsThrough text rest r → Leaves text rest None None (outcome r)
 understood_leaves text rest (Ok s) legal h = (s, h, legal, tt)

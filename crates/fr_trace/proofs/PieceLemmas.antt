@@ -1,4 +1,4 @@
--- How far a reader has been read, and what has come of it.
+-- The bytes that have been read of a reader, and the state that they leave.
 use Rattle.std.proofs.Common.{◌≡◌, ℕ, ◌≤◌, List, [], ◌++◌, length, Option, Some, None, Result, Ok, Err, inl, inr, refl}
 use Rattle.std.proofs.Common.{sym, ap, ◌∙◌, append_assoc, subst, ◌⊎◌}
 use Rattle.std.proofs.lemmas.List.{append-nil}
@@ -14,7 +14,7 @@ use Rattle.fr_trace.specs.declared.error.TraceError.TheVariants.{BadMagic, BadLi
 use Rattle.fr_trace.specs.declared.error.TraceError.TheVariants.{Truncated, Read, Write, Memory}
 use Rattle.fr_trace.proofs.FaultLemmas.{FaultOfText, FailsByText, bytes_fault, outcome_fault}
 
--- the auditor has read what the reader has lost, and no fault has shown
+-- the auditor has read the bytes that the reader no longer has, and no fault has shown
 abbrev pub ReadSoFar : Option (List ℕ) → Option (List ℕ) → Progress → Type 0
 ReadSoFar None new s = FailsByText s
 ReadSoFar (Some text) None s = ⊥
@@ -27,7 +27,7 @@ read_none (Some text) s is = ([], refl, is, refl)
 
 -- ---- a piece without a fault
 
--- a state after a failure where an allocation fails has no good answer
+-- a state after a failed allocation has no good answer
 no_memory : (s s' : Progress) (bytes : List ℕ) → Reads s bytes s' → answer_of s' ≡ Ok tt → s' ≡ take_bytes s bytes
 no_memory s s' bytes (inl read) fine = read
 no_memory s s' bytes (inr out) fine = cc (ap answer_of (sym out.0) ∙ fine)
@@ -78,7 +78,7 @@ not_write Read of_text = absurd of_text
 not_write Write of_text = absurd of_text
 not_write Memory of_text = absurd of_text
 
--- the fault is the text's, since no bytes after it change the answer
+-- the fault is the text's own, since no bytes after it change the answer
 piece_fault : (text front bytes rest : List ℕ) (e : TraceError) → text ≡ front ++ (bytes ++ rest) → length bytes ≤ 4096
     → HasNoFault front → take_bytes fresh (front ++ bytes) ≡ failed e
     → Through text rest (Err e)

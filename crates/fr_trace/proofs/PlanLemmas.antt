@@ -1,4 +1,4 @@
--- What tests of a plan tell.
+-- The results of tests of a plan.
 use Rattle.std.proofs.Common.{◌≡◌, ◌<◌, true, false, inl, inr, List, [], ◌∷◌, length, arith, Option, Some, None, refl}
 use Rattle.std.proofs.Common.{eqb}
 use Rattle.std.specs.Prelude.{is_none, is_some}
@@ -20,7 +20,7 @@ pub none_is : {X : Type 0} (o : Option X) → is_none o ≡ true → o ≡ None
 none_is None h = refl
 none_is (Some x) h = cc h
 
--- a queue is taken where there is none
+-- a receive FIFO is taken if there is none yet
 pub no_queue_yet : (plan : Plan) (q : Queue) → is_none (queue_refusal plan q) ≡ true → plan.queue ≡ None
 no_queue_yet plan q h =
     elim (cases_Bool (queue_fits q)) [

@@ -1,4 +1,4 @@
--- Which line an error names, that no bytes after a fault help, and how long a text can be.
+-- The line that an error names; no bytes after a fault help; the length of a text.
 use Rattle.std.proofs.Common.{◌≡◌, ℕ, ◌+◌, ◌*◌, ◌≤◌, ◌==◌, ◌&&◌, Bool, true, List, [], ◌∷◌, ◌++◌, length}
 use Rattle.std.proofs.Common.{Option, Some, None, Result, Ok, Err, inl, inr, refl, sym, ap, subst, ◌∙◌, arith, cond}
 use Rattle.std.proofs.Common.{length-append, zero-add, eq-eqb}
@@ -256,7 +256,7 @@ outcome_named_in (reading (lines v p plan) l) text is = tt
 outcome_named_in (reading (body v t) l) text is = tt
 outcome_named_in (reading (finished v t) l) text is = tt
 
--- what a whole text is refused with names its line
+-- the refusal of a whole text names its line
 pub outcome_named : (text : List ℕ) → LineIsNamed (outcome_of (take_bytes fresh text)) text
 outcome_named text = outcome_named_in (take_bytes fresh text) text refl
 
@@ -264,11 +264,11 @@ answer_named_in : (s : Progress) (text : List ℕ) → take_bytes fresh text ≡
 answer_named_in (failed e) text is = first_fault text e is
 answer_named_in (reading p l) text is = tt
 
--- and so does what is answered while bytes come
+-- and so does an answer while bytes come
 pub answer_named : (text : List ℕ) → LineIsNamed (answer_of (take_bytes fresh text)) text
 answer_named text = answer_named_in (take_bytes fresh text) text refl
 
--- ---- nothing helps
+-- ---- no bytes after a fault help
 
 pub hopeless : (bytes : List ℕ) (e : TraceError) → take_bytes fresh bytes ≡ failed e → IsHopeless bytes
 hopeless bytes e is rest s legal same =
@@ -309,9 +309,9 @@ piece_hopeless front piece old new (inl read) so_far =
 piece_hopeless front piece old new (inr out) so_far =
     subst (λ s. HopelessIfRefused (answer_of s) (front ++ piece)) (sym out.0) (λ of_text. absurd of_text)
 
--- ---- how long a text can be
+-- ---- the length of a text
 
--- after so many bytes: each line that is over has at most as many bytes as the longest line, and a line feed
+-- after `n` bytes: each line that is over has at most as many bytes as the longest line, and a line feed
 abbrev IsShort : ℕ → Progress → Type 0
 IsShort n (reading p l) = (n + 1201 ≤ 1201 * line_number p + length l) × (length l ≤ 1200)
 IsShort n (failed e) = Unit {0}
@@ -411,6 +411,6 @@ named_alike None r h = tt
 named_alike (Some text) (Ok s) h = tt
 named_alike (Some text) (Err e) h = h
 
--- which comes to this number of bytes
+-- the longest text has this number of bytes
 pub longest_text_is : longest_text ≡ 98546854
 longest_text_is = refl

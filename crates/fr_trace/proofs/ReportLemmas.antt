@@ -1,4 +1,4 @@
--- The report, one buffer more.
+-- The report, with one more buffer.
 use Rattle.std.proofs.Common.{◌≡◌, ℕ, zero, suc, ◌+◌, ◌<◌, true, false, cond, List, [], ◌∷◌, ◌++◌, length, take, Some}
 use Rattle.std.proofs.Common.{None, refl, sym, ap, ◌∙◌, append_assoc, append-nil, arith}
 use Rattle.std.specs.Prelude.{slice_get}
@@ -11,14 +11,14 @@ use Rattle.fr_trace.specs.ReportText.{answer_words, reports_from, buffer_report,
 use Rattle.fr_lines.specs.Spelling.{line_text}
 use Rattle.fr_text.specs.Spaces.{line_of}
 
--- the buffer of a number that there is
+-- the buffer of a number in range
 line_at : (buffers : List Buffer) (place : ℕ) → place < length buffers
     → (b : Buffer) × (slice_get buffers place ≡ Some b)
 line_at [] place lt = absurd (omega arith)
 line_at (b ∷ buffers) zero lt = (b, refl)
 line_at (b ∷ buffers) (suc place) lt = line_at buffers place (omega arith)
 
--- what the interface answers of it makes its line
+-- the answers of the interface about a buffer make its line
 answers_is : (s : State) (number : ℕ) (b : Buffer) → buffer_at s.plan number ≡ Some b
     → report_words s number b ≡ answer_words number (tally_by s number) (received_by s number)
 answers_is s number b is =
@@ -63,7 +63,7 @@ pub report-none : (s : State) → reports_from s 0 (take 0 s.plan.buffers) ≡ [
 unfolding reports_from
 report-none s = refl
 
--- a line, from its fourth word on and before it
+-- a line without its first three words, and the whole line
 pub line-behind_three : (a b c d : List ℕ) (words : List (List ℕ))
     → line_text (a ∷ b ∷ c ∷ d ∷ words) ≡ (a ++ 32 ∷ (b ++ 32 ∷ c)) ++ (32 ∷ line_text (d ∷ words))
 line-behind_three a b c d words =

@@ -1,4 +1,4 @@
--- What has been read spells the phase and the front of a line.
+-- The bytes that have been read spell the phase and the front of a line.
 use Rattle.std.proofs.Common.{◌≡◌, ℕ, ◌==◌, ◌&&◌, Bool, true, false, List, [], ◌∷◌, ◌++◌, length, Option, Some, None}
 use Rattle.std.proofs.Common.{Result, Ok, Err, refl, sym, ap, subst, ◌∙◌, append_assoc, inl, inr}
 use Rattle.std.specs.Prelude.{ℤ, is_none}
@@ -172,7 +172,7 @@ after_buffer_leads v line p plan b q read h =
       | inr refused ↦ cc (rw refused at h)
     ]
 
--- the queue
+-- the receive FIFO
 pub queue_text : (v : Version) (p : Parameters) (plan : Plan) (q : Queue) → plan.queue ≡ None
     → plan_text v p (with_queue plan q) ≡ plan_text v p plan ++ line_text (queue_words q)
 queue_text v p plan q no_queue =
@@ -344,6 +344,6 @@ bytes_spelled (b ∷ bytes) s text h =
     subst (λ t. Spelled (take_bytes (take_byte s b) bytes) t) (append_assoc text (b ∷ []) bytes)
     (bytes_spelled bytes (take_byte s b) (text ++ b ∷ []) (byte_spelled s text b h))
 
--- what has come spells the phase that it left
+-- the bytes that have come spell the phase that they leave
 pub text_spelled : (text : List ℕ) → Spelled (take_bytes fresh text) text
 text_spelled text = bytes_spelled text fresh [] (refl, tt)

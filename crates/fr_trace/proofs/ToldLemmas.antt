@@ -1,4 +1,4 @@
--- What is read of a text are ownerships and entries that its version has a line for.
+-- A version has a line for each ownership and each entry that is read in a text of it.
 use Rattle.std.proofs.Common.{◌≡◌, ℕ, ◌==◌, ◌&&◌, true}
 use Rattle.std.proofs.Common.{List, [], ◌∷◌, ◌++◌, length, Option, Some, None, Result, Ok, Err}
 use Rattle.std.proofs.Common.{inl, inr, refl, sym, subst}
@@ -171,6 +171,6 @@ bytes_told : (bytes : List ℕ) (s : Progress) → IsToldSoFar s → IsToldSoFar
 bytes_told [] s told = told
 bytes_told (b ∷ bytes) s told = bytes_told bytes (take_byte s b) (byte_told s b told)
 
--- what a text tells
+-- the ownerships and entries of a text have a line in its version
 pub text_told : (text : List ℕ) → IsToldSoFar (take_bytes fresh text)
 text_told text = bytes_told text fresh tt

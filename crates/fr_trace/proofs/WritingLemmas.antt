@@ -1,4 +1,4 @@
--- A list of lines written, one line more.
+-- The writing of a list of lines, one line more.
 use Rattle.std.proofs.Common.{◌≡◌, ℕ, zero, suc, ◌+◌, ◌<◌, List, [], ◌∷◌, ◌++◌, length, take, get_or, Option, Some}
 use Rattle.std.proofs.Common.{None, Result, Ok, Err, sym, ap, subst, ◌∙◌, append-nil, arith}
 use Rattle.std.specs.Io.KnownBytes.{Appends}
@@ -23,7 +23,7 @@ module _ {X : Type 0} (line : X → List ℕ) where
       subst (λ (t : List ℕ). Appends old new t) (sym (lines-more xs i x lt is))
       (Appends-trans old mid new (flat_map line (take i xs)) (line x) before one)
 
--- an element that is there, and one that isn't
+-- an element in range
 pub there_is : {X : Type 0} (xs : List X) (i : ℕ) (x : X) → slice_get xs i ≡ Some x → x ≡ get_or xs i x
 there_is [] i x is = cc is
 there_is (y ∷ xs) zero x is = cc is
@@ -34,7 +34,7 @@ none_behind [] i lt is = omega arith
 none_behind (y ∷ xs) zero lt is = cc is
 none_behind (y ∷ xs) (suc i) lt is = none_behind xs i (omega arith) is
 
--- what a last step writes, after what the steps before it wrote
+-- the last step appends its text to the text of the steps before it
 pub appends-last : {A E : Type 0} (r : Result A E) (old mid new : Option (List ℕ)) (front back : List ℕ)
     → Appends old mid front → OnOk r (Appends mid new back) → OnOk r (Appends old new (front ++ back))
 appends-last (Ok x) old mid new front back before last = Appends-trans old mid new front back before last

@@ -1,4 +1,4 @@
--- Whether an entry that a trace tells is the one that its call makes.
+-- An entry of a trace and the entry that its call makes are equal.
 use Rattle.std.specs.Prelude.{ℕ, ◌==◌, Bool, true, false, ◌&&◌, Option, Some, None, is_some, if◌then◌else◌}
 use Rattle.fr_journal.specs.Forms.{Entry}
 use Rattle.fr_journal.specs.declared.entry.Entry.TheVariants.{Commit, Withdraw, Read, Pop, Fetch, Observe}
@@ -12,7 +12,7 @@ use Rattle.fr_slots.specs.declared.channel.Channel.TheVariants as channel
 use Rattle.fr_trace.specs.declared.error.TraceError.{TraceError}
 use Rattle.fr_trace.specs.declared.error.TraceError.TheVariants.{Refused, WrongAnswer}
 
--- ---- equal answers
+-- ---- answers that are equal
 
 abbrev pub same_channel : Channel → Channel → Bool
 same_channel channel.A channel.A = true
@@ -49,7 +49,7 @@ is_refused s (Pop task from) = is_some (pop_refusal s task)
 is_refused s (Fetch window a b) = is_some (fetch_refusal s window)
 is_refused s (Observe window a b) = is_some (observe_refusal s window)
 
--- what the call of an entry appends: the entry with the call's own answers
+-- the entry that the call appends: this entry with the call's own answers
 abbrev pub made_by : State → Entry → Entry
 made_by s (Commit task buffer payload) = Commit task buffer payload
 made_by s (Withdraw task buffer of) = withdraw_entry s task buffer
@@ -67,7 +67,7 @@ same_answer (Fetch window made_a made_b) (Fetch w told_a told_b) = same_offered 
     && same_offered made_b told_b
 same_answer made told = true
 
--- where the frame comes from that a read or a pop answered, if it was one
+-- the origin of the frame that a read or a pop returned
 abbrev pub origin_in : Option Entry → Option Origin
 origin_in None = None
 origin_in (Some (Commit task buffer payload)) = None
@@ -77,15 +77,15 @@ origin_in (Some (Pop task from)) = from
 origin_in (Some (Fetch window a b)) = None
 origin_in (Some (Observe window a b)) = None
 
--- the answers that the trace tells are those of the call
+-- the answers in the trace are those of the call
 abbrev pub is_answered : State → Entry → Bool
 is_answered s e = same_answer (made_by s e) e
 
--- nothing where the call is refused, and else whether its answers are those that the trace tells
+-- none if the call is refused; otherwise the answers in the trace are those of the call, or not
 abbrev pub answer_of : State → Entry → Option Bool
 answer_of s e = if is_refused s e then None else Some (is_answered s e)
 
--- why an entry can't stand on the line of this number
+-- the fault of an entry on the line of this number
 abbrev pub fault_of : ℕ → State → Entry → Option TraceError
 fault_of line s e = if is_refused s e then Some (Refused line) else if is_answered s e then None
     else Some (WrongAnswer line)

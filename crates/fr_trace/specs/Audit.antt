@@ -1,4 +1,4 @@
--- What an audit of a whole text does.
+-- The result of an audit of a whole text, and the bytes that it reads.
 use Rattle.std.specs.Prelude.{◌≡◌, ℕ, ◌≤◌, List, [], ◌++◌, length, Option, Some, None, Result, Ok, Err, ◌⊎◌}
 use Rattle.std.specs.Io.KnownBytes.{Keeps, Appends}
 use Rattle.fr_interface.specs.State.{State, IsLegalInterface}
@@ -9,7 +9,7 @@ use Rattle.fr_trace.specs.ReportText.{report_text}
 use Rattle.fr_trace.specs.Stream.{failed, fresh, take_bytes, answer_of, outcome_of}
 use Rattle.fr_trace.specs.TraceText.{IsTraceOf}
 
--- an error that the text alone gives
+-- an error that depends only on the text
 abbrev pub IsOfText : TraceError → Type 0
 IsOfText Read = ⊥
 IsOfText Write = ⊥
@@ -21,7 +21,7 @@ abbrev pub IsNotRefused : {A : Type 0} → Result A TraceError → Type 0
 IsNotRefused (Ok x) = Unit {0}
 IsNotRefused (Err e) = IsOfText e → ⊥
 
--- ---- what is done with a text, where it is known
+-- ---- the result for a known text
 
 -- the text is one of the interface
 abbrev pub IsTextOf : State → Option (List ℕ) → Type 0
@@ -38,8 +38,8 @@ abbrev pub HasBegin : Option (List ℕ) → Type 0
 HasBegin None = Unit {0}
 HasBegin (Some text) = Begins fresh text
 
--- The text is one of a legal interface, whose report is written, or the writer failed at that. Or nothing is written,
--- and the text is refused by its first line at fault, or memory ran out as the text's interface was made, or the reader
+-- The text is one of a legal interface, and its report is written, or the writer failed at that. Or nothing is written:
+-- the text is refused by its first line at fault, or memory ran out when the text's interface was made, or the reader
 -- failed.
 abbrev pub Audits : Option (List ℕ) → Option (List ℕ) → Option (List ℕ) → Result (Unit {0}) TraceError → Type 0
 Audits text old new (Ok x) = (s : State) × IsTextOf s text × IsLegalInterface s × Appends old new (report_text s)
@@ -48,23 +48,23 @@ Audits text old new (Err Read) = Keeps old new
 Audits text old new (Err Memory) = HasBegin text × Keeps old new
 Audits text old new (Err e) = IsRefusedBy e text × Keeps old new
 
--- ---- how far a text is read
+-- ---- the bytes that are read
 
--- no fault shows in these bytes, whatever comes after them
+-- no fault shows in these bytes, whatever follows them
 abbrev pub HasNoFault : List ℕ → Type 0
 HasNoFault bytes = answer_of (take_bytes fresh bytes) ≡ Ok tt
 
--- no fault has shown in what was read
+-- no fault has shown in the bytes that were read
 abbrev pub StopsEarly : List ℕ → List ℕ → Type 0
 StopsEarly text rest = (front : List ℕ) × (text ≡ front ++ rest) × HasNoFault front
 
--- It is the last piece that decides: no fault shows before it, and of what comes after it nothing was read.
+-- The last piece decides: no fault shows before it, and nothing after it was read.
 abbrev pub StopsIn : (List ℕ → List ℕ → Type 0) → List ℕ → List ℕ → Type 0
 StopsIn Decides text rest =
     (front : List ℕ) × (piece : List ℕ) × (text ≡ front ++ (piece ++ rest)) × (length piece ≤ 4096) × HasNoFault front
     × Decides front piece
 
--- all was read, and no fault showed before the end
+-- all bytes were read, and no fault showed before the end
 abbrev pub StopsAtEnd : List ℕ → List ℕ → Type 0
 StopsAtEnd text rest = (rest ≡ []) × HasNoFault text
 
@@ -76,7 +76,7 @@ BeginsIn front piece = Begins (take_bytes fresh front) piece
 abbrev pub FailsIn : TraceError → List ℕ → List ℕ → Type 0
 FailsIn e front piece = take_bytes fresh (front ++ piece) ≡ failed e
 
--- The text is read to its end, if no fault shows before, and else up to the end of the piece that has the fault.
+-- The text is read to its end if no fault shows before, and otherwise up to the end of the piece that has the fault.
 abbrev pub StopsAt : List ℕ → List ℕ → Result (Unit {0}) TraceError → Type 0
 StopsAt text rest (Ok x) = StopsAtEnd text rest
 StopsAt text rest (Err Write) = StopsAtEnd text rest
@@ -84,7 +84,7 @@ StopsAt text rest (Err Read) = StopsEarly text rest
 StopsAt text rest (Err Memory) = StopsIn BeginsIn text rest
 StopsAt text rest (Err e) = StopsAtEnd text rest ⊎ StopsIn (FailsIn e) text rest
 
--- the same of a reader, where its bytes are known
+-- the same for a reader whose bytes are known
 abbrev pub Stops : Option (List ℕ) → Option (List ℕ) → Result (Unit {0}) TraceError → Type 0
 Stops None rest r = Unit {0}
 Stops (Some text) None r = ⊥
@@ -92,7 +92,7 @@ Stops (Some text) (Some rest) r = StopsAt text rest r
 
 -- ---- the two steps of an audit
 
--- what reading through gives
+-- the result of reading through
 abbrev pub Through : List ℕ → List ℕ → Result State TraceError → Type 0
 Through text rest (Ok s) = StopsAtEnd text rest × (outcome_of (take_bytes fresh text) ≡ Ok s)
 Through text rest (Err Write) = ⊥
@@ -105,13 +105,13 @@ abbrev pub IsNotWrite : Result State TraceError → Type 0
 IsNotWrite (Err Write) = ⊥
 IsNotWrite r = Unit {0}
 
--- the same of a reader, where its bytes are known
+-- the same for a reader whose bytes are known
 abbrev pub ReadsThrough : Option (List ℕ) → Option (List ℕ) → Result State TraceError → Type 0
 ReadsThrough None rest r = IsNotWrite r
 ReadsThrough (Some text) None r = ⊥
 ReadsThrough (Some text) (Some rest) r = Through text rest r
 
--- what is left of reader and writer
+-- the bytes left in the reader, and those in the writer
 abbrev pub Leaves : Option (List ℕ) → Option (List ℕ) → Option (List ℕ) → Option (List ℕ)
     → Result (Unit {0}) TraceError → Type 0
 Leaves text rest old new (Ok x) = (s : State) × ReadsThrough text rest (Ok s) × IsLegalInterface s
@@ -119,15 +119,15 @@ Leaves text rest old new (Ok x) = (s : State) × ReadsThrough text rest (Ok s) �
 Leaves text rest old new (Err Write) = (s : State) × ReadsThrough text rest (Ok s) × IsLegalInterface s
 Leaves text rest old new (Err e) = ReadsThrough text rest (Err e) × Keeps old new
 
--- ---- what a trace tells of, before any report
+-- ---- the interface of a trace, before any report
 
--- whether it was read, without what it was read as
+-- the success or the error, without the value
 abbrev pub outcome : {A : Type 0} → Result A TraceError → Result (Unit {0}) TraceError
 outcome (Ok x) = Ok tt
 outcome (Err e) = Err e
 
--- The text is one of the legal interface which is given. Or it is refused by its first line at fault, or memory ran
--- out as the text's interface was made, or the reader failed.
+-- The text is one of the legal interface that is returned. Or it is refused by its first line at fault, or memory ran
+-- out when the text's interface was made, or the reader failed.
 abbrev pub Understands : Option (List ℕ) → Result State TraceError → Type 0
 Understands text (Ok s) = IsTextOf s text × IsLegalInterface s
 Understands text (Err Write) = ⊥

@@ -1,4 +1,4 @@
--- What the phases of an auditor stand for.
+-- The meaning of the phases of an auditor.
 use Rattle.std.specs.Prelude.{ℕ, List, Option, Some, None}
 use Rattle.fr_trace.specs.Stream.{Phase as View, Progress, magic, params, node, lines, body, finished, reading, failed}
 use Rattle.fr_trace.specs.declared.auditor.Phase.{Phase}

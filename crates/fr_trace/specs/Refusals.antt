@@ -1,4 +1,4 @@
--- What a refusal of a trace tells: the line at fault, and that no bytes that come after it could help.
+-- A refusal of a trace names the line at fault, and no bytes that follow could make the trace legal.
 use Rattle.std.specs.Prelude.{◌≡◌, ℕ, ◌+◌, ◌*◌, ◌≤◌, ◌==◌, List, [], ◌∷◌, ◌++◌, length, Option, Some, None, Result, Ok}
 use Rattle.std.specs.Prelude.{Err, count_by, IfSome}
 use Rattle.fr_interface.specs.State.{State, IsLegalInterface}
@@ -22,15 +22,15 @@ line_of_error e = None
 abbrev pub feed_count : List ℕ → ℕ
 feed_count bytes = count_by (λ b. b == 10) bytes
 
--- The text's first fault is this one, and it shows with this byte: not in the bytes before it, and whatever comes after
--- it. Lines are counted from 1, so the line of that byte is one more than the line feeds before it.
+-- The text's first fault is this one. It shows at this byte, whatever follows, and not in the bytes before it. Lines
+-- are counted from 1, so the line of that byte is one more than the number of line feeds before it.
 pub record IsFirstFault (e : TraceError) (text before : List ℕ) (b : ℕ) (after : List ℕ) : Type 0 where
   pub parts : text ≡ before ++ b ∷ after
   pub none_before : HasNoFault before
   pub shown : take_bytes fresh (before ++ b ∷ []) ≡ failed e
   pub line : IfSome (line_of_error e) (λ n. n ≡ feed_count before + 1)
 
--- where the error names a line, it is that of the byte with which the first fault of the text shows
+-- if the error names a line, it is the line of the byte at which the first fault of the text shows
 abbrev pub NamesItsLine : TraceError → List ℕ → Type 0
 NamesItsLine e text = IfSome (line_of_error e) (λ n. (before : List ℕ) × (b : ℕ) × (after : List ℕ)
     × IsFirstFault e text before b after)
@@ -39,25 +39,25 @@ abbrev pub LineIsNamed : {A : Type 0} → Result A TraceError → List ℕ → T
 LineIsNamed (Ok x) text = Unit {0}
 LineIsNamed (Err e) text = NamesItsLine e text
 
--- ---- nothing helps
+-- ---- no bytes that follow help
 
 -- no text of a legal interface begins with these bytes
 abbrev pub IsHopeless : List ℕ → Type 0
 IsHopeless bytes = (rest : List ℕ) (s : State) → IsLegalInterface s → IsTraceOf s (bytes ++ rest) → ⊥
 
--- where a fault of the text is answered
+-- if the result is a fault of the text
 abbrev pub HopelessIfRefused : {A : Type 0} → Result A TraceError → List ℕ → Type 0
 HopelessIfRefused (Ok x) bytes = Unit {0}
 HopelessIfRefused (Err e) bytes = IsOfText e → IsHopeless bytes
 
--- ---- how long a text can be
+-- ---- the length of a text
 
--- Magic, parameters and the plan's numbers, the plan's ownership lines, buffers and queue, begin, the entries, and end:
--- each of them has at most as many bytes as the longest line, and a line feed.
+-- A text has the magic line, the parameters, the plan's numbers, ownership lines, buffers and receive FIFO, `begin`,
+-- the entries, and `end`. Each of these lines has at most as many bytes as the longest line, and a line feed.
 abbrev pub longest_text : ℕ
 longest_text = (3 + (most_lines + most_lines + 1) + 1 + most_entries + 1) * (longest_line + 1)
 
--- what the lines of a plan and of a journal can be at most
+-- the limits of the lines of a plan and of a journal
 abbrev pub HasFewLines : State → Type 0
 HasFewLines s = line_count s.plan + length s.entries ≤ (most_lines + most_lines + 1) + most_entries
 

@@ -54,7 +54,7 @@ counts_in counts = record {
 
 -- ---- the report
 
--- what became of the commits of a transmit buffer, or what a receive buffer holds
+-- the fate of the commits of a transmit buffer, or the frame that a receive buffer holds
 abbrev pub report_words : State → ℕ → Buffer → List (List ℕ)
 report_words s number b = if is_receive b.mode then held_words number (held s.params b.filter s.entries)
     else tally_words number (tally_of number s.entries)
@@ -62,17 +62,17 @@ report_words s number b = if is_receive b.mode then held_words number (held s.pa
 abbrev pub buffer_report : State → ℕ → Buffer → List ℕ
 buffer_report s number b = line_text (report_words s number b)
 
--- the words of the line of the buffer of this number, by what the interface answers
+-- the words of the line of a buffer, from the answers of the interface
 abbrev pub answer_words : ℕ → Option Tally → Option Arrival → List (List ℕ)
 answer_words number (Some tally) arrival = tally_words number tally
 answer_words number None arrival = held_words number arrival
 
--- a line for each buffer, the first of which has this number
+-- a line for each buffer; the first has this number
 unfoldable pub reports_from : State → ℕ → List Buffer → List ℕ
 reports_from s number [] = []
 reports_from s number (b ∷ buffers) = buffer_report s number b ++ reports_from s (number + 1) buffers
 
--- the line of the queue, where there is one
+-- the line of the receive FIFO, if the plan has one
 abbrev pub queue_report : State → Option Queue → List ℕ
 queue_report s None = []
 queue_report s (Some q) = line_text (queue_report_words (queue_length q.capacity (moves s.params s.plan q s.entries))
@@ -84,6 +84,6 @@ channel_report s channel = line_text (channel_words channel (counts_of s.params 
 abbrev pub channels_report : State → List ℕ
 channels_report s = channel_report s A ++ channel_report s B
 
--- the buffers in order of their numbers, then the queue, then both channels
+-- the buffers in order of their numbers, then the receive FIFO, then both channels
 abbrev pub report_text : State → List ℕ
 report_text s = reports_from s 0 s.plan.buffers ++ queue_report s s.plan.queue ++ channels_report s

@@ -1,4 +1,4 @@
--- What has been read of a trace, byte by byte. A line is looked at as its line feed comes.
+-- The state of a trace after each byte. A line is examined when its line feed comes.
 use Rattle.std.specs.Prelude.{ℕ, Bool, ◌+◌, ◌==◌, ◌&&◌, List, [], ◌∷◌, ◌++◌, length, ℤ, Option, Some, None, is_none}
 use Rattle.std.specs.Prelude.{Result, Ok, Err, if◌then◌else◌}
 use Rattle.std.specs.List.{fold}
@@ -22,7 +22,7 @@ use Rattle.fr_trace.specs.Answers.{made_by, fault_of}
 use Rattle.fr_trace.specs.declared.error.TraceError.{TraceError}
 use Rattle.fr_trace.specs.declared.error.TraceError.TheVariants.{BadMagic, BadLine, LineTooLong, Refused, Truncated}
 
--- what the next line may be, in a text of the version that its first line names
+-- the kinds of line that may come next, in a text of the version that its first line names
 pub data Phase : Type 0 where
   magic : Phase
   params : Version → Phase
@@ -31,7 +31,7 @@ pub data Phase : Type 0 where
   body : Version → State → Phase
   finished : Version → State → Phase
 
--- what has come of a text: whole lines and the front of the next, or a line at fault
+-- the state of a text: whole lines and the front of the next, or a line at fault
 pub data Progress : Type 0 where
   reading : Phase → List ℕ → Progress
   failed : TraceError → Progress
@@ -42,11 +42,11 @@ abbrev pub queue_count : Option Queue → ℕ
 queue_count None = 0
 queue_count (Some queue) = 1
 
--- ownership lines, buffers and queue
+-- ownership lines, buffers and receive FIFO
 abbrev pub line_count : Plan → ℕ
 line_count plan = length plan.owned + length plan.buffers + queue_count plan.queue
 
--- the line that comes next
+-- the number of the line that comes next
 abbrev pub line_number : Phase → ℕ
 line_number magic = 1
 line_number (params v) = 2
@@ -76,17 +76,17 @@ after_node v p (Some plan) = Ok (lines v p plan)
 abbrev pub bad_line : Plan → Result Phase TraceError
 bad_line plan = Err (BadLine (line_count plan + 4))
 
--- the queue stands after all other lines of the plan, and there is one at the most
+-- the receive FIFO stands after all other lines of the plan, and there is at most one
 abbrev pub after_queue : Version → Parameters → Plan → Queue → Result Phase TraceError
 after_queue v p plan q = if is_none (queue_refusal plan q) then Ok (lines v p (with_queue plan q)) else bad_line plan
 
--- buffers stand before the queue, and there is room for 64
+-- buffers stand before the receive FIFO, and there is room for 64
 abbrev pub after_buffer : Version → Parameters → Plan → Buffer → Result Phase TraceError
 after_buffer v p plan b =
     if is_none plan.queue && is_none (buffer_refusal plan b) then Ok (lines v p (with_buffer plan b))
     else bad_line plan
 
--- ownership lines stand before the buffers and the queue, and there is room for 64
+-- ownership lines stand before the buffers and the receive FIFO, and there is room for 64
 abbrev pub has_owned_alone : Plan → Bool
 has_owned_alone plan = length plan.buffers == 0 && is_none plan.queue
 
@@ -94,14 +94,14 @@ abbrev pub after_own : Version → Parameters → Plan → Own → Result Phase 
 after_own v p plan o = if has_owned_alone plan && is_none (own_refusal plan o) then Ok (lines v p (with_own plan o))
     else bad_line plan
 
--- an ownership line, a buffer, the queue, or none of these
+-- an ownership line, a buffer, the receive FIFO, or none of these
 abbrev pub after_plan_line : Version → Parameters → Plan → Option PlanLine → Result Phase TraceError
 after_plan_line v p plan None = bad_line plan
 after_plan_line v p plan (Some (plan_line.Own o)) = after_own v p plan o
 after_plan_line v p plan (Some (plan_line.Buffer b)) = after_buffer v p plan b
 after_plan_line v p plan (Some (plan_line.Queue q)) = after_queue v p plan q
 
--- an interface is made where the plan has no fault
+-- an interface is made if the plan has no fault
 abbrev pub after_begin : Version → Parameters → Plan → Result Phase TraceError
 after_begin v p plan =
     if is_none (plan_fault p plan) then Ok (body v (record { params = p; plan = plan; entries = [] }))
@@ -119,7 +119,7 @@ abbrev pub after_entry : Version → State → Option Entry → Result Phase Tra
 after_entry v s None = Err (BadLine (line_number (body v s)))
 after_entry v s (Some e) = after_call v s e
 
--- what follows a whole line
+-- the phase after a whole line
 abbrev pub take_line : Phase → List ℕ → Result Phase TraceError
 take_line magic line = after_magic (version_in line)
 take_line (params v) line = after_numbers v (params_in (words_of line))
@@ -150,7 +150,7 @@ take_open p line b =
     else if length line == longest_line then failed (too_long p)
     else reading p (line ++ b ∷ [])
 
--- after the line `end` nothing may come
+-- after the line `end` no byte may come
 abbrev pub take_in : Phase → List ℕ → ℕ → Progress
 take_in (finished v s) line b = failed (BadLine (line_number (finished v s)))
 take_in p line b = take_open p line b
@@ -159,11 +159,11 @@ abbrev pub take_byte : Progress → ℕ → Progress
 take_byte (failed e) b = failed e
 take_byte (reading p line) b = take_in p line b
 
--- what has been read once these bytes have come too
+-- the state once these bytes have come too
 abbrev pub take_bytes : Progress → List ℕ → Progress
 take_bytes s bytes = fold take_byte s bytes
 
--- nothing has come
+-- no byte has come
 abbrev pub fresh : Progress
 fresh = reading magic []
 

@@ -1,4 +1,4 @@
--- The text of a trace: in each version of the format the one spelling of parameters, a plan and a journal.
+-- The text of a trace: for each version of the format, the one spelling of parameters, a plan and a journal.
 use Rattle.std.specs.Prelude.{◌≡◌, ℕ, true, List, [], ◌++◌, Option, Some, None}
 use Rattle.std.specs.List.{flat_map}
 use Rattle.fr_journal.specs.Forms.{Entry}
@@ -37,7 +37,7 @@ params_text v params = head_text v ++ line_text (params_words params)
 abbrev pub numbers_text : Version → Parameters → Plan → List ℕ
 numbers_text v params plan = params_text v params ++ line_text (node_words plan)
 
--- ownership lines, buffers and queue, in this order
+-- ownership lines, buffers and receive FIFO, in this order
 abbrev pub plan_text : Version → Parameters → Plan → List ℕ
 plan_text v params plan =
     numbers_text v params plan ++ flat_map (own_line v) plan.owned ++ flat_map buffer_line plan.buffers
@@ -51,8 +51,8 @@ body_text v s = begin_text v s.params s.plan ++ flat_map entry_line s.entries
 
 -- ---- the whole text
 
--- the one text of parameters, a plan and a journal in this version, where it has a line for each ownership and for each
--- of the entries
+-- The one text of parameters, a plan and a journal in this version. It exists if the version has a line for each
+-- ownership and each entry.
 abbrev pub trace_text : Version → State → List ℕ
 trace_text v s = body_text v s ++ (end_line ++ line_feed)
 

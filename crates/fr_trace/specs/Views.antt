@@ -1,4 +1,4 @@
--- What an auditor has read.
+-- The state of an auditor, from its private fields.
 use Rattle.fr_trace.specs.Auditor.{phase_of, progress_in}
 use Rattle.fr_trace.specs.Stream.{Progress}
 use Rattle.fr_trace.specs.declared.auditor.Auditor.TheInside.{Inside}

@@ -14,10 +14,10 @@ use fr_interface::interface::Interface;
 use std::alloc::Global;
 use std::io::{ErrorKind, Read, Write};
 
-/// How many bytes are asked for at a time.
+/// The number of bytes that are asked for at a time.
 const ROOM: usize = 4096;
 
-/// Returns what the reader's bytes leave. It reads no further once an error stands. An interrupted read is made again.
+/// Returns the interface that the reader's bytes leave. It stops reading at an error, and repeats an interrupted read.
 fn read_through<R: Read>(alloc: Global, reader: &mut R) -> Result<Interface, TraceError>
     ensures through { ReadsThrough (R.remaining reader.old) (R.remaining reader.new) result }
     ensures legal { IfOk result IsLegalInterface }
@@ -25,7 +25,7 @@ fn read_through<R: Read>(alloc: Global, reader: &mut R) -> Result<Interface, Tra
 {
     let mut auditor = Auditor::new(alloc);
     let mut room = [0u8; ROOM];
-    // The loop ends with `Read` after 2^64 - 1 reads, so that it returns by proof.
+    // The loop ends with `Read` after 2^64 - 1 reads, so that its termination can be proved.
     'pieces: for _ in 0..u64::MAX {
         let count = match reader.read(&mut room) {
             Ok(count) => count,
@@ -43,25 +43,27 @@ fn read_through<R: Read>(alloc: Global, reader: &mut R) -> Result<Interface, Tra
     Err(TraceError::Read)
 }
 
-/// Reads a trace to its end, and gives the interface that it tells of, for whoever asks more of it than the report.
+/// Reads a trace to its end, and returns its interface.
 ///
-/// Refused as `audit` is, and never with `Write`: with the error of the first line at fault, at which it stops reading;
-/// with `Read` where the reader fails; and with `Memory` where memory is refused.
+/// Use this instead of `audit` if you need more than the report.
+///
+/// Returns the error of the first line at fault, at which it stops reading; `Read` if the reader fails; and `Memory` if
+/// an allocation fails. `Write` never occurs.
 pub fn interface_of<R: Read>(alloc: Global, reader: &mut R) -> Result<Interface, TraceError>
-    // What is accepted is a text of the legal interface that is given, and nothing else.
+    // An accepted text is a text of the legal interface that is returned.
     ensures found { Understands (R.remaining reader.old) result }
     // It reads in pieces of at most 4096 bytes, and none after the one that has the fault.
     ensures read { Stops (R.remaining reader.old) (R.remaining reader.new) (outcome result) }
     // The line that an error names is that of the byte with which the first fault shows.
     ensures line { IfSome (R.remaining reader.old) (λ text. LineIsNamed result text) }
-    // A text of a legal interface is not refused, in whichever version.
+    // A text of a legal interface is accepted in each version.
     ensures only { (s : State) → IsLegalInterface s → IsSomeAnd (R.remaining reader.old) (λ text. IsTraceOf s text)
         → IsNotRefused result }
 {
     read_through(alloc, reader)
 }
 
-/// Reads to the end, and writes the report of what that leaves.
+/// Reads a trace to its end, and writes the report of its interface.
 fn audit_through<R: Read, W: Write>(
     alloc: Global,
     reader: &mut R,
@@ -80,24 +82,24 @@ fn audit_through<R: Read, W: Write>(
 
 /// Reads a trace to its end, and writes its report.
 ///
-/// Refused with the error of the first line at fault, at which it stops reading; with `Read` where the
-/// reader fails; with `Memory` where memory is refused; and with `Write` where the writer fails. On
-/// every error but `Write` nothing is written; after `Write` some of the report may have been
+/// Returns the error of the first line at fault, at which it stops reading; `Read` if the reader fails; `Memory` if an
+/// allocation fails; and `Write` if the writer fails. Nothing is written on an error other than `Write`. After `Write`
+/// a part of the report may have been written.
 /// written.
 pub fn audit<R: Read, W: Write>(
     alloc: Global,
     reader: &mut R,
     writer: &mut W,
 ) -> Result<(), TraceError>
-    // What is accepted is a text of a legal interface, whose report is written, and nothing else.
+    // An accepted text is a text of a legal interface, whose report is written.
     ensures found { Audits (R.remaining reader.old) (W.contents writer.old) (W.contents writer.new) result }
     // It reads in pieces of at most 4096 bytes, and none after the one that has the fault.
     ensures read { Stops (R.remaining reader.old) (R.remaining reader.new) result }
-    // What is accepted is no longer than so many lines of the greatest length.
+    // An accepted text is no longer than the longest text.
     ensures short { ShortIfTaken result (R.remaining reader.old) }
     // The line that an error names is that of the byte with which the first fault shows.
     ensures line { IfSome (R.remaining reader.old) (λ text. LineIsNamed result text) }
-    // A text of a legal interface is not refused, in whichever version.
+    // A text of a legal interface is accepted in each version.
     ensures only { (s : State) → IsLegalInterface s → IsSomeAnd (R.remaining reader.old) (λ text. IsTraceOf s text)
         → IsNotRefused result }
 {

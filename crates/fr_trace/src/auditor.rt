@@ -1,5 +1,5 @@
-//! An auditor reads a trace that comes in pieces. Of the text it holds no more than a line that isn't over;
-//! what the lines before have told is a plan or an interface by then.
+//! An auditor, which reads a trace that comes in pieces. It holds at most one line of the text, the line that isn't
+//! over. The lines before it have become a plan or an interface.
 
 ghost use Rattle.std.specs.Prelude.{◌≡◌, ◌+◌, ◌≤◌, length, None};
 ghost use Rattle.fr_lines.specs.Reading.{plan_line_in, entry_in};
@@ -32,7 +32,7 @@ use std::mem;
 /// The longest line, without its line feed (project-defined).
 pub const LINE: usize = 1200;
 
-/// What the next line may be, in a text of the version that its first line names.
+/// The kinds of line that may come next, in a text of the version that its first line names.
 #[derive(Drop)]
 enum Phase {
     Magic,
@@ -43,7 +43,7 @@ enum Phase {
     Finished(Version, Interface),
 }
 
-/// Returns how many lines a plan has after its first.
+/// Returns the number of lines that a plan has after its first.
 fn line_count(plan: &NodePlan) -> u32
     ensures value { result ≡ line_count plan.now }
     ensures few { result ≤ 129 }
@@ -52,7 +52,7 @@ fn line_count(plan: &NodePlan) -> u32
     plan.owned().len() as u32 + plan.buffers().len() as u32 + queue
 }
 
-/// Returns how many lines an interface's plan and journal have.
+/// Returns the number of lines of an interface's plan and journal.
 pub(crate) fn lines_of(interface: &Interface) -> u32
     ensures value { result ≡ line_count interface.now.plan + length interface.now.entries }
     ensures few { result ≤ 82049 }
@@ -74,7 +74,7 @@ fn line_number(phase: &Phase) -> u32
     }
 }
 
-/// Returns the first line, which names the version.
+/// Reads the first line, which names the version.
 fn first_line(line: &[u8]) -> Result<Phase, TraceError>
     ensures { GivesPhase phase_of result (take_line magic line.now) }
 {
@@ -84,7 +84,7 @@ fn first_line(line: &[u8]) -> Result<Phase, TraceError>
     }
 }
 
-/// Returns the line of the parameters.
+/// Reads the line of the parameters.
 fn parameters_line(version: Version, line: &[u8]) -> Result<Phase, TraceError>
     ensures { GivesPhase phase_of result (take_line (params version) line.now) }
 {
@@ -97,7 +97,7 @@ fn parameters_line(version: Version, line: &[u8]) -> Result<Phase, TraceError>
     }
 }
 
-/// Returns the line of the plan's numbers.
+/// Reads the line of the plan's numbers.
 fn node_line(version: Version, params: Params, line: &[u8]) -> Result<Phase, TraceError>
     ensures { GivesPhase phase_of result (take_line (node version params) line.now) }
 {
@@ -107,7 +107,7 @@ fn node_line(version: Version, params: Params, line: &[u8]) -> Result<Phase, Tra
     }
 }
 
-/// Returns the line `begin`, of this number, at which alone memory is taken.
+/// Reads the line `begin`, of this number, the only line at which memory is taken.
 fn begin(
     alloc: Global,
     version: Version,
@@ -127,14 +127,14 @@ fn begin(
     }
 }
 
-/// Returns whether a plan has neither a buffer nor a queue.
+/// Returns whether a plan has neither a buffer nor a receive FIFO.
 fn has_owned_alone(plan: &NodePlan) -> bool
     ensures { result ≡ has_owned_alone plan.now }
 {
     plan.buffers().is_empty() && plan.queue().is_none()
 }
 
-/// Returns an ownership line of the plan, which stands before its buffers and its queue.
+/// Reads an ownership line of the plan, which stands before its buffers and its receive FIFO.
 fn own_line(
     version: Version,
     params: Params,
@@ -154,7 +154,7 @@ fn own_line(
     }
 }
 
-/// Returns a buffer of the plan, which stands before its queue.
+/// Reads a buffer of the plan, which stands before its receive FIFO.
 fn buffer_line(
     version: Version,
     params: Params,
@@ -174,7 +174,7 @@ fn buffer_line(
     }
 }
 
-/// Returns the queue of the plan, which stands after all its other lines.
+/// Reads the receive FIFO of the plan, which stands after all its other lines.
 fn queue_line(
     version: Version,
     params: Params,
@@ -191,7 +191,7 @@ fn queue_line(
     }
 }
 
-/// Returns a line of the plan, of this number, or `begin`.
+/// Reads a line of the plan, of this number, or `begin`.
 fn plan_line(
     alloc: Global,
     version: Version,
@@ -215,7 +215,7 @@ fn plan_line(
     }
 }
 
-/// A line of the journal. The interface makes its call in place.
+/// Reads a line of the journal. The interface makes its call in place.
 fn entry_line(
     version: Version,
     interface: &mut Interface,
@@ -232,7 +232,7 @@ fn entry_line(
     }
 }
 
-/// Returns what follows a whole line, of this number, that is no line of the journal.
+/// Returns the phase after a whole line of this number that is no line of the journal.
 fn after(alloc: Global, phase: Phase, number: u32, line: &[u8]) -> Result<Phase, TraceError>
     requires number { number ≡ line_number (phase_of phase) }
     requires ending { IsNoEntry (phase_of phase) line.now }
@@ -250,7 +250,7 @@ fn after(alloc: Global, phase: Phase, number: u32, line: &[u8]) -> Result<Phase,
     }
 }
 
-/// Takes a whole line that is no line of the journal. What stands before it is gone where it is refused.
+/// Takes a whole line that is no line of the journal. If it is refused, the phase before it is lost.
 ///
 /// It isn't inlined, so that a line of the journal doesn't pay for the plans and interfaces that are moved here.
 #[inline(never)]
@@ -270,7 +270,7 @@ fn move_on(alloc: Global, phase: &mut Phase, line: &[u8]) -> Result<(), TraceErr
     }
 }
 
-/// Takes a whole line. What stands before it is gone where it is refused.
+/// Takes a whole line. If it is refused, the phase before it is lost.
 fn pass_line(
     alloc: Global,
     phase: &mut Phase,
@@ -288,7 +288,7 @@ fn pass_line(
     move_on(alloc, phase, line)
 }
 
-/// Returns why a line that is too long is refused.
+/// Returns the error of a line that is too long.
 fn too_long(phase: &Phase) -> TraceError
     ensures { result ≡ too_long (phase_of phase.now) }
 {
@@ -304,7 +304,7 @@ pub struct Auditor {
     alloc: Global,
     phase: Phase,
     line: ArrayVec<u8, LINE>,
-    /// The bytes of the entry that was read last, so that none is handed on by value.
+    /// The bytes of the entry that was read last. They are kept here, so that none is passed by value.
     bytes: EntryBytes,
     fault: Option<TraceError>,
 }
@@ -327,7 +327,7 @@ impl Auditor {
     ghost use Rattle.fr_trace.specs.Feeds.{Reads, EndsLine, held, with_line};
     ghost use Rattle.fr_trace.specs.Refusals.{LineIsNamed, HopelessIfRefused};
 
-    /// Returns an auditor to which nothing has come. It takes memory from `alloc` at the line `begin` alone.
+    /// Returns an auditor before its first byte. It takes memory from `alloc` only at the line `begin`.
     pub fn new(alloc: Global) -> Auditor
         ensures { result ≡ fresh }
     {
@@ -340,7 +340,7 @@ impl Auditor {
         }
     }
 
-    /// Looks at a whole line. No other is held.
+    /// Examines a whole line. No other line is held.
     fn end_line(&mut self, line: &[u8])
         requires { held self.old ≡ [] }
         ensures { EndsLine (with_line self.old line.now) self.new }
@@ -368,7 +368,7 @@ impl Auditor {
         }
     }
 
-    /// Takes the rest of a line, and its line feed. A line that is whole is looked at where it lies.
+    /// Takes the rest of a line, and its line feed. A whole line is examined in place.
     fn take_line(&mut self, rest: &[u8])
         requires { has_no_feed rest.now ≡ true }
         ensures { Reads self.old (rest.now ++ 10 ∷ []) self.new }
@@ -395,7 +395,7 @@ impl Auditor {
         self.add(rest);
     }
 
-    /// The fault that has shown, if one has.
+    /// Returns the fault that has shown, if there is one.
     fn answer(&self) -> Result<(), TraceError>
         ensures { result ≡ answer_of self.now }
     {
@@ -407,15 +407,15 @@ impl Auditor {
 
     /// Takes the next piece of a trace.
     ///
-    /// The first line at fault is answered as soon as it is known: a line that is too long at its byte
-    /// 1201, a byte after `end` at once, any other as its line feed comes. From then on each call
-    /// answers that error, and nothing more is read.
+    /// It returns the error of the first line at fault as soon as the fault is known. A line that is too long is
+    /// rejected at its byte 1201, a byte after `end` at once, and any other line at its line feed. From then on each
+    /// call returns that error, and nothing more is read.
     pub fn feed(&mut self, piece: &[u8]) -> Result<(), TraceError>
         ensures state { Reads self.old piece.now self.new }
         ensures answer { result ≡ answer_of self.new }
         // The line that an error names is that of the byte with which the first fault shows.
         ensures line { (front : List ℕ) → self.old ≡ take_bytes fresh front → LineIsNamed result (front ++ piece.now) }
-        // After a fault no bytes that come could make the text legal.
+        // After a fault, no bytes that follow could make the text legal.
         ensures hopeless { (front : List ℕ) → self.old ≡ take_bytes fresh front
             → HopelessIfRefused result (front ++ piece.now) }
     {
@@ -425,8 +425,8 @@ impl Auditor {
 
     /// Returns the interface that the whole trace leaves.
     ///
-    /// Refused with the error that was answered before; with `BadMagic` where no whole line has come; and
-    /// with `Truncated` where the line feed of `end` hasn't. It takes no memory.
+    /// Returns the error that was returned before; `BadMagic` if no whole line has come; and `Truncated` if the line
+    /// feed of `end` hasn't come. It takes no memory.
     pub fn finish(self) -> Result<Interface, TraceError>
         ensures { result ≡ outcome_of self }
     {

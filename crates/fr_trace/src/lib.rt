@@ -3,13 +3,13 @@
 //! ```text
 //! let mut auditor = Auditor::new(alloc);
 //! auditor.feed(piece)?; // as often as pieces come
-//! let interface = auditor.finish()?; // of a legal journal, which the trace told
+//! let interface = auditor.finish()?; // of the legal journal in the trace
 //! write_report(&interface, &mut out)?;
 //! write_trace(&interface, &mut out)?; // its one text of the newest version
 //! ```
 //!
-//! A chapter in parentheses is one of the FlexRay Protocol Specification 2.1, revision A, whose rule it is.
-//! *(project-defined)* marks a rule of this project's own, which says nothing of the standard.
+//! A chapter in parentheses is one of the FlexRay Protocol Specification 2.1, revision A.
+//! *(project-defined)* marks a rule of this project, and makes no claim about the standard.
 //!
 //! # Definitions
 //!
@@ -21,10 +21,10 @@
 //! - `Audit`: the audit of a reader, and how far it reads.
 //!
 //! `TraceText` is the meaning of a trace: a text is accepted exactly if it is the text of a legal interface. The module
-//! `Stream` reads that text byte by byte, which is needed to say which error comes and when. Two laws in `Refusals`
-//! connect them. An error names the line on which the fault shows, and no text of a legal interface begins so.
+//! `Stream` reads that text byte by byte, which is needed to define which error comes and when. Two laws in `Refusals`
+//! connect them. An error names the line on which the fault shows, and no text of a legal interface begins like this.
 //!
-//! Modules that go the way of the code, for private functions, with the module that has the meaning:
+//! Modules that follow the steps of the code, for private functions, with the module that has the meaning:
 //!
 //! - `Auditor`, `Views`: the private fields of an auditor. Meaning: the record that is the model of the type.
 //!
@@ -33,8 +33,8 @@
 //! The auditor keeps the front of a line that spans pieces, and reads any other line in place. At `begin` it looks for
 //! a fault of the plan and makes the interface with room for its whole journal. From then on nothing is allocated. A
 //! fetch is replayed by a call that spells no frame. The auditor asks for an entry only after a read or a pop, whose
-//! origins it compares. The other way, `write_trace` (`trace`) writes the one text of version 3 of an interface, by the
-//! functions of `fr_lines::writing`.
+//! origins it compares. In the other direction, `write_trace` (`trace`) writes the one text of version 3 of an
+//! interface, by the functions of `fr_lines::writing`.
 #![tactic(auto)]
 
 pub mod audit;

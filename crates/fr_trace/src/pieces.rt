@@ -1,4 +1,4 @@
-//! A trace that comes in pieces, however it is cut.
+//! The audit of a trace that comes in pieces of any length.
 
 ghost use Rattle.std.specs.Prelude.{◌≡◌, ◌≤◌, ◌⊎◌, length, IfOk, OnOk, Ok, Err};
 ghost use Rattle.std.specs.List.{flat_map};
@@ -26,18 +26,18 @@ fn fed(alloc: Global, pieces: &[&[u8]]) -> Auditor
 
 /// Returns the interface that a trace in these pieces leaves.
 ///
-/// Refused with the error of the first line at fault, and with `Memory` where memory is refused.
+/// Returns the error of the first line at fault, and `Memory` if an allocation fails.
 pub fn audit_pieces(alloc: Global, pieces: &[&[u8]]) -> Result<Interface, TraceError>
-    // What is accepted is a text of the interface that is given, however it was cut.
+    // An accepted text is a text of the interface that is returned, in whichever pieces it came.
     ensures found { IfOk result (λ s. IsTraceOf s (flat_map (λ p. p.now) pieces.now) × IsLegalInterface s) }
     // A text of a legal interface is accepted as that interface, unless memory runs out.
     ensures only { (s : State) → IsLegalInterface s → IsTraceOf s (flat_map (λ p. p.now) pieces.now)
         → (result ≡ Ok s) ⊎ (result ≡ Err TraceError.Memory) }
-    // It is no longer than so many lines of the greatest length.
+    // An accepted text is no longer than the longest text.
     ensures short { OnOk result (length (flat_map (λ p. p.now) pieces.now) ≤ longest_text) }
     // The line that an error names is that of the byte with which the first fault shows.
     ensures line { LineIsNamed result (flat_map (λ p. p.now) pieces.now) }
-    // Which refusal comes. Memory can run out at the line `begin` alone.
+    // The exact refusal. Memory can run out only at the line `begin`.
     ensures exact { (result ≡ outcome_of (take_bytes fresh (flat_map (λ p. p.now) pieces.now)))
         ⊎ ((result ≡ Err TraceError.Memory) × Begins fresh (flat_map (λ p. p.now) pieces.now)) }
 {
@@ -45,7 +45,8 @@ pub fn audit_pieces(alloc: Global, pieces: &[&[u8]]) -> Result<Interface, TraceE
     lawful(auditor.finish())
 }
 
-/// Returns what an auditor answered; an interface is legal, and has few lines.
+// For the prover: an interface that an auditor returns is legal, and has few lines.
+/// Returns the result of an auditor unchanged.
 pub(crate) fn lawful(outcome: Result<Interface, TraceError>) -> Result<Interface, TraceError>
     ensures same { result ≡ outcome }
     ensures legal { IfOk result IsLegalInterface }
@@ -53,7 +54,7 @@ pub(crate) fn lawful(outcome: Result<Interface, TraceError>) -> Result<Interface
 {
     match outcome {
         Ok(interface) => {
-            // Each of the two tells a clause of what every interface keeps.
+            // For the prover: the clauses of these calls.
             let _ = interface.params();
             let _ = lines_of(&interface);
             Ok(interface)

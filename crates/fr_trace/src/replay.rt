@@ -1,4 +1,4 @@
-//! The call that an entry of a trace tells of, made again.
+//! Replay: the call of an entry of a trace, made again.
 
 ghost use Rattle.std.specs.Prelude.{◌≡◌, slice_get, IfSome, OnOk};
 ghost use Rattle.std.specs.Result.{result_err};
@@ -11,9 +11,9 @@ use fr_interface::interface::Interface;
 use fr_journal::entry::{Entry, Origin};
 use fr_lines::bare::{BareEntry, EntryBytes};
 
-/// Returns where the frame comes from that was answered by the read or the pop of this number.
+/// Returns the origin of the frame that the read or the pop of this number returned.
 ///
-/// It isn't inlined, so that a call with another answer doesn't pay for the room of an entry.
+/// It isn't inlined, so that a call with another answer doesn't pay for the stack space of an entry.
 #[inline(never)]
 fn origin_at(interface: &Interface, number: u32) -> Option<Origin>
     ensures { result ≡ origin_in (slice_get interface.now.entries number) }
@@ -25,8 +25,8 @@ fn origin_at(interface: &Interface, number: u32) -> Option<Origin>
     }
 }
 
-/// Makes the call of the entry, and says whether its answers are those that the entry tells. None where the interface
-/// refuses the call.
+/// Makes the call of the entry, and returns whether its answers are those of the entry. `None` if the interface refuses
+/// the call.
 fn answers_as_told(interface: &mut Interface, told: &BareEntry, bytes: &EntryBytes) -> Option<bool>
     ensures answer { result ≡ answer_of interface.old (with_bytes bytes.now told.now) }
     ensures made { IfSome result (λ answered.
@@ -61,7 +61,7 @@ fn answers_as_told(interface: &mut Interface, told: &BareEntry, bytes: &EntryByt
     }
 }
 
-/// Makes the call of the entry on the line of this number, and compares its answers with those that the entry tells.
+/// Makes the call of the entry on the line of this number, and compares its answers.
 pub(crate) fn replay(
     interface: &mut Interface,
     told: &BareEntry,

@@ -42,7 +42,7 @@ fn write_transmit<W: Write>(writer: &mut W, number: u8, tally: &Tally) -> io::Re
     writeln!(writer, " {overwritten} {pending} {}", tally.withdrawn)
 }
 
-/// Writes the line of a buffer, by what the interface tells of it.
+/// Writes the line of a buffer, from the answers of the interface.
 fn write_buffer<W: Write>(interface: &Interface, writer: &mut W, number: u8) -> io::Result<()>
     ensures { Writes W.contents writer.old writer.new result
         (line_text (answer_words number (tally_by interface.now number) (received_by interface.now number))) }
@@ -64,7 +64,7 @@ fn write_buffers<W: Write>(interface: &Interface, writer: &mut W) -> io::Result<
     Ok(())
 }
 
-/// Writes the line of the queue, where there is one.
+/// Writes the line of the receive FIFO, if there is one.
 fn write_queue<W: Write>(interface: &Interface, writer: &mut W) -> io::Result<()>
     ensures { Writes W.contents writer.old writer.new result (queue_report interface.now interface.now.plan.queue) }
 {
@@ -113,11 +113,12 @@ fn write_lines<W: Write>(interface: &Interface, writer: &mut W) -> io::Result<()
     write_channels(interface, writer)
 }
 
-/// Writes the report of an interface: a line for each buffer in order of their numbers, one for the queue where there
-/// is one, and one for each channel.
+/// Writes the report of an interface.
 ///
-/// Refused with `Write` where the writer fails, and then some of the report may have been
-/// written.
+/// It has a line for each buffer in order of their numbers, one for the receive FIFO if there is one, and one for each
+/// channel.
+///
+/// Returns `Write` if the writer fails. A part of the report may then have been written.
 pub fn write_report<W: Write>(interface: &Interface, writer: &mut W) -> Result<(), TraceError>
     ensures written { Writes W.contents writer.old writer.new result (report_text interface.now) }
     ensures refused { IfErr result (λ e. e ≡ TraceError.Write) }

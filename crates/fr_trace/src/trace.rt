@@ -1,4 +1,4 @@
-//! The text of an interface: the one trace of version 3 that tells of it.
+//! The text of an interface: its one trace of version 3.
 
 ghost use Rattle.std.specs.Prelude.{◌++◌, IfErr, Ok, ◌≡◌};
 ghost use Rattle.fr_text.specs.Writing.{Writes};
@@ -40,7 +40,7 @@ fn write_buffers<W: Write>(writer: &mut W, buffers: &[Buffer]) -> io::Result<()>
     Ok(())
 }
 
-/// Writes the line of a queue, where there is one.
+/// Writes the line of a receive FIFO, if there is one.
 fn write_queues<W: Write>(writer: &mut W, queue: &Option<Queue>) -> io::Result<()>
     ensures { Writes W.contents writer.old writer.new result (queue_lines queue.now) }
 {
@@ -92,14 +92,17 @@ fn write_text<W: Write>(writer: &mut W, interface: &Interface) -> io::Result<()>
     writeln!(writer, "end")
 }
 
-/// Writes the trace of an interface: the one text of version 3 that tells of its parameters, its plan and its journal.
-/// What was read in version 1 or 2 is written in version 3 too.
+/// Writes the trace of an interface.
 ///
-/// Refused with `Write` where the writer fails, and then some of the text may have been written.
+/// It is the one text of version 3 of its parameters, its plan and its journal.
+///
+/// An interface that was read in version 1 or 2 is also written in version 3.
+///
+/// Returns `Write` if the writer fails. A part of the text may then have been written.
 pub fn write_trace<W: Write>(interface: &Interface, writer: &mut W) -> Result<(), TraceError>
     ensures written { Writes W.contents writer.old writer.new result (trace_text Three interface.now) }
     ensures refused { IfErr result (λ e. e ≡ TraceError.Write) }
-    // That text is accepted, as this interface.
+    // The text is accepted, and gives this interface.
     ensures again { outcome_of (take_bytes fresh (trace_text Three interface.now)) ≡ Ok interface.now }
 {
     match write_text(writer, interface) {

@@ -1,4 +1,4 @@
-//! The tests of whole traces: in pieces, by readers and writers that fail, and as they are written.
+//! The tests of whole traces: in pieces, with readers and writers that fail, and the writing of traces.
 #![tactic(auto)]
 
 #[cfg(test)]

@@ -1,5 +1,5 @@
-//! Worked traces with the answers that the format gives, in pieces too, and readers and writers that fail. Other
-//! refusals of traces are tried by `tests/commands`.
+//! Worked traces with the answers of the format, also in pieces, and with readers and writers that fail.
+//! `tests/commands` tests other refusals of traces.
 
 ghost use Rattle.std.specs.Prelude.{◌<◌};
 
@@ -68,7 +68,7 @@ const WITHDRAWN: [&[u8]; 17] = [
     b"end\n",
 ];
 
-/// The lines of a trace in state mode, in which a withdraw leaves what was sent, and a later one takes a commit back.
+/// The lines of a trace in state mode, with withdraws of a sent and of a pending commit.
 const WITHDRAWN_STATE: [&[u8]; 14] = [
     b"frtrace 2\n",
     b"params 3 4 1 20 5 0 10 90 0 5\n",
@@ -86,7 +86,7 @@ const WITHDRAWN_STATE: [&[u8]; 14] = [
     b"end\n",
 ];
 
-/// The lines of a trace whose node sends in a static slot in odd cycles, and reads another node's frame of an even one.
+/// The lines of a trace whose node shares a static slot: it sends in odd cycles.
 const DIVIDED: [&[u8]; 18] = [
     b"frtrace 3\n",
     b"params 3 4 1 20 5 0 10 90 0 5\n",
@@ -108,7 +108,7 @@ const DIVIDED: [&[u8]; 18] = [
     b"end\n",
 ];
 
-/// The lines of a trace with buffers of each mode, frames on both channels and a queue that loses one of three.
+/// The lines of a trace with buffers of each mode, both channels, and a frame lost by the FIFO.
 const SEVERAL_BUFFERS: [&[u8]; 62] = [
     b"frtrace 1\n",
     b"params 4 6 2 20 5 5 15 130 1 4\n",
@@ -174,7 +174,7 @@ const SEVERAL_BUFFERS: [&[u8]; 62] = [
     b"end\n",
 ];
 
-/// The lines of a trace in which a queue of two frames loses the first of three, and pops the others.
+/// The lines of a trace in which a receive FIFO of two frames loses the first of three.
 const QUEUE: [&[u8]; 14] = [
     b"frtrace 1\n",
     b"params 3 4 1 20 5 0 10 90 0 5\n",
@@ -218,7 +218,7 @@ impl Read for Pieces<'_> {
     }
 }
 
-/// A writer that takes so many writes, and then fails.
+/// A writer that accepts this number of writes, and then fails.
 #[derive(Drop)]
 struct Breaking {
     left: u32,
@@ -240,7 +240,7 @@ impl Write for Breaking {
     }
 }
 
-/// A reader of these pieces that fails at the read of this number.
+/// Returns a reader of these pieces that fails at the read of this number.
 fn failing<'a>(pieces: &'a [&'a [u8]], fails_at: usize, kind: io::ErrorKind) -> Pieces<'a> {
     Pieces {
         pieces,
@@ -250,12 +250,12 @@ fn failing<'a>(pieces: &'a [&'a [u8]], fails_at: usize, kind: io::ErrorKind) -> 
     }
 }
 
-/// A reader of these pieces that doesn't fail.
+/// Returns a reader of these pieces that doesn't fail.
 fn reader<'a>(pieces: &'a [&'a [u8]]) -> Pieces<'a> {
     failing(pieces, usize::MAX, io::ErrorKind::Other)
 }
 
-/// These lines as one text.
+/// Returns these lines as one text.
 fn text_of(alloc: Global, lines: &[&[u8]]) -> Result<Vec<u8>, Fail> {
     let mut text = Vec::with_capacity(alloc, 2048)?;
     for line in lines {
@@ -264,7 +264,7 @@ fn text_of(alloc: Global, lines: &[&[u8]]) -> Result<Vec<u8>, Fail> {
     Ok(text)
 }
 
-/// What an auditor answers to a text in pieces of this size.
+/// Returns the result of an auditor for a text in pieces of this size.
 fn feed_in_pieces(alloc: Global, text: &[u8], size: usize) -> Result<Interface, TraceError>
     requires { 0 < size }
 {
@@ -275,8 +275,10 @@ fn feed_in_pieces(alloc: Global, text: &[u8], size: usize) -> Result<Interface, 
     auditor.finish()
 }
 
-/// The first error other than this one by which these lines are refused, if any: by the calls that take them line by
-/// line, and as one text in pieces of each size from 1 to 64. `Some(None)` stands for lines that are accepted.
+/// Returns the first error other than this one by which these lines are refused, or none.
+///
+/// The lines are read line by line, and as one text in pieces of each size from 1 to 64. `Some(None)` means that they
+/// are accepted.
 fn another_refusal(
     alloc: Global,
     lines: &[&[u8]],
@@ -295,7 +297,7 @@ fn another_refusal(
     Ok((told != Some(error)).then_some(told))
 }
 
-/// The lines of the first trace with another line in the place of one, counted from 0.
+/// Returns the lines of the first trace with one of them replaced, counted from 0.
 fn with_line_changed<'a>(place: usize, line: &'a [u8]) -> [&'a [u8]; 13] {
     let mut lines = LINES;
     if let Some(old) = lines.get_mut(place) {
@@ -343,7 +345,7 @@ fn a_changed_line_is_refused_in_pieces_of_each_size(rt: HostRuntime) -> Result<(
     Ok(())
 }
 
-/// Whether these lines as one text have this report in pieces of each size from 1 to 64.
+/// Returns whether these lines as one text have this report in pieces of each size from 1 to 64.
 fn is_told(alloc: Global, lines: &[&[u8]], told: &[u8]) -> Result<bool, Fail> {
     let text = text_of(alloc, lines)?;
     let mut is_told = true;
@@ -380,7 +382,7 @@ fn pieces_of_each_size_give_one_report(rt: HostRuntime) -> Result<(), Fail> {
     Ok(())
 }
 
-/// The trace that is written of the interface that these lines leave.
+/// Returns the trace that is written of the interface of these lines.
 fn trace_of(alloc: Global, lines: &[&[u8]]) -> Result<Vec<u8>, Fail> {
     let interface = audit_pieces(alloc, lines)?;
     let mut text = Vec::with_capacity(alloc, 2048)?;
@@ -388,7 +390,9 @@ fn trace_of(alloc: Global, lines: &[&[u8]]) -> Result<Vec<u8>, Fail> {
     Ok(text)
 }
 
-/// These lines as a text of version 3: with its first line, and with cycles at the end of each ownership line.
+/// Returns these lines as a text of version 3.
+///
+/// It has its first line, and cycles at the end of each ownership line.
 fn in_version_3(alloc: Global, lines: &[&[u8]]) -> Result<Vec<u8>, Fail> {
     let mut text = Vec::with_capacity(alloc, 2048)?;
     for line in lines {
@@ -403,7 +407,7 @@ fn in_version_3(alloc: Global, lines: &[&[u8]]) -> Result<Vec<u8>, Fail> {
     Ok(text)
 }
 
-/// Whether these lines in version 3 are written of the interface that they leave, and of the one that the text leaves.
+/// Returns whether the trace of these lines is their text in version 3, also when read again.
 fn is_written(alloc: Global, lines: &[&[u8]]) -> Result<bool, Fail> {
     let text = in_version_3(alloc, lines)?;
     let first = trace_of(alloc, lines)?;
@@ -428,7 +432,7 @@ fn an_interface_is_written_as_its_trace_in_version_3(rt: HostRuntime) -> Result<
     Ok(())
 }
 
-/// An auditor that was fed these lines.
+/// Returns an auditor that has read these lines.
 fn fed_with(alloc: Global, lines: &[&[u8]]) -> Result<Auditor, Fail> {
     let mut auditor = Auditor::new(alloc);
     for line in lines {
@@ -449,7 +453,9 @@ fn an_error_is_answered_again(rt: HostRuntime) -> Result<(), Fail> {
     Ok(())
 }
 
-/// What an auditor that was fed these lines answers to 1,200 bytes of one more, and to its next byte.
+/// Returns the answers of an auditor after these lines to 1,200 bytes, and to the next byte.
+///
+/// The bytes are those of one further line.
 fn at_1201_bytes(alloc: Global, lines: &[&[u8]]) -> Result<[Option<TraceError>; 2], Fail> {
     let mut auditor = fed_with(alloc, lines)?;
     Ok([auditor.feed(&[b'a'; 1200]).err(), auditor.feed(b"a").err()])
@@ -464,8 +470,9 @@ fn a_line_is_too_long_at_its_byte_1201(rt: HostRuntime) -> Result<(), Fail> {
     Ok(())
 }
 
-/// What an audit of these pieces answers where the read of this number fails, after how many reads, and how long its
-/// report is.
+/// Returns the error of an audit of these pieces in which the read of this number fails.
+///
+/// The number of reads and the length of the report are also returned.
 fn audit_failing(
     alloc: Global,
     pieces: &[&[u8]],
@@ -489,14 +496,14 @@ fn a_reader_that_fails_is_read_at_once(rt: HostRuntime) -> Result<(), Fail> {
         let answer = audit_failing(rt.alloc(), &LINES, fails_at, kind)?;
         assert_eq!(rt; answer, (Some(TraceError::Read), fails_at + 1, 0));
     }
-    // An interrupted read is made again: 13 lines, the interrupted read in place of a piece, and the end.
+    // An interrupted read is repeated: 13 lines, the interrupted read in place of a piece, and the end.
     let mut pieces = [LINES[0]; 14];
     for (piece, line) in pieces[2..].iter_mut().zip(LINES[1..].iter()) {
         *piece = *line;
     }
     let answer = audit_failing(rt.alloc(), &pieces, 1, io::ErrorKind::Interrupted)?;
     assert_eq!(rt; answer, (None, 15, 39));
-    // After a fault nothing is read, so no read fails.
+    // After a fault no byte is read, so no read fails.
     let answer = audit_failing(rt.alloc(), &[b"frtrace 4\n"], 1, io::ErrorKind::Other)?;
     assert_eq!(rt; answer, (Some(TraceError::BadMagic), 1, 0));
     Ok(())

@@ -1,4 +1,4 @@
-//! The ends of a program that hasn't executed its command.
+//! Failures of the program, and its exit status.
 ghost use Rattle.std.specs.Prelude.{◌≡◌};
 ghost use Rattle.fr_view.specs.Failures.{status_of};
 
@@ -8,23 +8,24 @@ use fr_trace::error::TraceError;
 use fr_words::error::OrderError;
 use thiserror::Error;
 
-/// The reason for which the program hasn't executed its command (project-defined). Printed, it is the line on standard
-/// error.
+/// Reasons why the program hasn't executed its command (project-defined).
+///
+/// An error prints as the line on standard error.
 #[derive(Clone, Copy, Debug, Drop, PartialEq, Eq, Error)]
 pub enum Failure {
-    /// The words were no command, or memory for reading them was refused.
+    /// The words are no command, or an allocation for them failed.
     #[error("{0}")]
     Words(#[from] OrderError),
     /// The output couldn't be written.
     #[error("refused Write")]
     Write,
-    /// The cluster file was refused, or couldn't be read, or its picture couldn't be written.
+    /// The cluster file was rejected, or couldn't be read, or its picture couldn't be written.
     #[error("refused {0}")]
     Text(#[from] BenchError),
-    /// The trace was refused, or couldn't be read, or what it shows couldn't be written.
+    /// The trace was rejected, or couldn't be read, or its view couldn't be written.
     #[error("refused {0}")]
     Trace(#[from] TraceError),
-    /// A run was refused, or what is to be shown of it couldn't be written.
+    /// A run was rejected, or its view couldn't be written.
     #[error("refused {0}")]
     Play(#[from] PlayError),
 }

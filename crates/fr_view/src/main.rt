@@ -1,27 +1,27 @@
-//! The bench's program for views. It executes the command of the words after its name. Its exit status is 0 after
-//! success, 1 if an input is refused, and 2 if the words are no command.
+//! The program of the bench for views. It executes the command of the words after its name. Its exit status is 0 after
+//! success, 1 if an input is rejected, and 2 if the words are no command.
 //!
-//! Output comes only once the command has accepted all its input, but for `--until-fault`, and for `why`, whose answer
-//! is its output. A refusal is one line on standard error; of a run that was played each fault line
-//! that had no effect has a line there too.
+//! Output comes only once the command has accepted all its input, except with `--until-fault`, and for `why`, whose
+//! answer is its output. A refusal is one line on standard error. After a run, each fault line without effect also has
+//! a line there.
 //!
 //! ```text
-//! fr_view schedule cluster.toml > cycle.svg          a picture of a cycle: who sends where, when guardians are open
-//! fr_view capture < node.trace > node.pcap           what a controller saw, as a capture that Wireshark opens
+//! fr_view schedule cluster.toml > cycle.svg          a picture of a cycle: senders, and open intervals of guardians
+//! fr_view capture < node.trace > node.pcap           the observations of a controller, as a capture for Wireshark
 //! fr_view frames < node.trace                        the same as a table
-//! fr_view why < node.trace                           which line of a trace is at fault, and why
-//! fr_view outcome cluster.toml scenario --cycles 8   what `fr_bench run` prints of a run
-//! fr_view answers cluster.toml scenario --cycles 8   what each line of the scenario was answered
-//! fr_view commits cluster.toml scenario --cycles 8   what became of each commit
-//! fr_view record cluster.toml scenario --cycles 8    what the bus carried, window by window
-//! fr_view bus cluster.toml scenario --cycles 8       what a listener on the bus hears, as a capture
-//! fr_view matrix cluster.toml scenario --cycles 8    what the bus carried, as a picture
+//! fr_view why < node.trace                           the line of a trace at fault, and the reason
+//! fr_view outcome cluster.toml scenario --cycles 8   the output of `fr_bench run`
+//! fr_view answers cluster.toml scenario --cycles 8   the answer to each line of the scenario
+//! fr_view commits cluster.toml scenario --cycles 8   the fate of each commit
+//! fr_view record cluster.toml scenario --cycles 8    the transmissions on the bus, window by window
+//! fr_view bus cluster.toml scenario --cycles 8       the frames at a listener on the bus, as a capture
+//! fr_view matrix cluster.toml scenario --cycles 8    the transmissions on the bus, as a picture
 //! fr_view trace 0 cluster.toml scenario --cycles 8   the trace of a node after the run
-//! fr_view --help                                     what there is
+//! fr_view --help                                     the list of commands
 //! ```
 //!
-//! A chapter in parentheses is one of the FlexRay Protocol Specification 2.1, revision A, whose rule it is.
-//! *(project-defined)* marks a rule of this project's own, which says nothing of the standard.
+//! A chapter in parentheses is one of the FlexRay Protocol Specification 2.1, revision A.
+//! *(project-defined)* marks a rule of this project, and makes no claim about the standard.
 //!
 //! # Definitions
 //!
@@ -81,7 +81,7 @@ fr_view --help
     these lines
 ";
 
-/// Returns what is to be shown of a run.
+/// Returns the view of a run that a command names.
 fn shown_of(asked: Asked) -> Option<Shown> {
     match asked {
         Asked::Outcome => Some(Shown::Outcome),
@@ -111,15 +111,16 @@ fn shown_of(asked: Asked) -> Option<Shown> {
     }
 }
 
-/// Tells on standard error of each fault line that had no effect; by now all is written.
+/// Writes a line on standard error for each fault line without effect. All output is written by then.
 fn tell_idle<R: Eprint>(rt: &R, idle: &[u32]) {
     for number in idle {
         let _ = eprintln!(rt; "line {number} struck nothing");
     }
 }
 
-/// Plays a run of the cluster of the one file with the scenario of the other, which is opened once the cluster is
-/// accepted, and writes what is to be shown of it.
+/// Runs the cluster of one file with the scenario of the other, and writes the view of the run.
+///
+/// The scenario is opened once the cluster is accepted.
 fn show_files<R: Files + Print + Eprint + AllocGlobal + Clock>(
     rt: &R,
     asked: Asked,
@@ -139,7 +140,7 @@ fn show_files<R: Files + Print + Eprint + AllocGlobal + Clock>(
     Ok(())
 }
 
-/// Writes what a controller saw, by its trace on standard input.
+/// Writes the observations of a controller, from its trace on standard input.
 fn show_seen<R: Input + Print + AllocGlobal + Clock>(
     rt: &R,
     form: Form,
@@ -163,7 +164,7 @@ fn show_seen<R: Input + Print + AllocGlobal + Clock>(
     }
 }
 
-/// Writes why an audit refuses the trace on standard input, and says by the status whether it does.
+/// Writes why an audit rejects the trace on standard input. The status shows whether it does.
 fn explain<R: Input + Print + AllocGlobal + Clock>(rt: &R) -> Result<ExitCode, Failure> {
     let mut output = WaitingWriter::new(rt, io::writer(rt));
     match explain_trace(
@@ -192,7 +193,7 @@ fn show_cycle<R: Files + Print + AllocGlobal + Clock>(
     Ok(show_schedule(rt.alloc(), &mut file, cycle, &mut output)?)
 }
 
-/// Writes what there is to be asked for.
+/// Writes the list of commands.
 fn show_help<R: Print + Clock>(rt: &R) -> Result<(), Failure> {
     match io::Write::write_all(&mut WaitingWriter::new(rt, io::writer(rt)), HELP.as_bytes()) {
         Ok(()) => Ok(()),
@@ -200,7 +201,7 @@ fn show_help<R: Print + Clock>(rt: &R) -> Result<(), Failure> {
     }
 }
 
-/// Does the order.
+/// Executes the command.
 fn carry_out<R: Files + Input + Print + Eprint + AllocGlobal + Clock>(
     rt: &R,
     order: Order<'_>,
@@ -221,7 +222,7 @@ fn carry_out<R: Files + Input + Print + Eprint + AllocGlobal + Clock>(
     Ok(ExitCode::SUCCESS)
 }
 
-/// Does what the words ask for.
+/// Reads the words and executes their command.
 fn run<R: Env + Files + Input + Print + Eprint + AllocGlobal + Clock>(
     rt: &R,
 ) -> Result<ExitCode, Failure> {

@@ -1,4 +1,4 @@
--- What the lines before have left, as an audit of them tells.
+-- The state after the lines before the fault is the one that an audit of them gives.
 use Rattle.std.proofs.Common.{◌≡◌, ℕ, List, [], ◌∷◌, ◌++◌, Some, Result, Ok, Err, inl, inr, ◌⊎◌, refl, sym, ap, ◌∙◌}
 use Rattle.std.proofs.Common.{subst}
 use Rattle.std.proofs.lemmas.List.Sums.{fold-append}
@@ -20,7 +20,7 @@ use Rattle.fr_why.specs.Heads.{head_of, Tells}
 abbrev pub end_bytes : List ℕ
 end_bytes = 101 ∷ 110 ∷ 100 ∷ 10 ∷ []
 
--- an audit's answer, where memory may run out
+-- the result of an audit, in which memory may run out
 abbrev pub Answers : List ℕ → Result State TraceError → Type 0
 Answers text r = (r ≡ outcome_of (take_bytes fresh text)) ⊎ ((r ≡ Err Memory) × Begins fresh text)
 

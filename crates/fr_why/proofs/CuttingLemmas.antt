@@ -23,7 +23,7 @@ pub feed_next : (rest : List ℕ) (at : ℕ) → at < length rest → get_or res
     → drop at rest ≡ 10 ∷ drop (at + 1) rest
 feed_next rest at within feed = drop_more rest at 0 within ∙ ap (λ (b : ℕ). b ∷ drop (at + 1) rest) feed
 
--- what stands before a line, the line, and the rest
+-- the bytes before a line, the line, and the rest
 pub three_parts : (start at : ℕ) (text : List ℕ) → text ≡ take start text ++
     (take at (drop start text) ++ drop (start + at) text)
 three_parts start at text =

@@ -1,4 +1,4 @@
--- What is kept of a text, and what is written of its line at fault.
+-- The bytes that are kept of a text, and the explanation of its line at fault.
 use Rattle.std.proofs.Common.{◌≡◌, ℕ, ◌<◌, ◌≤◌, List, [], ◌++◌, length, take, Option, Some, None, Ok, Err, IfSome, inl}
 use Rattle.std.proofs.Common.{Result, OnOk, IfErr, sym, ◌⊎◌}
 use Rattle.std.proofs.Common.{inr, ap, ◌∙◌, subst, arith, lit<}
@@ -26,14 +26,14 @@ use Rattle.fr_why.specs.Reasons.{reason_for}
 use Rattle.fr_why.specs.WhyText.{fault_text, refused_text}
 use Rattle.fr_why.proofs.HeadLemmas.{reason_told}
 
--- all bytes of as many as are kept
+-- all bytes up to the limit are kept
 pub all_kept : (known : Option (List ℕ)) (limit : ℕ) (old new : List ℕ) → limit ≡ 98548055 → old ≡ []
     → IfSome (option_map (take limit) known) (λ xs. new ≡ old ++ xs) → IfSome known (λ text. new ≡ kept text)
 all_kept None limit old new most nothing read = tt
 all_kept (Some text) limit old new most nothing read =
     read ∙ (ap (λ (t : List ℕ). t ++ take limit text) nothing ∙ ap (λ (n : ℕ). take n text) most)
 
--- what is asked of what is kept of the lines before is what they tell
+-- the answers from the kept state of the lines before are those of the lines themselves
 pub refused_is : (e : TraceError) (front line words old : List ℕ) (before : ℕ) (h : Head) (o : Option State)
     (r : Reason) (w : ℕ) → Tells front h → old ≡ [] → words ≡ old ++ fault_text e before line r w
     → before ≡ feed_count front → o ≡ state_at (take_bytes fresh front) → r ≡ reason_asked e h o line → w ≡ windows_of o
@@ -48,7 +48,7 @@ refused_is e front line words old before h o r w (p, came, told) nothing is coun
     ∙ ap (λ (n : ℕ). fault_text e (feed_count front) line (reason_for e (take_bytes fresh front) line) n)
     (windows ∙ ap windows_of left))))
 
--- ---- what is accepted is whole
+-- ---- an accepted text is kept whole
 
 short_front : (n m : ℕ) (text : List ℕ) → length (take n text) ≤ m → m < n → take n text ≡ text
 short_front n m text few less =
@@ -85,7 +85,7 @@ shows_fault form text front line rest old new refusal.Read is fault shown = absu
 shows_fault form text front line rest old new refusal.Write is fault shown = absurd is
 shows_fault form text front line rest old new refusal.Memory is fault shown = absurd is
 
--- what an accepted text shows is written, or the writer or an allocation fails
+-- the output of an accepted text is written, or the writer or an allocation fails
 pub shows_accepted : (form : Form) (text : List ℕ) (old new : Option (List ℕ)) (s : State)
     (r : Result (Unit {0}) TraceError) → outcome_of (take_bytes fresh text) ≡ Ok s → IsLegalInterface s
     → OnOk r (Appends old new (text_of form s))
@@ -96,7 +96,7 @@ shows_accepted form text old new s (Err e) is legal shown (inl write) =
 shows_accepted form text old new s (Err e) is legal shown (inr memory) =
     subst (λ (d : TraceError). ShowsUntil form text old new (Err d)) (sym memory.0) memory.1
 
--- of a reader whose bytes are known the same is said of those that are kept
+-- for a reader whose bytes are known, the same holds of the bytes that are kept
 pub shows_known : (form : Form) (known : Option (List ℕ)) (bytes : List ℕ) (old new : Option (List ℕ))
     (r : Result (Unit {0}) TraceError) → IfSome known (λ text. bytes ≡ kept text) → ShowsUntil form bytes old new r
     → IfSome known (λ text. ShowsUntil form (kept text) old new r)

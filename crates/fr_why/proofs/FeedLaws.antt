@@ -1,4 +1,4 @@
--- A text of which `Feed` is the reason is a trace once it has one line feed more.
+-- If the reason of a refusal is `Feed`, the text becomes a trace with one line feed more.
 use Rattle.std.proofs.Common.{◌≡◌, ℕ, Bool, true, false, List, [], ◌∷◌, ◌++◌, Ok, inl, inr, refl, sym, ap, ◌∙◌, arith}
 use Rattle.std.proofs.lemmas.Bool.{cases_Bool}
 use Rattle.std.proofs.lemmas.List.Sums.{fold-append}

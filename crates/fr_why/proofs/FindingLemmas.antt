@@ -1,4 +1,4 @@
--- From line to line of a text, and where it is refused.
+-- The walk along the lines of a text, and the line at which it is refused.
 use Rattle.std.proofs.Common.{◌≡◌, ℕ, ◌+◌, ◌-◌, ◌<◌, ◌≤◌, true, List, [], ◌∷◌, ◌++◌, length, get_or, take, drop, Option}
 use Rattle.std.proofs.Common.{Some, None, Result, Ok, Err}
 use Rattle.std.proofs.Common.{inl, inr, refl, sym, ap, ◌∙◌, subst, arith, append_assoc, append-nil}
@@ -33,7 +33,7 @@ use Rattle.fr_why.proofs.NumberLemmas.{feed_count-append, none_in_line, line_nam
 
 -- ---- a line feed in the rest
 
--- what a search for the next line feed has found
+-- the result of a search for the next line feed
 pub record IsNextFeed (rest : List ℕ) (at : ℕ) : Type 0 where
   pub within : at < length rest
   pub feed : get_or rest at 0 ≡ 10
@@ -57,7 +57,7 @@ pub piece_with : (start at : ℕ) (text : List ℕ) → IsNextFeed (drop start t
 piece_with start at text next = ap (λ (k : ℕ). take k (drop start text)) {x = start + at + 1 - start} {y = at + 1}
     (omega arith) ∙ with_feed (drop start text) at next.within next.feed
 
--- what an auditor has read that has answered none but errors of the text
+-- the state of an auditor that has returned only errors of the text
 read_of_text : (old new : Progress) (piece : List ℕ) (e : TraceError) → Reads old piece new → answer_of new ≡ Err e
     → IsOfText e → new ≡ take_bytes old piece
 read_of_text old new piece e (inl read) answered is = read
@@ -182,7 +182,7 @@ refused_here text start before at h auditor new piece e stands next piece_is rea
 
 -- ---- the end of the text
 
--- what an auditor has read to the end
+-- the state of an auditor that has read to the end
 read_rest : (text : List ℕ) (start : ℕ) (s new : Progress) → take_bytes fresh (take start text) ≡ s
     → new ≡ take_bytes s (drop start text) → take_bytes fresh text ≡ new
 read_rest text start s new came read =
@@ -202,7 +202,7 @@ outcome_without : (old new : Progress) (piece : List ℕ) (s : State) → Reads 
 outcome_without old new piece s (inl read) fine = read
 outcome_without old new piece s (inr out) fine = cc (sym fine ∙ ap outcome_of out.0)
 
--- a text that is refused in what stands after its last line feed, or as it ends
+-- a text that is refused after its last line feed, or at its end
 pub refused_last : (text : List ℕ) (start before : ℕ) (h : Head) (auditor new : Progress) (e : TraceError)
     → StandsAt text start before h auditor → has_no_feed (drop start text) ≡ true
     → Reads auditor (drop start text) new → outcome_of new ≡ Err e → IsOfText e
@@ -258,7 +258,7 @@ accepted_last text start before h auditor new s stands plain reads fine =
       omega (arith, count, none, stands.counted),
     )
 
--- the lines of a lawful plan and of a journal are few
+-- the lines of a plan without fault and of a journal are few
 queue_few : (o : Option Queue) → queue_count o ≤ 1
 queue_few None = omega arith
 queue_few (Some q) = omega arith
@@ -266,7 +266,7 @@ queue_few (Some q) = omega arith
 pub few_lines : (s : State) → IsPlan s.plan → length s.entries ≤ most_entries → HasFewLines s
 few_lines s plan few = let one = queue_few s.plan.queue in omega (arith, one, plan.few_owned, plan.few_buffers, few)
 
--- ---- what is found
+-- ---- the result of the search
 
 pub found_holds : (text : List ℕ) (e : TraceError) (f : Fault) → (IsOfText e → IsFaultIn text f)
     → IfOk (found_of e f) (IsFound text)

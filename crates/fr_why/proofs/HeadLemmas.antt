@@ -1,4 +1,4 @@
--- What is kept of the lines before follows what they tell, and gives the reasons that they give.
+-- The state that is kept of the lines before follows from them, and gives their reasons.
 use Rattle.std.proofs.Common.{◌≡◌, ℕ, List, [], Option, Some, None, Result, Ok, Err, inl, inr, refl, subst}
 use Rattle.std.proofs.lemmas.Bool.{cases_Bool}
 use Rattle.std.specs.Prelude.{ℤ, is_none}
@@ -34,7 +34,7 @@ use Rattle.fr_why.specs.Faults.{state_at, state_in}
 use Rattle.fr_why.specs.Heads.{head_of, next_head, after_version, after_range, after_numbers, after_node, with_line}
 use Rattle.fr_why.specs.Reasons.{reason_for}
 
--- ---- a line that is taken leads both to the same
+-- ---- a line that is taken leads both to the same state
 
 abbrev Follows : Result Phase TraceError → Head → Type 0
 Follows (Ok q) h = h ≡ head_of q
@@ -123,7 +123,7 @@ line_follows (body v s) line = elim (cases_Bool (bytes_eq line end_line)) [
 ]
 line_follows (finished v s) line = tt
 
--- what is kept after a line that is taken
+-- the kept state after a line that is taken
 pub followed : (p q : Phase) (line : List ℕ) → take_line p line ≡ Ok q → next_head (head_of p) line ≡ head_of q
 followed p q line taken = subst (λ (r : Result Phase TraceError). Follows r (next_head (head_of p) line)) taken
     (line_follows p line)
@@ -162,7 +162,7 @@ asked_in refusal.Read p held line = refl
 asked_in refusal.Write p held line = refl
 asked_in refusal.Memory p held line = refl
 
--- what is asked of what is kept is what the lines before tell
+-- the reason from the kept state is that of the lines before
 pub reason_told : (e : TraceError) (front line : List ℕ) (h : Head) (p : Phase) → take_bytes fresh front ≡ reading p []
     → h ≡ head_of p
     → reason_asked e h (state_at (take_bytes fresh front)) line ≡ reason_for e (take_bytes fresh front) line

@@ -1,4 +1,4 @@
--- A whole line that is taken leads to the next one, after which nothing is held.
+-- A whole line that is taken leads to the next one. No front of a line is then held.
 use Rattle.std.proofs.Common.{◌≡◌, ℕ, ◌+◌, true, List, [], ◌∷◌, ◌++◌, length, Result, Ok, Err, inl, inr, refl, sym, ap}
 use Rattle.std.proofs.Common.{◌∙◌, subst, arith}
 use Rattle.std.proofs.lemmas.Bool.{cases_lt}
@@ -14,7 +14,7 @@ use Rattle.fr_trace.proofs.CutLemmas.{overflow, stays_failed}
 use Rattle.fr_trace.proofs.LineLemmas.{fill}
 use Rattle.fr_trace.proofs.TextLemmas.{is_open, take_in-open}
 
--- what a line leads to that isn't refused
+-- the phase after a line that isn't refused
 abbrev pub Leads : Phase → List ℕ → Progress → Type 0
 Leads p line t = (q : Phase) × (t ≡ reading q []) × (take_line p line ≡ Ok q)
 

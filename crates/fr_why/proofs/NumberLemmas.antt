@@ -35,7 +35,7 @@ none_in_line (b ∷ line) plain =
 
 -- ---- two ways to cut a list
 
--- the first cut lies behind the other, or isn't behind it
+-- the first cut is after the other, or it isn't
 abbrev Cut : List ℕ → List ℕ → List ℕ → List ℕ → Type 0
 Cut front rest before after =
     ((more : List ℕ) × (front ≡ before ++ more) × (after ≡ more ++ rest)) ⊎
@@ -54,9 +54,9 @@ cut (b ∷ front) rest [] after same = inl (b ∷ front, refl, sym same)
 cut (b ∷ front) rest (c ∷ before) after same = cut_more b c front rest before after (cc same)
     (cut front rest before after (cc same))
 
--- ---- the byte with which the fault shows
+-- ---- the byte at which the fault shows
 
--- the bytes before it have no line feed, where it stands in the line or is what ends it
+-- the bytes before it have no line feed, if it stands in the line or ends the line
 no_feed_before : (line tail l : List ℕ) (b : ℕ) (after : List ℕ) → has_no_feed line ≡ true → length tail ≤ 1
     → line ++ tail ≡ l ++ b ∷ after → feed_count l ≡ 0
 no_feed_before line tail [] b after plain short same = refl
@@ -73,7 +73,7 @@ no_feed_before (d ∷ line) tail (c ∷ l) b after plain short same =
       | inr other ↦ feed_count-cons c l ∙ rw other (omega (arith, more))
     ]
 
--- no fault has shown in bytes that go on after the one with which one shows
+-- no fault has shown in bytes that continue after the byte at which one shows
 not_behind : (e : TraceError) (front before : List ℕ) (b : ℕ) (more : List ℕ) → HasNoFault front
     → take_bytes fresh (before ++ b ∷ []) ≡ failed e → front ≡ before ++ b ∷ more → ⊥
 not_behind e front before b more none shown is =
@@ -107,7 +107,7 @@ with_number : {P : Type 0} (Q : ℕ → Type 0) (o : Option ℕ) → IfSome o (�
 with_number Q None h f = tt
 with_number Q (Some n) h f = f h
 
--- a fault that shows in this line, or as it ends, names it
+-- a fault that shows in this line, or at its end, names the line
 pub line_named : (e : TraceError) (front line tail : List ℕ) → HasNoFault front → has_no_feed line ≡ true
     → length tail ≤ 1 → NamesItsLine e (front ++ (line ++ tail)) → IsNamed e front
 line_named e front line tail none plain short named =

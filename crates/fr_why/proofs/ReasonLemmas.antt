@@ -1,4 +1,4 @@
--- The refusal of a line or of a call is reported with its own reason, and a wrong answer with the entry that is due.
+-- The refusal of a line or of a call is reported with its own reason, and a wrong answer with the entry of the call.
 use Rattle.std.proofs.Common.{◌≡◌, ℕ, ◌+◌, Bool, true, false, List, [], ◌∷◌, ◌++◌, length, Option, Some, None, Result}
 use Rattle.std.proofs.Common.{Ok, Err, inl, inr, refl, sym, ap, ◌∙◌, subst, arith, is_some}
 use Rattle.std.proofs.lemmas.Bool.{cases_Bool, cases_lt}
@@ -42,7 +42,7 @@ use Rattle.fr_why.specs.Faults.{IsAtFault, ShowsIn}
 use Rattle.fr_why.specs.Reasons.{reason_of_range, reason_of_numbers, reason_of_fault, reason_of_call, reason_of_entry}
 use Rattle.fr_why.specs.Reasons.{reason_in, reason_for, feed_in, IsReasonOf}
 
--- ---- the errors behind which a reason stands that is looked for
+-- ---- the errors that have a reason of their own
 
 abbrev IsCall : TraceError → Type 0
 IsCall (refusal.Refused n) = ⊤
@@ -140,7 +140,7 @@ line_told (body v s) line = elim (cases_Bool (bytes_eq line end_line)) [
 ]
 line_told (finished v s) line = λ is. absurd is
 
--- ---- where such an error shows
+-- ---- the places where such an error shows
 
 not_long : (p : Phase) → IsCall (too_long p) → ⊥
 not_long magic is = is
@@ -157,7 +157,7 @@ by_line (Err f) x e told is call =
     let same : f ≡ e = cc is in
     subst (λ (g : TraceError). IsReasonOf g x) same (told (subst IsCall (sym same) call))
 
--- as the line feed comes
+-- at the line feed
 open_fails : (p : Phase) (line : List ℕ) (e : TraceError) → is_open p ≡ true → has_no_feed line ≡ true
     → take_bytes (reading p []) (line ++ 10 ∷ []) ≡ failed e → IsCall e → IsReasonOf e (reason_in p line)
 open_fails p line e opened plain fails call =
@@ -198,7 +198,7 @@ feed_fails (lines v p plan) line e plain fails call = open_fails (lines v p plan
 feed_fails (body v s) line e plain fails call = open_fails (body v s) line e refl plain fails call
 feed_fails (finished v s) line e plain fails call = absurd (over_fails v s line e fails call)
 
--- as the text ends, where none does
+-- never at the end of the text
 not_last : (p : Phase) (line : List ℕ) (e : TraceError) → outcome_of (reading p line) ≡ Err e → IsCall e → ⊥
 not_last magic line e is call = let same : refusal.BadMagic ≡ e = cc is in subst IsCall (sym same) call
 not_last (params v) line e is call = let same : refusal.Truncated ≡ e = cc is in subst IsCall (sym same) call
@@ -261,7 +261,7 @@ call_named e front line (b ∷ rest) p came plain (is, shown) call =
     feed_fails p line e plain (sym (fold-append take_byte fresh front (line ++ 10 ∷ []) ∙ ap
     (λ (s : Progress). take_bytes s (line ++ 10 ∷ [])) came) ∙ feed) call
 
--- a text that breaks off says no more than that its line feed is missing
+-- the reason for a text that breaks off is at most that its line feed is missing
 end_told : (p : Phase) (line : List ℕ) → IsReasonOf refusal.Truncated (feed_in p line)
 end_told magic line = tt
 end_told (params v) line = tt

@@ -1,4 +1,4 @@
--- What is written of a line, and the windows of a journal.
+-- The text of a line, and the windows of a journal.
 use Rattle.std.proofs.Common.{◌≡◌, ℕ, ◌+◌, ◌<◌, ◌==◌, false, List, [], ◌∷◌, ◌++◌, length, take, get_or, Option, min}
 use Rattle.std.proofs.Common.{sym, ap, ◌∙◌, cond}
 use Rattle.std.proofs.lemmas.List.{take_min, take_more, get_or_default}

@@ -1,4 +1,4 @@
--- The same reasons, of what the code keeps of the lines before (Heads), and of the state that it asks an auditor for.
+-- The same reasons, from the kept state of the lines before (Heads) and the interface that an auditor gives.
 use Rattle.std.specs.Prelude.{ℕ, List, codes, Option, Some, None, if◌then◌else◌}
 use Rattle.std.specs.Str.{bytes_eq}
 use Rattle.fr_interface.specs.State.{State}

@@ -1,4 +1,4 @@
--- What a command does that says why a text is refused, and one that shows what was seen up to that fault
+-- The result of a command that explains why a text is refused, and of one that shows the observations before that fault
 -- (project-defined).
 use Rattle.std.specs.Prelude.{⊤, ◌≡◌, ℕ, ◌+◌, ◌≤◌, List, [], length, take, Option, Some, None, Result, Ok, Err, Vec}
 use Rattle.std.specs.declared.alloc.Global.{Global}
@@ -16,25 +16,25 @@ use Rattle.fr_why.specs.Faults.{IsAtFault, state_at, window_count}
 use Rattle.fr_why.specs.Reasons.{reason_for, IsReasonOf}
 use Rattle.fr_why.specs.WhyText.{accepted_text, refused_text}
 
--- A text of more bytes than this isn't read further: it is longer than any that is accepted, and of its line at fault
--- there is all that is shown.
+-- The number of bytes that are read of a text. A longer text is longer than each accepted text, and its line at fault
+-- is within these bytes.
 abbrev pub most_kept : ℕ
 most_kept = longest_text + longest_line + 1
 
 abbrev pub kept : List ℕ → List ℕ
 kept text = take most_kept text
 
--- that is read, or the reader failed or memory ran out
+-- the bytes were read, or the reader failed or memory ran out
 abbrev pub IsKept : List ℕ → Result (Vec ℕ Global) TraceError → Type 0
 IsKept text (Ok bytes) = bytes.items ≡ kept text
 IsKept text (Err Read) = ⊤
 IsKept text (Err Memory) = ⊤
 IsKept text (Err e) = ⊥
 
--- ---- why
+-- ---- the explanation
 
--- The text is accepted, and the words say so, with its lines and windows; or it is refused, and the words tell of its
--- line at fault, with all that its refusal rests on.
+-- The text is accepted, and the words report this, with its lines and windows. Or it is refused, and the words describe
+-- its line at fault, with the reason of the refusal.
 abbrev pub IsExplained : List ℕ → Verdict → List ℕ → Type 0
 IsExplained text Accepted words = (s : State) × (outcome_of (take_bytes fresh text) ≡ Ok s) × IsLegalInterface s
     × (length text ≤ longest_text) × (words ≡ accepted_text (feed_count text) (window_count s.entries))
@@ -42,7 +42,8 @@ IsExplained text Refused words = (e : TraceError) × (front : List ℕ) × (line
     × IsAtFault e text front line rest × IsReasonOf e (reason_for e (take_bytes fresh front) line)
     × (words ≡ refused_text e front line)
 
--- What explains the text is written; or nothing is, since the reader failed or memory ran out; or the writer failed.
+-- The explanation of the text is written; or nothing is written, since the reader failed or memory ran out; or the
+-- writer failed.
 abbrev pub Explains : List ℕ → Option (List ℕ) → Option (List ℕ) → Result Verdict TraceError → Type 0
 Explains text old new (Ok verdict) = (words : List ℕ) × IsExplained text verdict words × Appends old new words
 Explains text old new (Err Read) = Keeps old new
@@ -50,21 +51,21 @@ Explains text old new (Err Memory) = Keeps old new
 Explains text old new (Err Write) = ⊤
 Explains text old new (Err e) = ⊥
 
--- a text that is accepted was read whole
+-- an accepted text was read whole
 abbrev pub IsReadWhole : List ℕ → Result Verdict TraceError → Type 0
 IsReadWhole text (Ok Accepted) = kept text ≡ text
 IsReadWhole text (Ok Refused) = ⊤
 IsReadWhole text (Err e) = ⊤
 
--- ---- until the fault
+-- ---- the observations before the fault
 
--- what the lines show, once the plan is reported
+-- the output of the lines, once the plan is complete
 abbrev pub shown_so_far : Form → Option State → List ℕ
 shown_so_far form None = []
 shown_so_far form (Some s) = text_of form s
 
--- An accepted text is shown whole. Of a text that is refused what the lines before its line at fault show is written,
--- and the answer is the audit's. Where the reader failed or memory ran out nothing is written.
+-- An accepted text is shown whole. For a refused text, the output of the lines before its line at fault is written, and
+-- the result is the audit's. If the reader failed or memory ran out, nothing is written.
 abbrev pub ShowsUntil : Form → List ℕ → Option (List ℕ) → Option (List ℕ) → Result (Unit {0}) TraceError → Type 0
 ShowsUntil form text old new (Ok x) = (s : State) × (outcome_of (take_bytes fresh text) ≡ Ok s) × IsLegalInterface s
     × Appends old new (text_of form s)

@@ -1,4 +1,4 @@
--- The line at which a text is refused, and what the lines before it have told (project-defined).
+-- The line at which a text is refused, and the state after the lines before it (project-defined).
 use Rattle.std.specs.Prelude.{◌≡◌, ℕ, ◌+◌, Bool, true, false, List, [], ◌∷◌, ◌++◌, Option, Some, None, Err, IfSome}
 use Rattle.std.specs.Prelude.{count_by}
 use Rattle.fr_interface.specs.State.{State}
@@ -14,14 +14,14 @@ use Rattle.fr_trace.specs.Stream.{fresh, take_bytes, outcome_of}
 
 -- ---- the line
 
--- The fault shows in this line after `front`, of which this is left of the text: as its line feed comes, or, where it
--- has none, as the text ends.
+-- The fault shows in this line after `front`; `rest` is the rest of the text. It shows at the line feed of the line, or
+-- at the end of the text if the line has none.
 abbrev pub ShowsIn : TraceError → List ℕ → List ℕ → List ℕ → Type 0
 ShowsIn e front line [] = outcome_of (take_bytes fresh (front ++ line)) ≡ Err e
 ShowsIn e front line (b ∷ rest) = (b ≡ 10) × (take_bytes fresh (front ++ (line ++ b ∷ [])) ≡ failed e)
 
--- The audit of the text answers this error, and this is the line at which it does: whole lines without a fault stand
--- before it, and with it the fault shows. `line` has no line feed, and what comes after it is `rest`.
+-- The audit of the text returns this error, and this is the line at fault. Before it stand whole lines without a fault,
+-- and the fault shows in it. `line` has no line feed, and `rest` comes after it.
 pub record IsAtFault (e : TraceError) (text front line rest : List ℕ) : Type 0 where
   pub parts : text ≡ front ++ (line ++ rest)
   -- the audit's answer
@@ -32,12 +32,12 @@ pub record IsAtFault (e : TraceError) (text front line rest : List ℕ) : Type 0
   -- the line
   pub plain : has_no_feed line ≡ true
   pub shows : ShowsIn e front line rest
-  -- where the error names a line, it is this one, by the line feeds before it
+  -- if the error names a line, it is this one, by the line feeds before it
   pub named : IfSome (line_of_error e) (λ n. n ≡ feed_count front + 1)
 
--- ---- what was told before
+-- ---- the state before the line
 
--- the state of the interface, once its plan is reported
+-- the state of the interface, once its plan is complete
 abbrev pub state_in : Phase → Option State
 state_in magic = None
 state_in (params v) = None
@@ -60,7 +60,7 @@ is_fetch (entry.Pop task from) = false
 is_fetch (entry.Fetch window a b) = true
 is_fetch (entry.Observe window a b) = false
 
--- the windows that were fetched
+-- the number of windows that were fetched
 abbrev pub window_count : List Entry → ℕ
 window_count entries = count_by is_fetch entries
 

@@ -1,4 +1,4 @@
--- What the code keeps of the line at which a text is refused: places in the text.
+-- The state that the code keeps of the line at which a text is refused: places in the text.
 use Rattle.std.specs.Prelude.{◌≡◌, ℕ, ◌-◌, ◌≤◌, List, [], length, take, drop, Result, Ok, Err}
 use Rattle.fr_interface.specs.State.{IsLegalInterface}
 use Rattle.fr_trace.specs.Audit.{IsOfText}
@@ -13,11 +13,11 @@ use Rattle.fr_why.specs.declared.head.Head.{Head}
 use Rattle.fr_why.specs.Faults.{IsAtFault}
 use Rattle.fr_why.specs.Heads.{head_of, Tells}
 
--- the bytes from the one place up to the other
+-- the bytes from one place up to another
 abbrev pub between : ℕ → ℕ → List ℕ → List ℕ
 between start end text = take (end - start) (drop start text)
 
--- the text is refused at this line, and the lines before have told this
+-- the text is refused at this line, and the lines before lead to this state
 pub record IsFaultIn (text : List ℕ) (f : Fault) : Type 0 where
   pub of_text : IsOfText f.error
   pub starts : f.start ≤ f.end
@@ -26,20 +26,21 @@ pub record IsFaultIn (text : List ℕ) (f : Fault) : Type 0 where
   pub counted : f.before ≡ feed_count (take f.start text)
   pub told : Tells (take f.start text) f.head
 
--- it is accepted as this interface with so many lines, and so isn't too long, or it is refused there
+-- the text is accepted as this interface, with this number of lines, and so isn't too long; or it is refused at this
+-- line
 abbrev pub IsFound : List ℕ → Found → Type 0
 IsFound text (Accepted s lines) = (outcome_of (take_bytes fresh text) ≡ Ok s) × IsLegalInterface s
     × (lines ≡ feed_count text) × (length text ≤ longest_text)
 IsFound text (Refused f) = IsFaultIn text f
 
--- an error that no text gives is reported at once
+-- an error that doesn't come from the text is returned at once
 abbrev pub found_of : TraceError → Fault → Result Found TraceError
 found_of Read f = Err Read
 found_of Write f = Err Write
 found_of Memory f = Err Memory
 found_of e f = Ok (Refused f)
 
--- an auditor that has read whole lines of a text, which end at this place, and what was kept of them
+-- an auditor that has read whole lines of a text, which end at this place, and the state that was kept of them
 pub record StandsAt (text : List ℕ) (start before : ℕ) (h : Head) (auditor : Progress) : Type 0 where
   pub within : start ≤ length text
   pub few : before ≤ start

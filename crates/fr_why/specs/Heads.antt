@@ -1,5 +1,5 @@
--- What the lines of a text have told, but for the state of the interface. It serves the code, which asks an auditor for
--- that state only where it is needed. What is reported of a line that is refused doesn't matter.
+-- The content of the lines of a text, except the state of the interface. The code uses it, and asks an auditor for that
+-- state only when it is needed. The head after a refused line doesn't matter.
 use Rattle.std.specs.Prelude.{◌≡◌, ℕ, ℤ, List, [], Option, Some, None, is_none, Result, Ok, Err, if◌then◌else◌}
 use Rattle.std.specs.Str.{bytes_eq}
 use Rattle.fr_lines.specs.declared.plan_lines.PlanLine.{PlanLine}
@@ -16,7 +16,7 @@ use Rattle.fr_trace.specs.Stream.{take_bytes}
 use Rattle.fr_why.specs.declared.head.Head.{Head}
 use Rattle.fr_why.specs.declared.head.Head.TheVariants as head
 
--- ---- what is kept of what was told
+-- ---- the state that is kept of the lines
 
 abbrev pub head_of : Phase → Head
 head_of magic = head.Start
@@ -26,7 +26,7 @@ head_of (lines v p plan) = head.Lines v p plan
 head_of (body v s) = head.Body v
 head_of (finished v s) = head.Finished
 
--- these whole lines have told this, and none of them is refused
+-- these whole lines lead to this state, and none of them is refused
 abbrev pub Tells : List ℕ → Head → Type 0
 Tells front h = (p : Phase) × (take_bytes fresh front ≡ reading p []) × (h ≡ head_of p)
 

@@ -1,4 +1,4 @@
--- What the refusal of a line rests on, by what the lines before it have told (project-defined).
+-- The reason of a line's refusal, by the state after the lines before it (project-defined).
 use Rattle.std.specs.Prelude.{⊤, ℕ, ℤ, Bool, true, false, ◌||◌, List, [], ◌∷◌, codes, Option, Some, None, is_none}
 use Rattle.std.specs.Prelude.{option_map, Result, Ok, Err, if◌then◌else◌}
 use Rattle.std.specs.Str.{bytes_eq}
@@ -31,13 +31,13 @@ use Rattle.fr_why.specs.declared.reason.Reason.{Reason}
 use Rattle.fr_why.specs.declared.reason.Reason.TheVariants.{Plain, Line, Feed, Params, Host, Slot, Due}
 use Rattle.fr_why.specs.declared.reason.Reason.TheVariants as reason
 
--- ---- lines that can't stand where they do
+-- ---- lines that can't stand in their place
 
 abbrev pub first_word : List (List ℕ) → List ℕ
 first_word [] = []
 first_word (word ∷ words) = word
 
--- of a line that isn't read
+-- the misfit of a line that isn't read
 abbrev pub misfit_of : Bool → Misfit
 misfit_of true = Form
 misfit_of false = Word
@@ -52,7 +52,7 @@ is_of_journal word = bytes_eq word (codes "commit") || bytes_eq word (codes "wit
     || bytes_eq word (codes "pop") || bytes_eq word (codes "fetch") || bytes_eq word (codes "see")
     || bytes_eq word (codes "end")
 
--- of a line that stands after those that it has to stand before, or is one too many
+-- the misfit of a line that is one too many, or that stands after lines that it must stand before
 abbrev pub misplaced : Bool → Misfit
 misplaced true = Full
 misplaced false = Late
@@ -71,7 +71,7 @@ misfit_in (lines v p plan) words = misfit_in_plan plan (first_word words) (plan_
 misfit_in (body v s) words = misfit_of (is_of_journal (first_word words))
 misfit_in (finished v s) words = After
 
--- the version that the lines have told, where it matters
+-- the version of the lines, if it matters
 abbrev pub told_version : Phase → Version
 told_version magic = Three
 told_version (params v) = v
@@ -80,8 +80,8 @@ told_version (lines v p plan) = v
 told_version (body v s) = v
 told_version (finished v s) = Three
 
--- the first word, where no line that begins with it may stand there; of a line of another form the word that is wrong,
--- where one alone is
+-- the first word, if no line that begins with it may stand there; for a line of another form the wrong word, if it is a
+-- single one
 abbrev pub place_of : Version → Misfit → List (List ℕ) → Option WordPlace
 place_of v Word words = Some (place_in words 0)
 place_of v Form words = option_map (place_in words) (wrong_in v words)
@@ -94,7 +94,7 @@ reason_of_misfit v misfit words = Line misfit (place_of v misfit words)
 
 -- ---- the end of the text
 
--- of a text that breaks off in this line: whether its line feed alone is missing
+-- for a text that breaks off in this line: only its line feed is missing, or more
 abbrev pub feed_in : Phase → List ℕ → Reason
 feed_in magic line = Plain
 feed_in (params v) line = Plain
@@ -123,7 +123,7 @@ reason_of_fault (Some fault) = reason.Plan fault
 
 -- ---- calls
 
--- why the interface refuses the call of an entry, if it does
+-- the reason why the interface refuses the call of an entry, if it does
 abbrev pub call_refusal : State → Entry → Option Reason
 call_refusal s (entry.Commit task buffer payload) = option_map Host (commit_refusal s task buffer payload)
 call_refusal s (entry.Withdraw task buffer of) = option_map Host (withdraw_refusal s task buffer)
@@ -132,7 +132,7 @@ call_refusal s (entry.Pop task from) = option_map Host (pop_refusal s task)
 call_refusal s (entry.Fetch window a b) = option_map Slot (fetch_refusal s window)
 call_refusal s (entry.Observe window a b) = option_map Slot (observe_refusal s window)
 
--- why the call is refused, or else the entry that it makes
+-- the reason why the call is refused, or otherwise the entry that it makes
 abbrev pub reason_of_call : Entry → Option Reason → Reason
 reason_of_call made None = Due made
 reason_of_call made (Some known) = known
@@ -159,7 +159,7 @@ abbrev pub misfit_at : Progress → List ℕ → Reason
 misfit_at (reading p held) line = reason_of_misfit (told_version p) (misfit_in p (words_of line)) (words_of line)
 misfit_at (failed e) line = Plain
 
--- what this error of the line rests on: behind these four stands more
+-- the reason of this error of the line; only four errors have one
 abbrev pub reason_for : TraceError → Progress → List ℕ → Reason
 reason_for (refusal.BadLine n) before line = misfit_at before line
 reason_for (refusal.Refused n) before line = reason_at before line
@@ -167,7 +167,7 @@ reason_for (refusal.WrongAnswer n) before line = reason_at before line
 reason_for refusal.Truncated before line = feed_at before line
 reason_for e before line = Plain
 
--- ---- that nothing is left out
+-- ---- completeness of the reasons
 
 -- a refusal of a line or of a call is reported with its own reason, and a wrong answer with the entry that the call
 -- makes

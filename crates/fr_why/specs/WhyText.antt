@@ -1,4 +1,4 @@
--- What is written about a text: that it is accepted, or where and why it is refused (project-defined).
+-- The text that is written about a text: it is accepted, or refused at a place and for a reason (project-defined).
 use Rattle.std.specs.Prelude.{ℕ, ◌+◌, ◌==◌, nat_le, not, Bool, ◌&&◌, List, [], ◌∷◌, ◌++◌, codes, take, Option, Some}
 use Rattle.std.specs.Prelude.{None}
 use Rattle.std.specs.Prelude.{if◌then◌else◌}
@@ -41,15 +41,15 @@ error_words refusal.Memory = codes "Memory" ∷ []
 
 -- ---- the text of a line
 
--- a byte of ASCII that has a sign of its own, which isn't that of the bytes that have none
+-- an ASCII byte that prints as itself, except the backslash
 abbrev pub is_shown : ℕ → Bool
 is_shown b = nat_le 32 b && nat_le b 126 && not (b == 92)
 
--- such a byte as it is, and any other by a backslash, `x` and its two hexadecimal digits
+-- such a byte as it is, and any other as a backslash, `x` and its two hexadecimal digits
 abbrev pub byte_text : ℕ → List ℕ
 byte_text b = if is_shown b then b ∷ [] else 92 ∷ hex_text (b ∷ [])
 
--- after a space the bytes of a line, as many of them as a line may have; and nothing of an empty one
+-- a space and the bytes of a line, at most as many as a line may have; nothing for an empty line
 abbrev pub after_space : List ℕ → List ℕ
 after_space [] = []
 after_space (b ∷ bytes) = 32 ∷ flat_map byte_text (take longest_line (b ∷ bytes))
@@ -57,7 +57,7 @@ after_space (b ∷ bytes) = 32 ∷ flat_map byte_text (take longest_line (b ∷ 
 abbrev pub place_text : ℕ → List ℕ → List ℕ
 place_text number line = codes "line " ++ decimal number ++ after_space line ++ line_feed
 
--- ---- what the refusal rests on
+-- ---- the reason of the refusal
 
 abbrev pub range_words : RangeError → List (List ℕ)
 range_words (range.OutOfRange key) = codes "OutOfRange" ∷ name_of key ∷ []
@@ -77,12 +77,12 @@ misfit_word Late = codes "Late"
 misfit_word Full = codes "Full"
 misfit_word After = codes "After"
 
--- the number of the word that is wrong, and its column
+-- the number of the wrong word, and its column
 abbrev pub place_words : Option WordPlace → List (List ℕ)
 place_words None = []
 place_words (Some place) = decimal place.word ∷ decimal place.column ∷ []
 
--- whose refusal it is, and its name there; or the line of the entry that the call makes
+-- the kind of the refusal, and its name; or the line of the entry that the call makes
 abbrev pub reason_text : Reason → List ℕ
 reason_text Plain = []
 reason_text (Line misfit place) = line_text (codes "reason" ∷ codes "Line" ∷ misfit_word misfit ∷ place_words place)
@@ -95,7 +95,7 @@ reason_text (Due e) = codes "due " ++ entry_line e
 
 -- ---- the whole text
 
--- so many lines, and so many windows that were fetched in them
+-- the number of lines, and the number of windows that were fetched in them
 abbrev pub count_text : ℕ → ℕ → List ℕ
 count_text lines windows = line_text (codes "lines" ∷ decimal lines ∷ [])
     ++ line_text (codes "windows" ∷ decimal windows ∷ [])
@@ -103,13 +103,13 @@ count_text lines windows = line_text (codes "lines" ∷ decimal lines ∷ [])
 abbrev pub accepted_text : ℕ → ℕ → List ℕ
 accepted_text lines windows = line_text (codes "accepted" ∷ []) ++ count_text lines windows
 
--- the error, the line with its number, what the refusal rests on, and what stands before it
+-- the error, the line with its number, the reason of the refusal, and the counts of what stands before it
 abbrev pub fault_text : TraceError → ℕ → List ℕ → Reason → ℕ → List ℕ
 fault_text e before line reason windows =
     line_text (codes "refused" ∷ error_words e) ++ (place_text (before + 1) line ++ (reason_text reason
     ++ count_text before windows))
 
--- the same, of this line after these
+-- the same for this line after these lines
 abbrev pub refused_text : TraceError → List ℕ → List ℕ → List ℕ
 refused_text e front line =
     fault_text e (feed_count front) line (reason_for e (take_bytes fresh front) line)

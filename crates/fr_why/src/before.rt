@@ -1,4 +1,4 @@
-//! The interface that the lines before the one at fault have left.
+//! The interface after the lines before the one at fault.
 ghost use Rattle.std.specs.Prelude.{◌≡◌, IfOk, IfErr};
 ghost use Rattle.fr_trace.specs.Audit.{IsOfText};
 ghost use Rattle.fr_trace.specs.Stream.{fresh, take_bytes};
@@ -11,9 +11,9 @@ use fr_trace::error::TraceError;
 use fr_trace::pieces::audit_pieces;
 use std::alloc::Global;
 
-/// Returns the interface that these lines leave, once they have told its plan, whether or not `end` is one of them.
+/// Returns the interface after these lines, once its plan is complete, with or without the line `end`.
 ///
-/// Refused with `Memory` where memory for it is refused.
+/// Returns `Memory` if an allocation fails.
 pub(crate) fn interface_after(
     alloc: Global,
     head: &Head,

@@ -1,4 +1,4 @@
-//! The call that a line of a journal tells of, and what its interface makes of it.
+//! The call of a line of a journal, and its result on the interface.
 ghost use Rattle.std.specs.Prelude.{◌≡◌, Some, IfNone, option_map};
 ghost use Rattle.fr_interface.specs.State.{with_entry};
 ghost use Rattle.fr_lines.specs.Bare.{with_bytes};
@@ -13,7 +13,7 @@ use fr_lines::bare::{BareEntry, EntryBytes};
 use fr_lines::entries::entry_into;
 use fr_lines::versions::Version;
 
-/// Makes the call of the entry, and says why the interface refuses it, if it does.
+/// Makes the call of the entry, and returns the reason why the interface refuses it, if it does.
 fn refusal_of(interface: &mut Interface, told: &BareEntry, bytes: &EntryBytes) -> Option<Reason>
     ensures refused { result ≡ call_refusal interface.old (with_bytes bytes.now told.now) }
     ensures made { IfNone result (interface.new
@@ -35,7 +35,7 @@ fn refusal_of(interface: &mut Interface, told: &BareEntry, bytes: &EntryBytes) -
     }
 }
 
-/// Returns what the refusal of a call of a task is.
+/// Returns the reason for the refusal of a task's call.
 fn host_reason(error: Option<HostError>) -> Option<Reason>
     ensures { result ≡ option_map Reason.Host error }
 {
@@ -45,7 +45,7 @@ fn host_reason(error: Option<HostError>) -> Option<Reason>
     }
 }
 
-/// Returns what the refusal of a call of the controller is.
+/// Returns the reason for the refusal of a controller's call.
 fn slot_reason(error: Option<SlotError>) -> Option<Reason>
     ensures { result ≡ option_map Reason.Slot error }
 {
@@ -55,7 +55,7 @@ fn slot_reason(error: Option<SlotError>) -> Option<Reason>
     }
 }
 
-/// Returns why the call of the entry is refused, or else the entry that it makes.
+/// Returns the reason why the call of the entry is refused, or otherwise the entry that it makes.
 fn reason_of_entry(interface: &mut Interface, told: &BareEntry, bytes: &EntryBytes) -> Reason
     ensures { result ≡ reason_of_call
         (made_by interface.old (with_bytes bytes.now told.now))
@@ -72,7 +72,7 @@ fn reason_of_entry(interface: &mut Interface, told: &BareEntry, bytes: &EntryByt
     }
 }
 
-/// Returns what the refusal of a line rests on, after the lines that have led to this interface.
+/// Returns the reason of a line's refusal, after the lines that have led to this interface.
 pub(crate) fn reason_of_line(interface: &mut Interface, version: Version, line: &[u8]) -> Reason
     ensures { result ≡ reason_by_state version (Some interface.old) line.now }
 {

@@ -1,4 +1,4 @@
-//! Why a trace is refused.
+//! The explanation of an audit's result.
 ghost use Rattle.std.specs.Prelude.{◌≡◌, IfOk, IfErr, IfSome, OnOk, take};
 ghost use Rattle.fr_trace.specs.Audit.{IsOfText};
 ghost use Rattle.fr_why.specs.Explains.{kept, Explains, IsExplained, IsReadWhole};
@@ -31,7 +31,7 @@ fn is_fetch(entry: &Entry) -> bool
     }
 }
 
-/// Returns how many windows were fetched.
+/// Returns the number of windows that were fetched.
 fn window_count(journal: &Journal) -> u32
     ensures { result ≡ window_count journal.now.entries }
 {
@@ -46,7 +46,7 @@ fn window_count(journal: &Journal) -> u32
     count
 }
 
-/// Returns how many windows were fetched, once there is an interface.
+/// Returns the number of windows that were fetched, or 0 without an interface.
 fn windows_of(interface: &Option<Interface>) -> u32
     ensures { result ≡ windows_of interface.now }
 {
@@ -56,7 +56,7 @@ fn windows_of(interface: &Option<Interface>) -> u32
     }
 }
 
-/// Returns what tells of the line at fault of the text.
+/// Returns the explanation of the line at fault of the text.
 fn fault_words(alloc: Global, text: &[u8], fault: &Fault) -> Result<Vec<u8>, TraceError>
     requires { IsFaultIn text.now fault.now }
     ensures told { IfOk result (λ words. words.items
@@ -66,8 +66,8 @@ fn fault_words(alloc: Global, text: &[u8], fault: &Fault) -> Result<Vec<u8>, Tra
         (take_bytes fresh (take fault.now.start text.now)) (between fault.now.start fault.now.end text.now))) }
     ensures refused { IfErr result (λ e. IsOfText e → ⊥) }
 {
-    // The lines before the fault are audited a second time. An auditor that remembers reasons would pay at each line,
-    // and six crates stand on it.
+    // The lines before the fault are audited a second time. An auditor that kept reasons would pay at each line, and
+    // six crates depend on it.
     let (front, line) = (&text[..fault.start], &text[fault.start..fault.end]);
     let mut interface = match interface_after(alloc, &fault.head, front) {
         Ok(interface) => interface,
@@ -79,12 +79,12 @@ fn fault_words(alloc: Global, text: &[u8], fault: &Fault) -> Result<Vec<u8>, Tra
     let before = fault.before as u64;
     match write_refused(&mut words, fault.error, before, line, &reason, windows) {
         Ok(()) => Ok(words),
-        // A list of bytes takes no more only if an allocation fails, here and below.
+        // Here and below, a list of bytes fails to grow only if an allocation fails.
         Err(_) => Err(TraceError::Memory),
     }
 }
 
-/// Returns what tells that the text is accepted as this interface, with so many lines.
+/// Returns the explanation of a text that is accepted as this interface, with this number of lines.
 fn accepted_words(alloc: Global, interface: &Interface, lines: usize) -> Result<Vec<u8>, TraceError>
     ensures told { IfOk result (λ words. words.items
         ≡ accepted_text lines (window_count interface.now.entries)) }
@@ -98,9 +98,9 @@ fn accepted_words(alloc: Global, interface: &Interface, lines: usize) -> Result<
     }
 }
 
-/// Returns what explains the text.
+/// Returns the explanation of the text.
 ///
-/// Refused with `Memory` where memory is refused.
+/// Returns `Memory` if an allocation fails.
 fn explained(alloc: Global, text: &[u8]) -> Result<(Verdict, Vec<u8>), TraceError>
     ensures told { IfOk result (λ r. IsExplained text.now r.0 r.1.items) }
     ensures refused { IfErr result (λ e. IsOfText e → ⊥) }
@@ -118,9 +118,9 @@ fn explained(alloc: Global, text: &[u8]) -> Result<(Verdict, Vec<u8>), TraceErro
     }
 }
 
-/// Reads a trace to its end, and writes why an audit refuses it, or that it accepts it (project-defined).
+/// Reads a trace to its end, and writes why an audit rejects it, if it does (project-defined).
 ///
-/// Of an accepted trace these lines are written:
+/// For an accepted trace these lines are written:
 ///
 /// ```text
 /// accepted
@@ -128,10 +128,15 @@ fn explained(alloc: Global, text: &[u8]) -> Result<(Verdict, Vec<u8>), TraceErro
 /// windows 4
 /// ```
 ///
-/// Of a refused one the refusal as an audit prints it, the number and the text of the line at fault, what the refusal
-/// rests on (`reason`, with whose it is: `Params`, `Plan`, `Host`, `Slot` or `Line`), or for a wrong answer the line as
-/// it would be right (`due`), and how many lines and fetched windows stand before. After `Line` stands the number of
-/// the word that is wrong and its column, where one alone is; `Feed` says that the last line feed alone is missing:
+/// For a rejected trace these lines are written:
+/// - the refusal as an audit prints it;
+/// - `line`: the number and the text of the line at fault;
+/// - `reason`: the kind of the refusal (`Params`, `Plan`, `Host`, `Slot` or `Line`) and its name, or for a wrong answer
+///   `due`, with the correct line;
+/// - `lines` and `windows`: the number of lines and of fetched windows before the line at fault.
+///
+/// After `Line` stand the number and the column of the wrong word, if it is a single one. `Feed` means that only the
+/// last line feed is missing. An example:
 ///
 /// ```text
 /// refused Refused 13
@@ -141,13 +146,13 @@ fn explained(alloc: Global, text: &[u8]) -> Result<(Verdict, Vec<u8>), TraceErro
 /// windows 1
 /// ```
 ///
-/// In the text of a line a byte without a sign in ASCII, and a backslash, is written as `\x` and its two hexadecimal
-/// digits, and no more than 1200 bytes are written. The line at fault of a text that breaks off is the one in which it
-/// does, with what there is of it.
+/// In the text of a line, a backslash, and each byte that isn't a printable ASCII character, is written as `\x` and its
+/// two hexadecimal digits. At most 1200 bytes are written. If a text breaks off, its line at fault is the one in which
+/// it breaks off.
 ///
-/// Refused with `Read` where the reader fails, with `Memory` where memory is refused, and then nothing is written; and
-/// with `Write` where the writer fails. A text of more than 98,548,055 bytes, which is longer than any accepted one, is
-/// read no further and refused for those.
+/// Returns `Read` if the reader fails and `Memory` if an allocation fails; nothing is written then. Returns `Write` if
+/// the writer fails. Of a text of more than 98,548,055 bytes, which is longer than any accepted text, only these bytes
+/// are read, and the text is rejected for them.
 pub fn explain_trace<R: Read, W: Write>(
     alloc: Global,
     reader: &mut R,
@@ -155,7 +160,7 @@ pub fn explain_trace<R: Read, W: Write>(
 ) -> Result<Verdict, TraceError>
     ensures told { IfSome (R.remaining reader.old)
         (λ text. Explains (kept text) (W.contents writer.old) (W.contents writer.new) result) }
-    // What is accepted was read whole.
+    // An accepted text was read whole.
     ensures whole { IfSome (R.remaining reader.old) (λ text. IsReadWhole text result) }
 {
     let text = kept_of(alloc, reader)?;

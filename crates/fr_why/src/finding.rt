@@ -15,28 +15,28 @@ use std::alloc::Global;
 /// The line at which a text is refused (project-defined).
 #[derive(Drop)]
 pub struct Fault {
-    /// The audit's answer.
+    /// The error that the audit returns.
     pub error: TraceError,
-    /// Where the line starts: before it are whole lines, none of which is refused.
+    /// The start of the line. Before it are whole lines, none of which is refused.
     pub start: usize,
-    /// Where it ends: its line feed is here, or the text is over.
+    /// The end of the line: its line feed, or the end of the text.
     pub end: usize,
-    /// How many lines stand before it.
+    /// The number of lines before it.
     pub before: usize,
-    /// What these have told.
+    /// The state after these lines.
     pub head: Head,
 }
 
-/// What an audit makes of a whole text (project-defined).
+/// The result of an audit of a whole text (project-defined).
 #[derive(Drop)]
 pub enum Found {
-    /// It accepts it as this interface, with so many lines.
+    /// The audit accepts it as this interface, with this number of lines.
     Accepted(Interface, usize),
-    /// It refuses it at this line.
+    /// The audit refuses it at this line.
     Refused(Fault),
 }
 
-/// Returns what is found, where an audit answers this error at the line.
+/// Returns the result for an error that an audit returns at the line.
 fn refused(fault: Fault) -> Result<Found, TraceError>
     ensures { result ≡ found_of fault.error fault }
 {
@@ -46,23 +46,22 @@ fn refused(fault: Fault) -> Result<Found, TraceError>
     }
 }
 
-/// Returns what is found, where an audit has read this interface.
+/// Returns the result for an interface that an audit returns.
 #[tactic(auto, using(crate::proofs::FindingLemmas::few_lines))]
 fn accepted(interface: Interface, lines: usize) -> Found
     ensures found { result ≡ Found.Accepted interface lines }
     ensures legal { IsLegalInterface interface }
     ensures few { HasFewLines interface }
 {
-    // Each of the two tells a clause of what every interface keeps.
+    // For the prover: the clauses of these calls.
     let _ = interface.params();
     let _ = interface.journal().len();
     Found::Accepted(interface, lines)
 }
 
-/// Returns whether an audit accepts the text, or at which line it refuses it (project-defined). The lines are fed to an
-/// auditor one after another.
+/// Returns the interface of the text, or the line at which an audit refuses it (project-defined).
 ///
-/// Refused with `Memory` where memory for the text's interface is refused.
+/// The lines are fed to an auditor one after another. Returns `Memory` if an allocation fails.
 pub(crate) fn find(alloc: Global, text: &[u8]) -> Result<Found, TraceError>
     ensures found { IfOk result (IsFound text.now) }
     ensures refused { IfErr result (λ e. IsOfText e → ⊥) }

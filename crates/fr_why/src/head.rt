@@ -1,4 +1,4 @@
-//! What the lines of a trace have told, but for what its interface holds.
+//! The state after lines of a trace, without the content of its interface.
 ghost use Rattle.std.specs.Prelude.{◌≡◌};
 ghost use Rattle.fr_text.specs.Spaces.{words_of};
 ghost use Rattle.fr_lines.specs.Reading.{version_in, params_in, node_in, plan_line_in};
@@ -12,24 +12,24 @@ use fr_slots::params::Params;
 use fr_slots::plan::NodePlan;
 use std::mem;
 
-/// What the lines of a trace have told, none of which was refused (project-defined).
+/// The state after lines of a trace, none of which was refused (project-defined).
 #[derive(Drop)]
 pub enum Head {
     /// No line has come.
     Start,
-    /// The version.
+    /// The version has come.
     Parameters(Version),
-    /// The parameters too.
+    /// The parameters have come too.
     Node(Version, Params),
-    /// The plan too, as far as its lines have come.
+    /// The plan has come too, as far as its lines.
     Lines(Version, Params, NodePlan),
-    /// All of the plan, with the line `begin`. The entries that came since aren't kept here.
+    /// The whole plan has come, with the line `begin`. The entries after it aren't kept here.
     Body(Version),
-    /// All of it, with the line `end`.
+    /// The whole trace has come, with the line `end`.
     Finished,
 }
 
-/// After the first line.
+/// Returns the state after the first line.
 fn after_first(line: &[u8]) -> Head
     ensures { result ≡ after_version (version_in line.now) }
 {
@@ -39,7 +39,7 @@ fn after_first(line: &[u8]) -> Head
     }
 }
 
-/// After the line of the parameters.
+/// Returns the state after the line of the parameters.
 fn after_parameters(version: Version, line: &[u8]) -> Head
     ensures { result ≡ after_numbers version (params_in (words_of line.now)) }
 {
@@ -52,7 +52,7 @@ fn after_parameters(version: Version, line: &[u8]) -> Head
     }
 }
 
-/// After the line of the plan's numbers.
+/// Returns the state after the line of the plan's numbers.
 fn after_numbers_of(version: Version, params: Params, line: &[u8]) -> Head
     ensures { result ≡ after_node version params (node_in (words_of line.now)) }
 {
@@ -62,7 +62,7 @@ fn after_numbers_of(version: Version, params: Params, line: &[u8]) -> Head
     }
 }
 
-/// Adds what a line of the plan tells. An auditor has taken it, so it isn't refused here.
+/// Adds a line of the plan. An auditor has taken the line, so it isn't refused here.
 fn add(version: Version, plan: &mut NodePlan, line: &[u8])
     ensures { plan.new ≡ with_line plan.old (plan_line_in version (words_of line.now)) }
 {
@@ -74,7 +74,7 @@ fn add(version: Version, plan: &mut NodePlan, line: &[u8])
     };
 }
 
-/// After a line of the plan, or `begin`.
+/// Returns the state after a line of the plan, or `begin`.
 fn after_plan_line(version: Version, params: Params, mut plan: NodePlan, line: &[u8]) -> Head
     ensures { result ≡ next_head (Head.Lines version params plan) line.now }
 {
@@ -85,7 +85,7 @@ fn after_plan_line(version: Version, params: Params, mut plan: NodePlan, line: &
     Head::Lines(version, params, plan)
 }
 
-/// After a line that is none of the journal.
+/// Returns the state after a line other than those of the journal.
 fn after(head: Head, line: &[u8]) -> Head
     ensures { result ≡ next_head head line.now }
 {
@@ -105,7 +105,7 @@ fn after(head: Head, line: &[u8]) -> Head
     }
 }
 
-/// Goes on by a whole line, given without its line feed, which an auditor has taken.
+/// Continues the state by a whole line, given without its line feed. An auditor has taken the line.
 pub(crate) fn follow(head: &mut Head, line: &[u8])
     ensures { head.new ≡ next_head head.old line.now }
 {

@@ -6,13 +6,13 @@ use fr_trace::error::TraceError;
 use std::alloc::Global;
 use std::io::{ErrorKind, Read};
 
-/// No more bytes than these are kept of a text. It is longer than any that is accepted: 82,054 lines of 1200 bytes
+/// The number of bytes that are kept of a text. It is larger than that of any accepted text: 82,054 lines of 1200 bytes
 /// with their line feeds, and a further line.
 const MOST_KEPT: u64 = 98_548_055;
 
-/// Returns all bytes that the reader has left, or the first of them, as many as are kept.
+/// Returns all bytes that the reader has left, but at most `MOST_KEPT`.
 ///
-/// Refused with `Read` where the reader fails, and with `Memory` where memory is refused.
+/// Returns `Read` if the reader fails, and `Memory` if an allocation fails.
 pub(crate) fn kept_of<R: Read>(alloc: Global, reader: &mut R) -> Result<Vec<u8>, TraceError>
     ensures { IfSome (R.remaining reader.old) (λ text. IsKept text result) }
 {

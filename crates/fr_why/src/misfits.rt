@@ -1,4 +1,4 @@
-//! Why a line can't stand where it does.
+//! Reasons why a line can't stand in its place.
 ghost use Rattle.std.specs.Prelude.{◌≡◌};
 ghost use Rattle.fr_lines.specs.Reading.{plan_line_in};
 ghost use Rattle.fr_text.specs.Spaces.{words_of};
@@ -22,7 +22,7 @@ fn first_word(line: &[u8]) -> &[u8]
     }
 }
 
-/// Returns whether lines of a plan begin with the word, or the one after them.
+/// Returns whether a line of a plan, or the line after the plan, begins with the word.
 fn is_of_plan(word: &[u8]) -> bool
     ensures { result ≡ is_of_plan word.now }
 {
@@ -33,7 +33,7 @@ fn is_of_plan(word: &[u8]) -> bool
         || word == b"begin".as_slice()
 }
 
-/// Returns whether lines of a journal begin with the word, or the one after them.
+/// Returns whether a line of a journal, or the line after the journal, begins with the word.
 fn is_of_journal(word: &[u8]) -> bool
     ensures { result ≡ is_of_journal word.now }
 {
@@ -46,7 +46,7 @@ fn is_of_journal(word: &[u8]) -> bool
         || word == b"end".as_slice()
 }
 
-/// Returns why a line isn't read, by whether its first word may stand there.
+/// Returns why a line isn't read, given whether its first word may stand there.
 fn unread(may_stand: bool) -> Misfit
     ensures { result ≡ misfit_of may_stand }
 {
@@ -57,7 +57,7 @@ fn unread(may_stand: bool) -> Misfit
     }
 }
 
-/// Returns why a line is refused that is read, by whether its kind may still come.
+/// Returns why a line that is read is refused, given whether its kind may still come.
 fn too_many(may_come: bool) -> Misfit
     ensures { result ≡ misplaced may_come }
 {
@@ -77,7 +77,7 @@ fn misfit_in_plan(version: Version, plan: &NodePlan, line: &[u8]) -> Misfit
     }
 }
 
-/// Returns why a line can't stand after those that have told this.
+/// Returns why a line can't stand in its place, after the lines that led to this state.
 pub(crate) fn misfit_of(head: &Head, line: &[u8]) -> Misfit
     ensures { result ≡ misfit_by_head head.now (words_of line.now) }
 {

@@ -1,4 +1,4 @@
-//! What the refusal of a line rests on.
+//! The reasons of a line's refusal.
 
 use fr_interface::errors::{HostError, SlotError};
 use fr_journal::entry::Entry;
@@ -6,31 +6,31 @@ use fr_lines::forms::WordPlace;
 use fr_slots::fault::PlanFault;
 use fr_slots::params::RangeError;
 
-/// Why a line can't stand where it does (project-defined).
+/// Reasons why a line can't stand in its place (project-defined).
 #[derive(Clone, Copy, PartialEq, Eq)]
 pub enum Misfit {
     /// No line that begins with its first word may stand here.
     Word,
-    /// The words after the first haven't the form of such a line, or a number is out of its range.
+    /// The words after the first don't have the form of such a line, or a number is out of its range.
     Form,
-    /// It is an ownership line after a buffer or the queue, or a buffer after the queue.
+    /// It is an ownership line after a buffer or the receive FIFO, or a buffer after the receive FIFO.
     Late,
-    /// The plan has all the lines of this kind already that it can have.
+    /// The plan already has the largest number of lines of this kind.
     Full,
     /// It comes after `end`.
     After,
 }
 
-/// What the refusal of a line of a trace rests on (project-defined).
+/// The reason of the refusal of a line of a trace (project-defined).
 #[derive(Drop)]
 pub enum Reason {
-    /// The error of the line says all.
+    /// The error of the line is the whole reason.
     Plain,
-    /// The line can't stand where it does, and this word of it is wrong, where one alone is.
+    /// The line can't stand in its place. This word of it is wrong, if it is a single one.
     Line(Misfit, Option<WordPlace>),
-    /// The line feed after the last line is missing, and nothing else.
+    /// Only the line feed after the last line is missing.
     Feed,
-    /// The numbers of the line `params` are no parameters.
+    /// The numbers of the line `params` are not parameters.
     Params(RangeError),
     /// The plan that ends with the line `begin` has this fault for its parameters.
     Plan(PlanFault),
@@ -38,6 +38,6 @@ pub enum Reason {
     Host(HostError),
     /// The interface refuses the call of its controller.
     Slot(SlotError),
-    /// The call has another answer than the line tells: it makes this entry.
+    /// The call has another answer than the line: it makes this entry.
     Due(Entry),
 }

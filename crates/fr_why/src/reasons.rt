@@ -1,4 +1,4 @@
-//! What the refusal of a line rests on, by what the lines before it have told.
+//! The reason of a line's refusal, by the state after the lines before it.
 ghost use Rattle.std.specs.Prelude.{◌≡◌, None};
 ghost use Rattle.fr_lines.specs.Reading.{params_in};
 ghost use Rattle.fr_text.specs.Spaces.{words_of};
@@ -17,7 +17,7 @@ use fr_slots::params::Params;
 use fr_slots::plan::NodePlan;
 use fr_trace::error::TraceError;
 
-/// Returns what the refusal of a line `params` rests on.
+/// Returns the reason for the refusal of a line `params`.
 fn reason_of_params(line: &[u8]) -> Reason
     ensures { result ≡ reason_of_numbers (params_in (words_of line.now)) }
 {
@@ -30,7 +30,7 @@ fn reason_of_params(line: &[u8]) -> Reason
     }
 }
 
-/// Returns what the refusal of the line `begin` rests on, after this plan.
+/// Returns the reason for the refusal of the line `begin`, after this plan.
 fn reason_of_plan(version: Version, params: &Params, plan: &NodePlan, line: &[u8]) -> Reason
     ensures { result ≡ reason_by_head (Head.Lines version params.now plan.now) None line.now }
 {
@@ -43,7 +43,7 @@ fn reason_of_plan(version: Version, params: &Params, plan: &NodePlan, line: &[u8
     }
 }
 
-/// Returns what the refusal of a line of the journal rests on.
+/// Returns the reason for the refusal of a line of the journal.
 fn reason_of_call(version: Version, interface: &mut Option<Interface>, line: &[u8]) -> Reason
     ensures { result ≡ reason_by_state version interface.old line.now }
 {
@@ -53,7 +53,7 @@ fn reason_of_call(version: Version, interface: &mut Option<Interface>, line: &[u
     }
 }
 
-/// Returns what the refusal of a line rests on, whatever the error is that names it.
+/// Returns the reason for the refusal of a line, for each error that names it.
 fn reason_by(head: &Head, interface: &mut Option<Interface>, line: &[u8]) -> Reason
     ensures { result ≡ reason_by_head head.now interface.old line.now }
 {
@@ -65,7 +65,7 @@ fn reason_by(head: &Head, interface: &mut Option<Interface>, line: &[u8]) -> Rea
     }
 }
 
-/// Returns the version of the format that the lines have told, or the newest one where it no longer matters.
+/// Returns the version of the format that the lines have, or the newest one if it no longer matters.
 fn version_of(head: &Head) -> Version
     ensures { result ≡ version_by_head head.now }
 {
@@ -77,7 +77,7 @@ fn version_of(head: &Head) -> Version
     }
 }
 
-/// Returns the place of the word that is wrong in a line that can't stand where it does, where one alone is.
+/// Returns the place of the wrong word in a line that can't stand in its place, if it is a single word.
 fn place_of(version: Version, misfit: Misfit, line: &[u8]) -> Option<WordPlace>
     ensures { result ≡ place_of version misfit (words_of line.now) }
 {
@@ -88,7 +88,7 @@ fn place_of(version: Version, misfit: Misfit, line: &[u8]) -> Option<WordPlace>
     }
 }
 
-/// Returns what it rests on that the text breaks off in this line.
+/// Returns the reason for the refusal of a text that breaks off in this line.
 fn reason_of_end(head: &Head, line: &[u8]) -> Reason
     ensures { result ≡ feed_by_head head.now line.now }
 {
@@ -104,8 +104,9 @@ fn reason_of_end(head: &Head, line: &[u8]) -> Reason
     }
 }
 
-/// Returns what this error of the line rests on. A line of the journal is tried on the interface that the lines before
-/// left.
+/// Returns the reason of this error of the line.
+///
+/// A line of the journal is tried on the interface after the lines before.
 pub(crate) fn reason_of(
     error: TraceError,
     head: &Head,

@@ -1,4 +1,4 @@
-//! What was seen in a trace, up to the line at fault.
+//! The observations of a trace, up to the line at fault.
 ghost use Rattle.std.specs.Prelude.{IfSome};
 ghost use Rattle.fr_why.specs.Explains.{kept, ShowsUntil};
 ghost use Rattle.fr_why.specs.Finding.{IsFaultIn};
@@ -12,7 +12,7 @@ use fr_trace::error::TraceError;
 use std::alloc::Global;
 use std::io::{Read, Write};
 
-/// Writes what was seen before the line at fault, and answers its error.
+/// Writes the observations before the line at fault, and returns its error.
 fn show_before<W: Write>(
     alloc: Global,
     form: Form,
@@ -33,14 +33,15 @@ fn show_before<W: Write>(
     }
 }
 
-/// Reads a trace to its end, and writes what was seen in it, in this form; of a trace that an audit refuses it writes
-/// what was seen up to the line at fault, or up to where the trace breaks off (project-defined).
+/// Reads a trace to its end, and writes its observations in this form (project-defined).
 ///
-/// Refused as an audit refuses it, with the error of the first line at fault, once what was seen in the lines before is
-/// written; where these haven't told the plan yet, nothing is. Refused too with `Read` where the reader fails and with
-/// `Memory` where memory is refused, and then nothing is written; and with `Write` where the writer fails, and then
-/// some of it may have been written. A text of more than 98,548,055 bytes, which is longer than any accepted one, is
-/// read no further and refused for those.
+/// For a trace that an audit refuses, it writes the observations up to the line at fault, or up to the place where the
+/// trace breaks off. It then returns the audit's error, that of the first line at fault. If the lines before don't
+/// complete the plan, nothing is written.
+///
+/// Returns `Read` if the reader fails and `Memory` if an allocation fails; nothing is written then. Returns `Write` if
+/// the writer fails; a part of the output may then have been written. Of a text of more than 98,548,055 bytes, which is
+/// longer than any accepted text, only these bytes are read, and the text is rejected for them.
 pub fn show_until_fault<R: Read, W: Write>(
     alloc: Global,
     form: Form,

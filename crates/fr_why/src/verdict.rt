@@ -1,6 +1,6 @@
-//! How a trace was judged.
+//! The result of an audit of a whole trace.
 
-/// How a trace was judged that was read whole (project-defined).
+/// The result of an audit of a trace that was read whole (project-defined).
 #[derive(Clone, Copy, Debug, PartialEq, Eq)]
 pub enum Verdict {
     /// An audit accepts it.

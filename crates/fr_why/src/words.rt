@@ -34,7 +34,7 @@ fn write_error<W: Write>(writer: &mut W, error: TraceError) -> io::Result<()>
     }
 }
 
-// A terminal would obey some bytes of a line at fault, so those print as hexadecimal digits.
+// A terminal would execute some bytes of a line at fault, so those print as hexadecimal digits.
 /// Returns whether a byte is written as it is.
 fn is_shown(byte: u8) -> bool
     ensures { result ≡ is_shown byte }
@@ -63,7 +63,7 @@ fn write_bytes<W: Write>(writer: &mut W, bytes: &[u8]) -> io::Result<()>
     Ok(())
 }
 
-/// Writes a space and as many bytes of the line as a line may have, and nothing of an empty one.
+/// Writes a space and at most as many bytes of the line as a line may have. Nothing is written for an empty line.
 fn write_after_space<W: Write>(writer: &mut W, line: &[u8]) -> io::Result<()>
     ensures { Writes W.contents writer.old writer.new result (after_space line.now) }
 {
@@ -83,7 +83,7 @@ fn write_place<W: Write>(writer: &mut W, number: u64, line: &[u8]) -> io::Result
     writer.write_all(b"\n")
 }
 
-/// Returns the word for why a line can't stand where it does.
+/// Returns the word for the reason why a line can't stand in its place.
 fn misfit_word(misfit: Misfit) -> &'static str
     ensures { result.now ≡ misfit_word misfit }
 {
@@ -121,7 +121,7 @@ fn write_fault<W: Write>(writer: &mut W, fault: PlanFault) -> io::Result<()>
     }
 }
 
-/// Writes the line of a line that can't stand where it does, with the place of the word that is wrong.
+/// Writes the line for a line that can't stand in its place, with the place of the wrong word.
 fn write_misfit<W: Write>(
     writer: &mut W,
     misfit: Misfit,
@@ -136,7 +136,7 @@ fn write_misfit<W: Write>(
     }
 }
 
-/// Writes what a refusal rests on.
+/// Writes the reason of a refusal.
 fn write_reason<W: Write>(writer: &mut W, reason: &Reason) -> io::Result<()>
     ensures { Writes W.contents writer.old writer.new result (reason_text reason.now) }
 {
@@ -155,7 +155,7 @@ fn write_reason<W: Write>(writer: &mut W, reason: &Reason) -> io::Result<()>
     }
 }
 
-/// Writes how many lines and windows there are.
+/// Writes the number of lines and of windows.
 fn write_count<W: Write>(writer: &mut W, lines: u64, windows: u32) -> io::Result<()>
     ensures { Writes W.contents writer.old writer.new result (count_text lines windows) }
 {
@@ -171,7 +171,7 @@ pub(crate) fn write_accepted<W: Write>(writer: &mut W, lines: u64, windows: u32)
     write_count(writer, lines, windows)
 }
 
-/// Writes why a text is refused at this line, after so many lines and windows.
+/// Writes why a text is refused at this line, and the number of lines and windows before it.
 pub(crate) fn write_refused<W: Write>(
     writer: &mut W,
     error: TraceError,

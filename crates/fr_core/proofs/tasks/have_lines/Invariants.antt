@@ -2,6 +2,6 @@ use Rattle.std.proofs.Common.{ℕ, ◌<◌}
 use Rattle.fr_core.specs.Walks.{HasLineAt}
 use Rattle.fr_core.proofs.tasks.have_lines.Given as goal
 
--- those before have the line
+-- the earlier scripts have the line
 abbrev pub invariant-loop-given : goal.invariant-loop-given
 invariant-loop-given l = (k : ℕ) → k < l.given → HasLineAt l.scripts l.node l.task l.place l.deed k

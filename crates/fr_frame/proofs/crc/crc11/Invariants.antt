@@ -4,7 +4,7 @@ use Rattle.fr_frame.specs.Crc.{header_check}
 use Rattle.fr_frame.specs.Register.{divided}
 use Rattle.fr_frame.proofs.crc.crc11.Given as goal
 
--- dividing what is left gives, from here, what dividing all of it gives
+-- the division of the rest, from here, equals the division of the whole message
 abbrev pub invariant-loop-bit : goal.invariant-loop-bit
 invariant-loop-bit l = record {
   fits : l.register < 2 ^ 11;

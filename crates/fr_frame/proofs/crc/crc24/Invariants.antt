@@ -4,7 +4,7 @@ use Rattle.fr_frame.specs.Crc.{frame_check, frame_divisor}
 use Rattle.fr_frame.specs.Register.{divided}
 use Rattle.fr_frame.proofs.crc.crc24.Given as goal
 
--- dividing what is left gives, from here, what dividing all of it gives
+-- the division of the rest, from here, equals the division of the whole message
 abbrev pub invariant-loop-sixteen : goal.invariant-loop-sixteen
 invariant-loop-sixteen l = record {
   fits : l.register < 2 ^ 24;

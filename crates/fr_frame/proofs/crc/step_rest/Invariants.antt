@@ -4,7 +4,7 @@ use Rattle.fr_frame.specs.Crc.{frame_divisor}
 use Rattle.fr_frame.specs.Register.{divided}
 use Rattle.fr_frame.proofs.crc.step_rest.Given as goal
 
--- dividing what is left gives, from here, what dividing all of it gives
+-- the division of the rest, from here, equals the division of the whole message
 abbrev pub invariant-loop-eight : goal.invariant-loop-eight
 invariant-loop-eight l = record {
   fits : l.register < 2 ^ 24;

@@ -3,7 +3,7 @@ use Rattle.fr_runs.specs.Stepping.{IsInTurnAt}
 use Rattle.fr_runs.specs.Steps.{IsProgress}
 use Rattle.fr_runs.proofs.stepping.is_stepped.Given as goal
 
--- the entries before came in their turn
+-- the earlier entries came in their turn
 abbrev pub invariant-loop-number : goal.invariant-loop-number
 invariant-loop-number l = record {
   so_far : IsProgress l.recorded (take l.number l.interface.entries) l.progress;

@@ -2,7 +2,7 @@ use Rattle.std.proofs.Common.{◌≡◌, ◌++◌, drop}
 use Rattle.fr_schedule.specs.Claims.{claims_from, filters_by}
 use Rattle.fr_schedule.proofs.claims.claims_of.Given as goal
 
--- with the claims of the nodes that are left they are all claims
+-- with the claims of the remaining nodes they are all claims
 abbrev pub invariant-loop-number : goal.invariant-loop-number
 invariant-loop-number l =
     l.claims.items ++ claims_from (filters_by l.lines) l.number (drop l.number l.plans) ≡ claims_from

@@ -5,7 +5,7 @@ use Rattle.fr_slots.specs.Plans.{IsPlan, Each}
 use Rattle.toml.specs.View.{view}
 use Rattle.fr_schedule.proofs.file.plans_of.Given as goal
 
--- with those that are left the plans are all plans
+-- with the remaining ones the plans are all plans
 abbrev pub invariant-loop-number : goal.invariant-loop-number
 invariant-loop-number l = record {
   lawful : Each IsPlan l.plans.items;

@@ -4,7 +4,7 @@ use Rattle.fr_schedule.specs.Files.{with_buffers, with_buffers_of}
 use Rattle.toml.specs.View.{view}
 use Rattle.fr_schedule.proofs.file.with_buffers_of.Given as goal
 
--- with the buffers that are left the plan gets those that it gets with all
+-- the plan and the remaining buffers give the plan with all buffers
 abbrev pub invariant-loop-number : goal.invariant-loop-number
 invariant-loop-number l = record {
   so_far : length l.plan.buffers ≡ l.number;

@@ -2,7 +2,7 @@ use Rattle.std.proofs.Common.{◌≡◌, length, drop}
 use Rattle.fr_schedule.proofs.OwnLemmas.{owning_more, owning_all}
 use Rattle.fr_schedule.proofs.node.owning.Given as goal
 
--- with the lines that are left the plan gets those that it gets with all lines
+-- the plan and the remaining lines give the plan with all lines
 abbrev pub invariant-loop-line : goal.invariant-loop-line
 invariant-loop-line l = record {
   so_far : length l.plan.owned ≡ l.line-index;

@@ -3,7 +3,7 @@ use Rattle.fr_bus.specs.Windows.{cycles_begun}
 use Rattle.fr_showing.specs.Idle.{has_struck, has_struck_after}
 use Rattle.fr_showing.proofs.idle.has_struck.Given as goal
 
--- whether it struck something is reported by the windows that are left
+-- the windows that are left decide whether the line had an effect
 abbrev pub invariant-loop-sealed : goal.invariant-loop-sealed
 invariant-loop-sealed l = record {
   begun : l.begun ≡ cycles_begun (take l.sealed-index l.record);

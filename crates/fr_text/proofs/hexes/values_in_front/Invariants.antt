@@ -3,7 +3,8 @@ use Rattle.hex.specs.Hex.{lower_digits}
 use Rattle.fr_text.specs.Digits.{AreDigits}
 use Rattle.fr_text.proofs.hexes.values_in_front.Given as goal
 
--- Each value so far that stands before the first that is none is that of its digit; of digits alone none is so far.
+-- Each value so far before the first byte that is no digit is that of its digit. If all bytes are digits, no value so
+-- far is 16 or more.
 abbrev pub invariant-loop-place : goal.invariant-loop-place
 invariant-loop-place l = record {
   long : length l.values ≡ 32;
