@@ -34,7 +34,7 @@ fn answers_as_told(interface: &mut Interface, told: &BareEntry, bytes: &EntryByt
 {
     let number = interface.journal().len();
     match told {
-        BareEntry::Commit { task, buffer } => {
+        BareEntry::Commit { task, buffer, .. } => {
             let _receipt = interface.commit(*task, *buffer, &bytes.payload).ok()?;
             Some(true)
         }
@@ -54,7 +54,7 @@ fn answers_as_told(interface: &mut Interface, told: &BareEntry, bytes: &EntryByt
             let (made_a, made_b) = interface.fetch_offered(window).ok()?;
             Some(made_a == *a && made_b == *b)
         }
-        BareEntry::Observe { window } => {
+        BareEntry::Observe { window, .. } => {
             interface.observe(*window, &bytes.a, &bytes.b).ok()?;
             Some(true)
         }

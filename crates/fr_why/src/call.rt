@@ -20,7 +20,7 @@ fn refusal_of(interface: &mut Interface, told: &BareEntry, bytes: &EntryBytes) -
         ≡ with_entry interface.old (made_by interface.old (with_bytes bytes.now told.now))) }
 {
     match told {
-        BareEntry::Commit { task, buffer } => {
+        BareEntry::Commit { task, buffer, .. } => {
             host_reason(interface.commit(*task, *buffer, &bytes.payload).err())
         }
         BareEntry::Withdraw { task, buffer, .. } => {
@@ -29,7 +29,7 @@ fn refusal_of(interface: &mut Interface, told: &BareEntry, bytes: &EntryBytes) -
         BareEntry::Read { task, buffer, .. } => host_reason(interface.read(*task, *buffer).err()),
         BareEntry::Pop { task, .. } => host_reason(interface.pop(*task).err()),
         BareEntry::Fetch { window, .. } => slot_reason(interface.fetch_offered(window).err()),
-        BareEntry::Observe { window } => {
+        BareEntry::Observe { window, .. } => {
             slot_reason(interface.observe(*window, &bytes.a, &bytes.b).err())
         }
     }
