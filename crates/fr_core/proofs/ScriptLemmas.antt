@@ -7,9 +7,8 @@ use Rattle.std.proofs.lemmas.Bool.Decides.{eqb_tells}
 use Rattle.std.proofs.lemmas.List.{length-take-le}
 use Rattle.std.proofs.lemmas.Option.{slice_get_within, slice_get-get_or}
 use Rattle.fr_core.proofs.WalkLemmas.{as_many_past, as_many_on, as_many_all, stands, some_alike}
-use Rattle.fr_core.specs.declared.script.Deed.{Deed}
 use Rattle.fr_core.specs.declared.tasks.Course.{Course}
-use Rattle.fr_core.specs.Scripts.{Scripted, AreLines, is_for, deed_in, deed_at, deeds_of}
+use Rattle.fr_core.specs.Scripts.{Scripted, Executed, AreLines, is_for, call_in, call_at, calls_of}
 use Rattle.fr_core.specs.Walks.{FindsTask, done_by, HasLine, HaveLines, IsCourse, AreCourses, CourseNext, IsWhole}
 use Rattle.fr_core.specs.Walks.{Suits, SuitsAt, AreScripts, new_courses}
 use Rattle.fr_interface.specs.State.{State}
@@ -49,7 +48,7 @@ get_within [] k below = absurd (let none : ⊥ = omega (arith, below) in none)
 get_within (x ∷ xs) zero below = (x, refl)
 get_within (x ∷ xs) (suc k) below = get_within xs k (omega (arith, below))
 
-nil_of : (f : List Entry → Entry → List Deed) → each_after f [] [] ≡ []
+nil_of : (f : List Entry → Entry → List Executed) → each_after f [] [] ≡ []
 unfolding each_after
 nil_of f = refl
 
@@ -58,7 +57,7 @@ in_replicate y zero k x at = absurd (let none : ⊥ = cc in none)
 in_replicate y (suc m) zero x at = some_alike y x at
 in_replicate y (suc m) (suc k) x at = in_replicate y m k x at
 
-new_course : (task : ℕ) (x : Course) → slice_get new_courses task ≡ Some x → record { deeds = 0; agrees = true } ≡ x
+new_course : (task : ℕ) (x : Course) → slice_get new_courses task ≡ Some x → record { calls = 0; agrees = true } ≡ x
 new_course task x at = in_replicate _ most_tasks task x at
 
 -- ---- the task of an entry
@@ -73,7 +72,7 @@ other_task t task d other = elim (eqb_tells t task) [
 ]
 
 module _ (s : State) (k : ℕ) where
-  none_done : (task : ℕ) (e : Entry) → done_by s k e ≡ None → deed_in s task k e ≡ None
+  none_done : (task : ℕ) (e : Entry) → done_by s k e ≡ None → call_in s task k e ≡ None
   none_done task (Commit t buffer payload) none = absurd (let no : ⊥ = cc in no)
   none_done task (Withdraw t buffer of) none = absurd (let no : ⊥ = cc in no)
   none_done task (Read t buffer from) none = absurd (let no : ⊥ = cc in no)
@@ -81,13 +80,13 @@ module _ (s : State) (k : ℕ) where
   none_done task (Fetch window a b) none = refl
   none_done task (Observe number a b) none = refl
 
-  own_done : (e : Entry) (done : ℕ × Deed) → done_by s k e ≡ Some done → deed_in s done.0 k e ≡ Some done.1
+  own_done : (e : Entry) (done : ℕ × Executed) → done_by s k e ≡ Some done → call_in s done.0 k e ≡ Some done.1
   own_done e done is = by_entry e is
     where
-      of_pair : (t : ℕ) (d : Deed) → (t, d) ≡ done → cond (t == done.0) (Some d) None ≡ Some done.1
-      of_pair t d same = subst (λ (x : ℕ × Deed). cond (t == x.0) (Some d) None ≡ Some x.1) same (own_task t d)
+      of_pair : (t : ℕ) (d : Executed) → (t, d) ≡ done → cond (t == done.0) (Some d) None ≡ Some done.1
+      of_pair t d same = subst (λ (x : ℕ × Executed). cond (t == x.0) (Some d) None ≡ Some x.1) same (own_task t d)
 
-      by_entry : (x : Entry) → done_by s k x ≡ Some done → deed_in s done.0 k x ≡ Some done.1
+      by_entry : (x : Entry) → done_by s k x ≡ Some done → call_in s done.0 k x ≡ Some done.1
       by_entry (Commit t buffer payload) told = of_pair t _ (some_alike _ done told)
       by_entry (Withdraw t buffer of) told = of_pair t _ (some_alike _ done told)
       by_entry (Read t buffer from) told = of_pair t _ (some_alike _ done told)
@@ -95,14 +94,14 @@ module _ (s : State) (k : ℕ) where
       by_entry (Fetch window a b) told = absurd (let none : ⊥ = cc in none)
       by_entry (Observe number a b) told = absurd (let none : ⊥ = cc in none)
 
-  others_done : (task : ℕ) (e : Entry) (done : ℕ × Deed) → done_by s k e ≡ Some done → ¬ (done.0 ≡ task)
-      → deed_in s task k e ≡ None
+  others_done : (task : ℕ) (e : Entry) (done : ℕ × Executed) → done_by s k e ≡ Some done → ¬ (done.0 ≡ task)
+      → call_in s task k e ≡ None
   others_done task e done is other = by_entry e is
     where
-      of_pair : (t : ℕ) (d : Deed) → (t, d) ≡ done → cond (t == task) (Some d) None ≡ None
-      of_pair t d same = other_task t task d (λ is_it. other (sym (ap (λ (x : ℕ × Deed). x.0) same) ∙ is_it))
+      of_pair : (t : ℕ) (d : Executed) → (t, d) ≡ done → cond (t == task) (Some d) None ≡ None
+      of_pair t d same = other_task t task d (λ is_it. other (sym (ap (λ (x : ℕ × Executed). x.0) same) ∙ is_it))
 
-      by_entry : (x : Entry) → done_by s k x ≡ Some done → deed_in s task k x ≡ None
+      by_entry : (x : Entry) → done_by s k x ≡ Some done → call_in s task k x ≡ None
       by_entry (Commit t buffer payload) told = of_pair t _ (some_alike _ done told)
       by_entry (Withdraw t buffer of) told = of_pair t _ (some_alike _ done told)
       by_entry (Read t buffer from) told = of_pair t _ (some_alike _ done told)
@@ -113,49 +112,49 @@ module _ (s : State) (k : ℕ) where
 -- ---- the course of one task
 
 module _ (s : State) (scripts : List Scripted) (n : ℕ) where
-  done_at : (task k : ℕ) (e : Entry) (o : Option Deed) → slice_get s.entries k ≡ Some e → deed_in s task k e ≡ o
-      → deed_at s task (take k s.entries) e ≡ option_to_list o
+  done_at : (task k : ℕ) (e : Entry) (o : Option Executed) → slice_get s.entries k ≡ Some e → call_in s task k e ≡ o
+      → call_at s task (take k s.entries) e ≡ option_to_list o
   done_at task k e o at is =
       let within : k < length s.entries = slice_get_within s.entries k e at in
-      ap (λ m. option_to_list (deed_in s task m e)) (length-take-le k s.entries (omega (arith, within)))
+      ap (λ m. option_to_list (call_in s task m e)) (length-take-le k s.entries (omega (arith, within)))
       ∙ ap option_to_list is
 
   course_past : (task k : ℕ) (x : Course) (e : Entry) → IsCourse s scripts n task k x → slice_get s.entries k ≡ Some e
-      → deed_in s task k e ≡ None → IsCourse s scripts n task (k + 1) x
+      → call_in s task k e ≡ None → IsCourse s scripts n task (k + 1) x
   course_past task k x e far at is =
       let few = far.few in
       record {
-        as_many = as_many_past (deed_at s task) s.entries k x.deeds e at far.as_many (done_at task k e None at is);
+        as_many = as_many_past (call_at s task) s.entries k x.calls e at far.as_many (done_at task k e None at is);
         few = omega (arith, few);
         fits = far.fits;
       }
 
-  course_on : (task k : ℕ) (x y : Course) (e : Entry) (d : Deed) → IsCourse s scripts n task k x
-      → slice_get s.entries k ≡ Some e → deed_in s task k e ≡ Some d
+  course_on : (task k : ℕ) (x y : Course) (e : Entry) (d : Executed) → IsCourse s scripts n task k x
+      → slice_get s.entries k ≡ Some e → call_in s task k e ≡ Some d
       → CourseNext scripts n task d x y → IsCourse s scripts n task (k + 1) y
   course_on task k x y e d far at is next =
       let few = far.few in
-      let one_more = next.deeds in
-      let given : deed_at s task (take k s.entries) e ≡ d ∷ [] = done_at task k e (Some d) at is in
-      let here : slice_get (deeds_of s task) x.deeds ≡ Some d =
-      stands (deed_at s task) s.entries k x.deeds e at far.as_many d given in
+      let one_more = next.calls in
+      let given : call_at s task (take k s.entries) e ≡ d ∷ [] = done_at task k e (Some d) at is in
+      let here : slice_get (calls_of s task) x.calls ≡ Some d =
+      stands (call_at s task) s.entries k x.calls e at far.as_many d given in
       record {
-        as_many = as_many_on (deed_at s task) s.entries k x.deeds e at far.as_many d given ∙ sym next.deeds;
+        as_many = as_many_on (call_at s task) s.entries k x.calls e at far.as_many d given ∙ sym next.calls;
         few = omega (arith, few, one_more);
         fits = (
           λ yes. let both = next.agrees.0 yes in λ j below.
-              elim (eqb_tells j x.deeds) [
+              elim (eqb_tells j x.calls) [
                 | inl same ↦ λ other there.
                     let alike : d ≡ other = some_alike d other
-                    (sym here ∙ ap (slice_get (deeds_of s task)) (sym same.1) ∙ there) in
+                    (sym here ∙ ap (slice_get (calls_of s task)) (sym same.1) ∙ there) in
                     subst (λ m. HaveLines scripts n task m other) (sym same.1)
-                    (subst (HaveLines scripts n task x.deeds) alike both.1)
-                | inr other ↦ far.fits.0 both.0 j (let less : j < x.deeds =
+                    (subst (HaveLines scripts n task x.calls) alike both.1)
+                | inr other ↦ far.fits.0 both.0 j (let less : j < x.calls =
                     omega (arith, below, one_more, other.1) in less)
               ],
           λ all. next.agrees.1 (
             far.fits.1 (λ j below. all j (omega (arith, below, one_more))),
-            all x.deeds (omega (arith, one_more)) d here,
+            all x.calls (omega (arith, one_more)) d here,
           ),
         );
       }
@@ -169,9 +168,9 @@ module _ (s : State) (scripts : List Scripted) (n : ℕ) where
         (new_course task x at) (first task);
   }
     where
-      first : (task : ℕ) → IsCourse s scripts n task 0 (record { deeds = 0; agrees = true })
+      first : (task : ℕ) → IsCourse s scripts n task 0 (record { calls = 0; agrees = true })
       first task = record {
-        as_many = ap length (nil_of (deed_at s task));
+        as_many = ap length (nil_of (call_at s task));
         few = omega arith;
         fits =
             (λ yes j below. absurd (omega (arith, below)), λ all. refl);
@@ -184,7 +183,7 @@ module _ (s : State) (scripts : List Scripted) (n : ℕ) where
     each = λ task x there. course_past task k x e (far.each task x there) at (none_done s k task e none);
   }
 
-  pub courses_on : (k : ℕ) (xs : List Course) (e : Entry) (done : ℕ × Deed) (x y : Course) → AreCourses s scripts n k xs
+  pub courses_on : (k : ℕ) (xs : List Course) (e : Entry) (done : ℕ × Executed) (x y : Course) → AreCourses s scripts n k xs
       → slice_get s.entries k ≡ Some e
       → done_by s k e ≡ Some done → slice_get xs done.0 ≡ Some x → CourseNext scripts n done.0 done.1 x y
       → AreCourses s scripts n (k + 1) (set xs done.0 y)
@@ -203,14 +202,14 @@ module _ (s : State) (scripts : List Scripted) (n : ℕ) where
         ];
   }
 
-  pub few_deeds : (k : ℕ) (xs : List Course) (place : ℕ) (x : Course) → AreCourses s scripts n k xs → place < most_tasks
-      → k < most_entries → (get_or xs place x).deeds < most_entries
-  few_deeds k xs place x far few below =
+  pub few_calls : (k : ℕ) (xs : List Course) (place : ℕ) (x : Course) → AreCourses s scripts n k xs → place < most_tasks
+      → k < most_entries → (get_or xs place x).calls < most_entries
+  few_calls k xs place x far few below =
       let many = far.as_many in
       let upto = (far.each place (get_or xs place x) (slice_get-get_or xs place x (omega (arith, few, many)))).few in
       omega (arith, upto, below)
 
-  pub courses_set : (k : ℕ) (xs : List Course) (e : Entry) (done : ℕ × Deed) (place : ℕ) (x y : Course)
+  pub courses_set : (k : ℕ) (xs : List Course) (e : Entry) (done : ℕ × Executed) (place : ℕ) (x y : Course)
       → AreCourses s scripts n k xs → slice_get s.entries k ≡ Some e
       → done_by s k e ≡ Some done → place ≡ done.0 → place < most_tasks
       → CourseNext scripts n done.0 done.1 (get_or xs place x) y → AreCourses s scripts n (k + 1) (set xs place y)
@@ -225,56 +224,56 @@ module _ (s : State) (scripts : List Scripted) (n : ℕ) where
   -- ---- all executed calls
 
   whole : (task : ℕ) (x : Course) → IsCourse s scripts n task (length s.entries) x
-      → IsWhole scripts n task (deeds_of s task) x
-  whole task x far = record { as_many = as_many_all (deed_at s task) s.entries x.deeds far.as_many; fits = far.fits }
+      → IsWhole scripts n task (calls_of s task) x
+  whole task x far = record { as_many = as_many_all (call_at s task) s.entries x.calls far.as_many; fits = far.fits }
 
   pub whole_at : (k : ℕ) (xs : List Course) → k ≡ length s.entries → AreCourses s scripts n k xs
       → (task : ℕ) (x : Course) → slice_get xs task ≡ Some x
-      → IsWhole scripts n task (deeds_of s task) x
+      → IsWhole scripts n task (calls_of s task) x
   whole_at k xs end far task x at = whole task x (subst (λ m. IsCourse s scripts n task m x) end (far.each task x at))
 
-module _ (scripts : List Scripted) (n task : ℕ) (deeds : List Deed) (x : Course)
-    (all : IsWhole scripts n task deeds x) where
-  lines_from : (o : Option Scripted) → ((j : ℕ) (d : Deed) → slice_get deeds j ≡ Some d
+module _ (scripts : List Scripted) (n task : ℕ) (calls : List Executed) (x : Course)
+    (all : IsWhole scripts n task calls x) where
+  lines_from : (o : Option Scripted) → ((j : ℕ) (d : Executed) → slice_get calls j ≡ Some d
       → IfSome o (λ script. is_for n task script ≡ true → HasLine (slice_get script.lines j) d))
-      → IfSome o (λ script. is_for n task script ≡ true → length script.lines ≡ x.deeds)
-      → IfSome o (λ script. is_for n task script ≡ true → AreLines script.lines deeds)
+      → IfSome o (λ script. is_for n task script ≡ true → length script.lines ≡ x.calls)
+      → IfSome o (λ script. is_for n task script ≡ true → AreLines script.lines calls)
   lines_from None lines long = tt
   lines_from (Some script) lines long = λ own. record {
     as_many = long own ∙ sym all.as_many;
     each = λ j line d told there. subst (λ o. HasLine o d) told (lines j d there own);
   }
 
-  pub suits_are : Suits scripts n task x → AreScripts scripts n task deeds
+  pub suits_are : Suits scripts n task x → AreScripts scripts n task calls
   suits_are suits = record {
     given = λ k. lines_from (slice_get scripts k)
-        (λ j d there. all.fits.0 suits.agrees j (let long = all.as_many in let within : j < length deeds =
-        slice_get_within deeds j d there in omega (arith, long, within)) d there k)
+        (λ j d there. all.fits.0 suits.agrees j (let long = all.as_many in let within : j < length calls =
+        slice_get_within calls j d there in omega (arith, long, within)) d there k)
         (suits.given k);
-    missing = λ none. none_left deeds (all.as_many ∙ suits.missing none);
+    missing = λ none. none_left calls (all.as_many ∙ suits.missing none);
   }
     where
-      none_left : (ds : List Deed) → length ds ≡ 0 → ds ≡ []
+      none_left : (ds : List Executed) → length ds ≡ 0 → ds ≡ []
       none_left [] long = refl
       none_left (d ∷ ds) long = absurd (let none : ⊥ = omega (arith, long) in none)
 
-  line_from : (o : Option Scripted) (j : ℕ) (d : Deed) → slice_get deeds j ≡ Some d
-      → IfSome o (λ script. is_for n task script ≡ true → AreLines script.lines deeds)
+  line_from : (o : Option Scripted) (j : ℕ) (d : Executed) → slice_get calls j ≡ Some d
+      → IfSome o (λ script. is_for n task script ≡ true → AreLines script.lines calls)
       → IfSome o (λ script. is_for n task script ≡ true → HasLine (slice_get script.lines j) d)
   line_from None j d there are = tt
   line_from (Some script) j d there are = λ own.
       let lines = are own in
       let long = lines.as_many in
-      let within : j < length deeds = slice_get_within deeds j d there in
+      let within : j < length calls = slice_get_within calls j d there in
       let line = get_within script.lines j (omega (arith, long, within)) in
       subst (λ o. HasLine o d) (sym line.1) (lines.each j line.0 d line.1 there)
 
-  long_from : (o : Option Scripted) → IfSome o (λ script. is_for n task script ≡ true → AreLines script.lines deeds)
-      → IfSome o (λ script. is_for n task script ≡ true → length script.lines ≡ x.deeds)
+  long_from : (o : Option Scripted) → IfSome o (λ script. is_for n task script ≡ true → AreLines script.lines calls)
+      → IfSome o (λ script. is_for n task script ≡ true → length script.lines ≡ x.calls)
   long_from None are = tt
   long_from (Some script) are = λ own. (are own).as_many ∙ all.as_many
 
-  pub are_suit : AreScripts scripts n task deeds → Suits scripts n task x
+  pub are_suit : AreScripts scripts n task calls → Suits scripts n task x
   are_suit are = record {
     agrees = all.fits.1 (λ j below d there k. line_from (slice_get scripts k) j d there (are.given k));
     given = λ k. long_from (slice_get scripts k) (are.given k);
@@ -282,26 +281,26 @@ module _ (scripts : List Scripted) (n task : ℕ) (deeds : List Deed) (x : Cours
   }
 
 -- the first task that differs by the courses is the first that differs by its executed calls
-pub task_found : (scripts : List Scripted) (n : ℕ) (deeds : ℕ → List Deed) (xs : List Course) (r : Option ℕ)
+pub task_found : (scripts : List Scripted) (n : ℕ) (calls : ℕ → List Executed) (xs : List Course) (r : Option ℕ)
     → length xs ≡ most_tasks
-    → ((task : ℕ) (x : Course) → slice_get xs task ≡ Some x → IsWhole scripts n task (deeds task) x)
+    → ((task : ℕ) (x : Course) → slice_get xs task ≡ Some x → IsWhole scripts n task (calls task) x)
     → FindsTask (SuitsAt scripts n xs) r
-    → FindsTask (λ task. AreScripts scripts n task (deeds task)) r
-task_found scripts n deeds xs r many all found = by_result r found
+    → FindsTask (λ task. AreScripts scripts n task (calls task)) r
+task_found scripts n calls xs r many all found = by_result r found
   where
-    are : (task : ℕ) → task ≤ last_task → SuitsAt scripts n xs task → AreScripts scripts n task (deeds task)
+    are : (task : ℕ) → task ≤ last_task → SuitsAt scripts n xs task → AreScripts scripts n task (calls task)
     are task few suits =
         let x = get_within xs task (omega (arith, few, many)) in
-        suits_are scripts n task (deeds task) x.0 (all task x.0 x.1) (suits x.0 x.1)
+        suits_are scripts n task (calls task) x.0 (all task x.0 x.1) (suits x.0 x.1)
 
     by_result : (o : Option ℕ) → FindsTask (SuitsAt scripts n xs) o
-        → FindsTask (λ task. AreScripts scripts n task (deeds task)) o
+        → FindsTask (λ task. AreScripts scripts n task (calls task)) o
     by_result None each = λ task few. are task few (each task few)
     by_result (Some task) first = (
       first.0,
       let few = first.0 in
           record {
-            fails = λ holds. first.1.fails (λ x at. are_suit scripts n task (deeds task) x (all task x at) holds);
+            fails = λ holds. first.1.fails (λ x at. are_suit scripts n task (calls task) x (all task x at) holds);
             before = λ m below. are m (omega (arith, below, few)) (first.1.before m below);
           },
     )

@@ -8,7 +8,7 @@ use Rattle.fr_bus.specs.Record.{Recorded}
 use Rattle.fr_core.proofs.WalkLemmas.{next_below}
 use Rattle.fr_core.specs.declared.settle.Differences.{Differences}
 use Rattle.fr_core.specs.declared.walk.Findings.{Findings}
-use Rattle.fr_core.specs.Scripts.{Scripted, ScriptAgrees, deeds_in}
+use Rattle.fr_core.specs.Scripts.{Scripted, ScriptAgrees, calls_in}
 use Rattle.fr_core.specs.Settling.{IsFirst, EachNode, EachTask, IfThere, WindowsAgree, IsHandedAt, IsShownAt, IsFatedAt}
 use Rattle.fr_core.specs.Settling.{IsOfferedAt}
 use Rattle.fr_core.specs.Walks.{Finds, FindsBelow, FindsNext, FindsTask, FindsPlace, FindsPlaceBelow, FindsScriptBelow}
@@ -67,15 +67,15 @@ tasks_on P number node None None same before all = one_more (λ n. EachTask (P n
 tasks_on P number node None (Some task) same before first = found_task P number node task same before first.0 first.1
 
 module _ (is : List State) (scripts : List Scripted) (n : ℕ) where
-  scripts_agree : (task : ℕ) → AreScripts scripts n task (deeds_in (slice_get is n) task)
+  scripts_agree : (task : ℕ) → AreScripts scripts n task (calls_in (slice_get is n) task)
       → ScriptAgrees is scripts n task
   scripts_agree task are = record { given = are.given; missing = are.missing }
 
   agreeing_scripts : (task : ℕ) → ScriptAgrees is scripts n task
-      → AreScripts scripts n task (deeds_in (slice_get is n) task)
+      → AreScripts scripts n task (calls_in (slice_get is n) task)
   agreeing_scripts task agrees = record { given = agrees.given; missing = agrees.missing }
 
-  scripts_found : (r : Option ℕ) → FindsTask (λ task. AreScripts scripts n task (deeds_in (slice_get is n) task)) r
+  scripts_found : (r : Option ℕ) → FindsTask (λ task. AreScripts scripts n task (calls_in (slice_get is n) task)) r
       → FindsTask (ScriptAgrees is scripts n) r
   scripts_found None all = λ task few. scripts_agree task (all task few)
   scripts_found (Some task) first = (

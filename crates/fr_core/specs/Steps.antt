@@ -14,6 +14,10 @@ use Rattle.fr_core.specs.declared.event.Event.TheVariants.{Observe, Inject, Seal
 use Rattle.fr_core.specs.declared.event.Reply.{Reply}
 use Rattle.fr_core.specs.declared.event.Reply.TheVariants.{Committed, Withdrawn, Frame, Window, Done}
 use Rattle.fr_core.specs.Worlds.{WorldState, has_node, interface_at, carried_at}
+use Rattle.fr_interface.specs.declared.call.Answer.{Answer}
+use Rattle.fr_interface.specs.declared.call.Answer.TheVariants as answer
+use Rattle.fr_interface.specs.declared.call.Call.{Call}
+use Rattle.fr_interface.specs.declared.call.Call.TheVariants as host_call
 use Rattle.fr_interface.specs.declared.interface.Offer.{Offer}
 use Rattle.fr_interface.specs.State.{State, with_entry, withdraw_entry, read_entry, pop_entry, fetch_entry}
 use Rattle.fr_interface.specs.State.{received_by, oldest_of, commit_refusal, withdraw_refusal, read_refusal}
@@ -128,6 +132,19 @@ observed w n (Took window a b) =
     with_carried (with_interface w n (with_entry (interface_at w n) (entries.Observe window.number a b))) n Idle
 
 -- ---- events
+
+-- the reply that has the answer of an interface
+abbrev pub reply_of : Answer → Reply
+reply_of (answer.Committed receipt) = Committed receipt
+reply_of (answer.Withdrawn of) = Withdrawn of
+reply_of (answer.Frame arrival) = Frame (option_map frame_of arrival)
+
+-- the event of a call of a task
+abbrev pub event_of : ℕ → ℕ → Call → Event
+event_of n task (host_call.Commit buffer payload) = Commit n task buffer payload
+event_of n task (host_call.Withdraw buffer) = Withdraw n task buffer
+event_of n task (host_call.Read buffer) = Read n task buffer
+event_of n task host_call.Pop = Pop n task
 
 -- an unknown node is refused before everything else
 abbrev pub if_node : WorldState → ℕ → Option StepError → Option StepError

@@ -6,15 +6,14 @@ use Rattle.std.specs.List.{list_any}
 use Rattle.fr_bus.specs.Record.{Recorded}
 use Rattle.fr_core.specs.Agreeing.{Handed, Sight, sight_of, handed_at, sight_at, offers_of, sights_of}
 use Rattle.fr_core.specs.declared.event.Reply.TheVariants.{Committed, Withdrawn}
-use Rattle.fr_core.specs.declared.script.Action.TheVariants as action
-use Rattle.fr_core.specs.declared.script.Deed.{Deed}
+use Rattle.fr_interface.specs.declared.call.Call.TheVariants as host_call
 use Rattle.fr_core.specs.declared.script.Line.{Line}
 use Rattle.fr_core.specs.declared.settle.Differences.{Differences}
 use Rattle.fr_core.specs.declared.tasks.Course.{Course}
 use Rattle.fr_core.specs.declared.walk.Fetches.{Fetches}
 use Rattle.fr_core.specs.declared.walk.Findings.{Findings}
 use Rattle.fr_core.specs.declared.walk.Observes.{Observes}
-use Rattle.fr_core.specs.Scripts.{Scripted, IsLine, AreLines, ScriptAgrees, is_for, deed, deed_at, deeds_of, deeds_in}
+use Rattle.fr_core.specs.Scripts.{Scripted, IsLine, AreLines, ScriptAgrees, is_for, Executed, call_at, calls_of, calls_in}
 use Rattle.fr_core.specs.Scripts.{frame_reply}
 use Rattle.fr_core.specs.Settling.{IsFirst, EachTask, IfThere, HasWindows, WindowsAgree, IsHandedAt, IsShownAt}
 use Rattle.fr_core.specs.Settling.{fetches_at, observes_at, windows_of}
@@ -150,12 +149,12 @@ sight_told opened (Fetch window a b) = None
 sight_told opened (Observe number a b) = option_map (sight_of a b) opened
 
 -- the task and the executed call of the entry of this number
-abbrev pub done_by : State → ℕ → Entry → Option (ℕ × Deed)
+abbrev pub done_by : State → ℕ → Entry → Option (ℕ × Executed)
 done_by s number (Commit t buffer payload) =
-    Some (t, deed (action.Commit buffer payload) (Committed (record { task = t; entry = number })))
-done_by s number (Withdraw t buffer of) = Some (t, deed (action.Withdraw buffer) (Withdrawn of))
-done_by s number (Read t buffer from) = Some (t, deed (action.Read buffer) (frame_reply s from))
-done_by s number (Pop t from) = Some (t, deed action.Pop (frame_reply s from))
+    Some (t, host_call.Commit buffer payload, Committed (record { task = t; entry = number }))
+done_by s number (Withdraw t buffer of) = Some (t, host_call.Withdraw buffer, Withdrawn of)
+done_by s number (Read t buffer from) = Some (t, host_call.Read buffer, frame_reply s from)
+done_by s number (Pop t from) = Some (t, host_call.Pop, frame_reply s from)
 done_by s number (Fetch window a b) = None
 done_by s number (Observe window a b) = None
 
@@ -212,28 +211,28 @@ pub record ObservesNext (p : Parameters) (n : ℕ) (rs : List Recorded) (x : Obs
 -- ---- tasks
 
 -- there is a line, and it is the executed call
-abbrev pub HasLine : Option Line → Deed → Type 0
+abbrev pub HasLine : Option Line → Executed → Type 0
 HasLine None d = ⊥
 HasLine (Some line) d = IsLine line d
 
 -- the script at this place, if it is for the task, has the executed call as its line at that place
-abbrev pub HasLineAt : List Scripted → ℕ → ℕ → ℕ → Deed → ℕ → Type 0
+abbrev pub HasLineAt : List Scripted → ℕ → ℕ → ℕ → Executed → ℕ → Type 0
 HasLineAt scripts n task j d k =
     IfSome (slice_get scripts k) (λ script. is_for n task script ≡ true → HasLine (slice_get script.lines j) d)
 
 -- so does each script
-abbrev pub HaveLines : List Scripted → ℕ → ℕ → ℕ → Deed → Type 0
+abbrev pub HaveLines : List Scripted → ℕ → ℕ → ℕ → Executed → Type 0
 HaveLines scripts n task j d = (k : ℕ) → HasLineAt scripts n task j d k
 
 -- each script for the task has the task's executed call at this place
-abbrev pub FitsAt : List Scripted → ℕ → ℕ → List Deed → ℕ → Type 0
-FitsAt scripts n task deeds j = (d : Deed) → slice_get deeds j ≡ Some d → HaveLines scripts n task j d
+abbrev pub FitsAt : List Scripted → ℕ → ℕ → List Executed → ℕ → Type 0
+FitsAt scripts n task calls j = (d : Executed) → slice_get calls j ≡ Some d → HaveLines scripts n task j d
 
 -- the progress of the task beside its scripts after so many entries
 pub record IsCourse (s : State) (scripts : List Scripted) (n task k : ℕ) (x : Course) : Type 0 where
-  pub as_many : length (each_after (deed_at s task) [] (take k s.entries)) ≡ x.deeds
-  pub few : x.deeds ≤ k
-  pub fits : IsTrue x.agrees ↔ ((j : ℕ) → j < x.deeds → FitsAt scripts n task (deeds_of s task) j)
+  pub as_many : length (each_after (call_at s task) [] (take k s.entries)) ≡ x.calls
+  pub few : x.calls ≤ k
+  pub fits : IsTrue x.agrees ↔ ((j : ℕ) → j < x.calls → FitsAt scripts n task (calls_of s task) j)
 
 -- the courses of all tasks
 pub record AreCourses (s : State) (scripts : List Scripted) (n k : ℕ) (xs : List Course) : Type 0 where
@@ -241,38 +240,38 @@ pub record AreCourses (s : State) (scripts : List Scripted) (n k : ℕ) (xs : Li
   pub each : (task : ℕ) (x : Course) → slice_get xs task ≡ Some x → IsCourse s scripts n task k x
 
 -- the course of a task after this executed call
-pub record CourseNext (scripts : List Scripted) (n task : ℕ) (d : Deed) (x y : Course) : Type 0 where
-  pub deeds : y.deeds ≡ x.deeds + 1
-  pub agrees : IsTrue y.agrees ↔ (IsTrue x.agrees × HaveLines scripts n task x.deeds d)
+pub record CourseNext (scripts : List Scripted) (n task : ℕ) (d : Executed) (x y : Course) : Type 0 where
+  pub calls : y.calls ≡ x.calls + 1
+  pub agrees : IsTrue y.agrees ↔ (IsTrue x.agrees × HaveLines scripts n task x.calls d)
 
 -- the progress of the task beside its scripts after all its executed calls
-pub record IsWhole (scripts : List Scripted) (n task : ℕ) (deeds : List Deed) (x : Course) : Type 0 where
-  pub as_many : length deeds ≡ x.deeds
-  pub fits : IsTrue x.agrees ↔ ((j : ℕ) → j < x.deeds → FitsAt scripts n task deeds j)
+pub record IsWhole (scripts : List Scripted) (n task : ℕ) (calls : List Executed) (x : Course) : Type 0 where
+  pub as_many : length calls ≡ x.calls
+  pub fits : IsTrue x.agrees ↔ ((j : ℕ) → j < x.calls → FitsAt scripts n task calls j)
 
 abbrev pub IsAsLongAt : List Scripted → ℕ → ℕ → ℕ → ℕ → Type 0
-IsAsLongAt scripts n task deeds k =
-    IfSome (slice_get scripts k) (λ script. is_for n task script ≡ true → length script.lines ≡ deeds)
+IsAsLongAt scripts n task calls k =
+    IfSome (slice_get scripts k) (λ script. is_for n task script ≡ true → length script.lines ≡ calls)
 
 -- the course of a task that executed its scripts
 pub record Suits (scripts : List Scripted) (n task : ℕ) (x : Course) : Type 0 where
   pub agrees : IsTrue x.agrees
-  pub given : (k : ℕ) → IsAsLongAt scripts n task x.deeds k
-  pub missing : list_any (is_for n task) scripts ≡ false → x.deeds ≡ 0
+  pub given : (k : ℕ) → IsAsLongAt scripts n task x.calls k
+  pub missing : list_any (is_for n task) scripts ≡ false → x.calls ≡ 0
 
 -- tasks that executed no call
 abbrev pub new_courses : List Course
-new_courses = replicate most_tasks (record { deeds = 0; agrees = true })
+new_courses = replicate most_tasks (record { calls = 0; agrees = true })
 
 -- the same for the task of this number
 abbrev pub SuitsAt : List Scripted → ℕ → List Course → ℕ → Type 0
 SuitsAt scripts n xs task = (x : Course) → slice_get xs task ≡ Some x → Suits scripts n task x
 
 -- each script for the task has its executed calls as lines, and a task without a script executed none
-pub record AreScripts (scripts : List Scripted) (n task : ℕ) (deeds : List Deed) : Type 0 where
+pub record AreScripts (scripts : List Scripted) (n task : ℕ) (calls : List Executed) : Type 0 where
   pub given : (k : ℕ) → IfSome (slice_get scripts k) (λ script. is_for n task script ≡ true
-      → AreLines script.lines deeds)
-  pub missing : list_any (is_for n task) scripts ≡ false → deeds ≡ []
+      → AreLines script.lines calls)
+  pub missing : list_any (is_for n task) scripts ≡ false → calls ≡ []
 
 -- ---- nodes
 
@@ -282,7 +281,7 @@ pub record AreFindings (p : Parameters) (o : Option State) (rs : List Recorded) 
   pub windows : IsTrue x.has_windows ↔ IfThere o (HasWindows rs)
   pub offers : Finds (λ k. IfThere o (IsHandedAt rs n k)) x.offer
   pub sights : Finds (λ k. IfThere o (IsShownAt p rs n k)) x.sight
-  pub scripts : FindsTask (λ task. AreScripts given n task (deeds_in o task)) x.task
+  pub scripts : FindsTask (λ task. AreScripts given n task (calls_in o task)) x.task
 
 -- the findings of the first nodes, each at its place
 abbrev pub AreFirstFindings : Parameters → List State → List Recorded → List Scripted → List Findings → Type 0

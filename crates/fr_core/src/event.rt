@@ -3,6 +3,7 @@
 use fr_bus::fault::Fault;
 use fr_frame::frame::Frame;
 use fr_frame::payload::Payload;
+use fr_interface::call::{Answer, Call};
 use fr_interface::interface::Receipt;
 use fr_slots::numbers::{NodeId, TaskId};
 use fr_slots::window::Window;
@@ -52,6 +53,36 @@ pub enum Event {
     Advance,
 }
 
+impl Event {
+    ghost use Rattle.std.specs.Prelude.{◌≡◌};
+    ghost use Rattle.fr_core.specs.Steps.{event_of};
+
+    /// Returns the event of a call of a task of the node.
+    pub fn of_call(node: NodeId, task: TaskId, call: &Call) -> Event
+        ensures { result ≡ event_of node task call.now }
+    {
+        match call {
+            Call::Commit { buffer, payload } => Event::Commit {
+                node,
+                task,
+                buffer: *buffer,
+                payload: payload.duplicate(),
+            },
+            Call::Withdraw { buffer } => Event::Withdraw {
+                node,
+                task,
+                buffer: *buffer,
+            },
+            Call::Read { buffer } => Event::Read {
+                node,
+                task,
+                buffer: *buffer,
+            },
+            Call::Pop => Event::Pop { node, task },
+        }
+    }
+}
+
 /// The reply to an accepted event (project-defined).
 #[derive(Drop, PartialEq, Eq)]
 pub enum Reply {
@@ -65,4 +96,21 @@ pub enum Reply {
     Window(Window),
     /// The reply to all other events.
     Done,
+}
+
+impl From<Answer> for Reply {
+    ghost use Rattle.std.specs.Prelude.{◌≡◌};
+    ghost use Rattle.fr_core.specs.Steps.{reply_of};
+
+    /// Returns the reply of the world that has the answer of the interface.
+    fn from(answer: Answer) -> Reply
+        ensures { result ≡ reply_of answer }
+    {
+        match answer {
+            Answer::Committed(receipt) => Reply::Committed(receipt),
+            Answer::Withdrawn(of) => Reply::Withdrawn(of),
+            Answer::Frame(Some(arrival)) => Reply::Frame(Some(arrival.frame)),
+            Answer::Frame(None) => Reply::Frame(None),
+        }
+    }
 }

@@ -15,6 +15,7 @@ use fr_bus::bus::Bus;
 use fr_bus::error::BusError;
 use fr_bus::fault::Fault;
 use fr_frame::payload::Payload;
+use fr_interface::call::Call;
 use fr_interface::errors::InterfaceError;
 use fr_interface::interface::Interface;
 use fr_schedule::cluster::Cluster;
@@ -89,7 +90,7 @@ impl Machine {
     ghost use Rattle.fr_core.specs.declared.error.StepError.TheVariants.{UnknownNode};
     ghost use Rattle.fr_core.specs.declared.event.Event.TheVariants as event;
     ghost use Rattle.fr_core.specs.Worlds.{OpensWorld, has_node, is_between};
-    ghost use Rattle.fr_core.specs.Steps.{Steps, Applies};
+    ghost use Rattle.fr_core.specs.Steps.{Steps, Applies, event_of};
 
     /// Returns the opening state: empty journals, the bus at its first window, and idle controllers.
     pub(crate) fn new(alloc: Global, cluster: &Cluster, cycles: u16) -> Result<Machine, BusError>
@@ -159,31 +160,13 @@ impl Machine {
         Ok(Reply::Committed(receipt))
     }
 
-    /// Withdraws the pending commit of a transmit buffer for a task.
-    fn withdraw(&mut self, node: NodeId, task: TaskId, buffer: u8) -> Result<Reply, StepError>
-        ensures { Steps self.old (event.Withdraw node task buffer) result self.new }
+    /// Makes a call of a task at the node's interface.
+    fn call(&mut self, node: NodeId, task: TaskId, call: &Call) -> Result<Reply, StepError>
+        ensures { Steps self.old (event_of node task call.now) result self.new }
     {
         let place = self.place(node)?;
-        let of = self.interfaces[place].withdraw(task, buffer)?;
-        Ok(Reply::Withdrawn(of))
-    }
-
-    /// Reads a receive buffer for a task.
-    fn read(&mut self, node: NodeId, task: TaskId, buffer: u8) -> Result<Reply, StepError>
-        ensures { Steps self.old (event.Read node task buffer) result self.new }
-    {
-        let place = self.place(node)?;
-        let frame = self.interfaces[place].read(task, buffer)?;
-        Ok(Reply::Frame(frame))
-    }
-
-    /// Pops the oldest frame of the receive FIFO for a task.
-    fn pop(&mut self, node: NodeId, task: TaskId) -> Result<Reply, StepError>
-        ensures { Steps self.old (event.Pop node task) result self.new }
-    {
-        let place = self.place(node)?;
-        let frame = self.interfaces[place].pop(task)?;
-        Ok(Reply::Frame(frame))
+        let answer = self.interfaces[place].call(task, call)?;
+        Ok(Reply::from(answer))
     }
 
     /// Gets the open window from the bus for a controller.
@@ -301,9 +284,13 @@ impl Machine {
                 buffer,
                 payload,
             } => self.commit(*node, *task, *buffer, payload),
-            Event::Withdraw { node, task, buffer } => self.withdraw(*node, *task, *buffer),
-            Event::Read { node, task, buffer } => self.read(*node, *task, *buffer),
-            Event::Pop { node, task } => self.pop(*node, *task),
+            Event::Withdraw { node, task, buffer } => {
+                self.call(*node, *task, &Call::Withdraw { buffer: *buffer })
+            }
+            Event::Read { node, task, buffer } => {
+                self.call(*node, *task, &Call::Read { buffer: *buffer })
+            }
+            Event::Pop { node, task } => self.call(*node, *task, &Call::Pop),
             Event::Look(node) => {
                 let window = self.look(*node)?;
                 Ok(Reply::Window(window))

@@ -5,41 +5,9 @@ ghost use Rattle.std.specs.List.{list_any};
 ghost use Rattle.fr_core.specs.Scripts.{is_for};
 
 use crate::event::Reply;
-use fr_frame::payload::Payload;
+use fr_interface::call::Call;
 use fr_slots::numbers::{NodeId, TaskId};
 use std::marker::Model;
-
-/// One call of a task at its node's interface (chapter 9).
-#[derive(Drop, PartialEq, Eq)]
-pub enum Action {
-    /// Writes the payload to the transmit buffer of this number.
-    Commit { buffer: u8, payload: Payload },
-    /// Withdraws the last commit on the transmit buffer of this number, if it is pending.
-    Withdraw { buffer: u8 },
-    /// Reads the receive buffer of this number.
-    Read { buffer: u8 },
-    /// Pops the oldest frame of the receive FIFO.
-    Pop,
-}
-
-impl Action {
-    ghost use Rattle.std.specs.Prelude.{◌≡◌};
-
-    /// Returns a copy of the action.
-    pub fn duplicate(&self) -> Action
-        ensures { result ≡ self.now }
-    {
-        match self {
-            Action::Commit { buffer, payload } => Action::Commit {
-                buffer: *buffer,
-                payload: payload.duplicate(),
-            },
-            Action::Withdraw { buffer } => Action::Withdraw { buffer: *buffer },
-            Action::Read { buffer } => Action::Read { buffer: *buffer },
-            Action::Pop => Action::Pop,
-        }
-    }
-}
 
 /// A line of a script (project-defined).
 #[derive(Drop, PartialEq, Eq)]
@@ -47,7 +15,7 @@ pub struct Line {
     /// The cycle of the run for the call, from 0.
     pub cycle: u16,
     /// The call.
-    pub action: Action,
+    pub action: Call,
     /// The answer, or none if it isn't known, as before a run.
     pub answer: Option<Reply>,
 }
@@ -71,13 +39,6 @@ impl Model for Script {
     ghost use Rattle.fr_core.specs.ScriptFields.{scripted_in};
 
     ghost view = { scripted_in };
-}
-
-/// A call that a task executed, with its answer.
-#[derive(Drop, PartialEq, Eq)]
-pub(crate) struct Deed {
-    pub action: Action,
-    pub answer: Reply,
 }
 
 impl Script {

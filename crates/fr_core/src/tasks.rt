@@ -9,11 +9,15 @@ ghost use Rattle.fr_journal.specs.Lent.{whole, HasPayload};
 ghost use Rattle.fr_slots.specs.Numbers.{most_entries};
 
 use crate::event::Reply;
-use crate::script::{Action, Deed, Line, Script, has_script};
+use crate::script::{Line, Script, has_script};
+use fr_interface::call::Call;
 use fr_interface::interface::{Interface, Receipt};
 use fr_journal::entry::Origin;
 use fr_journal::lent::{LentEntry, payload_of};
 use fr_slots::numbers::{NodeId, TASKS, TaskId};
+
+/// An executed call, and its answer.
+type Executed = (Call, Reply);
 
 /// The greatest number of tasks of a node.
 const COUNT: usize = TASKS as usize;
@@ -22,7 +26,7 @@ const COUNT: usize = TASKS as usize;
 #[derive(Clone, Copy)]
 pub(crate) struct Course {
     /// The number of calls that it executed.
-    pub deeds: usize,
+    pub calls: usize,
     /// True if these calls are the first lines of each of its scripts.
     pub agrees: bool,
 }
@@ -35,7 +39,7 @@ pub(crate) fn new_courses() -> Courses
     ensures { result ≡ new_courses }
 {
     [Course {
-        deeds: 0,
+        calls: 0,
         agrees: true,
     }; COUNT]
 }
@@ -51,11 +55,11 @@ fn frame_reply(interface: &Interface, from: Option<Origin>) -> Reply
 }
 
 /// Returns the task and the executed call of this entry, if it is the host's.
-fn done_by(interface: &Interface, number: u32, entry: &LentEntry<'_>) -> Option<(TaskId, Deed)>
+fn done_by(interface: &Interface, number: u32, entry: &LentEntry<'_>) -> Option<(TaskId, Executed)>
     requires { HasPayload entry.now }
     ensures { result ≡ done_by interface.now number (whole entry.now) }
 {
-    let (task, action, answer) = match entry {
+    let (task, call, answer) = match entry {
         LentEntry::Commit {
             task,
             buffer,
@@ -65,30 +69,30 @@ fn done_by(interface: &Interface, number: u32, entry: &LentEntry<'_>) -> Option<
                 task: *task,
                 entry: number,
             };
-            let action = Action::Commit {
+            let call = Call::Commit {
                 buffer: *buffer,
                 payload: payload_of(*payload),
             };
-            (*task, action, Reply::Committed(receipt))
+            (*task, call, Reply::Committed(receipt))
         }
         LentEntry::Withdraw { task, buffer, of } => {
             (
                 *task,
-                Action::Withdraw { buffer: *buffer },
+                Call::Withdraw { buffer: *buffer },
                 Reply::Withdrawn(*of),
             )
         }
         LentEntry::Read { task, buffer, from } => {
             (
                 *task,
-                Action::Read { buffer: *buffer },
+                Call::Read { buffer: *buffer },
                 frame_reply(interface, *from),
             )
         }
-        LentEntry::Pop { task, from } => (*task, Action::Pop, frame_reply(interface, *from)),
+        LentEntry::Pop { task, from } => (*task, Call::Pop, frame_reply(interface, *from)),
         LentEntry::Fetch { .. } | LentEntry::Observe { .. } => return None,
     };
-    Some((task, Deed { action, answer }))
+    Some((task, (call, answer)))
 }
 
 /// Returns whether the line has no answer, or this one.
@@ -103,10 +107,10 @@ fn is_answer(told: &Option<Reply>, answer: &Reply) -> bool
 
 // A line without an answer fits any. Cycles of lines aren't compared, since a world has no steps.
 /// Returns whether the line is the executed call.
-fn is_line(line: &Line, deed: &Deed) -> bool
-    ensures { IsTrue result ↔ IsLine line.now deed.now }
+fn is_line(line: &Line, executed: &Executed) -> bool
+    ensures { IsTrue result ↔ IsLine line.now executed.now }
 {
-    line.action == deed.action && is_answer(&line.answer, &deed.answer)
+    line.action == executed.0 && is_answer(&line.answer, &executed.1)
 }
 
 /// Returns the line at this place.
@@ -117,11 +121,11 @@ fn line_at(lines: &[Line], place: usize) -> Option<&Line>
 }
 
 /// Returns whether there is a line at this place and it is the executed call.
-fn has_line(lines: &[Line], place: usize, deed: &Deed) -> bool
-    ensures { IsTrue result ↔ HasLine (slice_get lines.now place) deed.now }
+fn has_line(lines: &[Line], place: usize, executed: &Executed) -> bool
+    ensures { IsTrue result ↔ HasLine (slice_get lines.now place) executed.now }
 {
     match line_at(lines, place) {
-        Some(line) => is_line(line, deed),
+        Some(line) => is_line(line, executed),
         None => false,
     }
 }
@@ -140,13 +144,13 @@ fn has_line_at(
     node: NodeId,
     task: TaskId,
     place: usize,
-    deed: &Deed,
+    executed: &Executed,
 ) -> bool
-    ensures { IsTrue result ↔ HasLineAt scripts.now node task place deed.now given }
+    ensures { IsTrue result ↔ HasLineAt scripts.now node task place executed.now given }
 {
     match script_at(scripts, given) {
         Some(script) => {
-            !script.is_for(node, task) || has_line(script.lines.as_slice(), place, deed)
+            !script.is_for(node, task) || has_line(script.lines.as_slice(), place, executed)
         }
         None => true,
     }
@@ -154,11 +158,11 @@ fn has_line_at(
 
 // A walk along the journal goes through all scripts for the task of a host entry, so each journal is walked once.
 /// Returns whether each script for the task has the executed call as its line at the place.
-fn have_lines(scripts: &[Script], node: NodeId, task: TaskId, place: usize, deed: &Deed) -> bool
-    ensures { IsTrue result ↔ HaveLines scripts.now node task place deed.now }
+fn have_lines(scripts: &[Script], node: NodeId, task: TaskId, place: usize, executed: &Executed) -> bool
+    ensures { IsTrue result ↔ HaveLines scripts.now node task place executed.now }
 {
     for given in 0..scripts.len() {
-        if !has_line_at(scripts, given, node, task, place, deed) {
+        if !has_line_at(scripts, given, node, task, place, executed) {
             return false;
         }
     }
@@ -170,16 +174,16 @@ fn course_past(
     scripts: &[Script],
     node: NodeId,
     task: TaskId,
-    deed: &Deed,
+    executed: &Executed,
     course: Course,
 ) -> Course
-    requires { course.deeds < most_entries }
-    ensures { CourseNext scripts.now node task deed.now course result }
+    requires { course.calls < most_entries }
+    ensures { CourseNext scripts.now node task executed.now course result }
 {
-    let place = course.deeds;
+    let place = course.calls;
     Course {
-        deeds: place + 1,
-        agrees: course.agrees && have_lines(scripts, node, task, place, deed),
+        calls: place + 1,
+        agrees: course.agrees && have_lines(scripts, node, task, place, executed),
     }
 }
 
@@ -206,21 +210,21 @@ pub(crate) fn courses_past(
 }
 
 /// Returns whether this script, if it is for the task, has as many lines.
-fn is_as_long_at(scripts: &[Script], given: usize, node: NodeId, task: TaskId, deeds: usize) -> bool
-    ensures { IsTrue result ↔ IsAsLongAt scripts.now node task deeds given }
+fn is_as_long_at(scripts: &[Script], given: usize, node: NodeId, task: TaskId, calls: usize) -> bool
+    ensures { IsTrue result ↔ IsAsLongAt scripts.now node task calls given }
 {
     match script_at(scripts, given) {
-        Some(script) => !script.is_for(node, task) || script.lines.len() == deeds,
+        Some(script) => !script.is_for(node, task) || script.lines.len() == calls,
         None => true,
     }
 }
 
 /// Returns whether each script for the task has as many lines.
-fn are_as_long(scripts: &[Script], node: NodeId, task: TaskId, deeds: usize) -> bool
-    ensures { IsTrue result ↔ ((k : ℕ) → IsAsLongAt scripts.now node task deeds k) }
+fn are_as_long(scripts: &[Script], node: NodeId, task: TaskId, calls: usize) -> bool
+    ensures { IsTrue result ↔ ((k : ℕ) → IsAsLongAt scripts.now node task calls k) }
 {
     for given in 0..scripts.len() {
-        if !is_as_long_at(scripts, given, node, task, deeds) {
+        if !is_as_long_at(scripts, given, node, task, calls) {
             return false;
         }
     }
@@ -233,8 +237,8 @@ fn suits(scripts: &[Script], node: NodeId, task: TaskId, course: Course) -> bool
 {
     // Each script for a task must be all the calls that it executed. A task without a script must have executed none.
     course.agrees
-        && are_as_long(scripts, node, task, course.deeds)
-        && (has_script(scripts, node, task) || course.deeds == 0)
+        && are_as_long(scripts, node, task, course.calls)
+        && (has_script(scripts, node, task) || course.calls == 0)
 }
 
 /// Returns the first task that didn't execute its scripts, by these courses.

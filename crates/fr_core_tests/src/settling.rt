@@ -3,10 +3,11 @@
 use crate::steps::{Harm, fault_of};
 use crate::worlds::{commit, push_window, step_all, three_node_cluster, three_nodes};
 use fr_core::event::{Event, Reply};
-use fr_core::script::{Action, Line, Script};
+use fr_core::script::{Line, Script};
 use fr_core::settle::{SettleError, settle};
 use fr_core::world::World;
 use fr_frame::payload::Payload;
+use fr_interface::call::Call;
 use fr_interface::interface::{Interface, Receipt};
 use fr_slots::channel::Channel;
 use fr_testing::{node, task};
@@ -143,7 +144,7 @@ fn script(alloc: Global, entry: Option<u32>) -> Result<Script, Fail> {
     let mut lines = Vec::new(alloc);
     lines.push(Line {
         cycle: 0,
-        action: Action::Commit {
+        action: Call::Commit {
             buffer: 0,
             payload: Payload::from_slice(&COMMITTED)?,
         },

@@ -2,10 +2,11 @@
 
 use crate::worlds::{commit, step_all};
 use fr_core::event::{Event, Reply};
-use fr_core::script::{Action, Line, Script};
+use fr_core::script::{Line, Script};
 use fr_core::settle::{SettleError, settle};
 use fr_core::world::World;
 use fr_frame::payload::Payload;
+use fr_interface::call::Call;
 use fr_schedule::cluster::Cluster;
 use fr_testing::{node, task};
 use std::alloc::Global;
@@ -62,12 +63,12 @@ fn told_with(alloc: Global, answer: Option<u32>) -> Result<Result<u32, SettleErr
     let mut lines = Vec::new(alloc);
     lines.push(Line {
         cycle: 0,
-        action: Action::Commit { buffer: 0, payload },
+        action: Call::Commit { buffer: 0, payload },
         answer: None,
     })?;
     lines.push(Line {
         cycle: 0,
-        action: Action::Withdraw { buffer: 0 },
+        action: Call::Withdraw { buffer: 0 },
         answer: Some(Reply::Withdrawn(answer)),
     })?;
     let script = Script {

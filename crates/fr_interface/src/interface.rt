@@ -154,8 +154,10 @@ impl Interface {
         Ok(frame_in(self.read_arrival(task, buffer)?))
     }
 
-    /// The same as `read`, with the origin of the frame.
-    fn read_arrival(&mut self, task: TaskId, buffer: u8) -> Result<Option<Arrival>, HostError>
+    /// Reads a receive buffer as `read` does, and returns its frame with the origin of the frame (chapter 9).
+    ///
+    /// Refused as `read` is.
+    pub fn read_arrival(&mut self, task: TaskId, buffer: u8) -> Result<Option<Arrival>, HostError>
         ensures refusal { result_err result ≡ read_refusal self.old task buffer }
         ensures answer { IfOk result (λ a. a ≡ received_by self.old buffer) }
         ensures accepted { OnOk result (self.new ≡ with_entry self.old (read_entry self.old task buffer)) }
@@ -181,8 +183,10 @@ impl Interface {
         Ok(frame_in(self.pop_arrival(task)?))
     }
 
-    /// The same as `pop`, with the origin of the frame.
-    fn pop_arrival(&mut self, task: TaskId) -> Result<Option<Arrival>, HostError>
+    /// Takes the oldest frame of the receive FIFO as `pop` does, and returns it with its origin (project-defined).
+    ///
+    /// Refused as `pop` is.
+    pub fn pop_arrival(&mut self, task: TaskId) -> Result<Option<Arrival>, HostError>
         ensures refusal { result_err result ≡ pop_refusal self.old task }
         ensures answer { IfOk result (λ a. a ≡ oldest_of self.old) }
         ensures accepted { OnOk result (self.new ≡ with_entry self.old (pop_entry self.old task)) }

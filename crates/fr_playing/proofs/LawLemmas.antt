@@ -4,7 +4,7 @@ use Rattle.fr_core.specs.declared.event.Event.{Event}
 use Rattle.fr_core.specs.Scripts.{Scripted}
 use Rattle.fr_core.specs.Worlds.{WorldState, opening_world}
 use Rattle.fr_playing.specs.Calls.{DoesCalls, event_of}
-use Rattle.fr_playing.specs.declared.call.Call.{Call}
+use Rattle.fr_playing.specs.declared.call.ExecutedCall.{ExecutedCall}
 use Rattle.fr_playing.specs.declared.play.Played.{Played}
 use Rattle.fr_playing.specs.Playing.{IsPlayed, PlaysCycles}
 use Rattle.fr_playing.specs.Windows.{PlaysWindow, PlaysWindows, PlaysWithin}
@@ -22,7 +22,7 @@ led_passes old (event ∷ events) new passes =
     let (between, reply, step, rest) = passes in
     led_on old between new (led_step old event (Ok reply) between step) (led_passes between events new rest)
 
-led_calls : (old : WorldState) (calls : List Call) (new : WorldState) → DoesCalls old calls new → IsLed old new
+led_calls : (old : WorldState) (calls : List ExecutedCall) (new : WorldState) → DoesCalls old calls new → IsLed old new
 unfolding DoesCalls
 led_calls old [] new does = led_same old new does
 led_calls old (call ∷ calls) new does =
@@ -51,7 +51,7 @@ led_windows cycle faults due old new plays =
     (led_window cycle faults due before new window)
 
 led_cycles : (scripts : List Scripted) (faults : List FaultLine) (due : List Event) (count : ℕ) (old : WorldState)
-    (calls : List Call) (new : WorldState)
+    (calls : List ExecutedCall) (new : WorldState)
     → PlaysCycles scripts faults due count old calls new → IsLed old new
 unfolding PlaysCycles
 led_cycles scripts faults due zero old calls new plays = led_same old new plays.1

@@ -10,12 +10,12 @@ use Rattle.std.specs.Prelude.{OnOk}
 use Rattle.std.proofs.lemmas.Grind.{flat_map-append}
 use Rattle.fr_core.specs.declared.event.Event.{Event}
 use Rattle.fr_core.specs.declared.event.Event.TheVariants.{Advance}
-use Rattle.fr_core.specs.declared.script.Action.{Action}
+use Rattle.fr_interface.specs.declared.call.Call.{Call}
 use Rattle.fr_core.specs.declared.script.Line.{Line}
 use Rattle.fr_core.specs.Scripts.{Scripted}
 use Rattle.fr_core.specs.Worlds.{WorldState, opening_world}
 use Rattle.fr_playing.specs.Calls.{Asked, asked_in, asked_in_line, asked_of, AddsCalls, DoesCall, DoesCalls}
-use Rattle.fr_playing.specs.declared.call.Call.{Call}
+use Rattle.fr_playing.specs.declared.call.ExecutedCall.{ExecutedCall}
 use Rattle.fr_playing.specs.declared.play.Played.{Played}
 use Rattle.fr_playing.specs.Playing.{AddsCycle, IsPlayed, PlaysCycles, asked_by}
 use Rattle.fr_playing.specs.Windows.{PlaysWindow, PlaysWindows, PlaysWithin}
@@ -82,28 +82,28 @@ within_more cycle faults due count old mid new so_far plays within =
 
 -- ---- calls
 
-does_append : (old : WorldState) (xs : List Call) (mid : WorldState) (ys : List Call) (new : WorldState)
+does_append : (old : WorldState) (xs : List ExecutedCall) (mid : WorldState) (ys : List ExecutedCall) (new : WorldState)
     → DoesCalls old xs mid → DoesCalls mid ys new
     → DoesCalls old (xs ++ ys) new
 unfolding DoesCalls
 does_append old [] mid ys new first second = subst (λ (w : WorldState). DoesCalls w ys new) first second
 does_append old (x ∷ xs) mid ys new first second = (first.0, first.1, does_append first.0 xs mid ys new first.2 second)
 
-pub adds_none : (calls : List Call) (w : WorldState) → AddsCalls calls calls w [] w
+pub adds_none : (calls : List ExecutedCall) (w : WorldState) → AddsCalls calls calls w [] w
 unfolding DoesCalls
 adds_none calls w = ([], sym (append-nil calls), refl, refl)
 
-pub adds_one : (before : List Call) (call : Call) (asked : Asked) (old new : WorldState) → DoesCall old call new
+pub adds_one : (before : List ExecutedCall) (call : ExecutedCall) (asked : Asked) (old new : WorldState) → DoesCall old call new
     → asked_of call ≡ asked
     → AddsCalls before (before ++ call ∷ []) old (asked ∷ []) new
 unfolding DoesCalls
 adds_one before call asked old new does is = (call ∷ [], refl, ap (λ (a : Asked). a ∷ []) is, (new, does, refl))
 
-abbrev asked : ℕ → ℕ → ℕ → Action → Asked
-asked node task cycle action = record { node = node; task = task; cycle = cycle; action = action }
+abbrev asked : ℕ → ℕ → ℕ → Call → Asked
+asked node task cycle call = record { node = node; task = task; cycle = cycle; call = call }
 
 -- a line of another cycle leads to no call
-pub other_line : (cycle node task : ℕ) (line : Line) (calls : List Call) (w : WorldState) → (line.cycle ≡ cycle → ⊥)
+pub other_line : (cycle node task : ℕ) (line : Line) (calls : List ExecutedCall) (w : WorldState) → (line.cycle ≡ cycle → ⊥)
     → AddsCalls calls calls w (asked_in_line cycle node task line) w
 other_line cycle node task line calls w other = by (line.cycle == cycle) refl
   where
@@ -113,37 +113,37 @@ other_line cycle node task line calls w other = by (line.cycle == cycle) refl
     by false e = adds_none calls w
 
 -- a line of this cycle that was executed
-pub one_line : (cycle node task : ℕ) (line : Line) (before after : List Call) (call : Call) (old new : WorldState)
+pub one_line : (cycle node task : ℕ) (line : Line) (before after : List ExecutedCall) (call : ExecutedCall) (old new : WorldState)
     → line.cycle ≡ cycle → after ≡ before ++ call ∷ []
     → DoesCall old call new → (call.node ≡ node) × (call.task ≡ task) × (call.cycle ≡ cycle) ×
-    (call.action ≡ line.action)
+    (call.call ≡ line.action)
     → AddsCalls before after old (asked_in_line cycle node task line) new
 one_line cycle node task line before after call old new same after_is does is =
-    subst (λ (l : List Call). AddsCalls before l old (asked_in_line cycle node task line) new) (sym after_is)
+    subst (λ (l : List ExecutedCall). AddsCalls before l old (asked_in_line cycle node task line) new) (sym after_is)
     (by (line.cycle == cycle) refl)
   where
     asked_is : asked_of call ≡ asked node task cycle line.action
     asked_is =
-        ap₂ (λ n t. asked n t call.cycle call.action) is.0 is.1 ∙ ap₂ (λ c a. asked node task c a) is.2 is.3
+        ap₂ (λ n t. asked n t call.cycle call.call) is.0 is.1 ∙ ap₂ (λ c a. asked node task c a) is.2 is.3
 
     by : (b : Bool) → (line.cycle == cycle) ≡ b → AddsCalls before (before ++ call ∷ []) old
         (cond b (asked node task cycle line.action ∷ []) []) new
     by true e = adds_one before call (asked node task cycle line.action) old new does asked_is
     by false e = absurd (true≢false (sym (eq-eqb line.cycle cycle same) ∙ e))
 
-pub adds_append : (before between after : List Call) (xs ys : List Asked) (old mid new : WorldState)
+pub adds_append : (before between after : List ExecutedCall) (xs ys : List Asked) (old mid new : WorldState)
     → AddsCalls before between old xs mid → AddsCalls between after mid ys new
     → AddsCalls before after old (xs ++ ys) new
 adds_append before between after xs ys old mid new first second =
     let (calls, are, one, does) = first in
     let (more, are', two, does') = second in (
       calls ++ more,
-      are' ∙ ap (λ (l : List Call). l ++ more) are ∙ append_assoc before calls more,
+      are' ∙ ap (λ (l : List ExecutedCall). l ++ more) are ∙ append_assoc before calls more,
       map_append asked_of calls more ∙ ap₂ (λ (a : List Asked) (b : List Asked). a ++ b) one two,
       does_append old calls mid more new does does',
     )
 
-pub adds_more : {X : Type 0} (f : X → List Asked) (xs : List X) (i : ℕ) (x : X) (before between after : List Call)
+pub adds_more : {X : Type 0} (f : X → List Asked) (xs : List X) (i : ℕ) (x : X) (before between after : List ExecutedCall)
     (old mid new : WorldState) → i < length xs
     → x ≡ get_or xs i x → AddsCalls before between old (flat_map f (take i xs)) mid
     → AddsCalls between after mid (f x) new
@@ -154,14 +154,14 @@ adds_more f xs i x before between after old mid new lt is first second =
 
 -- ---- cycles
 
-pub cycles_none : (scripts : List Scripted) (faults : List FaultLine) (due : List Event) (calls : List Call)
+pub cycles_none : (scripts : List Scripted) (faults : List FaultLine) (due : List Event) (calls : List ExecutedCall)
     (w : WorldState) → calls ≡ []
     → PlaysCycles scripts faults due 0 w calls w
 unfolding PlaysCycles
 cycles_none scripts faults due calls w none = (none, refl)
 
 cycles_next : (scripts : List Scripted) (faults : List FaultLine) (due : List Event) (count : ℕ)
-    (before after : List Call) (old mid new : WorldState)
+    (before after : List ExecutedCall) (old mid new : WorldState)
     → PlaysCycles scripts faults due count old before mid → AddsCycle count scripts faults due before after mid new
     → PlaysCycles scripts faults due (suc count) old after new
 unfolding PlaysCycles
@@ -169,7 +169,7 @@ cycles_next scripts faults due count before after old mid new so_far adds =
     (mid, before, adds.0, so_far, adds.2, adds.1)
 
 pub cycles_more : (scripts : List Scripted) (faults : List FaultLine) (due : List Event) (count : ℕ)
-    (before after : List Call) (old mid new : WorldState)
+    (before after : List ExecutedCall) (old mid new : WorldState)
     → PlaysCycles scripts faults due count old before mid → AddsCycle count scripts faults due before after mid new
     → PlaysCycles scripts faults due (count + 1) old after new
 cycles_more scripts faults due count before after old mid new so_far adds =
@@ -188,7 +188,7 @@ asked_more count scripts =
     ∙ ap (λ (l : List Asked). asked_by count scripts ++ l) (append-nil (asked_in count scripts))
 
 -- the executed calls are those of the scripts
-pub all_asked : (scripts : List Scripted) (faults : List FaultLine) (due : List Event) (count : ℕ) (calls : List Call)
+pub all_asked : (scripts : List Scripted) (faults : List FaultLine) (due : List Event) (count : ℕ) (calls : List ExecutedCall)
     (old new : WorldState)
     → PlaysCycles scripts faults due count old calls new → map asked_of calls ≡ asked_by count scripts
 unfolding PlaysCycles
@@ -202,7 +202,7 @@ all_asked scripts faults due (suc count) calls old new plays =
 
 -- a cycle whose windows are executed last
 pub ends_cycle : {A E : Type 0} (r : Result A E) (cycle : ℕ) (scripts : List Scripted) (faults : List FaultLine)
-    (due : List Event) (before after : List Call)
+    (due : List Event) (before after : List ExecutedCall)
     (old called new : WorldState) → AddsCalls before after old (asked_in cycle scripts) called
     → OnOk r (PlaysWindows cycle faults due called new)
     → OnOk r (AddsCycle cycle scripts faults due before after old new)

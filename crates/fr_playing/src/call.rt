@@ -1,18 +1,19 @@
 //! The calls of scripts in the world.
 ghost use Rattle.std.specs.Prelude.{◌≡◌, slice_get, IfOk, OnOk};
-ghost use Rattle.fr_playing.specs.Calls.{event_of, entries_in, asked_in_line, asked_in_script, asked_in, AddsCalls};
+ghost use Rattle.fr_playing.specs.Calls.{entries_in, asked_in_line, asked_in_script, asked_in, AddsCalls};
 ghost use Rattle.fr_playing.specs.Calls.{DoesCall};
 
 use crate::hindrance::Hindrance;
 use crate::nodes::interface_of;
 use fr_core::event::{Event, Reply};
-use fr_core::script::{Action, Line, Script};
+use fr_core::script::{Line, Script};
 use fr_core::world::World;
+use fr_interface::call::Call;
 use fr_slots::numbers::{NodeId, TaskId};
 
 /// An executed line of a script, with its answer (project-defined).
 #[derive(Drop, PartialEq, Eq)]
-pub struct Call {
+pub struct ExecutedCall {
     /// The node.
     pub node: NodeId,
     /// The task of that node.
@@ -20,37 +21,12 @@ pub struct Call {
     /// The cycle of the run, from 0.
     pub cycle: u16,
     /// The call of the task.
-    pub action: Action,
+    pub call: Call,
     // The number is kept, since the channel of a frame stands in the entry and not in the reply.
     /// The number of its entry in the node's journal, from 0.
     pub entry: u32,
     /// The answer.
     pub reply: Reply,
-}
-
-/// Returns the action of the node's task as an event.
-fn event_of(node: NodeId, task: TaskId, action: &Action) -> Event
-    ensures { result ≡ event_of node task action.now }
-{
-    match action {
-        Action::Commit { buffer, payload } => Event::Commit {
-            node,
-            task,
-            buffer: *buffer,
-            payload: payload.duplicate(),
-        },
-        Action::Withdraw { buffer } => Event::Withdraw {
-            node,
-            task,
-            buffer: *buffer,
-        },
-        Action::Read { buffer } => Event::Read {
-            node,
-            task,
-            buffer: *buffer,
-        },
-        Action::Pop => Event::Pop { node, task },
-    }
 }
 
 /// Returns the number of entries of the node's journal, or 0 if the cluster doesn't have the node.
@@ -64,24 +40,24 @@ fn entries_of(world: &World, node: NodeId) -> u32
 }
 
 /// Executes the action of the node's task.
-fn do_action(
+fn do_call(
     world: &mut World,
     node: NodeId,
     task: TaskId,
     cycle: u16,
-    action: &Action,
-) -> Result<Call, Hindrance>
-    ensures does { IfOk result (λ call. DoesCall world.old call world.new) }
-    ensures is { IfOk result (λ call. (call.node ≡ node) × (call.task ≡ task) × (call.cycle ≡ cycle)
-        × (call.action ≡ action.now)) }
+    call: &Call,
+) -> Result<ExecutedCall, Hindrance>
+    ensures does { IfOk result (λ executed. DoesCall world.old executed world.new) }
+    ensures is { IfOk result (λ executed. (executed.node ≡ node) × (executed.task ≡ task) × (executed.cycle ≡ cycle)
+        × (executed.call ≡ call.now)) }
 {
     let entry = entries_of(world, node);
-    let reply = world.step(&event_of(node, task, action))?;
-    Ok(Call {
+    let reply = world.step(&Event::of_call(node, task, call))?;
+    Ok(ExecutedCall {
         node,
         task,
         cycle,
-        action: action.duplicate(),
+        call: call.duplicate(),
         entry,
         reply,
     })
@@ -94,7 +70,7 @@ fn do_line(
     node: NodeId,
     task: TaskId,
     line: &Line,
-    calls: &mut Vec<Call>,
+    calls: &mut Vec<ExecutedCall>,
 ) -> Result<(), Hindrance>
     ensures { OnOk result
         (AddsCalls calls.old.items calls.new.items world.old (asked_in_line cycle node task line.now) world.new) }
@@ -102,7 +78,7 @@ fn do_line(
     if line.cycle != cycle {
         return Ok(());
     }
-    let call = do_action(world, node, task, cycle, &line.action)?;
+    let call = do_call(world, node, task, cycle, &line.action)?;
     calls.push(call)?;
     Ok(())
 }
@@ -112,7 +88,7 @@ fn do_script(
     world: &mut World,
     cycle: u16,
     script: &Script,
-    calls: &mut Vec<Call>,
+    calls: &mut Vec<ExecutedCall>,
 ) -> Result<(), Hindrance>
     ensures { OnOk result
         (AddsCalls calls.old.items calls.new.items world.old (asked_in_script cycle script.now) world.new) }
@@ -129,7 +105,7 @@ pub(crate) fn do_lines(
     world: &mut World,
     cycle: u16,
     scripts: &[Script],
-    calls: &mut Vec<Call>,
+    calls: &mut Vec<ExecutedCall>,
 ) -> Result<(), Hindrance>
     ensures { OnOk result
         (AddsCalls calls.old.items calls.new.items world.old (asked_in cycle scripts.now) world.new) }

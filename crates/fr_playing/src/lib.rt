@@ -20,7 +20,7 @@
 //!
 //! 1. `play` (`play`) calls `check_run`, and makes the list of steps that are due in a window (`whole_window` of
 //!    `fr_session::moving`), and the opening world.
-//! 2. `do_lines` (`call`) executes the lines of a cycle, each by one event, and keeps a `Call` with the executed call,
+//! 2. `do_lines` (`call`) executes the lines of a cycle, each by one event, and keeps an `ExecutedCall` with the executed call,
 //!    the entry and the reply.
 //! 3. `play_windows` (`windows`) executes window after window: the faults, the due steps, the advance.
 #![tactic(auto)]

@@ -5,7 +5,7 @@ ghost use Rattle.fr_runs.specs.Refusing.{Refuses};
 ghost use Rattle.fr_playing.specs.Playing.{AddsCycle, PlaysCycles, IsPlayed};
 ghost use Rattle.fr_playing.specs.Refusals.{refusal_told, IsOfRun};
 
-use crate::call::{Call, do_lines};
+use crate::call::{ExecutedCall, do_lines};
 use crate::error::PlayError;
 use crate::hindrance::{Hindrance, error_of};
 use crate::windows::play_windows;
@@ -24,7 +24,7 @@ pub struct Played {
     /// The world at its end.
     pub world: World,
     /// The executed lines of the scripts, in their order.
-    pub calls: Vec<Call>,
+    pub calls: Vec<ExecutedCall>,
 }
 
 /// Executes a cycle: its lines, and then its windows.
@@ -34,7 +34,7 @@ fn play_cycle(
     scripts: &[Script],
     faults: &[FaultLine],
     due: &[Event],
-    calls: &mut Vec<Call>,
+    calls: &mut Vec<ExecutedCall>,
 ) -> Result<(), Hindrance>
     ensures { OnOk result (AddsCycle cycle scripts.now faults.now due.now calls.old.items calls.new.items
         world.old world.new) }
@@ -50,7 +50,7 @@ fn play_cycles(
     faults: &[FaultLine],
     due: &[Event],
     cycles: u16,
-    calls: &mut Vec<Call>,
+    calls: &mut Vec<ExecutedCall>,
 ) -> Result<(), Hindrance>
     requires { calls.old.items ≡ [] }
     ensures { OnOk result (PlaysCycles scripts.now faults.now due.now cycles world.old calls.new.items world.new) }

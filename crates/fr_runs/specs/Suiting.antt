@@ -4,8 +4,8 @@ use Rattle.std.specs.Prelude.{take, slice_get, Option, Some, None, is_some, IfSo
 use Rattle.std.specs.List.{list_all, list_any, sum_by, AllAdjacentBelow}
 use Rattle.fr_bus.specs.declared.fault.Fault.{Fault}
 use Rattle.fr_bus.specs.declared.fault.Fault.TheVariants.{Babble, Mute, Corrupt}
-use Rattle.fr_core.specs.declared.script.Action.{Action}
-use Rattle.fr_core.specs.declared.script.Action.TheVariants.{Commit, Withdraw, Read, Pop}
+use Rattle.fr_interface.specs.declared.call.Call.{Call}
+use Rattle.fr_interface.specs.declared.call.Call.TheVariants.{Commit, Withdraw, Read, Pop}
 use Rattle.fr_core.specs.declared.script.Line.{Line}
 use Rattle.fr_core.specs.Scripts.{Scripted, is_for}
 use Rattle.fr_runs.specs.declared.fault_line.FaultCycles.{FaultCycles}
@@ -37,16 +37,16 @@ abbrev pub receives : Option Buffer → Bool
 receives None = false
 receives (Some b) = is_receive b.mode
 
--- the node has the buffer or receive FIFO that the action needs
-abbrev pub action_suits : Parameters → Plan → Action → Bool
-action_suits p plan (Commit buffer payload) = sends p payload (buffer_at plan buffer)
-action_suits p plan (Withdraw buffer) = is_transmit (buffer_at plan buffer)
-action_suits p plan (Read buffer) = receives (buffer_at plan buffer)
-action_suits p plan Pop = is_some plan.queue
+-- the node has the buffer or receive FIFO that the call needs
+abbrev pub call_suits : Parameters → Plan → Call → Bool
+call_suits p plan (Commit buffer payload) = sends p payload (buffer_at plan buffer)
+call_suits p plan (Withdraw buffer) = is_transmit (buffer_at plan buffer)
+call_suits p plan (Read buffer) = receives (buffer_at plan buffer)
+call_suits p plan Pop = is_some plan.queue
 
 -- in addition, the run has the line's cycle
 abbrev pub line_suits : Parameters → Plan → ℕ → Line → Bool
-line_suits p plan cycles line = nat_lt line.cycle cycles && action_suits p plan line.action
+line_suits p plan cycles line = nat_lt line.cycle cycles && call_suits p plan line.action
 
 -- each line's cycle is at least that of the line before it
 abbrev pub AreInOrder : List Line → Type 0

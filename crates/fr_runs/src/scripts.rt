@@ -4,11 +4,12 @@ ghost use Rattle.std.specs.Prelude.{◌≡◌, ◌↔◌, IsTrue, slice_get, opt
 ghost use Rattle.std.specs.List.{list_all};
 ghost use Rattle.std.specs.Option.{option_copied};
 ghost use Rattle.fr_core.specs.Walks.{Finds};
-ghost use Rattle.fr_runs.specs.Suiting.{sends, is_transmit, receives, action_suits, line_suits, AreInOrder, SuitsPlan};
+ghost use Rattle.fr_runs.specs.Suiting.{sends, is_transmit, receives, call_suits, line_suits, AreInOrder, SuitsPlan};
 ghost use Rattle.fr_runs.specs.Suiting.{SuitsNode, IsScriptAfter, ScriptSuits};
 
-use fr_core::script::{Action, Line, Script, has_script};
+use fr_core::script::{Line, Script, has_script};
 use fr_frame::payload::Payload;
+use fr_interface::call::Call;
 use fr_schedule::cluster::Cluster;
 use fr_slots::params::Params;
 use fr_slots::plan::{Buffer, NodePlan};
@@ -45,23 +46,23 @@ fn receives(buffer: Option<Buffer>) -> bool
     }
 }
 
-/// Returns whether the node has the buffer or receive FIFO that the action needs.
-fn action_suits(params: &Params, plan: &NodePlan, action: &Action) -> bool
-    ensures { result ≡ action_suits params.now plan.now action.now }
+/// Returns whether the node has the buffer or receive FIFO that the call needs.
+fn call_suits(params: &Params, plan: &NodePlan, call: &Call) -> bool
+    ensures { result ≡ call_suits params.now plan.now call.now }
 {
-    match action {
-        Action::Commit { buffer, payload } => sends(params, payload, plan.buffer(*buffer)),
-        Action::Withdraw { buffer } => is_transmit(plan.buffer(*buffer)),
-        Action::Read { buffer } => receives(plan.buffer(*buffer)),
-        Action::Pop => plan.queue().is_some(),
+    match call {
+        Call::Commit { buffer, payload } => sends(params, payload, plan.buffer(*buffer)),
+        Call::Withdraw { buffer } => is_transmit(plan.buffer(*buffer)),
+        Call::Read { buffer } => receives(plan.buffer(*buffer)),
+        Call::Pop => plan.queue().is_some(),
     }
 }
 
-/// Returns whether the run has the line's cycle, and the node fits the line's action.
+/// Returns whether the run has the line's cycle, and the node fits the line's call.
 fn line_suits(params: &Params, plan: &NodePlan, cycles: u16, line: &Line) -> bool
     ensures { result ≡ line_suits params.now plan.now cycles line.now }
 {
-    line.cycle < cycles && action_suits(params, plan, &line.action)
+    line.cycle < cycles && call_suits(params, plan, &line.action)
 }
 
 /// Returns whether all lines fit the node and the run.

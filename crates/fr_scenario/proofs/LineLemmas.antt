@@ -6,8 +6,8 @@ use Rattle.std.specs.Fmt.{decimal}
 use Rattle.std.specs.Str.{bytes_eq}
 use Rattle.fr_bus.specs.declared.fault.Fault.{Fault}
 use Rattle.fr_bus.specs.declared.fault.Fault.TheVariants.{Babble, Mute, Corrupt}
-use Rattle.fr_core.specs.declared.script.Action.{Action}
-use Rattle.fr_core.specs.declared.script.Action.TheVariants.{Commit, Withdraw, Read, Pop}
+use Rattle.fr_interface.specs.declared.call.Call.{Call}
+use Rattle.fr_interface.specs.declared.call.Call.TheVariants.{Commit, Withdraw, Read, Pop}
 use Rattle.fr_core.specs.declared.script.Line.{Line}
 use Rattle.fr_lines.proofs.PartLemmas.{word_or}
 use Rattle.fr_lines.proofs.PlanPartLemmas.{payload_takes, payload_again}
@@ -29,10 +29,10 @@ use Rattle.fr_scenario.specs.LineReading.{corrupt_in}
 use Rattle.fr_scenario.specs.LineReading.{line_in}
 use Rattle.fr_scenario.specs.PartReading.{run_cycle_in, cycles_in, place_in}
 use Rattle.fr_scenario.specs.Parts.{channel_word, cycles_word, place_word}
-use Rattle.fr_scenario.specs.Spelled.{IsRunCycle, IsSpelledAction, IsSpelledHost, IsSpelledFault, AreSpelledCycles}
+use Rattle.fr_scenario.specs.Spelled.{IsRunCycle, IsSpelledCall, IsSpelledHost, IsSpelledFault, AreSpelledCycles}
 use Rattle.fr_scenario.specs.Spelled.{IsSpelledPlace}
 use Rattle.fr_scenario.specs.Spelled.{IsSpelledLine}
-use Rattle.fr_scenario.specs.Spelling.{action_words, fault_words, line_words}
+use Rattle.fr_scenario.specs.Spelling.{call_words, fault_words, line_words}
 use Rattle.fr_text.proofs.BindLemmas.{bind_some}
 use Rattle.fr_text.proofs.HexTextLemmas.{bytes_takes, bytes_again, length-hex_text}
 use Rattle.fr_text.proofs.LineLemmas.{cons_same, line_of-words_of, words_of-line_of, has_no_feed-line_of}
@@ -286,9 +286,9 @@ line_takes version line l h =
 
 -- ---- a line that is spelled is read again
 
-action_again : (version : Version) (node task cycle : ℕ) (action : Action) → node < 16 → task < 8 → IsRunCycle cycle
-    → IsSpelledAction version action
-    → line_in version (action_words (decimal node) (decimal task) (decimal cycle) action) ≡ Some
+action_again : (version : Version) (node task cycle : ℕ) (action : Call) → node < 16 → task < 8 → IsRunCycle cycle
+    → IsSpelledCall version action
+    → line_in version (call_words (decimal node) (decimal task) (decimal cycle) action) ≡ Some
     (host_line node task cycle action)
 unfolding line_in commit_in withdraw_in read_in pop_in
 action_again version node task cycle (Commit buffer payload) n t c bytes =
@@ -365,9 +365,9 @@ spelled_so : (word : List ℕ) (words : List (List ℕ)) → ArePlain (word ∷ 
     → IsSpelledSo (word ∷ words)
 spelled_so word words plain short = record { plain = plain; short = short; cut = words_of-line_of word words plain }
 
-action_spelled : (version : Version) (node task cycle : ℕ) (action : Action) → node < 16 → task < 8 → IsRunCycle cycle
-    → IsSpelledAction version action
-    → IsSpelledSo (action_words (decimal node) (decimal task) (decimal cycle) action)
+action_spelled : (version : Version) (node task cycle : ℕ) (action : Call) → node < 16 → task < 8 → IsRunCycle cycle
+    → IsSpelledCall version action
+    → IsSpelledSo (call_words (decimal node) (decimal task) (decimal cycle) action)
 action_spelled version node task cycle (Commit buffer payload) node_fits task_fits cycle_fits bytes =
     let n = number_word 2 node (omega arith) (omega arith) (omega arith) in
     let t = number_word 1 task (omega arith) (omega arith) (omega arith) in
@@ -463,8 +463,8 @@ line_no_feed version l fits = has_no_feed-line_of (line_words l) (spelled versio
 
 -- ---- no line is `end`
 
-action_not_end : (node task cycle : List ℕ) (action : Action)
-    → bytes_eq (line_of (action_words node task cycle action)) end_line ≡ false
+action_not_end : (node task cycle : List ℕ) (action : Call)
+    → bytes_eq (line_of (call_words node task cycle action)) end_line ≡ false
 action_not_end node task cycle (Commit buffer payload) = refl
 action_not_end node task cycle (Withdraw buffer) = refl
 action_not_end node task cycle (Read buffer) = refl

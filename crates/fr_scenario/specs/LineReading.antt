@@ -3,8 +3,8 @@ use Rattle.std.specs.Prelude.{ℕ, List, [], ◌∷◌, codes, Option, Some, Non
 use Rattle.std.specs.Str.{bytes_eq}
 use Rattle.fr_bus.specs.declared.fault.Fault.{Fault}
 use Rattle.fr_bus.specs.declared.fault.Fault.TheVariants.{Babble, Mute, Corrupt}
-use Rattle.fr_core.specs.declared.script.Action.{Action}
-use Rattle.fr_core.specs.declared.script.Action.TheVariants.{Commit, Withdraw, Read, Pop}
+use Rattle.fr_interface.specs.declared.call.Call.{Call}
+use Rattle.fr_interface.specs.declared.call.Call.TheVariants.{Commit, Withdraw, Read, Pop}
 use Rattle.fr_frame.specs.Payload.{most_frame_bytes}
 use Rattle.fr_lines.specs.PartReading.{channel_in, payload_in}
 use Rattle.fr_runs.specs.declared.fault_line.FaultCycles.{FaultCycles}
@@ -17,11 +17,11 @@ use Rattle.fr_scenario.specs.declared.version.Version.TheVariants.{One, Two}
 use Rattle.fr_scenario.specs.PartReading.{run_cycle_in, cycles_in, place_in}
 use Rattle.fr_text.specs.Reading.{◌>>=◌, number_in, bytes_in}
 
--- ---- the actions of tasks
+-- ---- the calls of tasks
 
 -- the line of a task, without an answer
-abbrev pub host_line : ℕ → ℕ → ℕ → Action → SpelledLine
-host_line node task cycle action = Host node task (record { cycle = cycle; action = action; answer = None })
+abbrev pub host_line : ℕ → ℕ → ℕ → Call → SpelledLine
+host_line node task cycle call = Host node task (record { cycle = cycle; action = call; answer = None })
 
 unfoldable pub commit_in : List (List ℕ) → Option SpelledLine
 commit_in (node ∷ task ∷ cycle ∷ buffer ∷ payload ∷ []) = do

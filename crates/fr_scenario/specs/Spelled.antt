@@ -2,8 +2,8 @@
 use Rattle.std.specs.Prelude.{◌≡◌, ℕ, ◌<◌, ◌≤◌, ◌^◌, length, None}
 use Rattle.fr_bus.specs.declared.fault.Fault.{Fault}
 use Rattle.fr_bus.specs.declared.fault.Fault.TheVariants.{Babble, Mute, Corrupt}
-use Rattle.fr_core.specs.declared.script.Action.{Action}
-use Rattle.fr_core.specs.declared.script.Action.TheVariants.{Commit, Withdraw, Read, Pop}
+use Rattle.fr_interface.specs.declared.call.Call.{Call}
+use Rattle.fr_interface.specs.declared.call.Call.TheVariants.{Commit, Withdraw, Read, Pop}
 use Rattle.fr_core.specs.declared.script.Line.{Line}
 use Rattle.fr_frame.specs.Payload.{IsPayload, most_frame_bytes}
 use Rattle.fr_journal.specs.Entries.{AreBytes}
@@ -21,25 +21,25 @@ use Rattle.fr_scenario.specs.declared.version.Version.TheVariants.{One, Two}
 abbrev pub IsRunCycle : ℕ → Type 0
 IsRunCycle cycle = cycle < 1024
 
--- ---- the actions of tasks
+-- ---- the calls of tasks
 
 -- version 1 has no line for a withdraw
 abbrev pub IsWithdrawSpelled : Version → ℕ → Type 0
 IsWithdrawSpelled One buffer = ⊥
 IsWithdrawSpelled Two buffer = buffer < 64
 
-abbrev pub IsSpelledAction : Version → Action → Type 0
-IsSpelledAction version (Commit buffer payload) = (buffer < 64) × IsPayload payload × AreBytes payload
-IsSpelledAction version (Withdraw buffer) = IsWithdrawSpelled version buffer
-IsSpelledAction version (Read buffer) = buffer < 64
-IsSpelledAction version Pop = Unit {0}
+abbrev pub IsSpelledCall : Version → Call → Type 0
+IsSpelledCall version (Commit buffer payload) = (buffer < 64) × IsPayload payload × AreBytes payload
+IsSpelledCall version (Withdraw buffer) = IsWithdrawSpelled version buffer
+IsSpelledCall version (Read buffer) = buffer < 64
+IsSpelledCall version Pop = Unit {0}
 
 -- nodes are 0 to 15 and tasks 0 to 7, and there is no answer
 pub record IsSpelledHost (version : Version) (node task : ℕ) (line : Line) : Type 0 where
   pub node_fits : node < 16
   pub task_fits : task < 8
   pub cycle_fits : IsRunCycle line.cycle
-  pub action_fits : IsSpelledAction version line.action
+  pub action_fits : IsSpelledCall version line.action
   pub unanswered : line.answer ≡ None
 
 -- ---- faults

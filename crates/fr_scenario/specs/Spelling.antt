@@ -3,8 +3,8 @@ use Rattle.std.specs.Prelude.{ℕ, List, [], ◌∷◌, codes}
 use Rattle.std.specs.Fmt.{decimal}
 use Rattle.fr_bus.specs.declared.fault.Fault.{Fault}
 use Rattle.fr_bus.specs.declared.fault.Fault.TheVariants.{Babble, Mute, Corrupt}
-use Rattle.fr_core.specs.declared.script.Action.{Action}
-use Rattle.fr_core.specs.declared.script.Action.TheVariants.{Commit, Withdraw, Read, Pop}
+use Rattle.fr_interface.specs.declared.call.Call.{Call}
+use Rattle.fr_interface.specs.declared.call.Call.TheVariants.{Commit, Withdraw, Read, Pop}
 use Rattle.fr_core.specs.declared.script.Line.{Line}
 use Rattle.fr_runs.specs.declared.fault_line.FaultLine.{FaultLine}
 use Rattle.fr_scenario.specs.declared.spelled.SpelledLine.{SpelledLine}
@@ -12,18 +12,18 @@ use Rattle.fr_scenario.specs.declared.spelled.SpelledLine.TheVariants.{Host, Fau
 use Rattle.fr_scenario.specs.Parts.{channel_word, cycles_word, place_word}
 use Rattle.fr_text.specs.Spelling.{hex_text}
 
--- ---- the actions of tasks
+-- ---- the calls of tasks
 
-abbrev pub action_words : List ℕ → List ℕ → List ℕ → Action → List (List ℕ)
-action_words node task cycle (Commit buffer payload) =
+abbrev pub call_words : List ℕ → List ℕ → List ℕ → Call → List (List ℕ)
+call_words node task cycle (Commit buffer payload) =
     codes "commit" ∷ node ∷ task ∷ cycle ∷ decimal buffer ∷ hex_text payload ∷ []
-action_words node task cycle (Withdraw buffer) = codes "withdraw" ∷ node ∷ task ∷ cycle ∷ decimal buffer ∷ []
-action_words node task cycle (Read buffer) = codes "read" ∷ node ∷ task ∷ cycle ∷ decimal buffer ∷ []
-action_words node task cycle Pop = codes "pop" ∷ node ∷ task ∷ cycle ∷ []
+call_words node task cycle (Withdraw buffer) = codes "withdraw" ∷ node ∷ task ∷ cycle ∷ decimal buffer ∷ []
+call_words node task cycle (Read buffer) = codes "read" ∷ node ∷ task ∷ cycle ∷ decimal buffer ∷ []
+call_words node task cycle Pop = codes "pop" ∷ node ∷ task ∷ cycle ∷ []
 
 -- its answer isn't spelled
 abbrev pub host_words : ℕ → ℕ → Line → List (List ℕ)
-host_words node task line = action_words (decimal node) (decimal task) (decimal line.cycle) line.action
+host_words node task line = call_words (decimal node) (decimal task) (decimal line.cycle) line.action
 
 -- ---- faults
 

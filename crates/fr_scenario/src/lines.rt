@@ -8,8 +8,9 @@ use crate::parts::{cycles_of, place_of, run_cycle_of};
 use crate::spelled::SpelledLine;
 use crate::version::Version;
 use fr_bus::fault::Fault;
-use fr_core::script::{Action, Line};
+use fr_core::script::Line;
 use fr_frame::frame::FRAME_BYTES;
+use fr_interface::call::Call;
 use fr_lines::parts::{buffer_of, channel_of, node_of, payload_of, task_of};
 use fr_runs::fault_line::FaultLine;
 use fr_slots::numbers::{NodeId, TaskId};
@@ -18,15 +19,15 @@ use fr_text::numbers::number_of;
 use fr_text::words::Words;
 
 /// Returns the line of a task, without an answer.
-fn host_line(node: NodeId, task: TaskId, cycle: u16, action: Action) -> SpelledLine
-    ensures { result ≡ host_line node task cycle action }
+fn host_line(node: NodeId, task: TaskId, cycle: u16, call: Call) -> SpelledLine
+    ensures { result ≡ host_line node task cycle call }
 {
     SpelledLine::Host {
         node,
         task,
         line: Line {
             cycle,
-            action,
+            action: call,
             answer: None,
         },
     }
@@ -43,7 +44,7 @@ fn commit_of(words: &mut Words<'_>) -> Option<SpelledLine>
     let cycle = run_cycle_of(cycle)?;
     let buffer = buffer_of(buffer)?;
     let payload = payload_of(payload)?;
-    Some(host_line(node, task, cycle, Action::Commit { buffer, payload }))
+    Some(host_line(node, task, cycle, Call::Commit { buffer, payload }))
 }
 
 /// Returns the withdraw that the words spell, if the version has such a line.
@@ -59,7 +60,7 @@ fn withdraw_of(version: Version, words: &mut Words<'_>) -> Option<SpelledLine>
     let task = task_of(task)?;
     let cycle = run_cycle_of(cycle)?;
     let buffer = buffer_of(buffer)?;
-    Some(host_line(node, task, cycle, Action::Withdraw { buffer }))
+    Some(host_line(node, task, cycle, Call::Withdraw { buffer }))
 }
 
 /// Returns the read that the words spell.
@@ -72,7 +73,7 @@ fn read_of(words: &mut Words<'_>) -> Option<SpelledLine>
     let task = task_of(task)?;
     let cycle = run_cycle_of(cycle)?;
     let buffer = buffer_of(buffer)?;
-    Some(host_line(node, task, cycle, Action::Read { buffer }))
+    Some(host_line(node, task, cycle, Call::Read { buffer }))
 }
 
 /// Returns the pop that the words spell.
@@ -84,7 +85,7 @@ fn pop_of(words: &mut Words<'_>) -> Option<SpelledLine>
     let node = node_of(node)?;
     let task = task_of(task)?;
     let cycle = run_cycle_of(cycle)?;
-    Some(host_line(node, task, cycle, Action::Pop))
+    Some(host_line(node, task, cycle, Call::Pop))
 }
 
 /// Returns the babble that the words spell.

@@ -4,8 +4,8 @@ use Rattle.std.specs.Fmt.{decimal}
 use Rattle.std.specs.Option.{option_and_then}
 use Rattle.fr_core.specs.declared.event.Reply.{Reply}
 use Rattle.fr_core.specs.declared.event.Reply.TheVariants.{Committed, Withdrawn, Frame, Window, Done}
-use Rattle.fr_core.specs.declared.script.Action.{Action}
-use Rattle.fr_core.specs.declared.script.Action.TheVariants as action
+use Rattle.fr_interface.specs.declared.call.Call.{Call}
+use Rattle.fr_interface.specs.declared.call.Call.TheVariants as host_call
 use Rattle.fr_core.specs.Worlds.{WorldState}
 use Rattle.fr_frame.specs.Fields.{Fields}
 use Rattle.fr_interface.specs.State.{State}
@@ -14,7 +14,7 @@ use Rattle.fr_journal.specs.declared.entry.Entry.TheVariants as entry
 use Rattle.fr_journal.specs.declared.entry.Origin.{Origin}
 use Rattle.fr_lines.specs.Parts.{absent}
 use Rattle.fr_lines.specs.Spelling.{line_text}
-use Rattle.fr_playing.specs.declared.call.Call.{Call}
+use Rattle.fr_playing.specs.declared.call.ExecutedCall.{ExecutedCall}
 use Rattle.fr_slots.specs.Admission.{letter_of}
 use Rattle.fr_slots.specs.declared.channel.Channel.{Channel}
 use Rattle.fr_text.specs.Spaces.{line_of}
@@ -42,11 +42,11 @@ channel_in (Some s) number = channel_at (slice_get s.entries number)
 -- ---- words
 
 -- the call of a task, in the words of a scenario
-abbrev pub action_words : Action → List (List ℕ)
-action_words (action.Commit buffer payload) = codes "commit" ∷ decimal buffer ∷ hex_text payload ∷ []
-action_words (action.Withdraw buffer) = codes "withdraw" ∷ decimal buffer ∷ []
-action_words (action.Read buffer) = codes "read" ∷ decimal buffer ∷ []
-action_words action.Pop = codes "pop" ∷ []
+abbrev pub call_words : Call → List (List ℕ)
+call_words (host_call.Commit buffer payload) = codes "commit" ∷ decimal buffer ∷ hex_text payload ∷ []
+call_words (host_call.Withdraw buffer) = codes "withdraw" ∷ decimal buffer ∷ []
+call_words (host_call.Read buffer) = codes "read" ∷ decimal buffer ∷ []
+call_words host_call.Pop = codes "pop" ∷ []
 
 abbrev pub channel_word : Option Channel → List ℕ
 channel_word None = absent
@@ -68,7 +68,7 @@ answer_words channel Done = absent ∷ []
 -- ---- a line
 
 -- the node, the task, the cycle of the run, the call, and its answer
-abbrev pub answer_line : WorldState → Call → List ℕ
+abbrev pub answer_line : WorldState → ExecutedCall → List ℕ
 answer_line w call =
-    line_text (decimal call.node ∷ decimal call.task ∷ decimal call.cycle ∷ line_of (action_words call.action)
+    line_text (decimal call.node ∷ decimal call.task ∷ decimal call.cycle ∷ line_of (call_words call.call)
     ∷ codes "=" ∷ line_of (answer_words (channel_in (slice_get w.interfaces call.node) call.entry) call.reply) ∷ [])

@@ -3,15 +3,15 @@ ghost use Rattle.std.specs.Prelude.{◌≡◌, slice_get};
 ghost use Rattle.std.specs.List.{flat_map};
 ghost use Rattle.fr_text.specs.Spaces.{line_of};
 ghost use Rattle.fr_text.specs.Writing.{Writes};
-ghost use Rattle.fr_showing.specs.AnswerText.{action_words, answer_words, channel_word, answer_line, origin_of};
+ghost use Rattle.fr_showing.specs.AnswerText.{call_words, answer_words, channel_word, answer_line, origin_of};
 ghost use Rattle.fr_showing.specs.AnswerText.{channel_in, frame_words};
 
 use fr_core::event::Reply;
-use fr_core::script::Action;
 use fr_core::world::World;
 use fr_frame::frame::Frame;
+use fr_interface::call::Call;
 use fr_journal::entry::{Entry, Origin};
-use fr_playing::call::Call;
+use fr_playing::call::ExecutedCall;
 use fr_playing::nodes::interface_of;
 use fr_slots::channel::Channel;
 use fr_slots::numbers::NodeId;
@@ -40,17 +40,17 @@ fn channel_of(world: &World, node: NodeId, number: u32) -> Option<Channel>
 }
 
 /// Writes the call of a task.
-fn write_action<W: Write>(writer: &mut W, action: &Action) -> io::Result<()>
-    ensures { Writes W.contents writer.old writer.new result (line_of (action_words action.now)) }
+fn write_host_call<W: Write>(writer: &mut W, call: &Call) -> io::Result<()>
+    ensures { Writes W.contents writer.old writer.new result (line_of (call_words call.now)) }
 {
-    match action {
-        Action::Commit { buffer, payload } => {
+    match call {
+        Call::Commit { buffer, payload } => {
             write!(writer, "commit {buffer} ")?;
             write_hex(writer, payload.as_slice())
         }
-        Action::Withdraw { buffer } => write!(writer, "withdraw {buffer}"),
-        Action::Read { buffer } => write!(writer, "read {buffer}"),
-        Action::Pop => write!(writer, "pop"),
+        Call::Withdraw { buffer } => write!(writer, "withdraw {buffer}"),
+        Call::Read { buffer } => write!(writer, "read {buffer}"),
+        Call::Pop => write!(writer, "pop"),
     }
 }
 
@@ -87,12 +87,12 @@ fn write_answer<W: Write>(writer: &mut W, channel: Option<Channel>, reply: &Repl
 }
 
 /// Writes the line of a call, with its answer.
-fn write_call<W: Write>(writer: &mut W, world: &World, call: &Call) -> io::Result<()>
+fn write_call<W: Write>(writer: &mut W, world: &World, call: &ExecutedCall) -> io::Result<()>
     ensures { Writes W.contents writer.old writer.new result (answer_line world.now call.now) }
 {
     let (node, task) = (call.node.number(), call.task.number());
     write!(writer, "{node} {task} {} ", call.cycle)?;
-    write_action(writer, &call.action)?;
+    write_host_call(writer, &call.call)?;
     write!(writer, " = ")?;
     let channel = channel_of(world, call.node, call.entry);
     write_answer(writer, channel, &call.reply)?;
@@ -106,7 +106,7 @@ fn write_call<W: Write>(writer: &mut W, world: &World, call: &Call) -> io::Resul
 /// a pop it is the cycle count, the slot, the channel and the payload of the frame. It is `-` for none.
 ///
 /// Fails if the writer fails. Then a part of the text may have gone out.
-pub fn write_answers<W: Write>(writer: &mut W, world: &World, calls: &[Call]) -> io::Result<()>
+pub fn write_answers<W: Write>(writer: &mut W, world: &World, calls: &[ExecutedCall]) -> io::Result<()>
     ensures { Writes W.contents writer.old writer.new result (flat_map (answer_line world.now) calls.now) }
 {
     for call in calls {

@@ -6,7 +6,7 @@ ghost use Rattle.fr_threads.specs.Running.{bare, bare_script, IsAnswered, AreAns
 
 use crate::failure::Failure;
 use fr_core::event::Reply;
-use fr_core::script::{Action, Line, Script};
+use fr_core::script::{Line, Script};
 use std::alloc::Global;
 
 /// Returns a copy of the reply.

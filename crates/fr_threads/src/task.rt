@@ -3,9 +3,10 @@
 use crate::failure::Failure;
 use crate::shared::Shared;
 use fr_core::event::Reply;
-use fr_core::script::{Action, Line};
+use fr_core::script::Line;
 use fr_desks::desk::{Desk, TaskPass};
 use fr_desks::gate::Gate;
+use fr_interface::call::Call;
 use fr_interface::errors::HostError;
 use fr_ledger::books::Share;
 use std::alloc::Global;
@@ -27,22 +28,22 @@ fn do_line<L: Ledger, R: Wait, G: Gate>(
     desk: &Desk<L>,
     gate: &G,
     me: &mut TaskPass<L>,
-    action: &Action,
+    call: &Call,
 ) -> Result<Reply, HostError> {
-    match action {
-        Action::Commit { buffer, payload } => {
+    match call {
+        Call::Commit { buffer, payload } => {
             let receipt = desk.commit(rt, gate, me, *buffer, payload)?;
             Ok(Reply::Committed(receipt))
         }
-        Action::Withdraw { buffer } => {
+        Call::Withdraw { buffer } => {
             let of = desk.withdraw(rt, gate, me, *buffer)?;
             Ok(Reply::Withdrawn(of))
         }
-        Action::Read { buffer } => {
+        Call::Read { buffer } => {
             let frame = desk.read(rt, gate, me, *buffer)?;
             Ok(Reply::Frame(frame))
         }
-        Action::Pop => {
+        Call::Pop => {
             let frame = desk.pop(rt, gate, me)?;
             Ok(Reply::Frame(frame))
         }

@@ -1,8 +1,9 @@
 //! The cluster of three nodes, of which one babbles, and the scripts of its tasks.
 
 use fr_bus::fault::Fault;
-use fr_core::script::{Action, Line, Script};
+use fr_core::script::{Line, Script};
 use fr_frame::payload::Payload;
+use fr_interface::call::Call;
 use fr_runs::fault_line::{FaultCycles, FaultLine, FaultPlace};
 use fr_schedule::cluster::Cluster;
 use fr_slots::channel::Channel;
@@ -54,7 +55,7 @@ pub(crate) fn three_nodes(alloc: Global) -> Result<Cluster, Fail> {
 }
 
 /// Returns a line that has no answer yet.
-fn line(cycle: u16, action: Action) -> Line {
+fn line(cycle: u16, action: Call) -> Line {
     Line {
         cycle,
         action,
@@ -72,7 +73,7 @@ pub(crate) fn commits(
     let mut lines = Vec::new(alloc);
     for (cycle, bytes) in list {
         let payload = Payload::from_slice(bytes)?;
-        lines.push(line(*cycle, Action::Commit { buffer: 0, payload }))?;
+        lines.push(line(*cycle, Call::Commit { buffer: 0, payload }))?;
     }
     Ok(Script {
         node: node(number)?,
@@ -84,9 +85,9 @@ pub(crate) fn commits(
 /// Returns the scripts of all tasks, in order of nodes and tasks.
 pub(crate) fn scripts(alloc: Global) -> Result<Vec<Script>, Fail> {
     let mut pops = commits(alloc, 0, 1, &[(2, [0x0c, 0x0d])])?;
-    pops.lines.push(line(2, Action::Pop))?;
+    pops.lines.push(line(2, Call::Pop))?;
     let mut reads = commits(alloc, 1, 0, &[(0, [0x11, 0x11])])?;
-    reads.lines.push(line(3, Action::Read { buffer: 1 }))?;
+    reads.lines.push(line(3, Call::Read { buffer: 1 }))?;
     let mut scripts = Vec::new(alloc);
     scripts.push(commits(alloc, 0, 0, &[(0, [0x0a, 0x0b])])?)?;
     scripts.push(pops)?;

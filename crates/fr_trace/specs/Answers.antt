@@ -67,16 +67,6 @@ same_answer (Fetch window made_a made_b) (Fetch w told_a told_b) = same_offered 
     && same_offered made_b told_b
 same_answer made told = true
 
--- the origin of the frame that a read or a pop returned
-abbrev pub origin_in : Option Entry → Option Origin
-origin_in None = None
-origin_in (Some (Commit task buffer payload)) = None
-origin_in (Some (Withdraw task buffer of)) = None
-origin_in (Some (Read task buffer from)) = from
-origin_in (Some (Pop task from)) = from
-origin_in (Some (Fetch window a b)) = None
-origin_in (Some (Observe window a b)) = None
-
 -- the answers in the trace are those of the call
 abbrev pub is_answered : State → Entry → Bool
 is_answered s e = same_answer (made_by s e) e

@@ -1,28 +1,22 @@
 //! Replay: the call of an entry of a trace, made again.
 
-ghost use Rattle.std.specs.Prelude.{◌≡◌, slice_get, IfSome, OnOk};
+ghost use Rattle.std.specs.Prelude.{◌≡◌, option_map, IfSome, OnOk};
 ghost use Rattle.std.specs.Result.{result_err};
-ghost use Rattle.fr_trace.specs.Answers.{answer_of, origin_in, made_by, fault_of};
+ghost use Rattle.fr_trace.specs.Answers.{answer_of, made_by, fault_of};
 ghost use Rattle.fr_interface.specs.State.{with_entry};
+ghost use Rattle.fr_journal.specs.Held.{origin_of};
 ghost use Rattle.fr_lines.specs.Bare.{with_bytes};
 
 use crate::error::TraceError;
 use fr_interface::interface::Interface;
-use fr_journal::entry::{Entry, Origin};
+use fr_journal::entry::{Arrival, Origin};
 use fr_lines::bare::{BareEntry, EntryBytes};
 
-/// Returns the origin of the frame that the read or the pop of this number returned.
-///
-/// It isn't inlined, so that a call with another answer doesn't pay for the stack space of an entry.
-#[inline(never)]
-fn origin_at(interface: &Interface, number: u32) -> Option<Origin>
-    ensures { result ≡ origin_in (slice_get interface.now.entries number) }
+/// Returns the origin of a frame that arrived.
+fn origin_in(arrival: &Option<Arrival>) -> Option<Origin>
+    ensures { result ≡ option_map origin_of arrival.now }
 {
-    match interface.journal().get(number) {
-        Some(Entry::Read { from, .. }) => from,
-        Some(Entry::Pop { from, .. }) => from,
-        _ => None,
-    }
+    arrival.as_ref().map(|arrival| arrival.origin)
 }
 
 /// Makes the call of the entry, and returns whether its answers are those of the entry. `None` if the interface refuses
@@ -32,7 +26,6 @@ fn answers_as_told(interface: &mut Interface, told: &BareEntry, bytes: &EntryByt
     ensures made { IfSome result (λ answered.
         interface.new ≡ with_entry interface.old (made_by interface.old (with_bytes bytes.now told.now))) }
 {
-    let number = interface.journal().len();
     match told {
         BareEntry::Commit { task, buffer, .. } => {
             let _receipt = interface.commit(*task, *buffer, &bytes.payload).ok()?;
@@ -43,12 +36,12 @@ fn answers_as_told(interface: &mut Interface, told: &BareEntry, bytes: &EntryByt
             Some(made == *of)
         }
         BareEntry::Read { task, buffer, from } => {
-            let _frame = interface.read(*task, *buffer).ok()?;
-            Some(origin_at(interface, number) == *from)
+            let arrival = interface.read_arrival(*task, *buffer).ok()?;
+            Some(origin_in(&arrival) == *from)
         }
         BareEntry::Pop { task, from } => {
-            let _frame = interface.pop(*task).ok()?;
-            Some(origin_at(interface, number) == *from)
+            let arrival = interface.pop_arrival(*task).ok()?;
+            Some(origin_in(&arrival) == *from)
         }
         BareEntry::Fetch { window, a, b } => {
             let (made_a, made_b) = interface.fetch_offered(window).ok()?;

@@ -1,5 +1,5 @@
 use Rattle.std.proofs.Common.{sym, ◌∙◌, arith}
-use Rattle.fr_core.proofs.ScriptLemmas.{courses_past, courses_set, few_deeds}
+use Rattle.fr_core.proofs.ScriptLemmas.{courses_past, courses_set, few_calls}
 use Rattle.fr_journal.specs.Lent.{whole}
 use Rattle.fr_core.proofs.tasks.courses_past.Goals as goal
 
@@ -11,7 +11,7 @@ returns-in_default c =
 
 pub course_past-requires : goal.course_past-requires
 course_past-requires c =
-    few_deeds c.args.interface.now c.args.scripts.now c.args.node c.args.number c.args.courses.now c.from-place.result _
+    few_calls c.args.interface.now c.args.scripts.now c.args.node c.args.number c.args.courses.now c.from-place.result _
     c.requires.so_far
     (omega (arith, c.from-place.ensures, c.number.ensures.fits, c.number.ensures.value)) c.requires.few
 

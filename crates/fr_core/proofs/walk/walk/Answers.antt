@@ -4,7 +4,7 @@ use Rattle.fr_core.proofs.ScriptLemmas.{courses_first, whole_at, task_found}
 use Rattle.fr_core.proofs.WalkLemmas.{none_past, fetches_first, fetches_on, observes_first, observes_on, finds_rest}
 use Rattle.fr_core.proofs.WalkLemmas.{windows_told}
 use Rattle.fr_core.specs.Agreeing.{handed_at, sight_at, offers_of, sights_of}
-use Rattle.fr_core.specs.Scripts.{deeds_of}
+use Rattle.fr_core.specs.Scripts.{calls_of}
 use Rattle.fr_core.specs.Settling.{fetches_at, observes_at}
 use Rattle.fr_core.specs.Walks.{AreCourses}
 use Rattle.fr_journal.specs.Lent.{whole}
@@ -63,7 +63,7 @@ returns c =
           c.or_rest.ensures;
       sights = finds_rest sight_at s.entries (sights_of c.args.params.now n) rs k c.loop-number.observes.count
           c.loop-number.observes.sight c.or_rest-2.result end observes.sights c.or_rest-2.ensures;
-      scripts = task_found c.args.scripts.now n (deeds_of s) c.loop-number.courses c.other_task.result
+      scripts = task_found c.args.scripts.now n (calls_of s) c.loop-number.courses c.other_task.result
           c.loop-number.invariant.courses.as_many
           (whole_at s c.args.scripts.now n k c.loop-number.courses end c.loop-number.invariant.courses)
           c.other_task.ensures;
