@@ -8,12 +8,12 @@ use Rattle.fr_playing.specs.declared.call.ExecutedCall.{ExecutedCall}
 use Rattle.fr_playing.specs.declared.play.Played.{Played}
 use Rattle.fr_playing.specs.Playing.{IsPlayed, PlaysCycles}
 use Rattle.fr_playing.specs.Windows.{PlaysWindow, PlaysWindows, PlaysWithin}
-use Rattle.fr_session.specs.Striking.{Passes}
+use Rattle.fr_playing.specs.Striking.{Passes}
 use Rattle.fr_runs.specs.declared.fault_line.FaultLine.{FaultLine}
 use Rattle.fr_schedule.specs.Descriptions.{Description}
-use Rattle.fr_session.specs.Laws.{IsLed}
-use Rattle.fr_session.specs.Moving.{whole_window}
-use Rattle.fr_session.proofs.LawLemmas.{led_on, led_same, led_step}
+use Rattle.fr_playing.specs.Laws.{IsLed}
+use Rattle.fr_playing.specs.Moving.{whole_window}
+use Rattle.fr_playing.proofs.LedLemmas.{led_on, led_same, led_step}
 
 led_passes : (old : WorldState) (events : List Event) (new : WorldState) → Passes old events new → IsLed old new
 unfolding Passes
@@ -27,7 +27,7 @@ unfolding DoesCalls
 led_calls old [] new does = led_same old new does
 led_calls old (call ∷ calls) new does =
     let (between, here, rest) = does in
-    led_on old between new (led_step old (event_of call.node call.task call.action) (Ok call.reply) between here.0)
+    led_on old between new (led_step old (event_of call.node call.task call.call) (Ok call.reply) between here.0)
     (led_calls between calls new rest)
 
 led_window : (cycle : ℕ) (faults : List FaultLine) (due : List Event) (old new : WorldState)

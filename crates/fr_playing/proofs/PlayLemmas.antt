@@ -21,10 +21,10 @@ use Rattle.fr_playing.specs.Playing.{AddsCycle, IsPlayed, PlaysCycles, asked_by}
 use Rattle.fr_playing.specs.Windows.{PlaysWindow, PlaysWindows, PlaysWithin}
 use Rattle.fr_runs.specs.declared.fault_line.FaultLine.{FaultLine}
 use Rattle.fr_schedule.specs.Descriptions.{Description}
-use Rattle.fr_session.specs.Moving.{is_at_cycle, whole_window}
-use Rattle.fr_session.specs.Striking.{Passes, strike_events}
-use Rattle.fr_session.proofs.MovingLemmas.{range-more}
-use Rattle.fr_session.proofs.StrikingLemmas.{flat-more, passes_append}
+use Rattle.fr_playing.specs.Moving.{is_at_cycle, whole_window}
+use Rattle.fr_playing.specs.Striking.{Passes, strike_events}
+use Rattle.fr_playing.proofs.MovingLemmas.{range-more}
+use Rattle.fr_playing.proofs.StrikingLemmas.{flat-more, passes_append}
 use Rattle.fr_slots.specs.Windows.{Opportunity}
 
 -- ---- lists

@@ -1,3 +1,6 @@
+pub mod Striking
+pub mod Moving
+pub mod Laws
 pub mod Calls
 pub mod Files
 pub mod Playing

@@ -10,7 +10,7 @@ use Rattle.fr_playing.specs.declared.play.Played.{Played}
 use Rattle.fr_playing.specs.Windows.{PlaysWindows}
 use Rattle.fr_runs.specs.declared.fault_line.FaultLine.{FaultLine}
 use Rattle.fr_schedule.specs.Descriptions.{Description}
-use Rattle.fr_session.specs.Moving.{whole_window}
+use Rattle.fr_playing.specs.Moving.{whole_window}
 
 -- `due` are the events that are due in a window of all nodes, except the faults and the bus's advance.
 

@@ -5,8 +5,8 @@ use Rattle.fr_core.specs.declared.event.Event.{Event}
 use Rattle.fr_core.specs.declared.event.Event.TheVariants.{Advance}
 use Rattle.fr_core.specs.Worlds.{WorldState}
 use Rattle.fr_runs.specs.declared.fault_line.FaultLine.{FaultLine}
-use Rattle.fr_session.specs.Moving.{is_at_cycle}
-use Rattle.fr_session.specs.Striking.{strike_events, Passes}
+use Rattle.fr_playing.specs.Moving.{is_at_cycle}
+use Rattle.fr_playing.specs.Striking.{strike_events, Passes}
 use Rattle.fr_slots.specs.Windows.{Opportunity}
 
 -- the events of this window: its faults, then the due events of all nodes, and then the bus's advance

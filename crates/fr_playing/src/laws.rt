@@ -6,7 +6,7 @@ ghost use Rattle.fr_playing.specs.declared.play.Played.{Played};
 ghost use Rattle.fr_playing.specs.Playing.{IsPlayed};
 ghost use Rattle.fr_runs.specs.declared.fault_line.FaultLine.{FaultLine};
 ghost use Rattle.fr_schedule.specs.Descriptions.{Description};
-ghost use Rattle.fr_session.specs.Laws.{IsLed};
+ghost use Rattle.fr_playing.specs.Laws.{IsLed};
 
 // For the prover: the clause is the law.
 /// A list of events leads from the opening world to the world of the run (project-defined).

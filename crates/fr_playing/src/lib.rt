@@ -1,4 +1,4 @@
-//! A single-threaded run of a cluster: one event after another in the world (project-defined).
+//! Windows driven in the world, and single-threaded runs: one event after another (project-defined).
 //!
 //! ```text
 //! let played = play(alloc, &cluster, scenario.scripts(), scenario.faults(), cycles)?;
@@ -12,17 +12,20 @@
 //!
 //! # Definitions
 //!
+//! - `Striking`, `Moving`: the faults of a window; the steps that are due in a window, and windows one after another.
 //! - `Calls`, `Windows`, `Playing`: the effects of script lines one after another; the windows of a cycle as events; a
 //!   whole run.
 //! - `Files`, `Refusals`: the run of a scenario file, and the reasons why there is none.
+//! - `Laws`: worlds that are led by events.
 //!
 //! # Inner workings
 //!
 //! 1. `play` (`play`) calls `check_run`, and makes the list of steps that are due in a window (`whole_window` of
-//!    `fr_session::moving`), and the opening world.
-//! 2. `do_lines` (`call`) executes the lines of a cycle, each by one event, and keeps an `ExecutedCall` with the executed call,
+//!    `moving`), and the opening world.
+//! 2. `do_lines` (`call`) executes the lines of a cycle, each by one event, and keeps an `ExecutedCall` with the call,
 //!    the entry and the reply.
-//! 3. `play_windows` (`windows`) executes window after window: the faults, the due steps, the advance.
+//! 3. `play_windows` (`windows`) executes window after window: the faults (`striking`), the due steps, the advance.
+//! 4. A session moves on by `finish_window` and `finish_cycles` (`moving`), which execute what is still due.
 #![tactic(auto)]
 
 pub mod call;
@@ -30,6 +33,8 @@ pub mod error;
 pub mod file;
 mod hindrance;
 pub mod laws;
+pub mod moving;
 pub mod nodes;
 pub mod play;
+pub mod striking;
 mod windows;

@@ -8,6 +8,7 @@ ghost use Rattle.fr_playing.specs.Refusals.{refusal_told, IsOfRun};
 use crate::call::{ExecutedCall, do_lines};
 use crate::error::PlayError;
 use crate::hindrance::{Hindrance, error_of};
+use crate::moving::whole_window;
 use crate::windows::play_windows;
 use fr_core::event::Event;
 use fr_core::script::Script;
@@ -15,7 +16,6 @@ use fr_core::world::World;
 use fr_runs::check::check_run;
 use fr_runs::fault_line::FaultLine;
 use fr_schedule::cluster::Cluster;
-use fr_session::moving::whole_window;
 use std::alloc::Global;
 
 /// The world and the calls at the end of a run (project-defined).

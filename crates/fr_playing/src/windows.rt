@@ -1,14 +1,14 @@
 //! The windows of a cycle, in the world.
 ghost use Rattle.std.specs.Prelude.{◌∷◌, [], OnOk};
 ghost use Rattle.fr_playing.specs.Windows.{PlaysWindow, PlaysWindows};
-ghost use Rattle.fr_session.specs.Striking.{Passes};
+ghost use Rattle.fr_playing.specs.Striking.{Passes};
 
 use crate::hindrance::Hindrance;
+use crate::moving::{MOST_WINDOWS, is_at_cycle};
+use crate::striking::strike_all;
 use fr_core::event::Event;
 use fr_core::world::World;
 use fr_runs::fault_line::FaultLine;
-use fr_session::moving::is_at_cycle;
-use fr_session::striking::strike_all;
 
 /// Executes an event, which must be accepted.
 fn pass(world: &mut World, event: &Event) -> Result<(), Hindrance>
@@ -54,8 +54,7 @@ pub(crate) fn play_windows(
 ) -> Result<(), Hindrance>
     ensures { OnOk result (PlaysWindows cycle faults.now due.now world.old world.new) }
 {
-    // A cycle has at most 1023 static slots and 8000 minislots.
-    for count in 0..9023u32 {
+    for count in 0..MOST_WINDOWS {
         play_window(world, cycle, faults, due)?;
         if is_at_cycle(world.bus()) {
             return Ok(());

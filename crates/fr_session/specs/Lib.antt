@@ -1,8 +1,6 @@
 pub mod Lines
 pub mod Reading
 pub mod Replies
-pub mod Striking
-pub mod Moving
 pub mod RecordWords
 pub mod Queries
 pub mod Keeping

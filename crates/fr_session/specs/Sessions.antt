@@ -17,7 +17,7 @@ use Rattle.fr_session.specs.declared.request.Request.{Request}
 use Rattle.fr_session.specs.declared.request.Request.TheVariants as request
 use Rattle.fr_session.specs.Keeping.{KeepsLine}
 use Rattle.fr_session.specs.Lines.{IsCut, Comes}
-use Rattle.fr_session.specs.Moving.{window_events, MovesOn, RunsCycles}
+use Rattle.fr_playing.specs.Moving.{window_events, MovesOn, RunsCycles}
 use Rattle.fr_session.specs.Queries.{now_text, moved_text, IsBlockOf, IsRecordOf, node_origin_text}
 use Rattle.fr_session.specs.Reading.{asked_in}
 use Rattle.fr_session.specs.Replies.{answer_text, bad_line_words, done_words, greeting}

@@ -17,8 +17,7 @@
 //!
 //! - `Lines`, `Reading`, `Replies`, `RecordWords`, `Queries`: the lines of a text and of a reader; the request of a
 //!   line; replies; the words of a record; the answers to queries.
-//! - `Striking`, `Keeping`, `Moving`: the faults of a window; kept fault lines; the steps that are due in a window, and
-//!   windows one after another.
+//! - `Keeping`: kept fault lines.
 //! - `Marks`: marks of the windows that fault lines name, by which a line is compared with all others at once.
 //! - `Sessions`, `Laws`: a session; laws of all sessions.
 //!
@@ -35,8 +34,8 @@
 //!    request is read as a fault line (`fr_scenario::lines`).
 //! 4. An event is one `World::step`. A fault line is checked against the kept ones (`suits_after` of `fr_runs`) and
 //!    kept (`keeping`). A query writes what the world lends (`queries`).
-//! 5. `window` is the injections of the kept lines (`striking`, which single-threaded runs use too), then a prepared
-//!    list of events (`moving`), and an advance. The requests `cycle` and `run` are windows.
+//! 5. `window` is the injections of the kept lines (`fr_playing::striking`), then a prepared list of events
+//!    (`fr_playing::moving`), and an advance. The requests `cycle` and `run` are windows.
 //!
 //! The time of a request doesn't grow with the session, with two exceptions. The requests `trace` and `report` grow
 //! with the journal, and windows and fault lines with the number of kept fault lines.
@@ -48,11 +47,9 @@ mod kept;
 pub mod laws;
 mod lines;
 mod marks;
-pub mod moving;
 mod queries;
 mod reading;
 mod replies;
 pub mod request;
 pub mod session;
-pub mod striking;
 pub mod words;

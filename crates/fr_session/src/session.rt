@@ -12,7 +12,6 @@ use crate::error::SessionError;
 use crate::keeping::keep_line;
 use crate::kept::KeptLines;
 use crate::lines::{Line, next_line};
-use crate::moving::{finish_cycles, finish_window, window_events};
 use crate::queries::{
     write_moved, write_node_origin, write_node_report, write_node_trace, write_now, write_recorded,
 };
@@ -21,6 +20,7 @@ use crate::replies::{write_answer, write_bad_line, write_done, write_greeting};
 use crate::request::Request;
 use fr_core::event::Event;
 use fr_core::world::World;
+use fr_playing::moving::{finish_cycles, finish_window, window_events};
 use fr_schedule::cluster::Cluster;
 use std::alloc::Global;
 use std::io;

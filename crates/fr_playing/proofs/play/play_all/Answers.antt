@@ -2,7 +2,7 @@ use Rattle.std.proofs.Common.{◌∙◌, ap, sym}
 use Rattle.fr_playing.proofs.PlayLemmas.{is_played}
 use Rattle.fr_playing.proofs.play.play_all.Goals as goal
 use Rattle.fr_bus.specs.States.{BusState}
-use Rattle.fr_session.specs.Moving.{whole_window}
+use Rattle.fr_playing.specs.Moving.{whole_window}
 
 pub returns : goal.returns
 returns c =

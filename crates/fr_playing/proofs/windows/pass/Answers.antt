@@ -1,4 +1,4 @@
-use Rattle.fr_session.proofs.StrikingLemmas.{passes_one}
+use Rattle.fr_playing.proofs.StrikingLemmas.{passes_one}
 use Rattle.fr_playing.proofs.windows.pass.Goals as goal
 
 pub returns : goal.returns

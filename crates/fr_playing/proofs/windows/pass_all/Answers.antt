@@ -1,4 +1,4 @@
-use Rattle.fr_session.proofs.StrikingLemmas.{passes_none, passes_more}
+use Rattle.fr_playing.proofs.StrikingLemmas.{passes_none, passes_more}
 use Rattle.fr_playing.proofs.windows.pass_all.Goals as goal
 
 pub loop-event-init : goal.loop-event-init

@@ -1,5 +1,5 @@
 use Rattle.std.proofs.Common.{take}
-use Rattle.fr_session.specs.Striking.{Passes}
+use Rattle.fr_playing.specs.Striking.{Passes}
 use Rattle.fr_playing.proofs.windows.pass_all.Given as goal
 
 -- the events so far

@@ -1,6 +1,6 @@
 use Rattle.std.proofs.Common.{◌≡◌, ◌∙◌, false, ap, sym}
 use Rattle.fr_playing.proofs.PlayLemmas.{within_none, within_more}
-use Rattle.fr_session.specs.Moving.{is_at_cycle}
+use Rattle.fr_playing.specs.Moving.{is_at_cycle}
 use Rattle.fr_playing.proofs.windows.play_windows.Goals as goal
 
 pub loop-count-init : goal.loop-count-init

@@ -1,0 +1,15 @@
+use Rattle.std.proofs.lemmas.List.{take_more}
+use Rattle.fr_playing.proofs.MovingLemmas.{does_none, does_more}
+use Rattle.fr_playing.proofs.moving.do_all.Goals as goal
+
+pub loop-event-init : goal.loop-event-init
+loop-event-init c = does_none c.args.world.now
+
+pub loop-event-preserved : goal.loop-event-preserved
+loop-event-preserved c =
+    rw (
+      take_more c.args.events.now c.loop-event.event-index c.event-item.result c.loop-event-test.true,
+      ← c.event-item.is,
+      c.first_refusal-found.ensures,
+    )
+    (does_more _ _ _ _ _ _ _ c.loop-event.invariant c.step-answer.ensures.step)

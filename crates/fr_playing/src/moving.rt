@@ -1,0 +1,222 @@
+//! The faults and steps of a window, as events.
+ghost use Rattle.std.specs.Prelude.{◌≡◌, ◌≤◌, ◌++◌, List, IfOk, OnOk};
+ghost use Rattle.std.specs.List.{flat_map, range_with_len};
+ghost use Rattle.fr_core.specs.Runs.{Answer, StepsAll};
+ghost use Rattle.fr_playing.specs.Moving.{first_refusal, hindrance};
+ghost use Rattle.fr_playing.specs.Moving.{observe_events, offer_events, see_events, for_nodes};
+ghost use Rattle.fr_playing.specs.Moving.{whole_window, window_events, run_cycle_after, Strikes, DoesAll, MovesOn};
+ghost use Rattle.fr_playing.specs.Moving.{is_at_cycle, EndsCycle, RunsCycles};
+
+use crate::striking::strike_all;
+use fr_bus::bus::Bus;
+use fr_bus::windows::opens_cycle;
+use fr_core::error::StepError;
+use fr_core::event::{Event, Reply};
+use fr_core::world::World;
+use fr_runs::fault_line::FaultLine;
+use fr_slots::numbers::NodeId;
+use fr_slots::window::Window;
+use std::alloc::{AllocError, Global};
+
+/// The greatest number of windows of a cycle: one for each of 1,023 static slots and 8,000 minislots.
+pub(crate) const MOST_WINDOWS: u32 = 9_023;
+
+/// Returns the first refusal that isn't `WrongTurn`: the one found before, or otherwise this one.
+fn first_refusal(found: Option<StepError>, answer: &Result<Reply, StepError>) -> Option<StepError>
+    ensures { result ≡ first_refusal found answer.now }
+{
+    match (found, answer) {
+        (Some(found), _) => Some(found),
+        (None, Ok(_)) => None,
+        (None, Err(StepError::WrongTurn)) => None,
+        (None, Err(error)) => Some(*error),
+    }
+}
+
+/// Returns the hindrance of the bus, from the answer of its advance and the refusal found before.
+fn hindrance(found: Option<StepError>, last: &Result<Reply, StepError>) -> Option<StepError>
+    ensures { result ≡ hindrance found last.now }
+{
+    match (last, found) {
+        (Ok(_), _) => None,
+        (Err(_), Some(found)) => Some(found),
+        (Err(error), None) => Some(*error),
+    }
+}
+
+/// Appends the observe of each node.
+fn push_observes(events: &mut Vec<Event>, nodes: u8) -> Result<(), AllocError>
+    requires { nodes ≤ 16 }
+    ensures { OnOk result (events.new.items ≡ events.old.items ++ for_nodes observe_events nodes) }
+{
+    for number in 0..nodes {
+        let node = NodeId::from_number(number);
+        events.push(Event::Observe(node))?;
+    }
+    Ok(())
+}
+
+/// Appends for each node the steps that bring its offer to the bus.
+fn push_offers(events: &mut Vec<Event>, nodes: u8) -> Result<(), AllocError>
+    requires { nodes ≤ 16 }
+    ensures { OnOk result (events.new.items ≡ events.old.items ++ for_nodes offer_events nodes) }
+{
+    for number in 0..nodes {
+        let node = NodeId::from_number(number);
+        events.push(Event::Look(node))?;
+        events.push(Event::Fetch(node))?;
+        events.push(Event::Put(node))?;
+    }
+    Ok(())
+}
+
+/// Appends for each node the steps that bring its observation to its interface.
+fn push_sights(events: &mut Vec<Event>, nodes: u8) -> Result<(), AllocError>
+    requires { nodes ≤ 16 }
+    ensures { OnOk result (events.new.items ≡ events.old.items ++ for_nodes see_events nodes) }
+{
+    for number in 0..nodes {
+        let node = NodeId::from_number(number);
+        events.push(Event::Take(node))?;
+        events.push(Event::Observe(node))?;
+    }
+    Ok(())
+}
+
+// This is the one list of the events that are due in a window. A session executes it after the events that are left
+// over, a single-threaded run in an untouched window.
+/// Appends the events that are due in a window in which nothing has been executed, except the advance.
+fn push_whole(events: &mut Vec<Event>, nodes: u8) -> Result<(), AllocError>
+    requires { nodes ≤ 16 }
+    ensures { OnOk result (events.new.items ≡ events.old.items ++ whole_window nodes) }
+{
+    push_offers(events, nodes)?;
+    events.push(Event::Seal)?;
+    push_sights(events, nodes)
+}
+
+/// Returns the events that are due in an untouched window of at most 16 nodes (project-defined).
+///
+/// They are the look, fetch and put of each node, the seal, and the take and observe of each node. The bus's advance
+/// isn't among them. Fails if an allocation fails.
+pub fn whole_window(alloc: Global, nodes: u8) -> Result<Vec<Event>, AllocError>
+    requires { nodes ≤ 16 }
+    ensures { IfOk result (λ events. events.items ≡ whole_window nodes) }
+{
+    let mut events = Vec::new(alloc);
+    push_whole(&mut events, nodes)?;
+    Ok(events)
+}
+
+/// Returns all events that can be due in a window of at most 16 nodes, except the advance (project-defined).
+///
+/// They are an observe of each node, and those of an untouched window. Fails if an allocation fails.
+pub fn window_events(alloc: Global, nodes: u8) -> Result<Vec<Event>, AllocError>
+    requires { nodes ≤ 16 }
+    ensures { IfOk result (λ events. events.items ≡ window_events nodes) }
+{
+    let mut events = Vec::new(alloc);
+    push_observes(&mut events, nodes)?;
+    push_whole(&mut events, nodes)?;
+    Ok(events)
+}
+
+/// Executes the events, and returns the first refusal that isn't `WrongTurn`.
+fn do_all(world: &mut World, events: &[Event]) -> Option<StepError>
+    ensures { DoesAll world.old events.now result world.new }
+{
+    let mut found = None;
+    for event in events {
+        let answer = world.step(event);
+        found = first_refusal(found, &answer);
+    }
+    found
+}
+
+/// Returns the number of the run's cycle in which the open window lies. The window isn't sealed.
+fn run_cycle_of(bus: &Bus, window: &Window) -> u16
+    ensures { result ≡ run_cycle_after bus.now.sealed window.now }
+{
+    let begun = bus.cycles_begun();
+    if opens_cycle(window) {
+        begun
+    } else {
+        begun.saturating_sub(1)
+    }
+}
+
+/// Injects the faults of the open window, unless it is sealed.
+fn strike_open(world: &mut World, faults: &[FaultLine])
+    ensures { Strikes faults.now world.old world.new }
+{
+    match world.bus().collecting() {
+        Some(window) => {
+            let cycle = run_cycle_of(world.bus(), &window);
+            // A fault of the window stays, if it has the same kind, node and channel.
+            let _struck = strike_all(world, cycle, &window, faults);
+        }
+        None => {}
+    }
+}
+
+/// Finishes the open window: its faults, the events that are still due, and the bus's advance (project-defined).
+///
+/// The events are those of a window, as `window_events` returns them. Returns the hindrance of the bus.
+pub fn finish_window(
+    world: &mut World,
+    faults: &[FaultLine],
+    events: &[Event],
+) -> Option<StepError>
+    ensures { MovesOn faults.now events.now world.old result world.new }
+{
+    strike_open(world, faults);
+    let found = do_all(world, events);
+    let last = world.step(&Event::Advance);
+    hindrance(found, &last)
+}
+
+/// Returns whether the open window is the first of its cycle, or the run is over (project-defined).
+pub fn is_at_cycle(bus: &Bus) -> bool
+    ensures { result ≡ is_at_cycle bus.now.opened }
+{
+    match bus.window() {
+        Some(window) => opens_cycle(&window),
+        None => true,
+    }
+}
+
+/// Executes windows until the first one of a cycle is open, and returns a hindrance of the bus before.
+fn finish_cycle(world: &mut World, faults: &[FaultLine], events: &[Event]) -> Option<StepError>
+    ensures { EndsCycle faults.now events.now world.old result world.new }
+{
+    for count in 0..MOST_WINDOWS {
+        match finish_window(world, faults, events) {
+            Some(error) => return Some(error),
+            None => {}
+        }
+        if is_at_cycle(world.bus()) {
+            return None;
+        }
+    }
+    None
+}
+
+/// Executes this number of cycles, and returns a hindrance of the bus before (project-defined).
+///
+/// The events are those of a window, as `window_events` returns them.
+pub fn finish_cycles(
+    world: &mut World,
+    faults: &[FaultLine],
+    events: &[Event],
+    cycles: u16,
+) -> Option<StepError>
+    ensures { RunsCycles faults.now events.now cycles world.old result world.new }
+{
+    for count in 0..cycles {
+        match finish_cycle(world, faults, events) {
+            Some(error) => return Some(error),
+            None => {}
+        }
+    }
+    None
+}

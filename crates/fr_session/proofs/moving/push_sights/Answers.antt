@@ -1,8 +1,0 @@
-use Rattle.std.proofs.Common.{arith}
-use Rattle.std.proofs.lemmas.Grind.{common_steps}
-use Rattle.fr_session.proofs.MovingLemmas.{nodes_more}
-use Rattle.fr_session.specs.Moving.{see_events}
-use Rattle.fr_session.proofs.moving.push_sights.Goals as goal
-
-pub loop-number-preserved : goal.loop-number-preserved
-loop-number-preserved c = rw (nodes_more see_events c.loop-number.number) (grind (arith, common_steps))

@@ -1,8 +1,0 @@
-use Rattle.fr_session.proofs.StrikingLemmas.{tells_accepted, tells_refused}
-use Rattle.fr_session.proofs.striking.attempt.Goals as goal
-
-pub returns-in-Ok : goal.returns-in-Ok
-returns-in-Ok c = tells_accepted c.args.world.now c.args.event.now _ c.step-answer.new.self c.in-Ok.ensures.step
-
-pub returns-in-Err : goal.returns-in-Err
-returns-in-Err c = tells_refused c.args.world.now c.args.event.now _ c.step-answer.new.self c.in-Err.ensures.step
