@@ -1,4 +1,4 @@
--- The receive queue: what arrived, what it holds, and how many frames it lost (project-defined).
+-- The receive FIFO: its arrivals, its content, and the number of lost frames (project-defined).
 use Rattle.std.specs.Prelude.{ℕ, ◌+◌, ◌-◌, min, Bool, false, not, ◌&&◌, List, [], ◌∷◌, ◌++◌, length, drop, Option, Some}
 use Rattle.std.specs.Prelude.{None, is_some, if◌then◌else◌, option_map, count_by, option_to_list, slice_get}
 use Rattle.std.specs.List.{fold, list_any}
@@ -26,7 +26,7 @@ abbrev pub queue_admits_slot : Queue → ℕ → Channel → Option ℕ → Bool
 queue_admits_slot q cycle channel None = false
 queue_admits_slot q cycle channel (Some slot) = queue_admits q cycle slot channel
 
--- the queue admits the window on the channel, and no receive buffer of the node does
+-- the receive FIFO admits the window on the channel, and no receive buffer of the node does
 abbrev pub is_for_queue : Plan → Queue → Opportunity → Channel → Bool
 is_for_queue plan q window channel =
     queue_admits_slot q window.cycle channel (slot_of window channel)
@@ -43,7 +43,7 @@ queue_arrivals_in params plan q number a b None = []
 queue_arrivals_in params plan q number a b (Some window) = queue_arrival_on params plan q number window A a
     ++ queue_arrival_on params plan q number window B b
 
--- what happens to a queue
+-- a step of a receive FIFO: a frame arrives, or a task pops
 pub data Move : Type 0 where
   arrives : Arrival → Move
   pops : Move
@@ -61,7 +61,7 @@ moves_at params plan q before (Fetch window a b) = []
 moves_at params plan q before (Observe window a b) =
     arrive_all (queue_arrivals_in params plan q (length before) a b (open_window before))
 
--- arrivals and pops, in the order of the entries, channel A's arrival before B's
+-- arrivals and pops, in the order of the entries, and an arrival on channel A before one on B
 abbrev pub moves : Parameters → Plan → Queue → List Entry → List Move
 moves params plan q entries = each_after (moves_at params plan q) [] entries
 
@@ -72,7 +72,7 @@ arrived (pops ∷ moves) = arrived moves
 
 -- ---- content
 
--- the length of the queue after a move: a full queue stays full
+-- the length of the receive FIFO after a move: an arrival leaves a full one full
 abbrev pub length_after : ℕ → ℕ → Move → ℕ
 length_after capacity n (arrives arrival) = min (n + 1) capacity
 length_after capacity n pops = n - 1
@@ -80,11 +80,11 @@ length_after capacity n pops = n - 1
 abbrev pub queue_length : ℕ → List Move → ℕ
 queue_length capacity moves = fold (length_after capacity) 0 moves
 
--- the last arrivals, as many as the queue is long, the oldest first
+-- the last arrivals, as many as the receive FIFO holds, the oldest first
 abbrev pub queue_content : ℕ → List Move → List Arrival
 queue_content capacity moves = drop (length (arrived moves) - queue_length capacity moves) (arrived moves)
 
--- the oldest, which a pop takes
+-- the oldest frame, which a pop returns
 abbrev pub oldest : ℕ → List Move → Option Arrival
 oldest capacity moves = slice_get (queue_content capacity moves) 0
 
@@ -98,7 +98,7 @@ is_answered_pop (Pop task from) = is_some from
 is_answered_pop (Fetch window a b) = false
 is_answered_pop (Observe window a b) = false
 
--- what arrived, was never popped and isn't there
+-- the number of arrivals that were never popped and aren't in the receive FIFO
 abbrev pub queue_lost : Parameters → Plan → Queue → List Entry → ℕ
 queue_lost params plan q entries =
     length (arrived (moves params plan q entries)) - count_by is_answered_pop entries

@@ -1,4 +1,4 @@
--- The status counters of a channel: how many observed windows had each bit there (chapter 6).
+-- The status counters of a channel: the number of observed windows with each bit there (chapter 6).
 use Rattle.std.specs.Prelude.{ℕ, Bool, false, List, [], ◌∷◌, Option, Some, None}
 use Rattle.fr_journal.specs.Forms.{Entry}
 use Rattle.fr_journal.specs.declared.entry.Entry.TheVariants.{Commit, Withdraw, Read, Pop, Fetch, Observe}
@@ -58,7 +58,7 @@ counts_of params channel entries = record {
 abbrev pub in_order : StatusCounts → List ℕ
 in_order c = c.valid ∷ c.syntax_errors ∷ c.content_errors ∷ c.boundary_violations ∷ c.conflicts ∷ []
 
--- the counters that some entries give
+-- the counters after some entries
 abbrev pub counters_of : Parameters → List Entry → Counters
 counters_of params entries =
     record { a = in_order (counts_of params channel.A entries); b = in_order (counts_of params channel.B entries) }

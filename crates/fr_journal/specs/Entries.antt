@@ -1,4 +1,4 @@
--- Which entries are of the host, and which numbers and bytes an entry may have.
+-- The entries of the host and of the controller, and the ranges of an entry's numbers and bytes.
 use Rattle.std.specs.Prelude.{ℕ, ◌<◌, ◌≤◌, ◌^◌, Bool, true, false, not, List, length, slice_index, Option, Some, None}
 use Rattle.std.specs.Prelude.{IfSome}
 use Rattle.fr_frame.specs.Payload.{IsPayload, most_frame_bytes}
@@ -52,7 +52,7 @@ pub record IsFetched (window : Opportunity) (a b : Offered) : Type 0 where
   pub a_fits : IsOffered a
   pub b_fits : IsOffered b
 
--- the numbers and bytes of an entry are those that its parts can have
+-- the numbers and bytes of an entry are in their ranges
 abbrev pub IsEntry : Entry → Type 0
 IsEntry (Commit task buffer payload) = (task < 8) × (buffer < 256) × IsPayload payload × AreBytes payload
 IsEntry (Withdraw task buffer of) = (task < 8) × (buffer < 256) × IfSome of (λ commit. commit < 2 ^ 32)

@@ -22,7 +22,7 @@ is_commit_on buffer (Pop task from) = false
 is_commit_on buffer (Fetch window a b) = false
 is_commit_on buffer (Observe window a b) = false
 
--- the number, where this is a commit on the buffer
+-- the number, if this entry is a commit on the buffer
 abbrev pub commit_at : ℕ → ℕ → Entry → Option ℕ
 commit_at buffer number e = if is_commit_on buffer e then Some number else None
 
@@ -33,7 +33,7 @@ commit_on buffer before e = commit_at buffer (length before) e
 abbrev pub last_commit : ℕ → List Entry → Option ℕ
 last_commit buffer entries = last_after (commit_on buffer) [] entries
 
--- ---- what became of a commit, by the entries after it
+-- ---- the fate of a commit, by the entries after it
 
 abbrev pub is_data_of : ℕ → Offered → Bool
 is_data_of commit Nothing = false
@@ -62,8 +62,9 @@ takes_back commit (Pop task from) = false
 takes_back commit (Fetch window a b) = false
 takes_back commit (Observe window a b) = false
 
--- A commit is sent where a later fetch hands it to the bus; else it is withdrawn where a later withdraw takes it back;
--- else it is overwritten where a later commit on its buffer stands; else it is pending.
+-- The fate of a commit, by the later entries. The first case that holds counts: a fetch hands the commit to the bus
+-- (sent); a withdraw removes it (withdrawn); there is another commit on its buffer (overwritten). Otherwise the commit
+-- is pending.
 abbrev pub fate_of : ℕ → ℕ → List Entry → Fate
 fate_of buffer commit later =
     if list_any (sends commit) later then Sent
@@ -71,7 +72,7 @@ fate_of buffer commit later =
     else if list_any (is_commit_on buffer) later then Overwritten
     else Pending
 
--- the fate of each commit on a buffer, in the order of the commits; the first entry has this number
+-- The fate of each commit on a buffer, in the order of the commits. The first entry has this number.
 unfoldable pub fates_from : ℕ → ℕ → List Entry → List Fate
 fates_from buffer number [] = []
 fates_from buffer number (e ∷ later) =
@@ -104,7 +105,7 @@ is_pending Withdrawn = false
 is_pending Overwritten = false
 is_pending Pending = true
 
--- how many commits on a buffer met each fate
+-- the number of commits on a buffer with each fate
 abbrev pub tally_of : ℕ → List Entry → Tally
 tally_of buffer entries = record {
   committed = length (fates buffer entries);
@@ -114,7 +115,7 @@ tally_of buffer entries = record {
   withdrawn = count_by is_withdrawn (fates buffer entries);
 }
 
--- ---- the last commit, where it is pending
+-- ---- the last commit, if it is pending
 
 abbrev pub if_pending : ℕ → List Entry → ℕ → Option ℕ
 if_pending buffer entries commit = if is_pending (fate_of buffer commit (drop (commit + 1) entries)) then Some commit
@@ -129,7 +130,7 @@ abbrev pub unless_withdrawn : ℕ → List Entry → ℕ → Option ℕ
 unless_withdrawn buffer entries commit = if is_withdrawn (fate_of buffer commit (drop (commit + 1) entries)) then None
     else Some commit
 
--- A transmit buffer holds its last commit, sent or not, unless that is withdrawn: then it is empty, and no earlier one
--- comes back.
+-- The commit that a transmit buffer holds: the last one, sent or not, unless it is withdrawn. Then the buffer is empty,
+-- and no earlier commit comes back.
 abbrev pub held_commit : ℕ → List Entry → Option ℕ
 held_commit buffer entries = option_and_then (unless_withdrawn buffer entries) (last_commit buffer entries)

@@ -1,4 +1,4 @@
--- The forms of an entry: with its bytes, with bytes that lie elsewhere, and with bytes that stand in a pool.
+-- The forms of an entry: with its own bytes, with borrowed bytes, and with bytes in a pool.
 use Rattle.std.specs.Prelude.{ℕ, List}
 use Rattle.std.specs.Borrow.{Bor}
 use Rattle.fr_journal.specs.declared.entry.Entry.{Entry as EntryOf}

@@ -1,4 +1,4 @@
--- What a receive buffer holds: the last valid data frame that it admitted (chapter 9; channel A before B is
+-- The content of a receive buffer: the last valid data frame that it admitted (chapter 9; channel A before B is
 -- project-defined).
 use Rattle.std.specs.Prelude.{◌≡◌, ℕ, true, List, [], length, Option, Some, None, if◌then◌else◌, option_map, take}
 use Rattle.std.specs.Prelude.{slice_get}
@@ -21,11 +21,11 @@ use Rattle.fr_slots.specs.Windows.{Opportunity, slot_of}
 use Rattle.fr_status.specs.Forms.{Seen}
 use Rattle.fr_status.specs.Status.{frame_in}
 
--- a null frame is no data frame
+-- the frame, unless it is a null frame
 abbrev pub with_data : Fields → Option Fields
 with_data f = if f.has_data then Some f else None
 
--- The valid data frame that was seen on a channel of a window. A channel without a slot has none.
+-- The valid data frame that a node observed on a channel of a window. A channel without a slot has none.
 abbrev pub data_frame_seen : Parameters → Opportunity → Channel → Seen → Option Fields
 data_frame_seen params window channel seen =
     option_and_then with_data
@@ -34,18 +34,18 @@ data_frame_seen params window channel seen =
 abbrev pub arrival_of : ℕ → Channel → Fields → Arrival
 arrival_of number channel frame = record { origin = record { entry = number; channel = channel }; frame = frame }
 
--- what an observe of this number brings to a filter on a channel
+-- the arrival from the observe of this number, on a channel, if the filter admits it
 abbrev pub arrival_on : Parameters → Filter → ℕ → Opportunity → Channel → Seen → Option Arrival
 arrival_on params filter number window channel seen =
     if admits_window filter window channel
     then option_map (arrival_of number channel) (data_frame_seen params window channel seen) else None
 
--- what it brings on both: A's frame where A has one
+-- the arrival on both channels: A's frame, if A has one, and otherwise B's
 abbrev pub arrival_in : Parameters → Filter → ℕ → Seen → Seen → Opportunity → Option Arrival
 arrival_in params filter number a b window =
     option_or (arrival_on params filter number window A a) (arrival_on params filter number window B b)
 
--- what the entry of this number brings, where this window is open before it
+-- the arrival from the entry of this number, if this window is open before it
 abbrev pub arrival_by : Parameters → Filter → ℕ → Option Opportunity → Entry → Option Arrival
 arrival_by params filter number window (Commit task buffer payload) = None
 arrival_by params filter number window (Withdraw task buffer of) = None
@@ -57,7 +57,7 @@ arrival_by params filter number window (Observe w a b) = option_and_then (arriva
 abbrev pub arrival_at : Parameters → Filter → List Entry → Entry → Option Arrival
 arrival_at params filter before e = arrival_by params filter (length before) (open_window before) e
 
--- what a receive buffer with this filter holds after some entries
+-- the content of a receive buffer with this filter, after some entries
 abbrev pub held : Parameters → Filter → List Entry → Option Arrival
 held params filter entries = last_after (arrival_at params filter) [] entries
 
@@ -67,13 +67,13 @@ origin_of arrival = arrival.origin
 abbrev pub frame_of : Arrival → Fields
 frame_of arrival = arrival.frame
 
--- what a task can get: a data frame of a slot
+-- a frame that a task can receive: a data frame of a slot
 abbrev pub IsReceivable : Fields → Type 0
 IsReceivable f = (f.has_data ≡ true) × IsSlot f.id
 
--- ---- by where it comes from
+-- ---- frames by their origin
 
--- what an entry tells of a frame on a channel, where this window is open before it
+-- the valid data frame that an entry observed on a channel, if this window is open before it
 abbrev pub frame_in_entry : Parameters → Channel → Option Opportunity → Entry → Option Fields
 frame_in_entry params channel window (Commit task buffer payload) = None
 frame_in_entry params channel window (Withdraw task buffer of) = None
@@ -83,7 +83,7 @@ frame_in_entry params channel window (Fetch w a b) = None
 frame_in_entry params channel window (Observe number a b) =
     option_and_then (λ w. data_frame_seen params w channel (seen_on channel a b)) window
 
--- the valid data frame that the observe of this number had on this channel
+-- the valid data frame of this origin: an entry's number, and a channel
 abbrev pub frame_named : Parameters → List Entry → Origin → Option Fields
 frame_named params entries origin =
     option_and_then (frame_in_entry params origin.channel (open_window (take origin.entry entries)))

@@ -1,4 +1,4 @@
--- The fields of `Journal` as what it keeps.
+-- The fields of `Journal` as `Kept`.
 use Rattle.std.specs.Prelude.{◌≡◌, ℕ, ◌+◌, ◌*◌, ◌≤◌, length, map, count_by, vec_capacity}
 use Rattle.std.specs.List.{All}
 use Rattle.fr_frame.specs.Payload.{most_payload_bytes}
@@ -16,12 +16,12 @@ kept_in j = record {
   entries = map (restored j.pool.items) j.shorts.items;
 }
 
--- how many bytes so many entries of the host and of the controller may have
+-- the greatest number of bytes in so many entries of the host and of the controller
 abbrev pub pool_room : ℕ → ℕ → ℕ
 pool_room host slot = most_payload_bytes * host + most_seen_bytes * slot
 
--- the counts are those of the entries, the short entries have their bytes in the pool, the room for both is reserved,
--- and the last mark of each observe and of all entries tells what is open there
+-- The counts are those of the entries. The short entries have their bytes in the pool, and the room for both is
+-- reserved. The last mark of each observe, and of all entries, has the window that is open there.
 pub record IsCounted (j : Inside) : Type 0 where
   pub host_is : j.host_count ≡ count_by is_host (map (restored j.pool.items) j.shorts.items)
   pub slot_is : j.slot_count ≡ count_by is_slot (map (restored j.pool.items) j.shorts.items)

@@ -1,4 +1,4 @@
--- Which journals are legal for given parameters and a given plan.
+-- The legal journals for given parameters and a given plan.
 use Rattle.std.specs.Prelude.{◌≡◌, ℕ, ◌+◌, ◌*◌, ◌≤◌, ◌<◌, true, false, List, [], length, Option, None, count_by, IfSome}
 use Rattle.std.specs.Prelude.{IsSomeAnd, option_map}
 use Rattle.fr_journal.specs.Arrivals.{moves, oldest}
@@ -20,7 +20,7 @@ use Rattle.fr_slots.specs.Windows.{Opportunity, window_fits}
 
 -- ---- calls of the host
 
--- a payload has the words that its buffer sends
+-- a payload has as many words as its buffer sends
 pub record IsLegalCommit (params : Parameters) (plan : Plan) (before : List Entry) (task buffer : ℕ)
     (payload : List ℕ) : Type 0 where
   pub task_is : task < plan.tasks
@@ -28,7 +28,7 @@ pub record IsLegalCommit (params : Parameters) (plan : Plan) (before : List Entr
       × (length payload ≡ 2 * words_of params b))
   pub room : count_by is_host before < plan.host_entries
 
--- what is taken back is the buffer's last commit, where that is pending
+-- the withdrawn commit is the buffer's last one, if that is pending
 pub record IsLegalWithdraw (plan : Plan) (before : List Entry) (task buffer : ℕ) (of : Option ℕ) : Type 0 where
   pub task_is : task < plan.tasks
   pub transmits : IsSomeAnd (buffer_at plan buffer) (λ b. is_receive b.mode ≡ false)
@@ -59,7 +59,7 @@ pub record IsLegalFetch (params : Parameters) (plan : Plan) (before : List Entry
   pub offer_a : a ≡ offered plan before window channel.A
   pub offer_b : b ≡ offered plan before window channel.B
 
--- an observe closes the window that is open, and has its number
+-- an observe has the number of the open window, which it closes
 abbrev pub IsLegalObserve : List Entry → ℕ → Type 0
 IsLegalObserve before window = IsSomeAnd (open_window before) (λ w. w.number ≡ window)
 

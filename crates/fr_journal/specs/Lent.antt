@@ -1,14 +1,14 @@
--- Entries whose bytes lie elsewhere.
+-- Entries that borrow their bytes.
 use Rattle.fr_frame.specs.Payload.{IsPayload}
 use Rattle.fr_journal.specs.declared.entry.Entry.TheVariants.{Commit, Withdraw, Read, Pop, Fetch, Observe}
 use Rattle.fr_journal.specs.Forms.{Entry, LentEntry, with_parts}
 use Rattle.fr_status.specs.Forms.{whole_seen}
 
--- the entry that it is
+-- the same entry with its own bytes
 abbrev pub whole : LentEntry → Entry
 whole entry = with_parts (λ payload. payload.now) whole_seen (λ number. number) entry
 
--- what is committed is a payload
+-- a commit's bytes are a payload
 abbrev pub HasPayload : LentEntry → Type 0
 HasPayload (Commit task buffer payload) = IsPayload payload.now
 HasPayload (Withdraw task buffer of) = Unit {0}

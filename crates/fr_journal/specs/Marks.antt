@@ -1,4 +1,4 @@
--- Fetches and observes mark where a window opens and closes. What short entries know of marks.
+-- The marks of short entries. A mark is a fetch or an observe, where a window opens or closes.
 use Rattle.std.specs.Prelude.{◌≡◌, ℕ, ◌≤◌, List, take, slice_get, Option, Some, None, IfSome}
 use Rattle.std.specs.Option.{option_and_then}
 use Rattle.fr_journal.specs.Forms.{Entry, ShortEntry}
@@ -15,7 +15,7 @@ fetched_window (Pop task from) = None
 fetched_window (Fetch window a b) = Some window
 fetched_window (Observe window a b) = None
 
--- what an observe knows of the last mark before it
+-- the place of the last mark before an observe
 abbrev pub last_mark : ShortEntry → Option ℕ
 last_mark (Commit task buffer payload) = None
 last_mark (Withdraw task buffer of) = None
@@ -30,12 +30,12 @@ fetched_at shorts place = option_and_then fetched_window (slice_get shorts place
 abbrev pub mark_at : List ShortEntry → ℕ → Option ℕ
 mark_at shorts place = option_and_then last_mark (slice_get shorts place)
 
--- the entry at this mark tells what is open at the place: the window that it fetched, if it fetched one
+-- the window that the entry at this mark fetched, if any, is the one that is open at the place
 pub record TellsOpen (shorts : List ShortEntry) (entries : List Entry) (place mark : ℕ) : Type 0 where
   pub before : mark ≤ place
   pub opens : fetched_at shorts mark ≡ open_window (take place entries)
 
--- what each observe knows tells what is open where it stands
+-- the mark of each observe has the window that is open at its place
 abbrev pub AreMarked : List ShortEntry → List Entry → Type 0
 AreMarked shorts entries =
     (place : ℕ) (s : ShortEntry) → slice_get shorts place ≡ Some s

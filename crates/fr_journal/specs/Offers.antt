@@ -1,5 +1,5 @@
--- What a node offers in a window, decided by the entries before the fetch (chapter 5; the modes, and that nodes divide
--- a static slot by cycles, are project-defined).
+-- The offers of a node in a window, by the entries before the fetch (chapter 5; the modes, and the division of a static
+-- slot among nodes by cycles, are project-defined).
 use Rattle.std.specs.Prelude.{ℕ, ◌*◌, nat_le, Bool, true, false, ◌&&◌, ◌||◌, List, [], replicate, slice_get, Option}
 use Rattle.std.specs.Prelude.{Some, None, is_some, option_map, if◌then◌else◌}
 use Rattle.std.specs.List.{position}
@@ -23,29 +23,28 @@ use Rattle.fr_slots.specs.Faults.{claims, latest_on, transmits}
 use Rattle.fr_slots.specs.Plans.{Plan, admits_window, buffer_at}
 use Rattle.fr_slots.specs.Windows.{Opportunity, slot_of, is_static}
 
--- ---- which buffer, and whether it may begin
+-- ---- the buffer that transmits, and the latest minislot
 
 abbrev pub is_admitting : Opportunity → Channel → Buffer → Bool
 is_admitting window channel b = transmits b && admits_window b.filter window channel
 
--- The number of the first transmit buffer that admits the window on the channel. A plan without fault has no second
--- one.
+-- The number of the first transmit buffer that admits the window on the channel. A plan without fault has at most one.
 abbrev pub transmitter : Plan → Opportunity → Channel → Option ℕ
 transmitter plan window channel = position (is_admitting window channel) plan.buffers
 
--- a dynamic transmission begins no later than at the channel's latest minislot
+-- a dynamic transmission begins at the channel's pLatestTx at the latest
 abbrev pub may_begin : Plan → Opportunity → Channel → Bool
 may_begin plan window channel = is_static window || nat_le window.minislot (latest_on plan channel)
 
--- ---- which commit
+-- ---- the commit
 
--- in event mode the last commit where it is pending, in state mode the last commit unless it is withdrawn
+-- in event mode the last commit if it is pending, in state mode the last commit unless it is withdrawn
 abbrev pub ready : Mode → ℕ → List Entry → Option ℕ
 ready mode.Event buffer entries = pending_commit buffer entries
 ready mode.State buffer entries = held_commit buffer entries
 ready mode.Receive buffer entries = None
 
--- what the buffer of this number offers where it admits
+-- the commit that the buffer of this number offers, if it admits the window
 abbrev pub ready_in : Plan → List Entry → ℕ → Option ℕ
 ready_in plan entries buffer = option_and_then (λ b. ready b.mode buffer entries) (buffer_at plan buffer)
 
@@ -56,7 +55,7 @@ commit_offered plan entries window channel =
 
 -- ---- the offer
 
--- the first ownership line for a slot on a channel in a cycle
+-- the first ownership line for the slot on the channel in the cycle
 abbrev pub ownership : List Own → ℕ → Channel → ℕ → Option Own
 ownership owned slot channel cycle = option_and_then (slice_get owned) (position (claims slot channel cycle) owned)
 
@@ -76,8 +75,9 @@ offered_at plan entries window channel None = Nothing
 offered_at plan entries window channel (Some slot) =
     data_or (if owns plan window channel slot then Null else Nothing) (commit_offered plan entries window channel)
 
--- What the node offers on a channel: nothing where the channel has no slot; the data of its admitting buffer where that
--- offers a commit; else a null frame in a static slot that it owns in the cycle, and nothing elsewhere.
+-- The node's offer on a channel. On a channel without a slot it is nothing. If an admitting buffer offers a commit, it
+-- is that commit's data. Otherwise it is a null frame in a static slot that the node owns in the cycle, and nothing in
+-- any other slot.
 abbrev pub offered : Plan → List Entry → Opportunity → Channel → Offered
 offered plan entries window channel = offered_at plan entries window channel (slot_of window channel)
 
@@ -106,8 +106,8 @@ preamble_of (Some b) = b.preamble
 abbrev pub preamble_in : Plan → Opportunity → Channel → Bool
 preamble_in plan window channel = preamble_of (option_and_then (buffer_at plan) (transmitter plan window channel))
 
--- Sync and startup frame indicators come from the ownership line. A null frame carries zeros, as many as a static frame
--- has.
+-- Sync and startup frame indicators come from the ownership line. A null frame has a payload of zeros, as long as in
+-- every static frame.
 abbrev pub null_frame : Parameters → Plan → Opportunity → Channel → ℕ → Fields
 null_frame params plan window channel slot = record {
   preamble = false;
@@ -145,13 +145,13 @@ abbrev pub frame_offered : Parameters → Plan → List Entry → Opportunity �
 frame_offered params plan entries window channel =
     frame_with params plan entries window channel (offered plan entries window channel)
 
--- these bytes, or none, are what goes to the bus for this frame, or none
+-- these bytes are the canonical spelling of this frame, or there is neither
 abbrev pub IsHandedOut : Channel → Option Fields → Option (ArrayVec ℕ) → Type 0
 IsHandedOut channel None None = Unit {0}
 IsHandedOut channel (Some frame) (Some bytes) = SpellsCanonically frame channel bytes.items
 IsHandedOut channel None (Some bytes) = ⊥
 IsHandedOut channel (Some frame) None = ⊥
 
--- the bytes in which a frame, or none, goes to the bus
+-- the bytes of a frame on the bus, if there is a frame
 abbrev pub bytes_of : Channel → Option Fields → Option (ArrayVec ℕ)
 bytes_of channel frame = option_map (λ f. record { items = encoded f channel }) frame

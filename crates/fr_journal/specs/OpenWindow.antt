@@ -17,7 +17,7 @@ window_mark before (Observe window a b) = Some None
 abbrev pub open_window : List Entry → Option Opportunity
 open_window entries = option_and_then (λ w. w) (last_after window_mark [] entries)
 
--- the window that an entry closes, where these are before it
+-- the window that an entry closes, after those before it
 abbrev pub closed_window : List Entry → Entry → Option Opportunity
 closed_window before (Commit task buffer payload) = None
 closed_window before (Withdraw task buffer of) = None
@@ -34,6 +34,6 @@ fetched_number before (Pop task from) = None
 fetched_number before (Fetch window a b) = Some window.number
 fetched_number before (Observe window a b) = None
 
--- the number of the last window that was fetched
+-- the number of the last fetched window
 abbrev pub last_number : List Entry → Option ℕ
 last_number entries = last_after fetched_number [] entries

@@ -1,4 +1,4 @@
--- What short entries are short for: their numbers, and bytes that stand in a pool.
+-- Short entries, and the entries that they restore with bytes from a pool.
 use Rattle.std.specs.Prelude.{◌≡◌, ℕ, ◌+◌, ◌*◌, ◌-◌, ◌%◌, ◌≤◌, List, [], ◌++◌, length, slice_range}
 use Rattle.fr_frame.specs.Payload.{most_payload_bytes, most_frame_bytes}
 use Rattle.fr_journal.specs.Forms.{Entry, ShortEntry, ShortSeen, with_parts}
@@ -16,7 +16,7 @@ restored_seen pool seen = with_seen_bytes (λ s. record { items = bytes_at pool 
 abbrev pub restored : List ℕ → ShortEntry → Entry
 restored pool entry = with_parts (bytes_at pool) (restored_seen pool) (λ m. m.number) entry
 
--- ---- what stands in the pool
+-- ---- the bytes in the pool
 
 abbrev pub bytes_in_seen : Seen → List ℕ
 bytes_in_seen seen.Silence = []
@@ -26,11 +26,11 @@ bytes_in_seen seen.Noise = []
 bytes_in_seen seen.Overrun = []
 bytes_in_seen (seen.Bytes bytes) = bytes.items
 
--- the most bytes of an entry of the controller: those of a frame on each channel
+-- the greatest number of bytes in an entry of the controller: a frame on each channel
 abbrev pub most_seen_bytes : ℕ
 most_seen_bytes = 2 * most_frame_bytes
 
--- a stretch of a pool of this size, of at most so many bytes
+-- a stretch of at most so many bytes, within a pool of this size
 pub record IsStretch (size most : ℕ) (s : Stretch) : Type 0 where
   pub order : s.start ≤ s.end
   pub within : s.end ≤ size
@@ -44,7 +44,7 @@ IsShortSeen size seen.Noise = Unit {0}
 IsShortSeen size seen.Overrun = Unit {0}
 IsShortSeen size (seen.Bytes s) = IsStretch size most_frame_bytes s
 
--- the stretches of the entry stand in a pool of this size, and are of a size that its bytes may have
+-- the stretches of the entry are within a pool of this size, and have lengths that its bytes may have
 abbrev pub IsShort : ℕ → ShortEntry → Type 0
 IsShort size (Commit task buffer payload) =
     IsStretch size most_payload_bytes payload × ((payload.end - payload.start) % 2 ≡ 0)
@@ -54,7 +54,7 @@ IsShort size (Pop task from) = Unit {0}
 IsShort size (Fetch window a b) = Unit {0}
 IsShort size (Observe window a b) = IsShortSeen size a × IsShortSeen size b
 
--- ---- what becomes of the pool
+-- ---- the pool with one more entry
 
 abbrev pub bytes_in : Entry → List ℕ
 bytes_in (Commit task buffer payload) = payload
@@ -64,8 +64,7 @@ bytes_in (Pop task from) = []
 bytes_in (Fetch window a b) = []
 bytes_in (Observe window a b) = bytes_in_seen a ++ bytes_in_seen b
 
--- the entry's bytes, of which there are at most so many, are appended to the pool, from which the short entry restores
--- it
+-- The entry's bytes, at most so many, are appended to the pool. The short entry restores the entry from that pool.
 pub record IsShortened (before after : List ℕ) (most : ℕ) (short : ShortEntry) (entry : Entry) : Type 0 where
   pub entry_is : restored after short ≡ entry
   pub within : IsShort (length after) short

@@ -9,7 +9,7 @@ use fr_slots::numbers::TaskId;
 use fr_slots::window::Window;
 use fr_status::seen::Seen;
 
-/// Where a received frame comes from: an entry that observed a window, and one of its channels.
+/// The origin of a received frame: an entry that observed a window, and one of its channels.
 #[derive(Clone, Copy, PartialEq, Eq)]
 pub struct Origin {
     /// The number of the entry, from 0.
@@ -17,14 +17,14 @@ pub struct Origin {
     pub channel: Channel,
 }
 
-/// A valid data frame that arrived, and where it comes from.
+/// A valid data frame that a node received, with its origin.
 #[derive(Drop, PartialEq, Eq)]
 pub struct Arrival {
     pub origin: Origin,
     pub frame: Frame,
 }
 
-/// What a fetch handed to the bus on a channel.
+/// The offer that a fetch handed to the bus on a channel.
 #[derive(Clone, Copy, PartialEq, Eq)]
 pub enum Offered {
     /// No frame.
@@ -37,43 +37,43 @@ pub enum Offered {
 
 /// An entry of a journal: one accepted call. Entries are numbered from 0 in their order.
 ///
-/// Commits, withdraws, reads and pops are the host's, fetches and observes the controller's (chapter 9). The parameters
-/// are the forms of a payload, of an observation and of an observed window's number: `Entry` has its bytes, and a
-/// [`LentEntry`](crate::lent::LentEntry) lends them.
+/// The host commits, withdraws, reads and pops. The controller fetches and observes (chapter 9). The type parameters
+/// are the forms of a payload, of an observation and of an observed window's number: `Entry` owns its bytes, and a
+/// [`LentEntry`](crate::lent::LentEntry) borrows them.
 #[derive(Drop, Clone, Copy, PartialEq, Eq)]
 pub enum Entry<P = Payload, S = Seen, W = u32> {
-    /// A task gave a payload to a transmit buffer.
+    /// A task wrote a payload to a transmit buffer.
     Commit {
         task: TaskId,
         buffer: u8,
         payload: P,
     },
-    /// A task took a transmit buffer's last commit back: the one of this number, which was pending, or none where none
-    /// was (project-defined).
+    /// A task withdrew the pending commit of a transmit buffer, if there was one (project-defined).
+    ///
+    /// `of` is the number of the commit, or `None` if none was pending.
     Withdraw {
         task: TaskId,
         buffer: u8,
         of: Option<u32>,
     },
-    /// A task read a receive buffer, and got the frame of this origin, or none from an empty buffer.
+    /// A task read a receive buffer. It got the frame of this origin, or none if the buffer was empty.
     Read {
         task: TaskId,
         buffer: u8,
         from: Option<Origin>,
     },
-    /// A task took the oldest frame of the receive queue, which had this origin, or got none from an
-    /// empty queue.
+    /// A task popped the receive FIFO. It got the oldest frame, of this origin, or none from an empty FIFO.
     Pop {
         task: TaskId,
         from: Option<Origin>,
     },
-    /// The controller opened a window, and handed this to the bus.
+    /// The controller opened a window, and handed these offers to the bus.
     Fetch {
         window: Window,
         a: Offered,
         b: Offered,
     },
-    /// The controller closed the window of this number, in which it had seen this.
+    /// The controller closed the window of this number, with these observations.
     Observe {
         window: W,
         a: S,
@@ -85,7 +85,7 @@ impl Entry {
     ghost use Rattle.std.specs.Prelude.{◌≡◌};
     ghost use Rattle.fr_journal.specs.Entries.{is_host};
 
-    /// Returns whether the entry is the host's.
+    /// Returns whether the entry is a call of the host.
     pub fn is_host(&self) -> bool
         ensures { result ≡ is_host self.now }
     {
@@ -98,7 +98,7 @@ impl Entry {
         }
     }
 
-    /// Another entry of the same content.
+    /// Returns a copy of the entry.
     pub fn duplicate(&self) -> Entry
         ensures { result ≡ self.now }
     {

@@ -1,4 +1,4 @@
-//! A journal, which takes all its memory when it is made.
+//! A journal, which allocates all its memory when it is made.
 
 ghost use Rattle.std.specs.Prelude.{◌≡◌, ◌<◌, ◌≤◌, ◌∷◌, [], ◌++◌, IfOk, IfSome, IsTrue, ◌↔◌, false, length, option_map};
 ghost use Rattle.std.specs.Prelude.{slice_get, take};
@@ -23,18 +23,18 @@ use fr_status::seen::Seen;
 use std::alloc::{AllocError, Global};
 use std::marker::Model;
 
-// Payloads and frames lie in one pool, so entries are short: 36 bytes, not 568. `get` therefore returns an entry by
-// value. Making one fills room for two frames, so a cross-check takes lent entries.
-/// The entries of an interface, of which there are at most as many as its limits (project-defined).
+// All payloads and frames are in one pool, so a short entry takes 36 bytes, and not 568. `get` therefore returns an
+// entry by value, which fills room for two frames. A cross-check reads lent entries instead.
+/// The entries of an interface, no more than the limits of the journal (project-defined).
 #[derive(Drop)]
 pub struct Journal {
     host_limit: u32,
     slot_limit: u32,
     host_count: u32,
     slot_count: u32,
-    /// Where the last fetch or observe stands, or 0 where none does.
+    /// The place of the last fetch or observe, or 0 if there is none.
     last_mark: u32,
-    /// The entries in short form, whose bytes stand in the pool one after another.
+    /// The entries in short form, with their bytes in the pool, one after another.
     shorts: Vec<ShortEntry>,
     pool: Vec<u8>,
 }
@@ -54,16 +54,17 @@ impl Model for Journal {
 impl Journal {
     ghost use Rattle.fr_journal.specs.declared.entry.Entry.TheVariants as entries;
 
-    /// Returns a journal without entries, and with room reserved for all that it may have.
+    /// Returns a journal without entries, and reserves room for as many as its limits allow.
     ///
-    /// `host` and `slot` are its limits, at most 16384 and 65536 entries. Refused where memory for them is refused.
+    /// The limits are `host` for entries of the host, at most 16,384, and `slot` for entries of the controller, at most
+    /// 65,536. Fails if an allocation fails.
     pub fn with_limits(alloc: Global, host: u32, slot: u32) -> Result<Journal, AllocError>
         requires host_limit { host ≤ most_host_entries }
         requires slot_limit { slot ≤ most_slot_entries }
         ensures { IfOk result (λ j. j ≡ record { host_limit = host; slot_limit = slot; entries = [] }) }
     {
         let shorts = Vec::with_capacity(alloc, (host + slot) as usize)?;
-        // That is 254 bytes an entry of the host and 524 of the controller, at most some 38 MB.
+        // At most 38.5 MB: 254 bytes for an entry of the host, and 524 for one of the controller.
         let bytes = host as usize * PAYLOAD_BYTES + slot as usize * (2 * FRAME_BYTES);
         let pool = Vec::with_capacity(alloc, bytes)?;
         Ok(Journal {
@@ -77,21 +78,21 @@ impl Journal {
         })
     }
 
-    /// Returns how many entries of the host still fit.
+    /// Returns the number of entries of the host that still fit.
     pub fn host_room(&self) -> u32
         ensures { result ≡ host_room self.now }
     {
         self.host_limit - self.host_count
     }
 
-    /// Returns how many entries of the controller still fit.
+    /// Returns the number of entries of the controller that still fit.
     pub fn slot_room(&self) -> u32
         ensures { result ≡ slot_room self.now }
     {
         self.slot_limit - self.slot_count
     }
 
-    /// Appends an entry of the host, in the room that was reserved: `host_room` isn't 0 before.
+    /// Appends an entry of the host, in the reserved room. `host_room` must be above 0.
     pub fn push_host(&mut self, entry: Entry)
         requires kind { IsTrue (is_host entry) }
         requires room { 0 < host_room self.old }
@@ -102,7 +103,7 @@ impl Journal {
         self.host_count += 1;
     }
 
-    /// Appends a commit, in the room that was reserved: `host_room` isn't 0 before.
+    /// Appends a commit, in the reserved room. `host_room` must be above 0.
     pub fn push_commit(&mut self, task: TaskId, buffer: u8, payload: &Payload)
         requires room { 0 < host_room self.old }
         ensures { self.new ≡ record self.old {
@@ -114,7 +115,7 @@ impl Journal {
         self.host_count += 1;
     }
 
-    /// Appends an entry of the controller, in the room that was reserved: `slot_room` isn't 0 before.
+    /// Appends an entry of the controller, in the reserved room. `slot_room` must be above 0.
     pub fn push_slot(&mut self, entry: Entry)
         requires kind { is_host entry ≡ false }
         requires room { 0 < slot_room self.old }
@@ -127,7 +128,7 @@ impl Journal {
         self.last_mark = place;
     }
 
-    /// Appends an observe, in the room that was reserved: `slot_room` isn't 0 before.
+    /// Appends an observe, in the reserved room. `slot_room` must be above 0.
     pub fn push_observe(&mut self, window: u32, a: &Seen, b: &Seen)
         requires room { 0 < slot_room self.old }
         ensures { self.new ≡ record self.old {
@@ -150,14 +151,14 @@ impl Journal {
         self.host_count + self.slot_count
     }
 
-    /// Returns whether there is no entry.
+    /// Returns whether the journal has no entry.
     pub fn is_empty(&self) -> bool
         ensures { IsTrue result ↔ (self.now.entries ≡ []) }
     {
         self.shorts.is_empty()
     }
 
-    /// Returns the entry of this number, counted from 0.
+    /// Returns the entry of this number, counted from 0, if there is one.
     pub fn get(&self, number: u32) -> Option<Entry>
         ensures { result ≡ slice_get self.now.entries number }
     {
@@ -165,7 +166,7 @@ impl Journal {
         Some(whole_entry(self.pool.as_slice(), *short))
     }
 
-    /// The same, whose bytes stay in the journal.
+    /// Returns the same entry as [`Journal::get`], with its bytes left in the journal.
     pub fn lent(&self, number: u32) -> Option<LentEntry<'_>>
         ensures entry { option_map whole result ≡ slice_get self.now.entries number }
         ensures payload { IfSome result HasPayload }
@@ -174,8 +175,9 @@ impl Journal {
         Some(lent_entry(self.pool.as_slice(), *short))
     }
 
-    /// Returns the window that the entry of this number closes: the one that is open before it, if one is and the entry
-    /// is an observe. `None` too where there is no such entry.
+    /// Returns the window that the entry of this number closes, if it is an observe.
+    ///
+    /// This is the window that is open before the entry. The result is `None` if there is no such window or entry.
     pub fn closed_window(&self, number: u32) -> Option<Window>
         ensures { result
             ≡ option_and_then (closed_window (take number self.now.entries)) (slice_get self.now.entries number) }

@@ -1,4 +1,4 @@
-//! Entries whose bytes stay in the journal.
+//! Entries with their bytes left in the journal.
 
 ghost use Rattle.std.specs.Prelude.{◌≡◌};
 ghost use Rattle.fr_frame.specs.Payload.{IsPayload};
@@ -7,7 +7,7 @@ use crate::entry::Entry;
 use fr_frame::payload::Payload;
 use fr_status::seen::LentSeen;
 
-/// An entry whose payload or bytes stay in the journal, so that none are moved where it is read and dropped.
+/// An entry that borrows its payload or observed bytes, so reading it copies none of them.
 ///
 /// The payload of a commit has an even number of bytes, at most 254.
 pub type LentEntry<'a> = Entry<&'a [u8], LentSeen<'a>>;

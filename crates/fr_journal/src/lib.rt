@@ -1,7 +1,7 @@
-//! The journal of a host interface, and what journals give.
+//! The journal of a controller host interface.
 //!
-//! The definitions over journals stand in `specs/`: which window is open, the fate of a commit, offers, held frames,
-//! the receive queue, the status counters, and which journals are legal.
+//! The definitions over journals are in `specs/`: the open window, the fate of a commit, offers, held frames, the
+//! receive FIFO, the status counters, and legal journals.
 //!
 //! ```text
 //! let mut journal = Journal::with_limits(alloc, 256, 4096)?;
@@ -11,28 +11,29 @@
 //! let entries = journal.len();
 //! ```
 //!
-//! A chapter in parentheses is one of the FlexRay Protocol Specification 2.1, revision A, whose rule it is.
-//! *(project-defined)* marks a rule of this project's own, which says nothing of the standard.
+//! A chapter in parentheses is one of the FlexRay Protocol Specification 2.1, revision A.
+//! *(project-defined)* marks a rule of this project, and makes no claim about the standard.
 //!
 //! # Definitions
 //!
 //! - `Entries`, `Fate`, `Offers`, `Held`, `Arrivals`, `Counts`, `Legal`: the kinds of entries; the fate of a commit;
 //!   offers; held frames; the receive FIFO; status counters; legal journals.
 //!
-//! Modules that go the way of the code, for private functions, with the module that has the meaning:
+//! Modules that follow the steps of the code, for private functions, with the module that has the meaning:
 //!
 //! - `Shortened`: short entries, and the pool of their bytes. Meaning: `Kept`, a list of whole entries.
-//! - `Marks`: a short observe knows the last fetch or observe before it. Meaning: `OpenWindow`, over all entries.
-//! - `Lent`: an entry whose bytes lie elsewhere. Meaning: `Entry`, with its bytes.
+//! - `Marks`: the last fetch or observe before an observe, whose place a short observe has. Meaning: `OpenWindow`, over
+//!   all entries.
+//! - `Lent`: an entry that borrows its bytes. Meaning: `Entry` in `Forms`, with its bytes.
 //!
 //! # Inner workings
 //!
 //! A journal keeps short entries (`short`): numbers, and the place of a payload or of observed bytes in one pool. Both
-//! lists are reserved at their greatest size when the journal is made, and only appended to. So a restored entry never
-//! changes (`ShortLemmas`).
+//! lists get their full room in `with_limits`, and each push only appends to them. So a restored entry never changes
+//! (`ShortLemmas`).
 //!
 //! - `get` restores an entry.
-//! - `closed_window` looks at two entries, since a short observe knows the last fetch or observe before it
+//! - `closed_window` reads two entries, since a short observe has the place of the last fetch or observe before it
 //!   (`MarkLemmas`).
 //! - `push_commit` and `push_observe` take their bytes by reference.
 #![tactic(auto)]

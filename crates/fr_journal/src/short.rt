@@ -1,4 +1,4 @@
-//! Entries in short form: the numbers of an entry, and where its bytes stand in a pool.
+//! Entries in short form: the numbers of an entry, and the place of its bytes in a pool.
 
 ghost use Rattle.std.specs.Prelude.{◌≡◌, ◌+◌, ◌<◌, ◌≤◌, ◌^◌, ◌++◌, length, vec_capacity, IsTrue, false};
 ghost use Rattle.std.specs.Prelude.{Some, IfSome};
@@ -19,7 +19,7 @@ use fr_slots::numbers::TaskId;
 use fr_slots::window::Window;
 use fr_status::seen::{LentSeen, Seen};
 
-/// Where bytes stand in a pool.
+/// The place of some bytes in a pool.
 #[derive(Clone, Copy)]
 pub(crate) struct Stretch {
     /// The place of the first byte.
@@ -34,9 +34,9 @@ pub(crate) type ShortSeen = Seen<Stretch>;
 /// An entry, with its bytes in a pool.
 pub(crate) type ShortEntry = Entry<Stretch, ShortSeen, Marked>;
 
-// A search back to the fetch of its window took 64 ms for 16,384 reads, and takes 4.5 ms by the mark. A fetch needs as
-// many bytes, so no entry is longer for it.
-/// The number of an observed window, and where it was opened.
+// The mark saves a search back to the fetch of the window: 16,384 reads took 64 ms by that search, and take 4.5 ms by
+// the mark. A fetch needs as many bytes, so the mark makes no entry longer.
+/// The number of an observed window, and the place of the mark before the observe.
 #[derive(Clone, Copy)]
 pub(crate) struct Marked {
     /// The number of the window.
@@ -63,8 +63,9 @@ impl ShortEntry {
         }
     }
 
-    /// Returns where the last fetch or observe before the entry stands, or 0 where none does, if the entry is an
-    /// observe.
+    /// Returns the place of the last fetch or observe before the entry, if the entry is an observe.
+    ///
+    /// The place is 0 if there is no fetch or observe before it.
     fn last_mark(&self) -> Option<u32>
         ensures { result ≡ last_mark self.now }
     {
@@ -79,22 +80,23 @@ impl ShortEntry {
     }
 }
 
-/// Returns the window that the entry at this place fetched, if there is a fetch.
+/// Returns the window that the entry at this place fetched, if a fetch is there.
 pub(crate) fn fetched_at(shorts: &[ShortEntry], place: u32) -> Option<Window>
     ensures { result ≡ fetched_at shorts.now place }
 {
     shorts.get(place as usize)?.fetched_window()
 }
 
-/// Returns where the last fetch or observe before the entry at this place stands, or 0 where none does, if there is an
-/// observe.
+/// Returns the place of the last fetch or observe before this place, if an observe is there.
+///
+/// The result is 0 if there is no fetch or observe before it.
 pub(crate) fn mark_at(shorts: &[ShortEntry], place: u32) -> Option<u32>
     ensures { result ≡ mark_at shorts.now place }
 {
     shorts.get(place as usize)?.last_mark()
 }
 
-/// Appends the bytes to the pool, in the room that was reserved, and says where they stand.
+/// Appends the bytes to the pool, in the reserved room, and returns their place.
 fn kept_bytes(pool: &mut Vec<u8>, bytes: &[u8]) -> Stretch
     requires room { length pool.old.items + length bytes.now ≤ vec_capacity pool.old }
     requires few { length pool.old.items + length bytes.now < 2 ^ 32 }
@@ -115,7 +117,7 @@ fn kept_bytes(pool: &mut Vec<u8>, bytes: &[u8]) -> Stretch
     }
 }
 
-/// Returns what was seen in short form, its bytes at the end of the pool.
+/// Returns the observation in short form, and appends its bytes to the pool.
 fn shortened_seen(pool: &mut Vec<u8>, seen: &Seen) -> ShortSeen
     requires room { length pool.old.items + most_frame_bytes ≤ vec_capacity pool.old }
     requires few { length pool.old.items + most_frame_bytes < 2 ^ 32 }
@@ -135,7 +137,7 @@ fn shortened_seen(pool: &mut Vec<u8>, seen: &Seen) -> ShortSeen
     }
 }
 
-/// Returns a commit in short form, its payload at the end of the pool.
+/// Returns a commit in short form, and appends its payload to the pool.
 pub(crate) fn shortened_commit(
     pool: &mut Vec<u8>,
     task: TaskId,
@@ -155,8 +157,9 @@ pub(crate) fn shortened_commit(
     }
 }
 
-/// Returns an observe in short form, with where the last fetch or observe before it stands, its bytes at the end of the
-/// pool.
+/// Returns an observe in short form, and appends its bytes to the pool.
+///
+/// `mark` is the place of the last fetch or observe before it, or 0 if there is none.
 pub(crate) fn shortened_observe(
     pool: &mut Vec<u8>,
     mark: u32,
@@ -180,7 +183,7 @@ pub(crate) fn shortened_observe(
     ShortEntry::Observe { window, a, b }
 }
 
-/// Returns an entry of the host in short form, its bytes at the end of the pool.
+/// Returns an entry of the host in short form, and appends its bytes to the pool.
 pub(crate) fn shortened_host(pool: &mut Vec<u8>, entry: &Entry) -> ShortEntry
     requires kind { IsTrue (is_host entry.now) }
     requires room { length pool.old.items + most_payload_bytes ≤ vec_capacity pool.old }
@@ -212,8 +215,9 @@ pub(crate) fn shortened_host(pool: &mut Vec<u8>, entry: &Entry) -> ShortEntry
     }
 }
 
-/// Returns an entry of the controller in short form, with where the last fetch or observe before it stands, its bytes
-/// at the end of the pool.
+/// Returns an entry of the controller in short form, and appends its bytes to the pool.
+///
+/// `mark` is the place of the last fetch or observe before it, or 0 if there is none.
 pub(crate) fn shortened_slot(pool: &mut Vec<u8>, mark: u32, entry: &Entry) -> ShortEntry
     requires kind { is_host entry.now ≡ false }
     requires room { length pool.old.items + most_seen_bytes ≤ vec_capacity pool.old }
@@ -243,7 +247,7 @@ fn bytes_at(pool: &[u8], stretch: Stretch) -> &[u8]
     &pool[stretch.start as usize..stretch.end as usize]
 }
 
-/// Returns what was seen, with its bytes from the pool.
+/// Returns the observation, with its bytes copied from the pool.
 fn restored_seen(pool: &[u8], seen: ShortSeen) -> Seen
     requires { IsShortSeen (length pool.now) seen }
     ensures { result ≡ restored_seen pool.now seen }
@@ -258,7 +262,7 @@ fn restored_seen(pool: &[u8], seen: ShortSeen) -> Seen
     }
 }
 
-/// Returns a copy of at most as many bytes as a frame has.
+/// Returns a copy of the bytes, at most as many as the longest frame has.
 fn frame_bytes(bytes: &[u8]) -> Bytes
     requires { length bytes.now ≤ most_frame_bytes }
     ensures { result.items ≡ bytes.now }
@@ -270,7 +274,7 @@ fn frame_bytes(bytes: &[u8]) -> Bytes
     copy
 }
 
-/// Returns what was seen, with its bytes in the pool.
+/// Returns the observation, with its bytes left in the pool.
 fn lent_seen(pool: &[u8], seen: ShortSeen) -> LentSeen<'_>
     requires { IsShortSeen (length pool.now) seen }
     ensures { whole_seen result ≡ restored_seen pool.now seen }
@@ -285,7 +289,7 @@ fn lent_seen(pool: &[u8], seen: ShortSeen) -> LentSeen<'_>
     }
 }
 
-/// Returns the entry, with its bytes in the pool.
+/// Returns the entry, with its bytes left in the pool.
 pub(crate) fn lent_entry(pool: &[u8], entry: ShortEntry) -> LentEntry<'_>
     requires { IsShort (length pool.now) entry }
     ensures entry { whole result ≡ restored pool.now entry }
@@ -313,7 +317,7 @@ pub(crate) fn lent_entry(pool: &[u8], entry: ShortEntry) -> LentEntry<'_>
     }
 }
 
-/// Returns the entry, with its bytes from the pool.
+/// Returns the entry, with its bytes copied from the pool.
 pub(crate) fn whole_entry(pool: &[u8], entry: ShortEntry) -> Entry
     requires { IsShort (length pool.now) entry }
     ensures { result ≡ restored pool.now entry }

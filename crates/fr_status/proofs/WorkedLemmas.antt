@@ -1,4 +1,4 @@
--- Statuses of some frames, computed from their bytes. The cluster has three static slots of one word.
+-- The slot statuses of some frames, computed from their bytes. The cluster has three static slots of one word.
 use Rattle.std.proofs.Common.{◌≡◌, ℕ, List, [], ◌∷◌, None, refl}
 use Rattle.fr_slots.specs.declared.channel.Channel.TheVariants.{A}
 use Rattle.fr_slots.specs.Parameters.{Parameters}
@@ -23,7 +23,7 @@ one_word = record {
   words_per_minislot = 5;
 }
 
--- these bytes on channel A, in this slot of cycle 0
+-- these bytes are a content error on channel A, in this slot of cycle 0
 abbrev IsContentError : ℕ → List ℕ → Type 0
 IsContentError slot bytes = (status_in one_word 0 slot A (Bytes (record { items = bytes })) ≡ content_error) ×
     (frame_in one_word 0 slot A (Bytes (record { items = bytes })) ≡ None)
@@ -50,13 +50,13 @@ null_in_slot_four = 0x00 ∷ 0x04 ∷ 0x02 ∷ 0xce ∷ 0xc0 ∷ 0x0a ∷ 0x0b �
 abbrev null_in_slot_two : List ℕ
 null_in_slot_two = 0x00 ∷ 0x02 ∷ 0x03 ∷ 0xc1 ∷ 0x40 ∷ 0x00 ∷ 0x00 ∷ 0xd8 ∷ 0x20 ∷ 0x38 ∷ []
 
--- two words where one is due, the ID of another slot, the count of another cycle, and startup without sync
+-- two words in place of one, the ID of another slot, the count of another cycle, and startup without sync
 pub content_errors_in_a_static_slot : IsContentError 2 two_words × IsContentError 2 of_slot_three
     × IsContentError 2 of_cycle_one × IsContentError 2 startup_without_sync
 unfolding status_in frame_in decoded bits_of number_of xor_front divide_once divide
 content_errors_in_a_static_slot = ((refl, refl), (refl, refl), (refl, refl), (refl, refl))
 
--- what is no data is right for a static slot alone
+-- a null frame is valid in a static slot, and a content error in a dynamic slot
 pub a_null_frame_belongs_in_a_static_slot : IsValidFrame 2 null_in_slot_two × IsContentError 4 null_in_slot_four
 unfolding status_in frame_in decoded bits_of number_of xor_front divide_once divide
 a_null_frame_belongs_in_a_static_slot = ((refl, refl), (refl, refl))

@@ -1,4 +1,4 @@
--- How the status counters count a slot (chapter 6).
+-- The status counters after one more slot (chapter 6).
 use Rattle.std.specs.Prelude.{ℕ, ◌+◌, ◌<◌, ◌^◌, Bool, List, [], ◌∷◌, slice_index, if◌then◌else◌}
 use Rattle.fr_slots.specs.declared.channel.Channel.{Channel}
 use Rattle.fr_slots.specs.declared.channel.Channel.TheVariants as channel
@@ -8,7 +8,7 @@ use Rattle.fr_status.specs.declared.status.SlotStatus.{SlotStatus}
 abbrev pub digit : Bool → ℕ
 digit bit = if bit then 1 else 0
 
--- the five counts of a channel with one slot more
+-- the five counts of a channel, with one more slot
 abbrev pub with_bits : List ℕ → SlotStatus → List ℕ
 with_bits counts s =
     (slice_index counts 0 + digit s.valid) ∷ (slice_index counts 1 + digit s.syntax) ∷ (slice_index counts 2
@@ -19,7 +19,7 @@ abbrev pub with_status : Counters → Channel → SlotStatus → Counters
 with_status c channel.A s = record { a = with_bits c.a s; b = c.b }
 with_status c channel.B s = record { a = c.a; b = with_bits c.b s }
 
--- each count that rises fits 32 bits
+-- each count fits 32 bits, with one more slot
 pub record FitsBits (counts : List ℕ) (s : SlotStatus) : Type 0 where
   pub valid : slice_index counts 0 + digit s.valid < 2 ^ 32
   pub syntax : slice_index counts 1 + digit s.syntax < 2 ^ 32

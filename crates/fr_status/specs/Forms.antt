@@ -1,4 +1,4 @@
--- The forms of an observation: with its bytes, and with bytes that lie elsewhere.
+-- The forms of an observation: with its own bytes, and with borrowed bytes.
 use Rattle.std.specs.Prelude.{ℕ, List}
 use Rattle.std.specs.Borrow.{Bor}
 use Rattle.arrayvec.specs.ArrayVec.{ArrayVec}

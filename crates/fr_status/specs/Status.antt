@@ -1,4 +1,4 @@
--- The status of a slot on a channel (chapter 6). Which bit a thing seen gives is project-defined.
+-- The status of a slot on a channel (chapter 6). The bit of each observation is project-defined.
 use Rattle.std.specs.Prelude.{ℕ, ◌+◌, ◌*◌, ◌==◌, Bool, true, false, not, ◌&&◌, ◌||◌, length, Option, Some, None}
 use Rattle.std.specs.Prelude.{if◌then◌else◌}
 use Rattle.fr_slots.specs.declared.channel.Channel.{Channel}
@@ -29,7 +29,7 @@ boundary_violation = record no_bit { boundary = true }
 abbrev pub transmission_conflict : SlotStatus
 transmission_conflict = record no_bit { conflict = true }
 
--- how many bits are set
+-- the number of set bits
 abbrev pub bits_set : SlotStatus → ℕ
 bits_set s = count s.valid + count s.syntax + count s.content + count s.boundary + count s.conflict
   where
@@ -38,14 +38,14 @@ bits_set s = count s.valid + count s.syntax + count s.content + count s.boundary
 
 -- ---- the content checks
 
--- A frame that is right for a static slot: the payload length of all static frames, in words of two bytes, the slot as
--- frame ID, the cycle as cycle count, and a startup frame is a sync frame.
+-- The frame passes the checks of a static slot. It has the payload length of all static frames, in two-byte words, the
+-- slot's frame ID and the cycle's count. A startup frame is a sync frame.
 abbrev pub fits_static_slot : Parameters → ℕ → ℕ → Fields → Bool
 fits_static_slot params cycle slot f =
     length f.payload == 2 * params.static_words && f.id == slot && f.cycle == cycle && (f.sync || not f.startup)
 
--- A frame that is right for a dynamic slot: the slot as frame ID, the cycle as cycle count, neither a sync frame nor a
--- startup frame, and no null frame.
+-- The frame passes the checks of a dynamic slot. It has the slot's frame ID and the cycle's count, and is no sync
+-- frame, startup frame or null frame.
 abbrev pub fits_dynamic_slot : ℕ → ℕ → Fields → Bool
 fits_dynamic_slot cycle slot f = f.id == slot && f.cycle == cycle && not f.sync && not f.startup && f.has_data
 
@@ -55,7 +55,7 @@ passes params cycle slot f =
 
 -- ---- the table
 
--- of what bytes decode to
+-- the status for the frame that the bytes spell, if any
 abbrev pub judged : Parameters → ℕ → ℕ → Option Fields → SlotStatus
 judged params cycle slot None = syntax_error
 judged params cycle slot (Some f) = if passes params cycle slot f then valid_frame else content_error
@@ -64,7 +64,7 @@ abbrev pub passed : Parameters → ℕ → ℕ → Option Fields → Option Fiel
 passed params cycle slot None = None
 passed params cycle slot (Some f) = if passes params cycle slot f then Some f else None
 
--- The status of a slot of a cycle on a channel where this was seen.
+-- The status of a slot on a channel in a cycle, by the observation.
 unfoldable pub status_in : Parameters → ℕ → ℕ → Channel → Seen → SlotStatus
 status_in params cycle slot channel Silence = no_bit
 status_in params cycle slot channel Own = no_bit
@@ -73,7 +73,7 @@ status_in params cycle slot channel Noise = syntax_error
 status_in params cycle slot channel Overrun = boundary_violation
 status_in params cycle slot channel (Bytes bytes) = judged params cycle slot (decoded channel bytes.items)
 
--- The frame that came there, if a valid one did.
+-- The valid frame that was received there, if any.
 unfoldable pub frame_in : Parameters → ℕ → ℕ → Channel → Seen → Option Fields
 frame_in params cycle slot channel Silence = None
 frame_in params cycle slot channel Own = None

@@ -6,10 +6,10 @@ ghost use Rattle.fr_status.specs.Counting.{with_status, with_bits, HasRoom, Fits
 use crate::status::SlotStatus;
 use fr_slots::channel::Channel;
 
-/// How many observed windows had each bit of the slot status, for channels A and B (chapter 6).
+/// The number of observed windows with each bit of the slot status, for channels A and B (chapter 6).
 ///
-/// The five counts of a channel are those of valid frames, syntax errors, content errors, boundary violations and
-/// transmission conflicts, in this order.
+/// A channel has five counts: valid frames, syntax errors, content errors, boundary violations and transmission
+/// conflicts, in this order.
 #[derive(Clone, Copy, PartialEq, Eq)]
 pub struct Counters {
     pub a: [u32; 5],
@@ -17,7 +17,7 @@ pub struct Counters {
 }
 
 impl Counters {
-    /// Of no windows.
+    /// The counters of no windows.
     pub const NONE: Counters = Counters {
         a: [0; 5],
         b: [0; 5],
@@ -25,7 +25,7 @@ impl Counters {
 
     /// Counts a slot of this status on the channel.
     ///
-    /// A count that rises has to fit 32 bits.
+    /// Each count must fit 32 bits afterwards.
     pub fn count(&mut self, channel: Channel, status: &SlotStatus)
         requires { HasRoom self.old channel status.now }
         ensures { self.new ≡ with_status self.old channel status.now }
@@ -37,7 +37,7 @@ impl Counters {
     }
 }
 
-/// Returns the counts of a channel with one slot more.
+/// Returns the counts of a channel with one more slot.
 fn with_bits(counts: [u32; 5], status: &SlotStatus) -> [u32; 5]
     requires { FitsBits counts status.now }
     ensures { result ≡ with_bits counts status.now }

@@ -1,29 +1,29 @@
-//! Observations: what a node received on a channel in a slot.
+//! Observations of a node on a channel in a slot.
 
 ghost use Rattle.std.specs.Prelude.{◌≡◌};
 
 use fr_frame::frame::{Bytes, duplicate_bytes};
 
-/// What a node receives on a channel in one slot, of the transmissions that came through (project-defined).
+/// A node's observation of the transmissions that reached a channel in one slot (project-defined).
 ///
-/// The parameter is the form of the bytes: `Seen` has them, and a [`LentSeen`] lends them.
+/// The type parameter is the form of the bytes: `Seen` owns them, and a [`LentSeen`] borrows them.
 #[derive(Drop, Clone, Copy, PartialEq, Eq)]
 pub enum Seen<B = Bytes> {
-    /// No transmission came through, or the channel has no slot.
+    /// No transmission, or the channel has no slot.
     Silence,
-    /// The node's own transmission came through, and no other.
+    /// Only the node's own transmission.
     Own,
-    /// Several came through, the node's own among them.
+    /// Several transmissions, with the node's own among them.
     Conflict,
-    /// Several came through, none of them the node's own.
+    /// Several transmissions of other nodes.
     Noise,
-    /// One of another node came through, too long for its slot or for the rest of the dynamic segment.
+    /// Only one of another node, too long for its static slot or for the rest of the dynamic segment.
     Overrun,
-    /// One of another node came through, with these bytes. They needn't be a frame.
+    /// Only one of another node, with these bytes, which needn't be a frame.
     Bytes(B),
 }
 
-/// An observation whose bytes stay where they lie, so that none are moved where it is read and dropped.
+/// An observation that borrows its bytes, so reading it copies none of them.
 pub type LentSeen<'a> = Seen<&'a [u8]>;
 
 impl Seen {

@@ -1,4 +1,4 @@
-//! The status of a slot on a channel, made from what was seen there.
+//! The status of a slot on a channel, by the observation there.
 
 ghost use Rattle.std.specs.Prelude.{◌≡◌, ◌≤◌};
 ghost use Rattle.std.specs.Option.{is_some};
@@ -12,19 +12,18 @@ use fr_slots::channel::Channel;
 use fr_slots::numbers::{Cycle, SlotId};
 use fr_slots::params::Params;
 
-/// The status of a slot on a channel: five bits (chapter 6), of which at most one is set
-/// (project-defined).
+/// The status of a slot on a channel: five bits (chapter 6), at most one of them set (project-defined).
 #[derive(Clone, Copy, PartialEq, Eq)]
 pub struct SlotStatus {
-    /// A frame that is right for the slot came, be it a data frame or a null frame.
+    /// A received frame that passes the slot's checks, a data frame or a null frame.
     pub valid: bool,
-    /// What came is no frame.
+    /// Received bytes that aren't a frame, or several transmissions of other nodes.
     pub syntax: bool,
-    /// A frame came that isn't right for the slot.
+    /// A received frame that fails the slot's checks.
     pub content: bool,
-    /// A transmission was too long for its static slot or for the rest of the dynamic segment.
+    /// A transmission too long for its static slot or for the rest of the dynamic segment.
     pub boundary: bool,
-    /// The node's own transmission met another one.
+    /// A collision of the node's own transmission with another one.
     pub conflict: bool,
 }
 
@@ -61,13 +60,14 @@ const TRANSMISSION_CONFLICT: SlotStatus = SlotStatus {
     ..NO_BIT
 };
 
-/// Returns the status of a slot of a cycle on a channel where this was seen, and the frame, which is given
-/// exactly if the status is valid (chapter 6; which bit a thing seen gives is project-defined).
+/// Returns the status of a slot on a channel in a cycle, by the observation, and the frame if it is valid.
 ///
-/// Bytes that are no frame on this channel are a syntax error. A frame is a content error unless
-/// it has the slot's frame ID and the cycle's count, and in a static slot the payload length of
-/// all static frames, and no startup indicator without the sync indicator; in a dynamic slot
-/// neither of these indicators, and valid data.
+/// The bits are those of chapter 6. The bit of each observation is project-defined. Bytes that aren't a frame on this
+/// channel are a syntax error. A frame that fails one of these checks is a content error:
+///
+/// - It has the slot's frame ID and the cycle's count.
+/// - In a static slot it has the payload length of all static frames. A startup indicator comes with a sync indicator.
+/// - In a dynamic slot it has neither of these indicators, and it is no null frame.
 pub fn status_of(
     params: &Params,
     cycle: Cycle,
@@ -87,7 +87,7 @@ pub fn status_of(
     }
 }
 
-/// The same status and frame, whose payload stays among the bytes that were seen.
+/// Returns the same as [`status_of`], with the frame's payload left among the observed bytes.
 #[tactic(auto, unfolding(crate::specs::Status::status_in, crate::specs::Status::frame_in))]
 pub fn lent_status_of<'a>(
     params: &Params,
@@ -119,7 +119,7 @@ pub fn lent_status_of<'a>(
     }
 }
 
-/// Returns whether the frame is right for the slot.
+/// Returns whether the frame passes the checks of its slot.
 fn passes(params: &Params, cycle: Cycle, slot: SlotId, frame: &LentFrame<'_>) -> bool
     ensures { result ≡ passes params.now cycle slot frame.now }
 {
@@ -130,7 +130,7 @@ fn passes(params: &Params, cycle: Cycle, slot: SlotId, frame: &LentFrame<'_>) ->
     }
 }
 
-/// Returns whether the frame is right for a static slot.
+/// Returns whether the frame passes the checks of a static slot.
 fn fits_static_slot(params: &Params, cycle: Cycle, slot: SlotId, frame: &LentFrame<'_>) -> bool
     ensures { result ≡ fits_static_slot params.now cycle slot frame.now }
 {
@@ -140,7 +140,7 @@ fn fits_static_slot(params: &Params, cycle: Cycle, slot: SlotId, frame: &LentFra
         && (frame.sync || !frame.startup)
 }
 
-/// Returns whether the frame is right for a dynamic slot.
+/// Returns whether the frame passes the checks of a dynamic slot.
 fn fits_dynamic_slot(cycle: Cycle, slot: SlotId, frame: &LentFrame<'_>) -> bool
     ensures { result ≡ fits_dynamic_slot cycle slot frame.now }
 {
