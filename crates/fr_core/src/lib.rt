@@ -20,6 +20,7 @@
 //!   world.
 //! - `Headline`, `Receivers`, `Accounts`: the promises of every world; the frames that receivers hold; the account of a
 //!   slot in its owner's journal.
+//! - `Answers`: scripts with and without the answers of their calls.
 //! - `Scripts`, `Settling`: equality of a task's calls and its script; the answer of a cross-check.
 //! - `ErrorNames`: the printed names of refusals.
 //!

@@ -15,13 +15,13 @@ use Rattle.std.specs.Str.{bytes_eq}
 use Rattle.fr_lines.specs.Spelling.{line_feed, end_line}
 use Rattle.fr_scenario.proofs.CutLemmas.{some_line}
 use Rattle.fr_scenario.proofs.LineLemmas.{line_takes, line_again, line_short, line_no_feed, line_not_end}
+use Rattle.fr_core.specs.Answers.{IsUnanswered, AreUnanswered}
 use Rattle.fr_core.specs.declared.script.Line.{Line}
 use Rattle.fr_core.specs.Scripts.{Scripted}
 use Rattle.fr_runs.specs.declared.fault_line.FaultLine.{FaultLine}
 use Rattle.fr_scenario.proofs.TaskLemmas.{scripts_kept, faults_kept, numbers_kept}
 use Rattle.fr_scenario.specs.Contents.{Contents, contents_of, task_lines, fault_lines, script_of, node_at, task_at}
 use Rattle.fr_scenario.specs.Contents.{fault_numbers, scripts_of}
-use Rattle.fr_scenario.specs.Contents.{IsUnanswered, AreUnanswered}
 use Rattle.fr_scenario.specs.Gathering.{Kept, none_yet, with_lines, kept_from, scripts_from}
 use Rattle.fr_scenario.specs.declared.error.ScenarioError.{ScenarioError}
 use Rattle.fr_scenario.specs.declared.error.ScenarioError.TheVariants.{BadMagic, BadLine, TooManyLines, Truncated}

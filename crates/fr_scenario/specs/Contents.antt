@@ -1,5 +1,5 @@
 -- The contents of a scenario: a script for each task that has lines, and fault lines, each with its number in the text.
-use Rattle.std.specs.Prelude.{◌≡◌, ℕ, ◌+◌, ◌/◌, ◌%◌, ◌==◌, ◌&&◌, List, [], ◌∷◌, None, if◌then◌else◌}
+use Rattle.std.specs.Prelude.{ℕ, ◌+◌, ◌/◌, ◌%◌, ◌==◌, ◌&&◌, List, [], ◌∷◌, if◌then◌else◌}
 use Rattle.std.specs.List.{flat_map, range_with_len}
 use Rattle.fr_core.specs.declared.script.Line.{Line}
 use Rattle.fr_core.specs.Scripts.{Scripted}
@@ -7,7 +7,6 @@ use Rattle.fr_runs.specs.declared.fault_line.FaultLine.{FaultLine}
 use Rattle.fr_scenario.specs.declared.spelled.SpelledLine.{SpelledLine}
 use Rattle.fr_scenario.specs.declared.spelled.SpelledLine.TheVariants.{Host, Fault as FaultOf}
 use Rattle.fr_slots.specs.Numbers.{most_tasks}
-use Rattle.fr_slots.specs.Plans.{Each}
 
 pub record Contents : Type 0 where
   pub scripts : List Scripted
@@ -63,12 +62,3 @@ scripts_of lines = flat_map (script_at lines) (range_with_len 0 task_count)
 abbrev pub contents_of : List SpelledLine → Contents
 contents_of lines =
     record { scripts = scripts_of lines; faults = fault_lines lines; numbers = fault_numbers 2 lines }
-
--- ---- an invariant of every scenario
-
-abbrev pub IsUnanswered : Line → Type 0
-IsUnanswered line = line.answer ≡ None
-
--- no line of a script has an answer
-abbrev pub AreUnanswered : List Scripted → Type 0
-AreUnanswered scripts = Each (λ script. Each IsUnanswered script.lines) scripts

@@ -1,5 +1,6 @@
 -- The fields of `Scenario` as its contents.
-use Rattle.fr_scenario.specs.Contents.{Contents, AreUnanswered}
+use Rattle.fr_core.specs.Answers.{AreUnanswered}
+use Rattle.fr_scenario.specs.Contents.{Contents}
 use Rattle.fr_scenario.specs.declared.scenario.Scenario.TheInside.{Inside}
 
 abbrev pub contents_in : Inside → Contents

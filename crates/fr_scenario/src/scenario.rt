@@ -80,7 +80,8 @@ fn body_of(alloc: Global, version: Version, text: &[u8]) -> Result<Gathered, Sce
 
 impl Scenario {
     ghost use Rattle.std.specs.Prelude.{◌≡◌, Ok, Err, Some, IfOk, IfErr, ◌⊎◌};
-    ghost use Rattle.fr_scenario.specs.Contents.{Contents, AreUnanswered};
+    ghost use Rattle.fr_core.specs.Answers.{AreUnanswered};
+    ghost use Rattle.fr_scenario.specs.Contents.{Contents};
     ghost use Rattle.fr_scenario.specs.declared.error.ScenarioError.TheVariants as error;
     ghost use Rattle.fr_scenario.specs.Reading.{scenario_in, first_fault};
     ghost use Rattle.fr_scenario.specs.ScenarioText.{IsScenarioText};

@@ -9,8 +9,8 @@ use Rattle.fr_bus.specs.States.{OneSenderEach}
 use Rattle.fr_bus.specs.Windows.{cycles_begun}
 use Rattle.fr_interface.specs.Commits.{commits_of}
 use Rattle.fr_core.specs.declared.event.Reply.{Reply}
-use Rattle.fr_core.specs.declared.script.Line.{Line}
 use Rattle.fr_core.specs.Receivers.{Receivers}
+use Rattle.fr_core.specs.Answers.{AreAnswered}
 use Rattle.fr_core.specs.Scripts.{Scripted}
 use Rattle.fr_core.specs.Settling.{Agrees}
 use Rattle.fr_runs.specs.declared.check.RunRefusal.{RunRefusal}
@@ -25,23 +25,7 @@ use Rattle.fr_threads.specs.declared.error.RunError.TheVariants.{BadCycles, BadS
 use Rattle.fr_threads.specs.declared.error.RunError.TheVariants.{Bus, Thread, Settle, Memory}
 use Rattle.fr_threads.specs.declared.run.Run.{Run}
 
--- ---- scripts with answers
-
--- the line without its answer
-abbrev pub bare : Line → Line
-bare line = record line { answer = None }
-
--- the script without its answers
-abbrev pub bare_script : Scripted → Scripted
-bare_script s = record s { lines = map bare s.lines }
-
-abbrev pub IsAnswered : Line → Type 0
-IsAnswered line = IsSome line.answer
-
--- these are the given scripts, line by line, and every line has an answer
-pub record AreAnswered (given scripts : List Scripted) : Type 0 where
-  pub same_lines : map bare_script scripts ≡ map bare_script given
-  pub answered : All (λ (s : Scripted). All IsAnswered s.lines) scripts
+-- ---- answers
 
 -- the answers that a task of a node got, from those of all tasks of all nodes
 abbrev pub replies_at : List (Vec (Vec Reply)) → ℕ → ℕ → Option (List Reply)

@@ -2,7 +2,8 @@
 
 ghost use Rattle.std.specs.Prelude.{◌≡◌, IfOk, IsSome, map, option_map};
 ghost use Rattle.std.specs.List.{All};
-ghost use Rattle.fr_threads.specs.Running.{bare, bare_script, IsAnswered, AreAnswered, replies_at};
+ghost use Rattle.fr_core.specs.Answers.{without_answer, without_answers, IsAnswered, AreAnswered};
+ghost use Rattle.fr_threads.specs.Running.{replies_at};
 
 use crate::failure::Failure;
 use fr_core::event::Reply;
@@ -25,7 +26,7 @@ fn duplicate_reply(reply: &Reply) -> Reply
 
 /// Returns the line, with this answer.
 fn answered_line(line: &Line, reply: &Reply) -> Line
-    ensures given { bare result ≡ bare line.now }
+    ensures given { without_answer result ≡ without_answer line.now }
     ensures answered { result.answer ≡ Some reply.now }
 {
     Line {
@@ -37,7 +38,7 @@ fn answered_line(line: &Line, reply: &Reply) -> Line
 
 /// Returns the lines, with these answers, one for each.
 fn answered_lines(alloc: Global, lines: &[Line], replies: &[Reply]) -> Result<Vec<Line>, Failure>
-    ensures given { IfOk result (λ list. map bare list.items ≡ map bare lines.now) }
+    ensures given { IfOk result (λ list. map without_answer list.items ≡ map without_answer lines.now) }
     ensures answered { IfOk result (λ list. All IsAnswered list.items) }
 {
     // A task that was joined has answered each line, but the type of a thread's result doesn't show this.
@@ -66,7 +67,7 @@ fn answered_script(
     script: &Script,
     answers: &[Vec<Vec<Reply>>],
 ) -> Result<Script, Failure>
-    ensures given { IfOk result (λ s. bare_script s ≡ bare_script script.now) }
+    ensures given { IfOk result (λ s. without_answers s ≡ without_answers script.now) }
     ensures answered { IfOk result (λ s. All IsAnswered s.lines) }
 {
     // The script suits the cluster, and each node and task was joined. Neither fact stands in a type.
