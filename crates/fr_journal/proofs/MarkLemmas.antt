@@ -35,7 +35,7 @@ host_unmarked pool (entries.Pop task from) kind =
 host_unmarked pool (entries.Fetch window a b) kind = absurd cc
 host_unmarked pool (entries.Observe window a b) kind = absurd cc
 
--- and has no place of a mark
+-- an entry of the host has no place of a mark
 pub host_knows : (pool : List ℕ) (s : ShortEntry) (P : ℕ → Type 0) → is_host (restored pool s) ≡ true
     → IfSome (last_mark s) P
 host_knows pool (entries.Commit task buffer payload) P kind = tt
@@ -101,7 +101,7 @@ fetched-same shorts s mark le none =
 
 module _ (shorts : List ShortEntry) (xs : List Entry) (s : ShortEntry) (e : Entry)
     (long : length xs ≡ length shorts) where
-  -- with one more entry, the mark of a place before still has the window that is open there
+  -- with one more entry, the mark of an earlier place still has the window that is open there
   mark-front : (place mark : ℕ) → place < length shorts → TellsOpen shorts xs place mark
       → TellsOpen (shorts ++ s ∷ []) (xs ++ e ∷ []) place mark
   mark-front place mark lt is = record {
@@ -110,7 +110,7 @@ module _ (shorts : List ShortEntry) (xs : List Entry) (s : ShortEntry) (e : Entr
         ∙ ap open_window (sym (take-append-le place xs (e ∷ []) (omega (arith, lt, long))));
   }
 
-  -- and so does the last mark of all, if the entry is no fetch
+  -- with one more entry that is no fetch, the last mark of all still has the window that was open at the end
   mark-last : (mark : ℕ) → fetched_window s ≡ None → TellsOpen shorts xs (length shorts) mark
       → TellsOpen (shorts ++ s ∷ []) (xs ++ e ∷ []) (length shorts) mark
   mark-last mark none is = record {
@@ -122,7 +122,7 @@ module _ (shorts : List ShortEntry) (xs : List Entry) (s : ShortEntry) (e : Entr
   abbrev KnowsLast : ShortEntry → Type 0
   KnowsLast y = IfSome (last_mark y) (TellsOpen (shorts ++ s ∷ []) (xs ++ e ∷ []) (length shorts))
 
-  -- so each observe still has its mark, and so does one more observe with the last mark
+  -- each observe still has its mark, with one more entry; a new observe has the last mark
   pub marked_more : (mark : ℕ) → IfSome (last_mark s) (λ m. m ≡ mark) → TellsOpen shorts xs (length shorts) mark
       → AreMarked shorts xs → AreMarked (shorts ++ s ∷ []) (xs ++ e ∷ [])
   marked_more mark told last marked place x is =
@@ -178,7 +178,7 @@ module _ (shorts : List ShortEntry) (xs : List Entry) (s : ShortEntry) (e : Entr
             ∙ sym (open_passed xs e says) ∙ ap open_window (sym all);
       }
 
-  -- and an entry of the controller is the last mark itself
+  -- an entry of the controller is the new last mark
   pub last_is_new : window_mark xs e ≡ Some (fetched_window s)
       → TellsOpen (shorts ++ s ∷ []) (xs ++ e ∷ []) (length (shorts ++ s ∷ [])) (length shorts)
   last_is_new says =

@@ -309,14 +309,14 @@ frames_of : (o : Option Arrival) → ((a : Arrival) → o ≡ Some a → IsRecei
 frames_of None each = tt
 frames_of (Some a) each = each a refl
 
--- so is the frame in a receive buffer
+-- the frame in a receive buffer is a data frame of a slot
 pub held_is_receivable : (params : Parameters) (filter : Filter) (entries : List Entry) → AreEntries entries
     → IfSome (option_map frame_of (held params filter entries)) IsReceivable
 held_is_receivable params filter entries are =
     frames_of (held params filter entries) (λ a e. arrival_is_receivable params entries a are
     (held_is_seen params filter entries a e))
 
--- and so is the oldest frame of the receive FIFO
+-- the oldest frame of the receive FIFO is a data frame of a slot
 pub oldest_is_receivable : (params : Parameters) (plan : Plan) (q : Queue) (capacity : ℕ) (entries : List Entry)
     → AreEntries entries
     → IfSome (option_map frame_of (oldest capacity (moves params plan q entries))) IsReceivable

@@ -272,7 +272,7 @@ pending_commit-counts buffer xs = counted (last_commit buffer xs) (pending-from 
         → cond (eqb (count_by is_pending (fates buffer xs)) 1) o None ≡ option_and_then (if_pending buffer xs) o
     counted o is = ap (λ (n : ℕ). cond (eqb n 1) o None) is ∙ chosen buffer xs o
 
--- so the tally has one pending commit exactly if there is one
+-- the tally has one pending commit exactly if there is one
 pub pending-one : (buffer : ℕ) (xs : List Entry) → count_by is_pending (fates buffer xs) ≡ digit
     (is_some (pending_commit buffer xs))
 unfolding pending_at
