@@ -1,4 +1,4 @@
--- In a legal journal what was popped and what is there had arrived.
+-- In a legal journal the popped frames and those in the receive FIFO are no more than the arrivals.
 use Rattle.std.proofs.Common.{◌≡◌, ℕ, ◌+◌, ◌-◌, ◌≤◌, Bool, true, false, cond, List, [], ◌∷◌, ◌++◌, length, Option}
 use Rattle.std.proofs.Common.{Some, refl, ap, subst, ◌∙◌, arith, option_map, length-append}
 use Rattle.std.specs.Prelude.{IsSomeAnd, count_by, is_some, slice_get}
@@ -24,7 +24,7 @@ use Rattle.fr_slots.proofs.HistoryLemmas.{AllAfter-induction}
 -- ---- moves
 
 module _ (capacity : ℕ) where
-  -- arrivals lengthen the queue by at most as many as they are
+  -- moves lengthen the receive FIFO by at most the number of their arrivals
   grown : (ms more : List Move) → queue_length capacity (ms ++ more) ≤ queue_length capacity ms + length (arrived more)
   grown ms more = omega (
     arith,
@@ -38,7 +38,7 @@ module _ (capacity : ℕ) where
   shorter : (ms : List Move) → queue_length capacity (ms ++ pops ∷ []) ≡ queue_length capacity ms - 1
   shorter ms = fold-append (length_after capacity) 0 ms (pops ∷ [])
 
-  -- a pop is answered where the queue holds a frame
+  -- a pop returns a frame only if the receive FIFO holds one
   answered : (frames : List Arrival) → cond (is_some (option_map origin_of (slice_get frames 0))) 1 0 ≤ length frames
   answered [] = omega arith
   answered (a ∷ frames) = omega arith
@@ -61,7 +61,7 @@ popped_more xs e = omega (arith, sum_by-append (λ x. cond (is_answered_pop x) 1
 -- ---- entries
 
 module _ (params : Parameters) (plan : Plan) (q : Queue) where
-  -- what was popped and what is there had arrived
+  -- the popped frames and those in the receive FIFO are no more than the arrivals
   abbrev IsBalanced : List Entry → Type 0
   IsBalanced xs = count_by is_answered_pop xs + queue_length q.capacity (moves params plan q xs) ≤ length
       (arrived (moves params plan q xs))
@@ -128,7 +128,7 @@ module _ (params : Parameters) (plan : Plan) (q : Queue) where
   balanced there xs legal = AllAfter-induction (IsLegal params plan) IsBalanced [] xs start
       (IsBalanced-snoc there) legal
 
-  -- what arrived was popped, is there, or was lost
+  -- each arrival was popped, is in the receive FIFO, or was lost
   pub queue_balance : plan.queue ≡ Some q → (xs : List Entry) → IsLegalJournal params plan xs
       → length (arrived (moves params plan q xs)) ≡ count_by is_answered_pop xs + queue_length q.capacity
       (moves params plan q xs) + queue_lost params plan q xs

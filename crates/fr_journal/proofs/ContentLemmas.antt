@@ -1,4 +1,4 @@
--- What a queue holds, with one more move.
+-- The content of a receive FIFO, with one more move.
 use Rattle.std.proofs.Common.{◌≡◌, ℕ, zero, suc, ◌+◌, ◌-◌, ◌≤◌, List, [], ◌∷◌, ◌++◌, drop, length, sym, ap}
 use Rattle.std.proofs.Common.{◌∙◌, arith, length-append, append-nil, length-drop, drop-drop}
 use Rattle.std.specs.Prelude.{min}
@@ -9,12 +9,12 @@ use Rattle.fr_journal.specs.Arrivals.{Move, arrives, pops, arrived, length_after
 use Rattle.fr_journal.specs.declared.entry.Arrival.{Arrival}
 use Rattle.fr_journal.proofs.MoveLemmas.{arrived-append}
 
--- the last n of a list
+-- the last n elements of a list
 abbrev last_of : ℕ → List Arrival → List Arrival
 last_of n xs = drop (length xs - n) xs
 
 module _ (capacity : ℕ) where
-  -- a queue grows by no more than arrives
+  -- a receive FIFO grows by no more frames than arrive
   pub length_from : (n bound : ℕ) (ms : List Move) → n ≤ bound
       → fold (length_after capacity) n ms ≤ bound + length (arrived ms)
   length_from n bound [] le = omega (arith, le)
@@ -33,7 +33,7 @@ module _ (capacity : ℕ) where
   pub queue_length-capacity : (ms : List Move) → queue_length capacity ms ≤ capacity
   queue_length-capacity ms = within 0 ms (omega arith)
 
-  -- a queue is no longer than its arrivals are many
+  -- a receive FIFO holds no more frames than arrived
   pub queue_length-arrived : (ms : List Move) → queue_length capacity ms ≤ length (arrived ms)
   queue_length-arrived ms = omega (arith, length_from 0 0 ms (omega arith))
 
@@ -74,7 +74,7 @@ module _ (capacity : ℕ) where
       ∙ ap (λ (n : ℕ). drop (length (arrived ms) - n) (arrived ms)) shorter
       ∙ none_left (queue_length capacity ms) (arrived ms) (queue_length-arrived ms)
 
-  -- as many frames as the queue is long
+  -- the content has as many frames as the length says
   pub length-content : (ms : List Move) → length (queue_content capacity ms) ≡ queue_length capacity ms
   length-content ms = omega (
     arith,

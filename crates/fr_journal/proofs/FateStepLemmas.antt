@@ -16,14 +16,14 @@ use Rattle.fr_slots.specs.History.{last_after, AllAfter}
 abbrev pub fate_by : Bool → Bool → Bool → Fate
 fate_by sent withdrawn replaced = cond sent Sent (cond withdrawn Withdrawn (cond replaced Overwritten Pending))
 
--- what a later commit on the buffer makes of a fate
+-- a fate after a later commit on the buffer
 abbrev pub after_commit : Fate → Fate
 after_commit Sent = Sent
 after_commit Withdrawn = Withdrawn
 after_commit Overwritten = Overwritten
 after_commit Pending = Overwritten
 
--- what another entry makes of it that sends the buffer's last commit, or takes it back, or does neither
+-- a fate after another entry, which sends the buffer's last commit, withdraws it, or does neither
 abbrev pub after_other : Bool → Bool → Fate → Fate
 after_other sent withdrawn Sent = Sent
 after_other sent withdrawn Withdrawn = Withdrawn
@@ -82,7 +82,7 @@ fates_from-commit buffer n (x ∷ xs) e on unsent untaken =
 
 -- ---- any other entry
 
--- of the commits on the buffer these are marked: the last one, or none
+-- the predicate holds for the last commit on the buffer exactly if t, and for no other commit there
 abbrev pub MarksLast : ℕ → ℕ → Bool → (ℕ → Bool) → List Entry → Type 0
 MarksLast buffer n t p [] = Unit {0}
 MarksLast buffer n t p (x ∷ xs) = (is_commit_on buffer x ≡ true → p n ≡ (t && not (list_any (is_commit_on buffer) xs)))
@@ -95,7 +95,7 @@ LastStands buffer n t (x ∷ xs) = (is_commit_on buffer x ≡ true → (t && not
     → is_withdrawn (fate_of buffer n xs) ≡ false)
     × LastStands buffer (n + 1) t xs
 
--- none is marked
+-- a predicate that holds for no commit
 pub marks_none : (buffer n : ℕ) (p : ℕ → Bool) (xs : List Entry) → ((m : ℕ) → p m ≡ false)
     → MarksLast buffer n false p xs
 marks_none buffer n p [] none = tt
@@ -131,7 +131,7 @@ fates_from-other buffer n t u (x ∷ xs) e off sending taking stands =
     (fates_from buffer (n + 1) xs) (fates_from buffer (n + 1) (xs ++ e ∷ [])) head
     (fates_from-other buffer (n + 1) t u xs e off sending.1 taking.1 stands.1)
 
--- ---- of the commits on a buffer a legal entry sends or takes back the last one, if any
+-- ---- a legal entry sends or withdraws only the last commit on a buffer, if any
 
 and-true : (t : Bool) → (t && true) ≡ t
 and-true true = refl
@@ -153,7 +153,7 @@ not_itself : (o : Option ℕ) (n : ℕ) → IsSomeAnd o (λ k. n + 1 ≤ k) → 
 not_itself o n h is = omega (arith, subst (λ (p : Option ℕ). IsSomeAnd p (λ k. n + 1 ≤ k)) is h)
 
 module _ (buffer : ℕ) where
-  -- the commit at each place that is marked is the last one
+  -- the predicate holds at most for the last commit
   abbrev pub OnlyLast : (ℕ → Bool) → Option ℕ → List Entry → Entry → Type 0
   OnlyLast p last before x = is_commit_on buffer x ≡ true → p (length before) ≡ true → last ≡ Some (length before)
 
@@ -172,7 +172,7 @@ module _ (buffer : ℕ) where
     unfolding last_after
     next_from = is ∙ or-assoc (last_after (commit_on buffer) (before ++ x ∷ []) xs) (commit_on buffer before x) o
 
-    -- it isn't the last where another one follows
+    -- a commit isn't the last one if another one follows
     not_last : list_any (is_commit_on buffer) xs ≡ true → last ≡ Some (length before) → ⊥
     not_last more eq =
         let long : length (before ++ x ∷ []) ≡ length before + 1 = length-append before (x ∷ []) in

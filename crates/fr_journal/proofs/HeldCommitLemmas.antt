@@ -16,7 +16,7 @@ use Rattle.fr_journal.proofs.LastCommitLemmas.{IsCommitAt, last_commit-there, la
 use Rattle.fr_journal.proofs.LastCommitLemmas.{last_commit-other, drop-front, drop-next}
 use Rattle.fr_journal.proofs.TallyLemmas.{pending_commit-counts}
 
--- ---- what is held or pending is the last commit
+-- ---- a held or pending commit is the last one
 
 kept_if : (t : Bool) (j k : ℕ) → cond t (Some j) None ≡ Some k → (t ≡ true) × (j ≡ k)
 kept_if true j k e = (refl, cc)
@@ -26,7 +26,7 @@ kept_unless : (t : Bool) (j k : ℕ) → cond t None (Some j) ≡ Some k → (t 
 kept_unless true j k e = absurd cc
 kept_unless false j k e = (refl, cc)
 
--- whether the commit of this number is pending, or withdrawn
+-- the commit of this number is pending
 abbrev pub pending_at : ℕ → List Entry → ℕ → Bool
 pending_at number xs k = is_pending (fate_of number k (drop (k + 1) xs))
 
@@ -95,7 +95,7 @@ pub pending_stands : (number : ℕ) (xs : List Entry) (k : ℕ) → pending_at n
 pending_stands number xs k = one_of_both (list_any (sends k) (drop (k + 1) xs))
     (list_any (takes_back k) (drop (k + 1) xs)) (list_any (is_commit_on number) (drop (k + 1) xs))
 
--- so of the held commit and the last one it is the same whether it is pending
+-- the pending commit is the held commit, if the tally has a pending one
 pub held_pending-counts : (number : ℕ) (xs : List Entry) → cond (eqb (count_by is_pending (fates number xs)) 1)
     (held_commit number xs) None ≡ pending_commit number xs
 held_pending-counts number xs = by_count (eqb (count_by is_pending (fates number xs)) 1)
@@ -113,7 +113,7 @@ held_pending-counts number xs = by_count (eqb (count_by is_pending (fates number
     by_count true is = found (last_commit number xs) refl is
     by_count false is = is
 
--- ---- one entry more
+-- ---- one more entry
 
 withdrawn_by : (s w c : Bool) → is_withdrawn (fate_by s w c) ≡ (not s && w)
 withdrawn_by true w c = refl
@@ -126,7 +126,7 @@ or_none true = refl
 or_none false = refl
 
 module _ (number : ℕ) (xs : List Entry) (e : Entry) where
-  -- the fate of a commit, with the entry
+  -- a test of the entries after a commit, with one more entry
   later : (k : ℕ) → k < length xs → (p : Entry → Bool) → list_any p (drop (k + 1) (xs ++ e ∷ [])) ≡
       (list_any p (drop (k + 1) xs) || p e)
   later k lt p =
@@ -148,7 +148,7 @@ module _ (number : ℕ) (xs : List Entry) (e : Entry) where
   withdrawn_now k = withdrawn_by (list_any (sends k) (drop (k + 1) xs)) (list_any (takes_back k) (drop (k + 1) xs))
       (list_any (is_commit_on number) (drop (k + 1) xs))
 
-  -- a sent commit isn't withdrawn, and what isn't taken back isn't either
+  -- a commit is withdrawn as before if the entry doesn't withdraw it, and sends no withdrawn commit
   same_by : (s w t : Bool) → (t ≡ true → (not s && w) ≡ false) → (not (s || t) && (w || false)) ≡ (not s && w)
   same_by true w t h = refl
   same_by false w false h = or_none w
@@ -163,7 +163,7 @@ module _ (number : ℕ) (xs : List Entry) (e : Entry) where
       withdrawn_then k lt ∙ ap (λ (b : Bool). not (s || sends k e) && (w || b)) untaken
       ∙ same_by s w (sends k e) (λ sent. sym (withdrawn_now k) ∙ unsent sent) ∙ sym (withdrawn_now k)
 
-  -- an entry that neither is a commit on the buffer, nor sends a withdrawn one, nor takes its last one back
+  -- an entry that isn't a commit on the buffer, sends no withdrawn commit, and doesn't withdraw the last one
   pub held-other : is_commit_on number e ≡ false → ((k : ℕ) → last_commit number xs ≡ Some k → takes_back k e ≡ false)
       → ((k : ℕ) → last_commit number xs ≡ Some k → sends k e ≡ true → withdrawn_at number xs k ≡ false)
       → held_commit number (xs ++ e ∷ []) ≡ held_commit number xs
@@ -178,7 +178,7 @@ module _ (number : ℕ) (xs : List Entry) (e : Entry) where
       by_last (Some k) h p q = ap (λ (t : Bool). cond {A = Option ℕ} t None (Some k))
           (same_withdrawn k h (p k refl) (q k refl))
 
-  -- one that sends no commit and takes none back
+  -- an entry that sends no commit and withdraws none
   pub held-same : is_commit_on number e ≡ false → ((k : ℕ) → takes_back k e ≡ false) → ((k : ℕ) → sends k e ≡ false)
       → held_commit number (xs ++ e ∷ []) ≡ held_commit number xs
   held-same off untaken unsent = held-other off (λ k _. untaken k)
@@ -191,7 +191,7 @@ module _ (number : ℕ) (xs : List Entry) (e : Entry) where
       held-some number (xs ++ e ∷ []) (length xs) (last_commit-commit number xs e on)
       (ap (λ (l : List Entry). is_withdrawn (fate_of number (length xs) l)) none)
 
-  -- a pending commit that is taken back leaves the buffer empty
+  -- the withdraw of a pending commit leaves the buffer empty
   pub held-taken : is_commit_on number e ≡ false → ((k : ℕ) → sends k e ≡ false) → (k : ℕ)
       → pending_commit number xs ≡ Some k → takes_back k e ≡ true → held_commit number (xs ++ e ∷ []) ≡ None
   held-taken off unsent k pending taken =

@@ -1,4 +1,4 @@
--- What a receive buffer holds comes from an entry that is there.
+-- The frame in a receive buffer has its origin in an entry of the journal.
 use Rattle.std.proofs.Common.{◌≡◌, ℕ, ◌+◌, ◌≤◌, ◌<◌, ◌^◌, Bool, true, false, cond, List, [], ◌∷◌, ◌++◌, length, Option}
 use Rattle.std.proofs.Common.{Some, None, refl, arith, length-append, option_map}
 use Rattle.std.specs.Prelude.{IfSome}
@@ -80,7 +80,7 @@ held-below_from params filter before (e ∷ xs) =
     (weaker _ (length before + 1) (length before + length (e ∷ xs)) (omega arith)
     (below_next _ (length before) (from_entry params filter (length before) (open_window before) e)))
 
--- the entry that what is held comes from is one of these
+-- the origin of the held frame is one of these entries
 pub held-below : (params : Parameters) (filter : Filter) (entries : List Entry)
     → IfSome (held params filter entries) (λ a. a.origin.entry < length entries)
 held-below params filter entries = weaker (held params filter entries) (length {A = Entry} [] + length entries)

@@ -1,4 +1,4 @@
--- The last commit on a buffer: where it stands, and what one more entry does to it.
+-- The last commit on a buffer: its place, and the last commit after one more entry.
 use Rattle.std.proofs.Common.{◌≡◌, ℕ, zero, suc, ◌+◌, ◌≤◌, ◌<◌, Bool, true, false, cond, ◌||◌, List, [], ◌∷◌, ◌++◌}
 use Rattle.std.proofs.Common.{drop, length, Option, Some, None, refl, sym, ap, subst, ◌∙◌, arith, length-append}
 use Rattle.std.specs.Prelude.{IfSome, IsSomeAnd, slice_get}
@@ -33,7 +33,7 @@ pub slice_get-next : {X : Type 0} (front : List X) (x : X) (rest : List X)
 slice_get-next [] x rest = refl
 slice_get-next (y ∷ front) x rest = slice_get-next front x rest
 
--- what follows the element after a front
+-- the rest after a front and one element
 pub drop-next : {X : Type 0} (front : List X) (x : X) (rest : List X)
     → drop (length front + 1) (front ++ x ∷ rest) ≡ rest
 drop-next {X = X} front x rest =
@@ -44,7 +44,7 @@ drop-next {X = X} front x rest =
     behind_front [] = refl
     behind_front (y ∷ ys) = behind_front ys
 
--- dropped of the front alone
+-- elements dropped only from a front
 pub drop-front : {X : Type 0} (xs ys : List X) (n : ℕ) → n ≤ length xs → drop n (xs ++ ys) ≡ drop n xs ++ ys
 drop-front xs ys zero le = refl
 drop-front [] ys (suc n) le = absurd (omega (arith, le))
@@ -55,7 +55,7 @@ within P [] n h = absurd h
 within P (x ∷ xs) zero h = omega arith
 within P (x ∷ xs) (suc n) h = omega (arith, within P xs n h)
 
--- ---- whether there is one
+-- ---- the existence of a commit
 
 further : (o p : Option ℕ) (m n : ℕ) → n ≤ m → IsSomeAnd o (λ k. m ≤ k) → IsSomeAnd (option_or o p) (λ k. n ≤ k)
 further None p m n le h = absurd h
@@ -99,7 +99,7 @@ module _ (buffer : ℕ) where
           subst (λ (o : Option ℕ). IsSomeAnd o (λ k. length before ≤ k)) (sym (last-here before x xs none here))
           (omega arith)
 
-  -- ---- where it stands
+  -- ---- its place
 
   -- the entry of this number is a commit on the buffer
   abbrev pub IsCommitAt : List Entry → ℕ → Type 0
@@ -132,7 +132,7 @@ module _ (buffer : ℕ) where
       below None h = tt
       below (Some k) h = within (λ e. is_commit_on buffer e ≡ true) xs k h
 
-  -- ---- one entry more
+  -- ---- one more entry
 
   pub last_commit-commit : (xs : List Entry) (e : Entry) → is_commit_on buffer e ≡ true
       → last_commit buffer (xs ++ e ∷ []) ≡ Some (length xs)

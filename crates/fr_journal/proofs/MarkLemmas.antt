@@ -1,4 +1,4 @@
--- What short entries know of marks, with one more entry.
+-- The marks of short entries, with one more entry.
 use Rattle.std.proofs.Common.{◌≡◌, ℕ, ◌<◌, ◌≤◌, false, true, List, [], ◌∷◌, ◌++◌, take, length, inl, inr}
 use Rattle.std.proofs.Common.{Option, Some, None, refl, sym, ap, subst, ◌∙◌, arith, length-append}
 use Rattle.std.specs.Prelude.{map, slice_get, IfSome}
@@ -16,9 +16,9 @@ use Rattle.fr_journal.proofs.LastCommitLemmas.{slice_get-front, slice_get-next}
 use Rattle.fr_journal.proofs.OpenWindowLemmas.{open_window-snoc}
 use Rattle.fr_slots.specs.History.{last_after}
 
--- ---- what an entry marks
+-- ---- the mark of an entry
 
--- an entry of the host marks nothing
+-- an entry of the host is no mark
 pub record IsUnmarked (s : ShortEntry) (e : Entry) : Type 0 where
   pub fetched : fetched_window s ≡ None
   pub says : (before : List Entry) → window_mark before e ≡ None
@@ -35,7 +35,7 @@ host_unmarked pool (entries.Pop task from) kind =
 host_unmarked pool (entries.Fetch window a b) kind = absurd cc
 host_unmarked pool (entries.Observe window a b) kind = absurd cc
 
--- and knows no mark
+-- an entry of the host has no place of a mark
 pub host_knows : (pool : List ℕ) (s : ShortEntry) (P : ℕ → Type 0) → is_host (restored pool s) ≡ true
     → IfSome (last_mark s) P
 host_knows pool (entries.Commit task buffer payload) P kind = tt
@@ -45,7 +45,7 @@ host_knows pool (entries.Pop task from) P kind = tt
 host_knows pool (entries.Fetch window a b) P kind = tt
 host_knows pool (entries.Observe window a b) P kind = absurd cc
 
--- one of the controller marks that its window is open, or that none is
+-- an entry of the controller marks that its window is open, or that none is
 pub slot_marked : (pool : List ℕ) (s : ShortEntry) (before : List Entry) → is_host (restored pool s) ≡ false
     → window_mark before (restored pool s) ≡ Some (fetched_window s)
 slot_marked pool (entries.Commit task buffer payload) before kind = absurd cc
@@ -55,7 +55,7 @@ slot_marked pool (entries.Pop task from) before kind = absurd cc
 slot_marked pool (entries.Fetch window a b) before kind = refl
 slot_marked pool (entries.Observe window a b) before kind = refl
 
--- what knows of a mark fetched nothing
+-- an entry with the place of a mark is no fetch
 nothing_fetched : (s : ShortEntry) (mark : ℕ) → last_mark s ≡ Some mark → fetched_window s ≡ None
 nothing_fetched (entries.Commit task buffer payload) mark is = refl
 nothing_fetched (entries.Withdraw task buffer of) mark is = refl
@@ -87,7 +87,7 @@ fetched-last : (shorts : List ShortEntry) (s : ShortEntry)
     → fetched_at (shorts ++ s ∷ []) (length shorts) ≡ fetched_window s
 fetched-last shorts s = ap (option_and_then fetched_window) (slice_get-next shorts s [])
 
--- one more that fetched nothing changes nothing
+-- one more entry that is no fetch changes no fetched window
 fetched-same : (shorts : List ShortEntry) (s : ShortEntry) (mark : ℕ) → mark ≤ length shorts
     → fetched_window s ≡ None → fetched_at (shorts ++ s ∷ []) mark ≡ fetched_at shorts mark
 fetched-same shorts s mark le none =
@@ -101,7 +101,7 @@ fetched-same shorts s mark le none =
 
 module _ (shorts : List ShortEntry) (xs : List Entry) (s : ShortEntry) (e : Entry)
     (long : length xs ≡ length shorts) where
-  -- a mark before a place still tells what is open there, with one more entry behind
+  -- with one more entry, the mark of an earlier place still has the window that is open there
   mark-front : (place mark : ℕ) → place < length shorts → TellsOpen shorts xs place mark
       → TellsOpen (shorts ++ s ∷ []) (xs ++ e ∷ []) place mark
   mark-front place mark lt is = record {
@@ -110,7 +110,7 @@ module _ (shorts : List ShortEntry) (xs : List Entry) (s : ShortEntry) (e : Entr
         ∙ ap open_window (sym (take-append-le place xs (e ∷ []) (omega (arith, lt, long))));
   }
 
-  -- and so does the mark of all, with one that fetched nothing
+  -- with one more entry that is no fetch, the last mark of all still has the window that was open at the end
   mark-last : (mark : ℕ) → fetched_window s ≡ None → TellsOpen shorts xs (length shorts) mark
       → TellsOpen (shorts ++ s ∷ []) (xs ++ e ∷ []) (length shorts) mark
   mark-last mark none is = record {
@@ -122,7 +122,7 @@ module _ (shorts : List ShortEntry) (xs : List Entry) (s : ShortEntry) (e : Entr
   abbrev KnowsLast : ShortEntry → Type 0
   KnowsLast y = IfSome (last_mark y) (TellsOpen (shorts ++ s ∷ []) (xs ++ e ∷ []) (length shorts))
 
-  -- so each observe still knows its mark, and so does one more that was told it
+  -- each observe still has its mark, with one more entry; a new observe has the last mark
   pub marked_more : (mark : ℕ) → IfSome (last_mark s) (λ m. m ≡ mark) → TellsOpen shorts xs (length shorts) mark
       → AreMarked shorts xs → AreMarked (shorts ++ s ∷ []) (xs ++ e ∷ [])
   marked_more mark told last marked place x is =
@@ -162,7 +162,7 @@ module _ (shorts : List ShortEntry) (xs : List Entry) (s : ShortEntry) (e : Entr
                 (subst KnowsLast same (told_last (last_mark s) refl told))
           ]
 
-  -- the last mark of all is as it was after an entry of the host
+  -- an entry of the host leaves the last mark of all as it was
   pub last_passed : (mark : ℕ) → fetched_window s ≡ None → window_mark xs e ≡ None
       → TellsOpen shorts xs (length shorts) mark
       → TellsOpen (shorts ++ s ∷ []) (xs ++ e ∷ []) (length (shorts ++ s ∷ [])) mark
@@ -178,7 +178,7 @@ module _ (shorts : List ShortEntry) (xs : List Entry) (s : ShortEntry) (e : Entr
             ∙ sym (open_passed xs e says) ∙ ap open_window (sym all);
       }
 
-  -- and one of the controller is the last mark itself
+  -- an entry of the controller is the new last mark
   pub last_is_new : window_mark xs e ≡ Some (fetched_window s)
       → TellsOpen (shorts ++ s ∷ []) (xs ++ e ∷ []) (length (shorts ++ s ∷ [])) (length shorts)
   last_is_new says =
@@ -191,7 +191,7 @@ module _ (shorts : List ShortEntry) (xs : List Entry) (s : ShortEntry) (e : Entr
         opens = fetched-last shorts s ∙ sym (open_marked xs e (fetched_window s) says) ∙ ap open_window (sym all);
       }
 
--- ---- what an observe closes
+-- ---- the window that an observe closes
 
 pub closes : (pool : List ℕ) (shorts : List ShortEntry) (xs before : List Entry) (place mark : ℕ) (s : ShortEntry)
     → before ≡ take place xs → last_mark s ≡ Some mark → TellsOpen shorts xs place mark

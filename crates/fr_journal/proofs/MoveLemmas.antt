@@ -1,4 +1,4 @@
--- What happens to a queue, with one more entry.
+-- The moves of a receive FIFO, with one more entry.
 use Rattle.std.proofs.Common.{◌≡◌, List, [], ◌∷◌, ◌++◌, refl, ap}
 use Rattle.fr_journal.specs.Arrivals.{Move, arrives, pops, arrive_all, moves_at, moves, arrived}
 use Rattle.fr_journal.specs.declared.entry.Arrival.{Arrival}

@@ -1,4 +1,4 @@
--- What the receive queue holds comes from an entry that is there.
+-- Each frame in the receive FIFO has its origin in an entry of the journal.
 use Rattle.std.proofs.Common.{ℕ, zero, suc, ◌+◌, ◌-◌, ◌≤◌, ◌<◌, ◌^◌, Bool, true, false, cond, List, [], ◌∷◌, ◌++◌, drop}
 use Rattle.std.proofs.Common.{length, Option, Some, None, arith, length-append, option_map, subst, sym}
 use Rattle.std.specs.Prelude.{IfSome, option_to_list, slice_get}
@@ -91,7 +91,7 @@ module _ (params : Parameters) (plan : Plan) (q : Queue) where
   picks (a ∷ xs) zero bound h = h.0
   picks (a ∷ xs) (suc n) bound h = picks xs n bound h.1
 
-  -- the entry that the oldest frame comes from is one of these
+  -- the origin of the oldest frame is one of these entries
   pub oldest-below : (capacity : ℕ) (entries : List Entry) → IfSome (oldest capacity (moves params plan q entries))
       (λ a. a.origin.entry < length entries)
   oldest-below capacity entries =

@@ -1,4 +1,4 @@
--- What legal journals have room for.
+-- A legal journal with an open window has room for its observe.
 use Rattle.std.proofs.Common.{◌≡◌, ℕ, ◌+◌, ◌≤◌, Bool, false, cond, List, [], ◌∷◌, ◌++◌, Option, Some, None, refl, sym}
 use Rattle.std.proofs.Common.{ap, subst, ◌∙◌, arith}
 use Rattle.std.specs.Prelude.{IfSome, count_by}
@@ -19,7 +19,7 @@ use Rattle.fr_slots.proofs.HistoryLemmas.{AllAfter-induction}
 abbrev HasRoom : Plan → List Entry → Type 0
 HasRoom plan entries = IfSome (open_window entries) (λ _. count_by is_slot entries + 1 ≤ plan.slot_entries)
 
--- an entry of the host changes neither
+-- an entry of the host changes neither the open window nor the number of the controller's entries
 still_room : (plan : Plan) (xs : List Entry) (e : Entry) → is_slot e ≡ false → window_mark xs e ≡ None → HasRoom plan xs
     → HasRoom plan (xs ++ e ∷ [])
 still_room plan xs e host unmarked h =

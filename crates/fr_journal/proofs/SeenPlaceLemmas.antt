@@ -1,4 +1,4 @@
--- What a receive buffer or the queue holds was seen by an observe of the journal, and is a data frame of a slot.
+-- Each frame in a receive buffer or in the receive FIFO is a data frame of a slot, from an observe of the journal.
 use Rattle.std.proofs.Common.{◌≡◌, ℕ, zero, suc, ◌*◌, ◌-◌, ◌==◌, Bool, true, false, cond, not, ◌&&◌, ◌||◌, List, []}
 use Rattle.std.proofs.Common.{◌∷◌, ◌++◌, length, Option, Some, None, refl, sym, ap, subst, ◌∙◌, inl, inr, ◌⊎◌}
 use Rattle.std.proofs.Common.{slice_get, option_map}
@@ -36,12 +36,12 @@ use Rattle.fr_status.specs.Forms.{Seen}
 use Rattle.fr_status.specs.declared.seen.Seen.TheVariants.{Silence, Own, Conflict, Noise, Overrun, Bytes}
 use Rattle.fr_status.specs.Status.{frame_in, passed, passes, fits_static_slot, fits_dynamic_slot}
 
--- the arrival is the valid data frame that the observe of this number saw on its channel
+-- the arrival is the valid data frame on its channel in the observe of this number
 pub record IsBrought (params : Parameters) (number : ℕ) (window : Opportunity) (x y : Seen) (a : Arrival) : Type 0 where
   pub entry_is : a.origin.entry ≡ number
   pub frame_is : data_frame_seen params window a.origin.channel (seen_on a.origin.channel x y) ≡ Some a.frame
 
--- the arrival is what an observe after these entries saw
+-- the entry after these is an observe with the arrival
 pub record IsSeenBy (params : Parameters) (before : List Entry) (e : Entry) (a : Arrival) : Type 0 where
   pub number : ℕ
   pub x : Seen
@@ -51,11 +51,11 @@ pub record IsSeenBy (params : Parameters) (before : List Entry) (e : Entry) (a :
   pub opened : open_window before ≡ Some window
   pub brought : IsBrought params (length before) window x y a
 
--- the journal has an observe that saw the arrival
+-- the journal has an observe with the arrival
 abbrev pub IsSeenIn : Parameters → List Entry → Arrival → Type 0
 IsSeenIn params entries a = IsCutAt (λ before e. IsSeenBy params before e a) [] entries
 
--- what is kept by a test
+-- a value that passed a test was there before
 kept : {X : Type 0} (b : Bool) (o : Option X) (y : X) → cond b o None ≡ Some y → o ≡ Some y
 kept true o y e = e
 kept false o y e = absurd (let none : ⊥ = cc in none)
@@ -128,7 +128,7 @@ module _ (params : Parameters) (filter : Filter) where
             from_entry c.inner c.here a c.holds;
       }
 
--- ---- the queue
+-- ---- the receive FIFO
 
 among_cond : {A : Type 0} (b : Bool) (o : Option A) (k : ℕ) (a : A)
     → slice_get (cond b (option_to_list o) []) k ≡ Some a → o ≡ Some a
@@ -180,7 +180,7 @@ module _ (params : Parameters) (plan : Plan) (q : Queue) where
       (sym (ap (λ (l : List Arrival). slice_get l k) (arrived-all
       (queue_arrivals_in params plan q (length before) x y (open_window before)))) ∙ e)
 
-  -- what arrived is what each entry brings
+  -- the arrivals are those of each entry, in order
   arrived-each : (before entries : List Entry) → arrived (each_after (moves_at params plan q) before entries) ≡
       each_after (λ b e. arrived (moves_at params plan q b e)) before entries
   unfolding each_after
@@ -208,7 +208,7 @@ module _ (params : Parameters) (plan : Plan) (q : Queue) where
 
 -- ---- data frames of slots
 
--- a window that is open was fetched, so its numbers are in range
+-- an open window was fetched, so its numbers are in range
 fetched_fits : (before : List Entry) (e : Entry) (w : Opportunity) → window_mark before e ≡ Some (Some w) → IsEntry e
     → IsInRange w
 fetched_fits before (Commit task buffer payload) w e h = absurd (let none : ⊥ = cc in none)
@@ -258,7 +258,7 @@ passed_id : (p : Parameters) (cycle slot : ℕ) (o : Option Fields) (f : Fields)
 passed_id p cycle slot None f e = absurd (let none : ⊥ = cc in none)
 passed_id p cycle slot (Some g) f e = given_if p cycle slot (passes p cycle slot g) g f refl e
 
--- a valid frame has its slot's number
+-- a valid frame has its slot's frame ID
 frame_id : (p : Parameters) (cycle slot : ℕ) (channel : Channel) (seen : Seen) (f : Fields)
     → frame_in p cycle slot channel seen ≡ Some f → f.id ≡ slot
 unfolding frame_in
@@ -294,7 +294,7 @@ seen_is_receivable p w channel seen f range e =
     let d = data_of (option_and_then (λ s. frame_in p w.cycle s channel seen) (slot_of w channel)) f e in
     (d.1, id_in_slot p w.cycle channel seen (slot_of w channel) f (slot_is w channel range) d.0)
 
--- an arrival that the journal has an observe of is a data frame of a slot
+-- an arrival from an observe of the journal is a data frame of a slot
 arrival_is_receivable : (params : Parameters) (entries : List Entry) (a : Arrival) → AreEntries entries
     → IsSeenIn params entries a → IsReceivable a.frame
 arrival_is_receivable params entries a are c =
@@ -309,14 +309,14 @@ frames_of : (o : Option Arrival) → ((a : Arrival) → o ≡ Some a → IsRecei
 frames_of None each = tt
 frames_of (Some a) each = each a refl
 
--- so what a receive buffer holds is one
+-- the frame in a receive buffer is a data frame of a slot
 pub held_is_receivable : (params : Parameters) (filter : Filter) (entries : List Entry) → AreEntries entries
     → IfSome (option_map frame_of (held params filter entries)) IsReceivable
 held_is_receivable params filter entries are =
     frames_of (held params filter entries) (λ a e. arrival_is_receivable params entries a are
     (held_is_seen params filter entries a e))
 
--- and so is the oldest frame of the queue
+-- the oldest frame of the receive FIFO is a data frame of a slot
 pub oldest_is_receivable : (params : Parameters) (plan : Plan) (q : Queue) (capacity : ℕ) (entries : List Entry)
     → AreEntries entries
     → IfSome (option_map frame_of (oldest capacity (moves params plan q entries))) IsReceivable

@@ -1,4 +1,5 @@
--- What is appended to a pool leaves what short entries restore from it; what an entry more leaves of a journal.
+-- Short entries restore the same entries after an append to their pool. One more entry keeps the properties of a
+-- journal.
 use Rattle.std.proofs.Common.{◌≡◌, ℕ, ◌+◌, ◌-◌, ◌<◌, ◌≤◌, Bool, true, false, not, cond, List, [], ◌∷◌, ◌++◌, length}
 use Rattle.std.proofs.Common.{take, drop, refl, sym, ap, subst}
 use Rattle.std.proofs.Common.{Option, Some, None, ◌∙◌, arith, length-append, length-drop}
@@ -95,7 +96,7 @@ all-restored pool more (s ∷ shorts) h =
     let rest = all-restored pool more shorts (All-tail (IsShort (length pool)) s shorts h) in
     cc
 
--- ---- a journal, and what it is after an entry was appended to its pool and its short entries
+-- ---- a journal, before and after an append to its pool and its short entries
 
 pub record IsPushed (j n : Inside) (most : ℕ) (s : ShortEntry) (e : Entry) : Type 0 where
   pub host_limit_is : n.host_limit ≡ j.host_limit
@@ -230,18 +231,18 @@ module _ (j n : Inside) (most : ℕ) (s : ShortEntry) (e : Entry) (h : IsCounted
       subst (TellsOpen n.shorts.items (map (restored n.pool.items) n.shorts.items) (length n.shorts.items)) (sym here)
       (last_of (length j.shorts.items) (last_is_new j.shorts.items old_entries s e as_many says))
 
--- where one more will stand
+-- the place of one more entry
 pub next-place : (j : Inside) (k : Kept) (place : ℕ) → kept_in j ≡ k → place ≡ length k.entries
     → place ≡ length j.shorts.items
 next-place j k place view is =
     is ∙ ap (λ (k : Kept). length k.entries) (sym view) ∙ length-map j.shorts.items (restored j.pool.items)
 
--- an observe closes the window of the mark that it knows
+-- an observe closes the window of its mark
 module _ (j : Inside) (k : Kept) (h : IsCounted j) (view : kept_in j ≡ k) (number : ℕ) where
   abbrev closed : Option Opportunity
   closed = option_and_then (closed_window (take number k.entries)) (slice_get k.entries number)
 
-  -- the entry is that of the short one
+  -- the entry is the one that the short entry restores
   closed-by : (o : Option ShortEntry) → slice_get j.shorts.items number ≡ o
       → closed ≡ option_and_then (λ s. closed_window (take number k.entries) (restored j.pool.items s)) o
   closed-by o is =

@@ -1,4 +1,4 @@
--- How many commits met each fate, and how many of them are pending.
+-- The number of commits with each fate, and the number of pending ones.
 use Rattle.std.proofs.Common.{◌≡◌, ℕ, suc, ◌+◌, ◌-◌, ◌≤◌, Bool, true, false, cond, eqb, ◌&&◌, List, [], ◌∷◌, ◌++◌, drop}
 use Rattle.std.proofs.Common.{length, map, Option, Some, None, refl, ap, ◌∙◌, arith, length-append}
 use Rattle.std.specs.Prelude.{count_by, IsSomeAnd, is_some}
@@ -38,7 +38,7 @@ fates_fill (f ∷ fs) =
       sum_by-cons (λ x. cond (is_withdrawn x) 1 0) f fs,
     )
 
--- one more of them, under a change of all
+-- one more fate, under a change of all
 counted : (p : Fate → Bool) (g : Fate → Fate) (f : Fate) (fs : List Fate)
     → count_by p (map g (f ∷ fs)) ≡ digit (p (g f)) + count_by p (map g fs)
 counted p g f fs = sum_by-cons (λ x. cond (p x) 1 0) (g f) (map g fs)
@@ -46,7 +46,7 @@ counted p g f fs = sum_by-cons (λ x. cond (p x) 1 0) (g f) (map g fs)
 one_more : (p : Fate → Bool) (f : Fate) (fs : List Fate) → count_by p (f ∷ fs) ≡ digit (p f) + count_by p fs
 one_more p f fs = sum_by-cons (λ x. cond (p x) 1 0) f fs
 
--- what becomes of the counts of some fates
+-- the counts of some fates after a change
 pub record Moved (fs gs : List Fate) (sent withdrawn overwritten left : ℕ) : Type 0 where
   pub sent_is : count_by is_sent gs ≡ count_by is_sent fs + sent
   pub withdrawn_is : count_by is_withdrawn gs ≡ count_by is_withdrawn fs + withdrawn
@@ -82,7 +82,7 @@ after_commit-counts (Overwritten ∷ fs) = one_moved after_commit Overwritten fs
 after_commit-counts (Pending ∷ fs) = one_moved after_commit Pending fs refl refl
     (omega (arith, one_more is_pending Pending fs)) refl (after_commit-counts fs)
 
--- an entry that sends the last one
+-- an entry that sends the last commit
 pub sending-counts : (u : Bool) (fs : List Fate) → Moved fs (map (after_other true u) fs) (count_by is_pending fs) 0 0 0
 sending-counts u [] = none_moved
 sending-counts u (Sent ∷ fs) = one_moved (after_other true u) Sent fs
@@ -94,7 +94,7 @@ sending-counts u (Overwritten ∷ fs) = one_moved (after_other true u) Overwritt
 sending-counts u (Pending ∷ fs) = one_moved (after_other true u) Pending fs
     (omega (arith, one_more is_pending Pending fs)) refl refl refl (sending-counts u fs)
 
--- one that takes the last one back
+-- an entry that withdraws the last commit
 pub withdrawing-counts : (fs : List Fate) → Moved fs (map (after_other false true) fs) 0 (count_by is_pending fs) 0 0
 withdrawing-counts [] = none_moved
 withdrawing-counts (Sent ∷ fs) = one_moved (after_other false true) Sent fs refl
@@ -106,7 +106,7 @@ withdrawing-counts (Overwritten ∷ fs) = one_moved (after_other false true) Ove
 withdrawing-counts (Pending ∷ fs) = one_moved (after_other false true) Pending fs refl
     (omega (arith, one_more is_pending Pending fs)) refl refl (withdrawing-counts fs)
 
--- one that does neither
+-- an entry that does neither
 pub same_fate : (f : Fate) → after_other false false f ≡ f
 same_fate Sent = refl
 same_fate Withdrawn = refl
@@ -117,9 +117,9 @@ pub same_fates : (fs : List Fate) → map (after_other false false) fs ≡ fs
 same_fates [] = refl
 same_fates (f ∷ fs) = λ i. same_fate f i ∷ same_fates fs i
 
--- ---- of the commits on a buffer the last one alone may be pending
+-- ---- only the last commit on a buffer may be pending
 
--- no commit, no fate
+-- without a commit there is no fate
 fates_from-none : (buffer n : ℕ) (xs : List Entry) → list_any (is_commit_on buffer) xs ≡ false
     → fates_from buffer n xs ≡ []
 unfolding fates_from
@@ -130,7 +130,7 @@ fates_from-none buffer n (x ∷ xs) h =
     ap (λ (b : Bool). cond b (fate_of buffer n xs ∷ []) [] ++ fates_from buffer (n + 1) xs) parts.0
     ∙ fates_from-none buffer (n + 1) xs parts.1
 
--- a commit that another one follows
+-- a commit before another one isn't pending
 followed : (sent withdrawn : Bool) → is_pending (fate_by sent withdrawn true) ≡ false
 followed true withdrawn = refl
 followed false true = refl
@@ -152,7 +152,7 @@ pending_next buffer n x xs =
       sum_by-append (λ f. cond (is_pending f) 1 0) here (fates_from buffer (n + 1) xs),
     )
 
--- whether the commit of this number is pending; the first entry has the number n
+-- The commit of this number is pending. The first entry has the number n.
 pending_at : ℕ → ℕ → List Entry → Option ℕ → Bool
 pending_at buffer n xs None = false
 pending_at buffer n xs (Some k) = is_pending (fate_of buffer k (drop (k + 1 - n) xs))
@@ -194,7 +194,7 @@ chosen buffer xs (Some k) =
     ap (λ (n : ℕ). cond (eqb (digit (is_pending (fate_of buffer k (drop n xs)))) 1) (Some k) None) place ∙ kept
     (is_pending (fate_of buffer k (drop (k + 1) xs))) k
 
--- none comes later
+-- without a later commit
 pending_here : (buffer : ℕ) (before : List Entry) (x : Entry) (xs : List Entry)
     → list_any (is_commit_on buffer) xs ≡ false
     → count_by is_pending (fates_from buffer (length before) (x ∷ xs)) ≡ digit
@@ -213,7 +213,7 @@ pending_here buffer before x xs none =
     ap (count_by is_pending) (fates_from-none buffer (length before + 1) xs none) in
     omega (arith, pending_next buffer (length before) x xs, right, rest)
 
--- one comes later
+-- with a later commit
 pending_later : (buffer : ℕ) (before : List Entry) (x : Entry) (xs : List Entry)
     → list_any (is_commit_on buffer) xs ≡ true
     → count_by is_pending (fates_from buffer (length (before ++ x ∷ [])) xs) ≡ digit
@@ -272,7 +272,7 @@ pending_commit-counts buffer xs = counted (last_commit buffer xs) (pending-from 
         → cond (eqb (count_by is_pending (fates buffer xs)) 1) o None ≡ option_and_then (if_pending buffer xs) o
     counted o is = ap (λ (n : ℕ). cond (eqb n 1) o None) is ∙ chosen buffer xs o
 
--- so the tally tells whether there is a pending commit
+-- the tally has one pending commit exactly if there is one
 pub pending-one : (buffer : ℕ) (xs : List Entry) → count_by is_pending (fates buffer xs) ≡ digit
     (is_some (pending_commit buffer xs))
 unfolding pending_at

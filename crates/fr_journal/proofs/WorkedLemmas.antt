@@ -1,4 +1,4 @@
--- Worked journals: what is offered, what became of the commits, and what was received.
+-- Worked journals: offers, fates of commits, and received frames.
 use Rattle.std.proofs.Common.{◌≡◌, ℕ, true, false, List, [], ◌∷◌, ◌++◌, Option, Some, None, refl}
 use Rattle.std.specs.Prelude.{option_map}
 use Rattle.fr_frame.specs.Bits.{bits_of, number_of}
@@ -66,7 +66,7 @@ sender mode =
     [])
     (record { mode = mode; filter = slot_on 1 channels.Both; words = None; preamble = false } ∷ []) None
 
--- what is offered in slot 1 of a cycle, on both channels
+-- the offers in slot 1 of a cycle, on both channels
 abbrev offers_in : Mode → List Entry → ℕ → Offered × Offered
 offers_in mode entries cycle = (
   offered (sender mode) entries (static_window cycle cycle 1) channel.A,
@@ -100,7 +100,7 @@ tally committed sent overwritten pending = record {
 abbrev one_fetched : List Entry
 one_fetched = Commit 0 0 (0 ∷ 1 ∷ []) ∷ Fetch (static_window 0 0 1) (Data 0) (Data 0) ∷ Observe 0 Silence Silence ∷ []
 
--- an event buffer offers its last commit until it is sent, and then a null frame in a static slot
+-- an event buffer offers its last commit until it is sent; after that a static slot has a null frame
 pub an_event_commit_is_offered_once : (offers_in Event two_commits 0 ≡ (Data 1, Data 1)) ×
     (offers_in Event three_commits 1 ≡ (Data 3, Data 3)) × (offers_in Event all_fetched 2 ≡ (Null, Null)) ×
     (offers_in Event one_fetched 1 ≡ (Null, Null))
@@ -113,7 +113,7 @@ pub a_state_commit_is_offered_again : (offers_in State two_commits 0 ≡ (Data 1
 unfolding last_after
 a_state_commit_is_offered_again = (refl, refl, refl)
 
--- a commit that goes out on both channels, and in a further cycle again, is sent once
+-- a commit that is sent on both channels, and again in a later cycle, counts as sent once
 pub both_channels_send_one_commit : (tally_of 0 two_commits ≡ tally 2 0 1 1) ×
     (tally_of 0 three_commits ≡ tally 3 1 1 1) × (tally_of 0 all_fetched ≡ tally 3 2 1 0) ×
     (tally_of 0 (all_fetched ++ Fetch (static_window 2 2 1) (Data 3) (Data 3) ∷ []) ≡ tally 3 2 1 0)
@@ -122,7 +122,7 @@ both_channels_send_one_commit = (refl, refl, refl, refl)
 
 -- ---- withdraws
 
--- a commit that is taken back before its slot, and one that is overwritten and then sent
+-- a commit that is withdrawn before its slot
 abbrev taken_back : List Entry
 taken_back = Commit 0 0 (0 ∷ 1 ∷ []) ∷ Withdraw 0 0 (Some 0) ∷ Fetch
     (static_window 0 0 1) Null Nothing ∷ Observe 0 Silence Silence ∷ []
@@ -134,7 +134,7 @@ abbrev sent_then_nothing : List Entry
 sent_then_nothing = replaced_then_sent ++ Fetch (static_window 1 1 1)
     (Data 6) Nothing ∷ Withdraw 0 0 None ∷ Observe 1 Silence Silence ∷ []
 
--- a withdraw takes a pending commit back and finds none in a buffer that is empty or has sent its commit
+-- a withdraw removes a pending commit, and finds none in a buffer that is empty or has sent its commit
 pub a_withdraw_takes_back_what_is_pending : (pending_commit 0 (Commit 0 0 (0 ∷ 1 ∷ []) ∷ []) ≡ Some 0) ×
     (pending_commit 0 taken_back ≡ None) × (pending_commit 0 replaced_then_sent ≡ Some 6) ×
     (pending_commit 0 sent_then_nothing ≡ None)
@@ -142,7 +142,7 @@ pub a_withdraw_takes_back_what_is_pending : (pending_commit 0 (Commit 0 0 (0 ∷
 unfolding last_after fates_from
 a_withdraw_takes_back_what_is_pending = (refl, refl, refl, refl, refl)
 
--- in state mode: one commit is sent, the next one taken back, and the first doesn't come back
+-- in state mode: one commit is sent, the next one is withdrawn, and the first doesn't come back
 abbrev sent_once : List Entry
 sent_once = Commit 0 0 (0 ∷ 1 ∷ []) ∷ Fetch (static_window 0 0 1) (Data 0)
     (Data 0) ∷ Observe 0 Silence Silence ∷ Withdraw 0 0 None ∷ []
@@ -174,7 +174,7 @@ one_commit = Commit 0 0 (1 ∷ 2 ∷ 3 ∷ 4 ∷ 5 ∷ 6 ∷ 7 ∷ 8 ∷ []) ∷
 abbrev offered_at_five : ℕ → Offered
 offered_at_five latest = offered (dynamic_sender latest) one_commit at_five channel.A
 
--- a dynamic transmission may begin at the latest minislot itself and not after it, where the commit stays pending
+-- a dynamic transmission may begin at the latest minislot and not after it; then the commit stays pending
 pub a_transmission_begins_at_the_latest_minislot : (offered_at_five 5 ≡ Data 0) × (offered_at_five 4 ≡ Nothing) ×
     (offered_at_five 0 ≡ Nothing) × (tally_of 0 (one_commit ++ Fetch at_five Nothing Nothing ∷ []) ≡ tally 1 0 0 1)
 unfolding last_after fates_from
@@ -194,7 +194,7 @@ sender_on_b latest_a latest_b =
 abbrev b_at_five : Opportunity
 b_at_five = record { number = 0; cycle = 0; minislot = 5; a = Some 9; b = Some 8 }
 
--- what counts on a channel is its own latest minislot, whatever the other's is
+-- a channel depends on its own latest minislot only
 pub each_channel_has_its_latest_minislot : (offered (sender_on_b 0 5) one_commit b_at_five channel.B ≡ Data 0)
     × (offered (sender_on_b 9 4) one_commit b_at_five channel.B ≡ Nothing)
     × (offered (sender_on_b 9 9) one_commit b_at_five channel.A ≡ Nothing)
@@ -229,7 +229,7 @@ data_on_b = seen_bytes (0x20 ∷ 0x02 ∷ 0x03 ∷ 0xc1 ∷ 0x40 ∷ 0x0a ∷ 0x
 abbrev null_on_a : Seen
 null_on_a = seen_bytes (0x00 ∷ 0x02 ∷ 0x03 ∷ 0xc1 ∷ 0x40 ∷ 0x00 ∷ 0x00 ∷ 0xd8 ∷ 0x20 ∷ 0x38 ∷ [])
 
--- where the content of a receive buffer for slot 2 on both channels comes from, once this was seen
+-- the origin of the content of a receive buffer for slot 2 on both channels, after these observations
 abbrev held_from : Seen → Seen → Option Origin
 held_from a b = option_map origin_of (held one_word (slot_on 2 channels.Both)
     (Fetch (static_window 0 0 2) Nothing Nothing ∷ Observe 0 a b ∷ []))
@@ -237,7 +237,7 @@ held_from a b = option_map origin_of (held one_word (slot_on 2 channels.Both)
 abbrev from_entry : ℕ → Channel → Option Origin
 from_entry entry channel = Some (record { entry = entry; channel = channel })
 
--- A's data frame where A has one, and else B's; a null frame is no data frame
+-- A's data frame if A has one, and otherwise B's; a null frame is no data frame
 pub channel_a_comes_first : (held_from data_on_a data_on_b ≡ from_entry 1 channel.A) ×
     (held_from Silence data_on_b ≡ from_entry 1 channel.B) × (held_from null_on_a data_on_b ≡ from_entry 1 channel.B) ×
     (held_from null_on_a Silence ≡ None)
@@ -246,8 +246,8 @@ channel_a_comes_first = (refl, refl, refl, refl)
 
 -- ---- frames that are sent
 
--- Static slot 3 on both channels, whose frames are sync and startup frames, and transmit buffers for it and for dynamic
--- slot 6, whose frames have the preamble indicator.
+-- Static slot 3 on both channels, with sync and startup frames. Both transmit buffers set the payload preamble
+-- indicator: one for slot 3 on both channels, and one for dynamic slot 6 on channel B.
 abbrev sync_sender : Plan
 sync_sender =
     plan_for 4 4 (record { slot = 3; channels = channels.Both; cycles = every_cycle; sync = true; startup = true } ∷ [])
@@ -263,7 +263,7 @@ two_buffers = Commit 0 0 (0x0a ∷ 0x0b ∷ []) ∷ Commit 0 1 (0x70 ∷ 0x01 �
 abbrev in_slot_six : Opportunity
 in_slot_six = record { number = 0; cycle = 7; minislot = 3; a = Some 6; b = Some 6 }
 
--- what goes out in a window after these entries
+-- the bytes that are sent in a window after these entries
 abbrev sent_in : List Entry → Opportunity → Channel → Option (List ℕ)
 sent_in entries window channel = option_map (λ frame. encoded frame channel)
     (frame_offered one_word sync_sender entries window channel)
@@ -276,22 +276,23 @@ pub a_static_frame_is_sent : (sent_in two_buffers (static_window 0 9 3) channel.
 unfolding last_after encoded header covered bits_of number_of xor_front divide_once divide
 a_static_frame_is_sent = (refl, refl)
 
--- without a commit it is a null frame: sync and startup are those of the line, and the preamble indicator is 0
+-- a null frame without a commit: sync and startup are those of the line, and the payload preamble indicator is 0
 pub a_null_frame_is_sent : sent_in [] (static_window 0 9 3) channel.A ≡ Some
     (0x18 ∷ 0x03 ∷ 0x02 ∷ 0x74 ∷ 0xc9 ∷ 0x00 ∷ 0x00 ∷ 0x67 ∷ 0xff ∷ 0x4a ∷ [])
 unfolding last_after encoded header covered bits_of number_of xor_front divide_once divide
 a_null_frame_is_sent = refl
 
--- a dynamic frame has neither sync nor startup, and the preamble indicator of its buffer; nothing goes out on channel A
+-- A dynamic frame has neither sync nor startup, and the payload preamble indicator of its buffer. Channel A has no
+-- frame.
 pub a_dynamic_frame_is_sent : (sent_in two_buffers in_slot_six channel.B ≡ Some
     (0x60 ∷ 0x06 ∷ 0x05 ∷ 0x17 ∷ 0x87 ∷ 0x70 ∷ 0x01 ∷ 0x70 ∷ 0x02 ∷ 0x70 ∷ 0x84 ∷ 0x4b ∷ []))
     × (sent_in two_buffers in_slot_six channel.A ≡ None)
 unfolding last_after encoded header covered bits_of number_of xor_front divide_once divide
 a_dynamic_frame_is_sent = (refl, refl)
 
--- ---- the queue
+-- ---- the receive FIFO
 
--- two frames of slot 2 on channel A
+-- room for two frames of slot 2 on channel A
 abbrev short_queue : Queue
 short_queue = record { capacity = 2; first = 2; last = 2; channels = channels.A; cycles = every_cycle }
 
@@ -319,8 +320,8 @@ two_popped = one_popped ++ Pop 0 (from_entry 5 channel.A) ∷ []
 abbrev three_popped : List Entry
 three_popped = two_popped ++ Pop 0 None ∷ []
 
--- of three frames the first is overwritten: pops answer the second, the third and none, and then it is empty and has
--- lost one
+-- The third of three frames overwrites the first. Pops return the second, the third, and none. Then the receive FIFO is
+-- empty, and has lost one frame.
 pub queue_overwrites_the_oldest : (popped_from three_arrived ≡ from_entry 3 channel.A) ×
     (popped_from one_popped ≡ from_entry 5 channel.A) × (popped_from two_popped ≡ None) ×
     (queue_length 2 (moves one_word receiver short_queue three_popped) ≡ 0) ×
@@ -328,8 +329,8 @@ pub queue_overwrites_the_oldest : (popped_from three_arrived ≡ from_entry 3 ch
 unfolding last_after each_after frame_in decoded bits_of number_of xor_front divide_once divide
 queue_overwrites_the_oldest = (refl, refl, refl, refl, refl)
 
--- A transmit buffer and a queue for dynamic slot 4 on channel A: what comes there goes into the queue, since only a
--- receive buffer keeps a frame from it.
+-- A receive FIFO for dynamic slot 4 on both channels, and a buffer for that slot on channel A. The receive FIFO stores
+-- a frame from channel A unless the buffer is a receive buffer.
 abbrev queue_of_slot_four : Queue
 queue_of_slot_four = record { capacity = 2; first = 4; last = 4; channels = channels.Both; cycles = every_cycle }
 

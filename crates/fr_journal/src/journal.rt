@@ -166,7 +166,7 @@ impl Journal {
         Some(whole_entry(self.pool.as_slice(), *short))
     }
 
-    /// Returns the same entry as [`Journal::get`], with its bytes left in the journal.
+    /// Returns the same entry as `get`, with its bytes left in the journal.
     pub fn lent(&self, number: u32) -> Option<LentEntry<'_>>
         ensures entry { option_map whole result ≡ slice_get self.now.entries number }
         ensures payload { IfSome result HasPayload }

@@ -12,7 +12,7 @@ use fr_slots::channel::Channel;
 use fr_slots::numbers::{Cycle, SlotId};
 use fr_slots::params::Params;
 
-/// The status of a slot on a channel: five bits (chapter 6), at most one of them set (project-defined).
+/// The status of a slot on a channel: five bits (chapter 6), at most one set (project-defined).
 #[derive(Clone, Copy, PartialEq, Eq)]
 pub struct SlotStatus {
     /// A received frame that passes the slot's checks, a data frame or a null frame.
@@ -60,7 +60,7 @@ const TRANSMISSION_CONFLICT: SlotStatus = SlotStatus {
     ..NO_BIT
 };
 
-/// Returns the status of a slot on a channel in a cycle, by the observation, and the frame if it is valid.
+/// Returns the status of a slot on a channel in a cycle, and the frame if it is valid.
 ///
 /// The bits are those of chapter 6. The bit of each observation is project-defined. Bytes that aren't a frame on this
 /// channel are a syntax error. A frame that fails one of these checks is a content error:
