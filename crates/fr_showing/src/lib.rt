@@ -12,9 +12,10 @@
 //!
 //! # Definitions
 //!
-//! - `AnswerText`, `CommitText`, `Fates`, `Ends`, `Takers`, `RecordText`, `Origins`, `Idle`, `Shows`: a line with its
-//!   answer; a commit with its fate; the end of a transmission and its receivers; the lines of a record, and the
-//!   scenario line of each; fault lines without effect; the output for a run.
+//! - `AnswerText`, `CommitText`, `Fates`, `Ends`, `Takers`, `RecordText`, `Origins`, `Listening`, `Idle`, `Shows`: a
+//!   line with its answer; a commit with its fate; the end of a transmission and its receivers; the lines of a record,
+//!   and the scenario line of each; the records of a capture of the bus; fault lines without effect; the output for a
+//!   run.
 //!
 //! Modules that go the way of the code, for private functions, with the module that has the meaning:
 //!
@@ -24,8 +25,8 @@
 //! # Inner workings
 //!
 //! 1. `show_run` (`show`) makes the text in memory (`shown`) and hands it to the writer at once. The texts come from
-//!    `write_outcome`, `write_answers`, `write_commits`, `write_record`, `write_capture` of `fr_listener`, `matrix_of`
-//!    of `fr_matrix` or `write_trace` of `fr_trace`.
+//!    `write_outcome`, `write_answers`, `write_commits`, `write_record`, `write_capture`, `matrix_of` of `fr_matrix` or
+//!    `write_trace` of `fr_trace`.
 //! 2. `idle_lines` gives the numbers of the fault lines without effect, by one walk along the record for each.
 //!
 //! To show something new of a run, call `play_file` or `play`. Both give the world with all journals, the record and
@@ -37,6 +38,7 @@ pub mod commits;
 pub mod ends;
 mod fates;
 pub mod idle;
+pub mod listener;
 mod origins;
 mod parts;
 pub mod record;

@@ -9,14 +9,14 @@ use Rattle.std.proofs.lemmas.List.{take_more}
 use Rattle.std.proofs.lemmas.List.Sums.{sum_by-append}
 use Rattle.fr_bus.specs.Record.{Recorded}
 use Rattle.fr_bus.specs.Windows.{begins_cycle, cycles_begun}
-use Rattle.fr_listener.specs.Listening.{all_records, records_after, window_records}
+use Rattle.fr_showing.specs.Listening.{all_records, records_after, window_records}
 use Rattle.fr_slots.proofs.HistoryLemmas.{each_after-snoc}
 use Rattle.fr_slots.specs.Parameters.{Parameters}
 
 begun_first : (r : Recorded) (rs : List Recorded) → cycles_begun (r ∷ rs) ≡ cond (begins_cycle r) 1 0 + cycles_begun rs
 begun_first r rs = omega (arith, sum_by-append (λ (x : Recorded). cond (begins_cycle x) 1 0) (r ∷ []) rs)
 
--- of the first of them no more began than of all
+-- of the first windows no more begin a cycle than of all
 pub fewer : (rs : List Recorded) (n : ℕ) → cycles_begun (take n rs) ≤ cycles_begun rs
 fewer rs zero = omega arith
 fewer [] (suc n) = omega arith

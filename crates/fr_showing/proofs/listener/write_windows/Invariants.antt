@@ -1,8 +1,8 @@
 use Rattle.std.proofs.Common.{◌≡◌, take}
 use Rattle.std.specs.Io.KnownBytes.{Appends}
 use Rattle.fr_bus.specs.Windows.{cycles_begun}
-use Rattle.fr_listener.specs.Listening.{all_records}
-use Rattle.fr_listener.proofs.capture.write_windows.Given as goal
+use Rattle.fr_showing.specs.Listening.{all_records}
+use Rattle.fr_showing.proofs.listener.write_windows.Given as goal
 
 -- the windows so far
 abbrev pub invariant-loop-sealed : goal.invariant-loop-sealed

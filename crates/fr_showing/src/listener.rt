@@ -1,7 +1,7 @@
-//! The capture of what a listener hears.
+//! A capture of the bus, as a passive listener receives it.
 ghost use Rattle.std.specs.Prelude.{◌≡◌, ◌+◌, ◌<◌, ◌*◌, ◌^◌, ◌&&◌, nat_lt, if◌then◌else◌};
 ghost use Rattle.fr_bus.specs.Windows.{begins_cycle};
-ghost use Rattle.fr_listener.specs.Listening.{all_records, begins_at, capture_of, channel_records, window_records};
+ghost use Rattle.fr_showing.specs.Listening.{all_records, begins_at, capture_of, channel_records, window_records};
 ghost use Rattle.fr_text.specs.Writing.{Writes};
 
 use fr_bus::bus::Bus;
@@ -16,7 +16,7 @@ use fr_status::seen::Seen;
 use std::io;
 use std::io::Write;
 
-/// When a window of this cycle of the run begins, in microseconds.
+/// Returns the time at which a window of this cycle of the run begins, in microseconds.
 fn begins_at(params: &Params, cycle: u16, window: &Window) -> u64
     ensures value { result ≡ begins_at params.now cycle window.now }
     ensures few { result < 2 ^ 32 * 1000000 }
@@ -24,7 +24,7 @@ fn begins_at(params: &Params, cycle: u16, window: &Window) -> u64
     u64::from(cycle) * u64::from(params.cycle_mt) + u64::from(start_of_window(params, window))
 }
 
-/// Writes the record of the bytes that are heard on the channel of the window, if any are.
+/// Writes the record of the bytes that the listener receives on the channel in the window, if there are any.
 fn write_heard<W: Write>(
     writer: &mut W,
     params: &Params,
@@ -55,7 +55,7 @@ fn write_window<W: Write>(
     write_heard(writer, params, cycle, sealed, Channel::B)
 }
 
-/// Returns how many cycles began up to this window and with it, where so many began before it, and so many in all.
+/// Returns the number of cycles that began up to this window and with it. `begun` of `all` cycles began before it.
 fn begun_with(begun: u16, all: u16, sealed: &Sealed) -> u16
     ensures { result ≡ (if begins_cycle sealed.now && nat_lt begun all then begun + 1 else begun) }
 {
@@ -79,13 +79,14 @@ fn write_windows<W: Write>(writer: &mut W, params: &Params, bus: &Bus) -> io::Re
     Ok(())
 }
 
-/// Writes what a listener hears on the bus that sends nothing, as a capture in the classic format, link type 210: a
-/// record for each channel of each window in which a frame or other bytes passed alone and weren't too long, as the
-/// nodes see them that don't send, with the bit that a fault turns (project-defined). They stand in the order of the
-/// windows, of one channel A before B, and their time is that of the window's first macrotick, of which each takes a
-/// microsecond, from the start of the run.
+/// Writes a capture of the bus, as a passive listener receives it (project-defined).
 ///
-/// Fails where the writer fails, and then a part of it may have gone out.
+/// The capture has the classic format, link type 210. It has a record for each channel of each window in which a frame
+/// or other bytes passed alone and weren't too long. The bytes are those that nodes receive that don't send, with a
+/// flipped bit of a fault. Records stand in the order of the windows, and in one window channel A before B. The time is
+/// that of the window's first macrotick, in microseconds from the start of the run; a macrotick takes a microsecond.
+///
+/// Fails if the writer fails, which may have written a part of the capture by then.
 pub fn write_capture<W: Write>(writer: &mut W, params: &Params, bus: &Bus) -> io::Result<()>
     ensures { Writes W.contents writer.old writer.new result (capture_of params.now bus.now.sealed) }
 {

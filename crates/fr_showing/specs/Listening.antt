@@ -1,5 +1,5 @@
--- What a listener hears on the bus that sends nothing, as the records of a capture (project-defined). The time is
--- counted in microseconds from the start of the run, and a macrotick is one of them.
+-- The records of a capture of the bus, as a passive listener receives it (project-defined). The time is counted in
+-- microseconds from the start of the run, and a macrotick takes a microsecond.
 use Rattle.std.specs.Prelude.{ℕ, ◌+◌, ◌-◌, ◌*◌, List, [], ◌∷◌, ◌++◌}
 use Rattle.fr_bus.specs.Record.{Recorded, heard}
 use Rattle.fr_bus.specs.Windows.{cycles_begun}
@@ -14,12 +14,12 @@ use Rattle.fr_slots.specs.Windows.{Opportunity}
 use Rattle.fr_status.specs.declared.seen.Seen.{Seen}
 use Rattle.fr_status.specs.declared.seen.Seen.TheVariants.{Silence, Own, Conflict, Noise, Overrun, Bytes}
 
--- when a window of this cycle of the run begins
+-- the time at which a window of this cycle of the run begins
 abbrev pub begins_at : Parameters → ℕ → Opportunity → ℕ
 begins_at p cycle w = cycle * p.cycle_mt + start_of p w
 
--- The record of what is heard on a channel. Where nothing passed there is none, and none where transmissions collided,
--- or where the only one was too long.
+-- The record of the observation on a channel. There is none if nothing passed, if transmissions collided, or if the
+-- only one was too long.
 abbrev pub heard_record : ℕ → Channel → Seen → List ℕ
 heard_record time channel Silence = []
 heard_record time channel Own = []

@@ -3,9 +3,9 @@ use Rattle.std.proofs.KnownBytes.{Appends-nil}
 use Rattle.fr_bus.specs.Windows.{cycles_begun}
 use Rattle.fr_slots.specs.History.{each_after}
 use Rattle.std.specs.Io.KnownBytes.{Appends}
-use Rattle.fr_listener.proofs.ListenerLemmas.{counted_more, window_more}
-use Rattle.fr_listener.specs.Listening.{window_records}
-use Rattle.fr_listener.proofs.capture.write_windows.Goals as goal
+use Rattle.fr_showing.proofs.ListenerLemmas.{counted_more, window_more}
+use Rattle.fr_showing.specs.Listening.{window_records}
+use Rattle.fr_showing.proofs.listener.write_windows.Goals as goal
 
 pub loop-sealed-init : goal.loop-sealed-init
 unfolding each_after
