@@ -3,7 +3,7 @@ ghost use Rattle.std.specs.Prelude.{◌≡◌};
 ghost use Rattle.fr_bench.specs.Failures.{status_of};
 
 use fr_cli::error::OrderError;
-use fr_commands::error::BenchError;
+use fr_files::error::BenchError;
 use fr_threads::outcome_error::OutcomeError;
 use fr_trace::error::TraceError;
 use thiserror::Error;

@@ -4,7 +4,7 @@ use Rattle.std.specs.Prelude.{Result, Ok, Err}
 use Rattle.std.specs.Global.{Vec}
 use Rattle.std.specs.Io.KnownBytes.{Appends}
 use Rattle.std.specs.List.{flat_map}
-use Rattle.fr_commands.specs.declared.error.BenchError.TheVariants as bench
+use Rattle.fr_files.specs.declared.error.BenchError.TheVariants as bench
 use Rattle.fr_core.specs.Worlds.{WorldState}
 use Rattle.fr_lines.specs.declared.versions.Version.TheVariants.{Three}
 use Rattle.fr_matrix.specs.Cells.{IsMatrix}

@@ -1,7 +1,7 @@
 //! The views of a run, as texts.
 ghost use Rattle.std.specs.Prelude.{◌≡◌, ◌⊎◌, Some, None, IfOk, OnOk, IfErr, length};
 ghost use Rattle.std.specs.List.{flat_map};
-ghost use Rattle.fr_commands.specs.declared.error.BenchError.TheVariants as bench;
+ghost use Rattle.fr_files.specs.declared.error.BenchError.TheVariants as bench;
 ghost use Rattle.fr_lines.specs.declared.versions.Version.TheVariants.{Three};
 ghost use Rattle.fr_outcome.specs.OutcomeText.{outcome_text};
 ghost use Rattle.fr_playing.specs.declared.error.PlayError.TheVariants as refusal;
@@ -18,8 +18,8 @@ use crate::commits::write_commits;
 use crate::listener::write_capture;
 use crate::parts::params_of;
 use crate::record::write_record;
-use fr_commands::error::BenchError;
 use fr_core::world::World;
+use fr_files::error::BenchError;
 use fr_interface::interface::Interface;
 use fr_matrix::matrix::matrix_of;
 use fr_matrix::view::View;

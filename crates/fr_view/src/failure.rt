@@ -3,7 +3,7 @@ ghost use Rattle.std.specs.Prelude.{◌≡◌};
 ghost use Rattle.fr_view.specs.Failures.{status_of};
 
 use fr_cli::error::OrderError;
-use fr_commands::error::BenchError;
+use fr_files::error::BenchError;
 use fr_playing::error::PlayError;
 use fr_trace::error::TraceError;
 use thiserror::Error;
@@ -36,7 +36,10 @@ impl ViewFailure {
     {
         match self {
             ViewFailure::Words(error) => error.status(),
-            ViewFailure::Write | ViewFailure::Text(_) | ViewFailure::Trace(_) | ViewFailure::Play(_) => 1,
+            ViewFailure::Write
+            | ViewFailure::Text(_)
+            | ViewFailure::Trace(_)
+            | ViewFailure::Play(_) => 1,
         }
     }
 }

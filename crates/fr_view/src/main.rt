@@ -37,8 +37,8 @@ use fr_cli::error::OrderError;
 use fr_cli::view::{Asked, ViewOrder, order};
 use fr_cli::waiting::{WaitingReader, WaitingWriter};
 use fr_cli::words::{texts_of, words_given};
-use fr_commands::cluster_file::cluster_of;
-use fr_commands::files::file_named;
+use fr_files::cluster_file::cluster_of;
+use fr_files::named::file_named;
 use fr_matrix::view::View;
 use fr_picture::picture::show_schedule;
 use fr_showing::show::show_run;
@@ -206,7 +206,11 @@ fn carry_out<R: Files + Input + Print + Eprint + AllocGlobal + Clock>(
 ) -> Result<ExitCode, ViewFailure> {
     match order {
         ViewOrder::Schedule { file, cycle } => show_cycle(rt, file, cycle)?,
-        ViewOrder::Capture { until_fault, own } => show_seen(rt, Form::Capture { own }, until_fault)?,
+        ViewOrder::Capture { until_fault, own } => show_seen(
+            rt,
+            Form::Capture { own },
+            until_fault,
+        )?,
         ViewOrder::Frames { until_fault, all } => show_seen(rt, Form::Table { all }, until_fault)?,
         ViewOrder::Why => return explain(rt),
         ViewOrder::Show {

@@ -4,7 +4,7 @@ ghost use Rattle.fr_world.specs.Failures.{status_of};
 
 use fr_bus::error::BusError;
 use fr_cli::error::OrderError;
-use fr_commands::error::BenchError;
+use fr_files::error::BenchError;
 use fr_session::error::SessionError;
 use thiserror::Error;
 
@@ -36,7 +36,10 @@ impl WorldFailure {
     {
         match self {
             WorldFailure::Words(error) => error.status(),
-            WorldFailure::Memory | WorldFailure::Text(_) | WorldFailure::World(_) | WorldFailure::Session(_) => 1,
+            WorldFailure::Memory
+            | WorldFailure::Text(_)
+            | WorldFailure::World(_)
+            | WorldFailure::Session(_) => 1,
         }
     }
 }

@@ -27,9 +27,9 @@ use failure::WorldFailure;
 use fr_cli::waiting::{WaitingReader, WaitingWriter};
 use fr_cli::words::{texts_of, words_given};
 use fr_cli::world::{WorldCommand, command_of};
-use fr_commands::cluster_file::cluster_of;
-use fr_commands::files::file_named;
 use fr_core::world::World;
+use fr_files::cluster_file::cluster_of;
+use fr_files::named::file_named;
 use fr_schedule::cluster::Cluster;
 use fr_session::session::serve;
 use std::io;
@@ -39,7 +39,10 @@ use std::rt::{Env, Files};
 use std::time::Clock;
 
 /// Returns the command's cluster.
-fn cluster_in<R: Files + AllocGlobal>(rt: &R, command: WorldCommand<'_>) -> Result<Cluster, WorldFailure> {
+fn cluster_in<R: Files + AllocGlobal>(
+    rt: &R,
+    command: WorldCommand<'_>,
+) -> Result<Cluster, WorldFailure> {
     let mut file = file_named(rt, command.file)?;
     Ok(cluster_of(rt.alloc(), &mut file)?)
 }

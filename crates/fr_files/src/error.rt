@@ -1,19 +1,18 @@
-//! Why a command that reads one text has refused it.
+//! Refusals of the commands that read one text.
 ghost use Rattle.std.specs.Prelude.{◌≡◌};
-ghost use Rattle.fr_commands.specs.ClusterFiles.{given_of};
-ghost use Rattle.fr_commands.specs.declared.error.BenchError.TheVariants as refusal;
+ghost use Rattle.fr_files.specs.ClusterFiles.{given_of};
+ghost use Rattle.fr_files.specs.declared.error.BenchError.TheVariants as refusal;
 
 use fr_midpoint::ranks::MidpointError;
 use fr_schedule::error::ConfigError;
 use thiserror::Error;
 
-/// Why `check`, `plan` or `midpoint` hasn't done what it was asked (project-defined).
+/// Reasons for which an input isn't read, or an output isn't written (project-defined).
 ///
-/// Printed, it is the error's name, and for an error of a crate below the names and values of that
-/// error.
+/// Printed, it is the error's name, and for an error of a crate below the names and values of that error.
 #[derive(Clone, Copy, Debug, Drop, PartialEq, Eq, Error)]
 pub enum BenchError {
-    /// The input has more bytes than the command takes.
+    /// The input has more bytes than the command reads.
     #[error("TooLong")]
     TooLong,
     /// The input couldn't be read.
@@ -22,13 +21,13 @@ pub enum BenchError {
     /// The output couldn't be written.
     #[error("Write")]
     Write,
-    /// Memory was refused.
+    /// An allocation failed.
     #[error("Memory")]
     Memory,
-    /// A word of the input is no number.
+    /// A word of the input of `midpoint` isn't a number.
     #[error("BadNumber")]
     BadNumber,
-    /// The cluster file is refused, for another cause than a failed allocation.
+    /// The cluster file is refused for another reason than a failed allocation.
     #[error("{0}")]
     Config(ConfigError),
     /// The values have no midpoint.

@@ -1,11 +1,11 @@
-//! Files that a program is given by name.
+//! Files by their names.
 use crate::error::BenchError;
 use std::rt::Files;
 use std::{fs, io};
 
-/// Returns the file of this name, opened to be read.
+/// Opens the file of this name, to be read.
 ///
-/// Refused with `Memory` where memory was refused, and else with `Read` where it can't be opened.
+/// Refused with `Memory` if an allocation fails, otherwise with `Read` if the file can't be opened.
 pub fn file_named<R: Files>(rt: &R, path: &str) -> Result<R::File, BenchError> {
     match fs::open(rt, path) {
         Ok(file) => Ok(file),

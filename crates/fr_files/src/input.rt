@@ -1,15 +1,15 @@
 //! A whole input, up to a limit.
 ghost use Rattle.std.specs.Prelude.{◌<◌, ◌^◌, IfSome};
-ghost use Rattle.fr_commands.specs.Inputs.{IsReadUpTo};
+ghost use Rattle.fr_files.specs.Inputs.{IsReadUpTo};
 
 use crate::error::BenchError;
 use std::alloc::Global;
 use std::io::{ErrorKind, Read};
 
-/// Returns all bytes that the reader has left, of which there may be `limit` at most.
+/// Returns all bytes that the reader has left, which may be at most `limit` bytes.
 ///
-/// Refused with `Read` where the reader fails, with `Memory` where memory is refused, and with
-/// `TooLong` where there are more bytes. No byte is read beyond the first one too many.
+/// Refused with `Read` if the reader fails, with `Memory` if an allocation fails, and with `TooLong` if there are more
+/// bytes. At most one byte above the limit is read.
 #[tactic(auto, using(crate::proofs::InputLemmas::whole))]
 pub fn read_up_to<R: Read>(alloc: Global, reader: &mut R, limit: u64) -> Result<Vec<u8>, BenchError>
     requires { limit < 2 ^ 32 }

@@ -1,9 +1,9 @@
--- What a read of one byte more than the limit tells of the whole text.
+-- A read of one byte more than the limit finds whether the whole text was read.
 use Rattle.std.proofs.Common.{◌≡◌, ℕ, ◌+◌, ◌≤◌, List, length, take, arith, ap, ◌∙◌, inl, inr, min}
 use Rattle.std.proofs.lemmas.List.{length-take, take_all}
 use Rattle.std.proofs.lemmas.Bool.{cases_lt}
 
--- what is short is all that there is
+-- bytes up to the limit are the whole text
 pub whole : (limit : ℕ) (text got : List ℕ) → got ≡ take (limit + 1) text → length got ≤ limit
     → (got ≡ text) × (length text ≤ limit)
 whole limit text got is few =
