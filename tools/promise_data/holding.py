@@ -61,7 +61,8 @@ class Names:
         crate = self.crates.get(clause.crate)
         for name in clause.functions:
             owner, _, function = name.rpartition("::")
-            there = crate is not None and function in crate.clauses and (not owner or owner in crate.types)
+            there = crate is not None and function in crate.clauses
+            there = there and (not owner or owner in crate.types or owner in crate.modules)
             self.hold(there, place, f"{clause.crate} has no function {name}")
             if crate is None or not there:
                 continue

@@ -2,17 +2,17 @@
 ghost use Rattle.std.specs.Prelude.{◌≡◌};
 ghost use Rattle.fr_bench.specs.Failures.{status_of};
 
-use fr_commands::error::BenchError;
+use fr_cli::error::OrderError;
+use fr_files::error::BenchError;
 use fr_threads::outcome_error::OutcomeError;
 use fr_trace::error::TraceError;
-use fr_words::error::OrderError;
 use thiserror::Error;
 
 /// Reasons why the program hasn't executed its command (project-defined).
 ///
 /// An error prints as the line on standard error.
 #[derive(Clone, Copy, Debug, Drop, PartialEq, Eq, Error)]
-pub enum Failure {
+pub enum BenchFailure {
     /// The words are no command, or an allocation for them failed.
     #[error("{0}")]
     Words(#[from] OrderError),
@@ -27,14 +27,14 @@ pub enum Failure {
     Run(#[from] OutcomeError),
 }
 
-impl Failure {
+impl BenchFailure {
     /// Returns the program's exit status: 2 for words that are no command, 1 for everything else.
     pub fn status(&self) -> u8
         ensures { result ≡ status_of self.now }
     {
         match self {
-            Failure::Words(error) => error.status(),
-            Failure::Audit(_) | Failure::Text(_) | Failure::Run(_) => 1,
+            BenchFailure::Words(error) => error.status(),
+            BenchFailure::Audit(_) | BenchFailure::Text(_) | BenchFailure::Run(_) => 1,
         }
     }
 }

@@ -25,18 +25,17 @@
 mod audit;
 mod failure;
 
-use failure::Failure;
+use failure::BenchFailure;
+use fr_cli::bench::{BenchOrder, order};
+use fr_cli::waiting::{WaitingReader, WaitingWriter};
+use fr_cli::words::{texts_of, words_given};
 use fr_commands::check::check_text;
-use fr_commands::cluster_file::cluster_of;
-use fr_commands::files::file_named;
 use fr_commands::midpoint::midpoint_text;
 use fr_commands::plan::plan_text;
-use fr_orders::command::Order;
-use fr_orders::order::order;
+use fr_files::cluster_file::cluster_of;
+use fr_files::named::file_named;
 use fr_threads::outcome::run_cluster;
 use fr_threads::outcome_error::OutcomeError;
-use fr_words::given::{texts_of, words_given};
-use fr_words::waiting::{WaitingReader, WaitingWriter};
 use std::io;
 use std::process::ExitCode;
 use std::rt::{Env, Files};
@@ -69,30 +68,30 @@ fn run_files<R: Files + Print + AllocGlobal + Threads + Wait + Clock + Sync>(
 /// Executes the command.
 fn carry_out<R: Files + Input + Print + AllocGlobal + Threads + Wait + Clock + Sync>(
     rt: &R,
-    order: Order<'_>,
-) -> Result<(), Failure> {
+    order: BenchOrder<'_>,
+) -> Result<(), BenchFailure> {
     let alloc = rt.alloc();
     let mut output = WaitingWriter::new(rt, io::writer(rt));
     match order {
-        Order::Audit => Ok(audit::audit(
+        BenchOrder::Audit => Ok(audit::audit(
             alloc,
             &mut WaitingReader::new(rt, rt.reader()),
             &mut output,
         )?),
-        Order::Check(path) => {
+        BenchOrder::Check(path) => {
             let mut file = file_named(rt, path)?;
             Ok(check_text(alloc, &mut file, &mut output)?)
         }
-        Order::Plan(path) => {
+        BenchOrder::Plan(path) => {
             let mut file = file_named(rt, path)?;
             Ok(plan_text(alloc, &mut file, &mut output)?)
         }
-        Order::Midpoint => Ok(midpoint_text(
+        BenchOrder::Midpoint => Ok(midpoint_text(
             alloc,
             &mut WaitingReader::new(rt, rt.reader()),
             &mut output,
         )?),
-        Order::Run {
+        BenchOrder::Run {
             cluster,
             scenario,
             cycles,
@@ -104,7 +103,7 @@ fn carry_out<R: Files + Input + Print + AllocGlobal + Threads + Wait + Clock + S
 /// Reads the words and executes their command.
 fn run<R: Env + Files + Input + Print + AllocGlobal + Threads + Wait + Clock + Sync>(
     rt: &R,
-) -> Result<(), Failure> {
+) -> Result<(), BenchFailure> {
     let words = words_given(rt)?;
     let texts: Vec<&str> = texts_of(rt.alloc(), &words)?;
     carry_out(rt, order(rt.alloc(), texts.as_slice())?)

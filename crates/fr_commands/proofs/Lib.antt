@@ -1,3 +1,2 @@
-pub mod InputLemmas
 pub mod NumberLemmas
 pub mod PlanTextLemmas

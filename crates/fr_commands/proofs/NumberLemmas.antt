@@ -1,4 +1,4 @@
--- What the digits of a word spell, and the numbers of the words so far.
+-- The number that digits spell, and the numbers of the words so far.
 use Rattle.std.proofs.Common.{◌≡◌, ℕ, ◌<◌, ◌≤◌, ◌^◌, ◌&&◌, true, List, [], ◌∷◌, ◌++◌, length, ℤ, Option, Some, None}
 use Rattle.std.proofs.Common.{Result, Ok, refl, sym, ap, ◌∙◌, arith}
 use Rattle.std.proofs.Math.Nat.{pow-le-pow_right}
@@ -25,7 +25,7 @@ all_digits (digit ∷ digits) = ap (λ rest. is_ascii_digit digit && rest) (all_
 told : (digits : List ℕ) → list_all is_ascii_digit digits ≡ true → all_ascii_digits digits ≡ true
 told digits are = sym (all_digits digits) ∙ are
 
--- digits are text
+-- digits are UTF-8
 pub digits_are_text : (digits : List ℕ) → list_all is_ascii_digit digits ≡ true → IsUtf8 digits
 digits_are_text digits are = IsUtf8-from_ascii digits (IsAscii-from_digits digits (own.to digits (told digits are)))
 

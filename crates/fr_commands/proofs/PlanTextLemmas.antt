@@ -1,15 +1,14 @@
 -- The text of a plan, one node, one slot, one cycle or one interval more.
 use Rattle.std.proofs.Common.{◌≡◌, ℕ, zero, suc, ◌+◌, ◌-◌, ◌%◌, ◌<◌, ◌≤◌, ◌==◌, true, false, ◌&&◌}
-use Rattle.std.proofs.Common.{List, [], ◌∷◌, ◌++◌, length, take}
+use Rattle.std.proofs.Common.{List, [], ◌∷◌, ◌++◌, length}
 use Rattle.std.proofs.Common.{Option, Some, Result, Ok, Err}
-use Rattle.std.proofs.Common.{refl, sym, ap, subst, ◌∙◌, append_assoc, append-nil, add-one, arith}
+use Rattle.std.proofs.Common.{refl, sym, ap, subst, ◌∙◌, append-nil, add-one, arith}
 use Rattle.std.specs.Io.KnownBytes.{Appends}
 use Rattle.std.specs.List.{flat_map, range_with_len}
 use Rattle.std.specs.Prelude.{slice_get, OnOk}
 use Rattle.std.proofs.KnownBytes.{Appends-nil, Appends-trans}
 use Rattle.std.proofs.Math.Nat.{mod-eq_of_lt}
 use Rattle.std.proofs.lemmas.Grind.{flat_map-append}
-use Rattle.std.proofs.lemmas.List.{take_all}
 use Rattle.std.proofs.lemmas.Option.{same_Some}
 use Rattle.std.specs.List.{list_any}
 use Rattle.std.proofs.lemmas.Bool.{cond-true, cond-false, false_from_ne_true, and_parts, and_from, or_parts, both_ways}
@@ -27,55 +26,10 @@ use Rattle.fr_slots.specs.Faults.{claims, is_owned, sends_at}
 use Rattle.fr_slots.specs.Parameters.{is_static_slot}
 use Rattle.fr_slots.specs.declared.channel.Channel.TheVariants.{A, B}
 use Rattle.fr_slots.specs.Plans.{Plan, IsOwn, Each}
-use Rattle.fr_commands.specs.PlanText.{of_nodes, begins_at, own_text, owner_text, base_text, owners_text, slot_line}
+use Rattle.fr_files.specs.NodeTexts.{of_nodes}
+use Rattle.fr_commands.specs.PlanText.{begins_at, own_text, owner_text, base_text, owners_text, slot_line}
 use Rattle.fr_commands.specs.PlanText.{static_text, dynamic_text, cycles_told, IsGuardText, AreCycleTexts}
 use Rattle.fr_commands.specs.PlanText.{AreGuardTexts, IsPlanText, Adds}
-
--- ---- nodes
-
-of_nodes-more : {X : Type 0} (text : ℕ → X → List ℕ) (node place : ℕ) (xs : List X) (item : X)
-    → slice_get xs place ≡ Some item
-    → of_nodes text node (take (place + 1) xs) ≡ of_nodes text node (take place xs) ++ text (node + place) item
-unfolding of_nodes
-of_nodes-more text node place [] item is = cc is
-of_nodes-more text node zero (x ∷ xs) item is =
-    let same : x ≡ item = cc is in
-    let place : node ≡ node + 0 = omega arith in
-    append-nil (text node x) ∙ ap (text node) same ∙ ap (λ (n : ℕ). text n item) place
-of_nodes-more text node (suc place) (x ∷ xs) item is =
-    let next : suc place + 1 ≡ suc (place + 1) = omega arith in
-    let here : node + 1 + place ≡ node + suc place = omega arith in
-    ap (λ (n : ℕ). of_nodes text node (take n (x ∷ xs))) next
-    ∙ ap (λ (t : List ℕ). text node x ++ t) (of_nodes-more text (node + 1) place xs item is ∙ ap
-    (λ (n : ℕ). of_nodes text (node + 1) (take place xs) ++ text n item) here)
-    ∙ sym (append_assoc (text node x) (of_nodes text (node + 1) (take place xs)) (text (node + suc place) item))
-
--- the texts of so many nodes have been written
-pub record AreNodes {X : Type 0} (text : ℕ → X → List ℕ) (xs : List X) (count : ℕ)
-    (old new : Option (List ℕ)) : Type 0 where
-  pub added : Appends old new (of_nodes text 0 (take count xs))
-
-pub no_node : {X : Type 0} (text : ℕ → X → List ℕ) (xs : List X) (old : Option (List ℕ)) → AreNodes text xs 0 old old
-unfolding of_nodes
-no_node text xs old = record { added = Appends-nil old }
-
-pub one_node : {X : Type 0} (text : ℕ → X → List ℕ) (xs : List X) (count : ℕ) (item : X) (old mid new : Option (List ℕ))
-    → slice_get xs count ≡ Some item
-    → AreNodes text xs count old mid → Appends mid new (text count item) → AreNodes text xs (count + 1) old new
-one_node text xs count item old mid new is h more =
-    let here : 0 + count ≡ count = omega arith in
-    record {
-      added = subst (λ (t : List ℕ). Appends old new t)
-          (sym (of_nodes-more text 0 count xs item is ∙ ap (λ (n : ℕ). of_nodes text 0 (take count xs) ++ text n item)
-          here))
-          (Appends-trans old mid new (of_nodes text 0 (take count xs)) (text count item) h.added more);
-    }
-
-pub all_nodes : {X : Type 0} (text : ℕ → X → List ℕ) (xs : List X) (count : ℕ) (old new : Option (List ℕ))
-    → AreNodes text xs count old new → count ≡ length xs
-    → Appends old new (of_nodes text 0 xs)
-all_nodes {X = X} text xs count old new h all = subst (λ (xs : List X). Appends old new (of_nodes text 0 xs))
-    (take_all count xs (omega arith)) h.added
 
 -- ---- the owner of a static slot
 
@@ -131,7 +85,7 @@ begun_claims slot channel base own lawful begins =
     let below : base < own.cycles.repetition = omega (arith, base_is, lawful.cycles_are.base_below) in
     and_from _ _ front (eq-eqb (base % own.cycles.repetition) own.cycles.base (mod-eq_of_lt below ∙ sym base_is))
 
--- where no line is for the cycle, none begins at it
+-- if no line is for the cycle, none begins at it
 unowned_text : (slot : ℕ) (channel : Channel) (base node : ℕ) (owned : List Own) → Each IsOwn owned
     → is_owned owned slot channel base ≡ false
     → flat_map (own_text slot channel base node) owned ≡ []
@@ -184,7 +138,7 @@ each_front : {X : Type 0} (P : X → Type 0) (xs ys : List X) → Each P (xs ++ 
 each_front P [] ys all = (tt, all)
 each_front P (x ∷ xs) ys all = let (front, back) = each_front P xs ys all.1 in ((all.0, front), back)
 
--- what is so of all lines is so of those of a node
+-- what holds for all lines holds for those of a node
 of_plan : (P : Own → Type 0) (plans : List Plan) (n : ℕ) (plan : Plan) → Each P (all_owned plans)
     → slice_get plans n ≡ Some plan → Each P plan.owned
 of_plan P [] n plan all at = cc at
@@ -309,7 +263,7 @@ one_cycle d node channel cycle old mid new before here =
 
 -- ---- the plan
 
--- the parts of a plan's text, the last of which may not have been written
+-- the parts of a plan's text; the last one is written only after success
 pub plan_done : {X E : Type 0} (r : Result X E) (d : Description) (nodes : ℕ) (old first second new : Option (List ℕ))
     → nodes ≡ length d.plans
     → Appends old first (static_text d) → Appends first second (dynamic_text d)

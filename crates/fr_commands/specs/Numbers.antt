@@ -21,7 +21,7 @@ is_magnitude digits = nat_lt 0 (length digits) && nat_le (length digits) 10 && l
 abbrev pub magnitude_in : List ℕ → Option ℕ
 magnitude_in digits = if is_magnitude digits then Some (digits_value 10 digits) else None
 
--- the number below 0 with this magnitude, and the one from 0 on, each the nearest that 32 bits hold
+-- the number with this magnitude and sign, or the nearest that 32 bits hold
 abbrev pub negative : Option ℕ → Option ℤ
 negative None = None
 negative (Some n) = Some (neg_ℤ (pos (min n 2147483648)))
@@ -42,13 +42,13 @@ before None numbers = None
 before (Some z) None = None
 before (Some z) (Some numbers) = Some (z ∷ numbers)
 
--- the numbers that the words spell; an empty word stands between two separators and is none
+-- the numbers that the words spell; an empty word stands between two separators and is no number
 abbrev pub numbers_in : List (List ℕ) → Option (List ℤ)
 numbers_in [] = Some []
 numbers_in ([] ∷ words) = numbers_in words
 numbers_in ((b ∷ word) ∷ words) = before (number_in (b ∷ word)) (numbers_in words)
 
--- the numbers so far, and those of the words that are left
+-- the numbers so far, and those of the remaining words
 abbrev pub joined : List ℤ → Option (List ℤ) → Option (List ℤ)
 joined numbers None = None
 joined numbers (Some rest) = Some (numbers ++ rest)

@@ -1,10 +1,11 @@
--- The text of a cluster's plan: who sends where and in which cycles, and when each channel is open to each node in each
+-- The text of a cluster's plan: the senders of slots by cycle, and the open intervals of each channel for each node and
 -- cycle (project-defined).
 use Rattle.std.specs.Prelude.{◌≡◌, ℕ, ◌+◌, suc, zero, ◌==◌, Bool, ◌&&◌, List, [], ◌∷◌, ◌++◌, length, codes, Option}
 use Rattle.std.specs.Prelude.{if◌then◌else◌}
 use Rattle.std.specs.Fmt.{decimal}
 use Rattle.std.specs.Io.KnownBytes.{Appends}
 use Rattle.std.specs.List.{flat_map, range_with_len}
+use Rattle.fr_files.specs.NodeTexts.{of_nodes}
 use Rattle.fr_guardian.specs.Guarding.{IsOpenMacrotick}
 use Rattle.fr_guardian.specs.Intervals.{Span, AreMaximalIntervals}
 use Rattle.fr_guardian.specs.Periods.{period}
@@ -40,14 +41,9 @@ guard_line node channel cycle span =
     line_text
     (codes "guard" ∷ decimal node ∷ letter_of channel ∷ decimal cycle ∷ decimal span.0 ∷ decimal span.1 ∷ [])
 
--- the texts of the nodes of which these are in their order, and the first has this number, one after another
-unfoldable pub of_nodes : {X : Type 0} → (ℕ → X → List ℕ) → ℕ → List X → List ℕ
-of_nodes text node [] = []
-of_nodes text node (x ∷ xs) = text node x ++ of_nodes text (node + 1) xs
-
 -- ---- the owners of the static slots
 
--- the ownership line is for the slot on the channel, and this is the first of its cycles
+-- the ownership line is for the slot on the channel, with this cycle as its first
 abbrev pub begins_at : ℕ → Channel → ℕ → Own → Bool
 begins_at slot channel base own = own.slot == slot && includes own.channels channel && own.cycles.base == base
 
@@ -95,18 +91,18 @@ pub record IsGuardText (d : Description) (node : ℕ) (channel : Channel) (cycle
   pub maximal : AreMaximalIntervals (IsOpenMacrotick d node cycle channel) spans
   pub text_is : text ≡ flat_map (guard_line node channel cycle) spans
 
--- the lines of so many cycles, from the first on
+-- the lines of this number of cycles, from the first on
 abbrev pub AreCycleTexts : Description → ℕ → Channel → ℕ → List ℕ → Type 0
 AreCycleTexts d node channel zero text = text ≡ []
 AreCycleTexts d node channel (suc cycle) text =
     (before : List ℕ) × (last : List ℕ) × AreCycleTexts d node channel cycle before
     × IsGuardText d node channel cycle last × (text ≡ before ++ last)
 
--- how many cycles are reported: the greatest repetition of the ownership lines, or one where there are none
+-- the number of cycles in a plan: the greatest repetition of the ownership lines, or 1 if there are none
 abbrev pub cycles_told : Description → ℕ
 cycles_told d = period (all_owned d.plans)
 
--- the lines of so many nodes, from the first on, of each those of channel A before those of B
+-- the lines of this number of nodes, from the first on; in each node those of channel A before those of B
 abbrev pub AreGuardTexts : Description → ℕ → List ℕ → Type 0
 AreGuardTexts d zero text = text ≡ []
 AreGuardTexts d (suc node) text =
@@ -116,7 +112,7 @@ AreGuardTexts d (suc node) text =
 -- ---- the plan
 
 -- The owners of the static slots, then the dynamic transmit buffers, then the open intervals of all nodes in the cycles
--- that are reported.
+-- of the plan.
 pub record IsPlanText (d : Description) (text : List ℕ) : Type 0 where
   pub guards : List ℕ
   pub guards_are : AreGuardTexts d (length d.plans) guards

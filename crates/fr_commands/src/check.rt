@@ -2,18 +2,18 @@
 ghost use Rattle.std.specs.Prelude.{IfSome};
 ghost use Rattle.fr_commands.specs.Checks.{Checks};
 
-use crate::cluster_file::cluster_of;
-use crate::error::BenchError;
-use crate::output::write_whole;
+use fr_files::cluster_file::cluster_of;
+use fr_files::error::BenchError;
+use fr_files::output::write_whole;
 use fr_lines::writing::write_params;
 use std::alloc::Global;
 use std::io::{Read, Write};
 
 /// Reads a cluster file to its end and writes the line of its parameters, as a trace has it (project-defined).
 ///
-/// The whole file is held against the rules. Refused with `TooLong` for more than 1,048,576 bytes, and then with what
-/// the file is refused for. `Read`, `Write` and `Memory` come where the reader fails, the writer fails, or memory is
-/// refused. On every refusal but `Write` nothing is written.
+/// The whole file is compared with the rules. Refused with `TooLong` for more than 1,048,576 bytes, and then with the
+/// file's first fault. `Read` comes if the reader fails, `Write` if the writer fails, and `Memory` if an allocation
+/// fails. Every error but `Write` leaves the writer unchanged.
 pub fn check_text<R: Read, W: Write>(
     alloc: Global,
     reader: &mut R,

@@ -1,5 +1,4 @@
-//! What the program's commands `check`, `plan` and `midpoint` do with a whole text: read it, and write what it tells
-//! (project-defined).
+//! The commands `check`, `plan` and `midpoint`: each reads a whole text and writes another one (project-defined).
 //!
 //! ```text
 //! check_text(alloc, &mut file, &mut output)?; // params 3 4 1 20 5 0 10 90 0 5
@@ -12,28 +11,19 @@
 //!
 //! # Definitions
 //!
-//! - `Checks`, `Inputs`, `ClusterFiles`, `Midpoints`, `PlanText`, `Numbers`: `check`, `plan` and `midpoint` on a whole
-//!   text; the reading of an input and of a cluster file; the text of a plan; the numbers of a text.
+//! - `Checks`, `Midpoints`, `PlanText`, `Numbers`: `check`, `plan` and `midpoint` on a whole text; the text of a plan;
+//!   the numbers of a text.
 //!
 //! # Inner workings
 //!
-//! 1. `cluster_file` reads the whole file, or one byte more than it may have. The parser's failed allocations are
-//!    reported as `Memory`, other texts that are no TOML as `Toml`.
-//! 2. `plan` computes open intervals for as many cycles as differ.
-//! 3. `output` hands the whole text to the writer.
+//! `fr_files` reads the inputs and writes the outputs. `plan` computes open intervals for as many cycles as differ.
 //!
-//! The function `midpoint_text` reads standard input, or one byte more than it may have. A number that 32 bits can't
-//! hold is brought to the nearest one that they can, so it is refused as too large in its turn. Then `midpoint` sorts
-//! the values in an array and takes the middle.
+//! `midpoint_text` brings a number that 32 bits can't hold to the nearest one that they can, so that it is refused as
+//! too large in its turn. Then `midpoint` sorts the values in an array and takes the middle.
 #![tactic(auto)]
 
 pub mod check;
-pub mod cluster_file;
-pub mod error;
-pub mod files;
-pub mod input;
 mod line;
 pub mod midpoint;
 pub mod numbers;
-pub mod output;
 pub mod plan;

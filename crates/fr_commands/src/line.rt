@@ -1,8 +1,8 @@
-//! A line of a plan, put together from its end: there the digits of a number come first. A plan has thousands of lines,
-//! and `write!` asks the writer once for each word.
+//! A line of a plan, put together from its end, since the last digit of a number is found first. A plan has thousands
+//! of lines, and `write!` asks the writer once for each word.
 //!
 //! A line is written at once, which takes 2.3 million instructions for 1,023 slots, in place of 5.2 million by
-//! `write!`. All else is written by `write!`.
+//! `write!`. All other texts are written by `write!`.
 ghost use Rattle.std.specs.Prelude.{◌≡◌, ◌<◌, ◌≤◌, ◌+◌, ◌∷◌, ◌++◌, [], length, drop, OnOk};
 ghost use Rattle.std.specs.Fmt.{decimal};
 ghost use Rattle.std.specs.Io.KnownBytes.{Appends};
@@ -14,7 +14,7 @@ use std::io::{self, Write};
 /// Room for a line: two words of up to 7 and 2 letters, four numbers of up to 20 digits, five spaces and a line feed.
 const ROOM: usize = 95;
 
-/// Puts a space and the word right before `end`, and gives where they begin.
+/// Puts a space and the word right before `end`, and returns the place at which they begin.
 fn put_word(line: &mut [u8; ROOM], end: usize, word: &str) -> usize
     requires room { length word.now < end }
     requires inside { end ≤ ROOM }
@@ -27,7 +27,7 @@ fn put_word(line: &mut [u8; ROOM], end: usize, word: &str) -> usize
     start - 1
 }
 
-/// Puts a space and the digits of the number right before `end`, and gives where they begin.
+/// Puts a space and the digits of the number right before `end`, and returns the place at which they begin.
 fn put_number(line: &mut [u8; ROOM], end: usize, number: u64) -> usize
     requires room { 21 ≤ end }
     requires inside { end ≤ ROOM }
@@ -39,9 +39,9 @@ fn put_number(line: &mut [u8; ROOM], end: usize, number: u64) -> usize
     start - 1
 }
 
-/// Writes a line: what it tells, a number, the channels, and three more numbers (project-defined).
+/// Writes a line: its first word, a number, the channels, and three more numbers (project-defined).
 ///
-/// Fails where the writer fails, and then a part of the line may have gone out.
+/// Fails if the writer fails, which may have written a part by then.
 pub(crate) fn write_line<W: Write>(
     writer: &mut W,
     told: &str,

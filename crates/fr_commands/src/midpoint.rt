@@ -3,10 +3,10 @@ ghost use Rattle.std.specs.Prelude.{IfSome, OnOk};
 ghost use Rattle.std.specs.Io.KnownBytes.{Appends};
 ghost use Rattle.fr_commands.specs.Midpoints.{Midpoints, midpoint_line};
 
-use crate::error::BenchError;
-use crate::input::read_up_to;
 use crate::numbers::numbers_of;
-use crate::output::write_whole;
+use fr_files::error::BenchError;
+use fr_files::input::read_up_to;
+use fr_files::output::write_whole;
 use fr_midpoint::midpoint::midpoint;
 use fr_midpoint::ranks::Midpoint;
 use std::alloc::Global;
@@ -15,7 +15,7 @@ use std::io::{self, Read, Write};
 /// The most bytes that the input may have.
 const MOST_BYTES: u64 = 4096;
 
-/// Writes a midpoint with its two ranks, or that there is none.
+/// Writes the line of a midpoint with its two ranks, or the line `none`.
 fn write_midpoint<W: Write>(writer: &mut W, answer: Option<Midpoint>) -> io::Result<()>
     ensures { OnOk result (Appends (W.contents writer.old) (W.contents writer.new) (midpoint_line answer)) }
 {
@@ -31,14 +31,18 @@ fn write_midpoint<W: Write>(writer: &mut W, answer: Option<Midpoint>) -> io::Res
     }
 }
 
-/// Reads numbers to the end and writes their fault-tolerant midpoint with the ranks of the two values
-/// that it lies between, or `none` (chapter 8; the texts are project-defined).
+/// Reads numbers to the end and writes their fault-tolerant midpoint (chapter 8; the texts are project-defined).
 ///
-/// Numbers are separated by spaces and line feeds. Refused with `TooLong` for more than 4096 bytes,
-/// then with `BadNumber` for a word that is no number, then with `TooMany` for more than 15 numbers,
-/// and then with `TooLarge` for one that is more than 1,000,000 from 0. `Read`, `Write` and `Memory`
-/// come where the reader fails, the writer fails, or memory is refused. On every refusal but `Write`
-/// nothing is written.
+/// The line has the midpoint and the ranks of the two values that it lies between, or is `none`. Numbers are separated
+/// by spaces and line feeds. The errors in their order:
+///
+/// - `TooLong` for more than 4096 bytes;
+/// - `BadNumber` for a word that isn't a number;
+/// - `TooMany` for more than 15 numbers;
+/// - `TooLarge` for a number that is more than 1,000,000 from 0.
+///
+/// `Read` comes if the reader fails, `Write` if the writer fails, and `Memory` if an allocation fails. Every error but
+/// `Write` leaves the writer unchanged.
 pub fn midpoint_text<R: Read, W: Write>(
     alloc: Global,
     reader: &mut R,

@@ -3,9 +3,9 @@ ghost use Rattle.std.specs.Prelude.{◌≡◌, map, IfOk, IfErr, ◌⊎◌, None
 ghost use Rattle.std.specs.Char.{is_ascii_digit};
 ghost use Rattle.std.specs.List.{list_all};
 ghost use Rattle.fr_commands.specs.Numbers.{spaced, magnitude_in, number_in, numbers_in, words_in};
-ghost use Rattle.fr_commands.specs.declared.error.BenchError.TheVariants as refusal;
+ghost use Rattle.fr_files.specs.declared.error.BenchError.TheVariants as refusal;
 
-use crate::error::BenchError;
+use fr_files::error::BenchError;
 use fr_text::words::Words;
 use std::alloc::{AllocError, Global};
 use std::str;
@@ -36,12 +36,13 @@ fn magnitude_of(digits: &[u8]) -> Option<u64>
     text.parse::<u64>().ok()
 }
 
-/// Returns the number that an optional `-` and 1 to 10 digits spell, where a word spells one. A number that
-/// doesn't fit 32 bits is brought to the nearest one that does.
+/// Returns the number that an optional `-` and 1 to 10 digits spell, if the word is of this form.
+///
+/// A number that doesn't fit 32 bits is brought to the nearest one that does.
 fn number_of(word: &[u8]) -> Option<i32>
     ensures { result ≡ number_in word.now }
 {
-    // `-0` and `007` are numbers, and `+7` isn't. Eleven digits are no number either, and so `BadNumber`.
+    // `-0` and `007` are numbers. `+7` and words of eleven digits aren't.
     match word.strip_prefix(b"-".as_slice()) {
         Some(digits) => {
             let magnitude = magnitude_of(digits)?;
@@ -63,12 +64,11 @@ fn with_spaces(alloc: Global, text: &[u8]) -> Result<Vec<u8>, AllocError>
         .collect(alloc)
 }
 
-// Separators alone spell no number, and their midpoint is `none`.
+// A text of separators has no numbers, and their midpoint is `none`.
 /// Returns the numbers that a text spells, separated by spaces and line feeds (project-defined).
 ///
-/// A number is an optional `-` and 1 to 10 digits. One that doesn't fit 32 bits is brought to the
-/// nearest that does. Refused with `BadNumber` where a word is no number, and with `Memory` where
-/// memory is refused.
+/// A number is an optional `-` and 1 to 10 digits. One that doesn't fit 32 bits is brought to the nearest that does.
+/// Refused with `BadNumber` if a word isn't a number, and with `Memory` if an allocation fails.
 #[tactic(auto, using(crate::proofs::NumberLemmas::one_more))]
 pub fn numbers_of(alloc: Global, text: &[u8]) -> Result<Vec<i32>, BenchError>
     ensures found { IfOk result (λ numbers. numbers_in (words_in text.now) ≡ Some numbers.items) }

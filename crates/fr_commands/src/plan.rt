@@ -12,10 +12,10 @@ ghost use Rattle.fr_commands.specs.PlanText.{guard_line, IsGuardText, AreCycleTe
 ghost use Rattle.fr_slots.specs.Numbers.{cycle_count};
 ghost use Rattle.fr_schedule.specs.Clusters.{IsCluster};
 
-use crate::cluster_file::cluster_of;
-use crate::error::BenchError;
 use crate::line::write_line;
-use crate::output::write_whole;
+use fr_files::cluster_file::cluster_of;
+use fr_files::error::BenchError;
+use fr_files::output::write_whole;
 use fr_guardian::guardian::Guardian;
 use fr_lines::writing::channels_word;
 use fr_schedule::cluster::Cluster;
@@ -38,15 +38,14 @@ fn letter(channel: Channel) -> &'static str
     }
 }
 
-/// Returns whether the ownership line is for the slot on the channel, and this is the first of its cycles.
+/// Returns whether the ownership line is for the slot on the channel, with this cycle as its first.
 fn begins_at(own: &Own, slot: SlotId, channel: Channel, base: Cycle) -> bool
     ensures { result ≡ begins_at slot channel base own.now }
 {
     own.slot == slot && own.channels.includes(channel) && own.cycles.base() == base.number()
 }
 
-/// Writes the line of an ownership line of the node, where it is for the slot on the channel and this is the first of
-/// its cycles.
+/// Writes the line of an ownership line of the node, if it is for the slot on the channel and this is its first cycle.
 fn write_own<W: Write>(
     writer: &mut W,
     slot: SlotId,
@@ -87,8 +86,7 @@ fn write_slot_line<W: Write>(
     )
 }
 
-/// Writes the lines of those of the node's ownership lines that are for the slot on the channel, this being the first
-/// of their cycles.
+/// Writes the lines of the node's ownership lines for the slot on the channel whose first cycle this is.
 fn write_owner<W: Write>(
     writer: &mut W,
     slot: SlotId,
@@ -106,8 +104,7 @@ fn write_owner<W: Write>(
     Ok(())
 }
 
-/// Writes the line of the ownership line for the static slot on the channel whose first cycle this is, where there is
-/// one.
+/// Writes the line of the ownership line for the static slot on the channel whose first cycle this is, if there is one.
 fn write_base<W: Write>(
     writer: &mut W,
     cluster: &Cluster,
@@ -199,7 +196,7 @@ fn write_dynamic<W: Write>(writer: &mut W, number: usize, buffer: &Buffer) -> io
     )
 }
 
-/// Writes the line of a buffer, where it is a dynamic transmit buffer.
+/// Writes the line of a buffer, if it is a dynamic transmit buffer.
 fn write_buffer<W: Write>(
     writer: &mut W,
     params: &Params,
@@ -293,7 +290,7 @@ fn write_guard<W: Write>(
     )
 }
 
-/// Writes the lines of the node's open intervals on the channel in so many cycles.
+/// Writes the lines of the node's open intervals on the channel in the first `cycles` cycles.
 fn write_cycles<W: Write>(
     writer: &mut W,
     guardian: &Guardian,
@@ -311,7 +308,7 @@ fn write_cycles<W: Write>(
     Ok(())
 }
 
-/// Writes the lines of the open intervals of so many nodes.
+/// Writes the lines of the open intervals of the first `nodes` nodes.
 fn write_guards<W: Write>(writer: &mut W, guardian: &Guardian, nodes: u8) -> io::Result<()>
     requires { nodes ≤ 16 }
     ensures { OnOk result (Adds (AreGuardTexts guardian.now nodes) (W.contents writer.old) (W.contents writer.new)) }
@@ -326,12 +323,14 @@ fn write_guards<W: Write>(writer: &mut W, guardian: &Guardian, nodes: u8) -> io:
     Ok(())
 }
 
-/// Writes the plan of a cluster: for each static slot and channel a line for each of its ownership lines, by base, a
-/// line for each dynamic transmit buffer, and one for each interval of a cycle in which a channel is open to a node, in
-/// the cycles below the greatest repetition of the ownership lines, or in the first one where there are none
-/// (project-defined).
+/// Writes the plan of a cluster (project-defined).
 ///
-/// Fails where the writer fails, and then a part of the text may have gone out.
+/// 1. For each static slot and channel, it has a line for each of its ownership lines, by base.
+/// 2. It has a line for each dynamic transmit buffer.
+/// 3. For each node, channel and cycle, it has a line for each interval in which the channel is open to the node. The
+///    cycles are those below the greatest repetition of the ownership lines, or the first one if there are none.
+///
+/// Fails if the writer fails, which may have written a part by then.
 pub fn write_plan<W: Write>(
     writer: &mut W,
     cluster: &Cluster,
@@ -345,10 +344,9 @@ pub fn write_plan<W: Write>(
     write_guards(writer, guardian, cluster.nodes())
 }
 
-/// Reads a cluster file to its end, and writes who sends where and when each channel is open to each node, cycle by
-/// cycle (project-defined).
+/// Reads a cluster file to its end, and writes the cluster's plan (project-defined).
 ///
-/// Refused as `check` is. On every refusal but `Write` nothing is written.
+/// The errors are those of `check`. Every error but `Write` leaves the writer unchanged.
 pub fn plan_text<R: Read, W: Write>(
     alloc: Global,
     reader: &mut R,

@@ -1,7 +1,7 @@
 -- The text of the outcome of a run (project-defined).
 use Rattle.std.specs.Prelude.{ℕ, List, [], ◌∷◌, ◌++◌, codes}
 use Rattle.std.specs.Fmt.{decimal}
-use Rattle.fr_commands.specs.PlanText.{of_nodes}
+use Rattle.fr_files.specs.NodeTexts.{of_nodes}
 use Rattle.fr_interface.specs.State.{State}
 use Rattle.fr_lines.specs.Spelling.{line_text}
 use Rattle.fr_trace.specs.ReportText.{report_text}

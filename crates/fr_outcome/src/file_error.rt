@@ -2,7 +2,7 @@
 ghost use Rattle.std.specs.Prelude.{◌≡◌};
 ghost use Rattle.fr_outcome.specs.declared.file_error.FileError.TheVariants as refusal;
 
-use fr_commands::error::BenchError;
+use fr_files::error::BenchError;
 use fr_scenario::error::ScenarioError;
 use thiserror::Error;
 

@@ -3,7 +3,7 @@ ghost use Rattle.std.specs.Prelude.{IfSome};
 ghost use Rattle.fr_outcome.specs.ScenarioFiles.{IsScenarioIn, IsScenarioOf};
 
 use crate::file_error::FileError;
-use fr_commands::input::read_up_to;
+use fr_files::input::read_up_to;
 use fr_scenario::error::ScenarioError;
 use fr_scenario::scenario::Scenario;
 use std::alloc::Global;

@@ -1,7 +1,7 @@
 -- What `schedule` does with the text of a cluster file.
 use Rattle.std.specs.Prelude.{◌≡◌, ℕ, List, ◌++◌, Option, Result}
-use Rattle.fr_commands.specs.Checks.{Tells}
-use Rattle.fr_commands.specs.declared.error.BenchError.{BenchError}
+use Rattle.fr_files.specs.ClusterFiles.{Tells}
+use Rattle.fr_files.specs.declared.error.BenchError.{BenchError}
 use Rattle.fr_picture.specs.Owners.{Adds, AreOwnerTexts}
 use Rattle.fr_schedule.specs.Descriptions.{Description}
 

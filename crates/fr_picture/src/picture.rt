@@ -1,7 +1,7 @@
 //! A picture of a cycle.
 
 ghost use Rattle.std.specs.Prelude.{◌≡◌, IfErr, IfOk, IfSome};
-ghost use Rattle.fr_commands.specs.declared.error.BenchError.TheVariants as refusal;
+ghost use Rattle.fr_files.specs.declared.error.BenchError.TheVariants as refusal;
 ghost use Rattle.fr_picture.specs.Owners.{AreOwnerTexts};
 ghost use Rattle.fr_picture.specs.Schedules.{Draws, IsPicture};
 
@@ -10,9 +10,9 @@ use crate::frame::{write_axis, write_end, write_head, write_name, write_segments
 use crate::guards::write_guards;
 use crate::owners::write_owners;
 use crate::scale::row_of;
-use fr_commands::cluster_file::cluster_of;
-use fr_commands::error::BenchError;
-use fr_commands::output::write_whole;
+use fr_files::cluster_file::cluster_of;
+use fr_files::error::BenchError;
+use fr_files::output::write_whole;
 use fr_guardian::guardian::Guardian;
 use fr_schedule::cluster::Cluster;
 use fr_slots::channel::Channel;

@@ -1,7 +1,7 @@
 -- The result of `play_file`, from the results of its parts.
 use Rattle.std.proofs.Common.{ℕ, List, Option, Some, None, Ok, Err, ◌≡◌, subst}
 use Rattle.std.specs.Prelude.{IfSome}
-use Rattle.fr_commands.specs.declared.error.BenchError.TheVariants as bench
+use Rattle.fr_files.specs.declared.error.BenchError.TheVariants as bench
 use Rattle.fr_core.specs.Scripts.{Scripted}
 use Rattle.fr_outcome.specs.declared.file_error.FileError.{FileError}
 use Rattle.fr_outcome.specs.declared.file_error.FileError.TheVariants as file

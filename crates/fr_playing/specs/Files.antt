@@ -1,6 +1,6 @@
 -- A run with the scenario of a text (project-defined).
 use Rattle.std.specs.Prelude.{⊤, ◌<◌, ℕ, List, length, Some, None, Result, Ok, Err}
-use Rattle.fr_commands.specs.declared.error.BenchError.TheVariants as bench
+use Rattle.fr_files.specs.declared.error.BenchError.TheVariants as bench
 use Rattle.fr_outcome.specs.ScenarioFiles.{IsShort, IsRefused, RunIsRefused}
 use Rattle.fr_playing.specs.declared.error.PlayError.{PlayError}
 use Rattle.fr_playing.specs.declared.error.PlayError.TheVariants as refusal

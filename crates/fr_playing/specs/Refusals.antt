@@ -2,7 +2,7 @@
 -- (project-defined).
 use Rattle.std.specs.Prelude.{⊤, Option, Some, None, Result, Ok, Err}
 use Rattle.fr_bus.specs.declared.error.BusError.TheVariants as bus
-use Rattle.fr_commands.specs.declared.error.BenchError.TheVariants as bench
+use Rattle.fr_files.specs.declared.error.BenchError.TheVariants as bench
 use Rattle.fr_core.specs.declared.error.StepError.{StepError}
 use Rattle.fr_core.specs.declared.error.StepError.TheVariants as step
 use Rattle.fr_outcome.specs.declared.file_error.FileError.{FileError}

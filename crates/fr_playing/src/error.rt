@@ -3,8 +3,8 @@ ghost use Rattle.std.specs.Prelude.{◌≡◌};
 ghost use Rattle.fr_playing.specs.declared.error.PlayError.TheVariants as refusal;
 ghost use Rattle.fr_playing.specs.Refusals.{failure_of_file};
 
-use fr_commands::error::BenchError;
 use fr_core::error::StepError;
+use fr_files::error::BenchError;
 use fr_outcome::file_error::FileError;
 use fr_runs::check::RunRefusal;
 use fr_scenario::error::ScenarioError;

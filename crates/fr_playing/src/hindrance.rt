@@ -6,8 +6,8 @@ ghost use Rattle.fr_core.specs.declared.error.StepError.TheVariants as step;
 
 use crate::error::PlayError;
 use fr_bus::error::BusError;
-use fr_commands::error::BenchError;
 use fr_core::error::StepError;
+use fr_files::error::BenchError;
 use std::alloc::{AllocError, AllocFailed};
 
 /// An event that ends a single-threaded run early.

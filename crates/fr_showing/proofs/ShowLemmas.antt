@@ -2,7 +2,7 @@
 use Rattle.std.proofs.Common.{◌≡◌, ◌⊎◌, ℕ, List, Option, Some, None, Ok, Err, sym, subst, inl, inr}
 use Rattle.std.specs.Prelude.{IfSome}
 use Rattle.std.specs.Io.KnownBytes.{Appends}
-use Rattle.fr_commands.specs.declared.error.BenchError.TheVariants as bench
+use Rattle.fr_files.specs.declared.error.BenchError.TheVariants as bench
 use Rattle.fr_outcome.specs.ScenarioFiles.{RunIsRefused}
 use Rattle.fr_playing.specs.declared.error.PlayError.{PlayError}
 use Rattle.fr_playing.specs.declared.error.PlayError.TheVariants as refusal

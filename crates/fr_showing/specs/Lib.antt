@@ -5,6 +5,7 @@ pub mod Ends
 pub mod FateSteps
 pub mod Fates
 pub mod Idle
+pub mod Listening
 pub mod Origins
 pub mod RecordText
 pub mod Shows

@@ -4,10 +4,9 @@ use Rattle.std.specs.Prelude.{Result, Ok, Err}
 use Rattle.std.specs.Global.{Vec}
 use Rattle.std.specs.Io.KnownBytes.{Appends}
 use Rattle.std.specs.List.{flat_map}
-use Rattle.fr_commands.specs.declared.error.BenchError.TheVariants as bench
+use Rattle.fr_files.specs.declared.error.BenchError.TheVariants as bench
 use Rattle.fr_core.specs.Worlds.{WorldState}
 use Rattle.fr_lines.specs.declared.versions.Version.TheVariants.{Three}
-use Rattle.fr_listener.specs.Listening.{capture_of}
 use Rattle.fr_matrix.specs.Cells.{IsMatrix}
 use Rattle.fr_outcome.specs.OutcomeText.{outcome_text}
 use Rattle.fr_outcome.specs.ScenarioFiles.{RunIsRefused}
@@ -21,6 +20,7 @@ use Rattle.fr_showing.specs.CommitText.{commit_line, commits}
 use Rattle.fr_showing.specs.declared.shown.Shown.TheVariants.{Outcome, Answers, Commits, Record, Heard, Matrix, Trace}
 use Rattle.fr_showing.specs.declared.shown.Shown.{Shown}
 use Rattle.fr_showing.specs.Idle.{idle_lines}
+use Rattle.fr_showing.specs.Listening.{capture_of}
 use Rattle.fr_showing.specs.RecordText.{record_text}
 use Rattle.fr_trace.specs.TraceText.{trace_text}
 

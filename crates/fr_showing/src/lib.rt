@@ -15,6 +15,7 @@
 //! - `AnswerText`, `CommitText`, `Fates`: a line with its answer; a commit with its fate.
 //! - `Ends`, `Takers`: the end of a transmission and its receivers.
 //! - `RecordText`, `Origins`: the lines of a record, and the scenario line of each.
+//! - `Listening`: the records of a capture of the bus.
 //! - `Idle`, `Shows`: fault lines without effect; the output for a run.
 //!
 //! Modules that follow the steps of the code, for private functions, with the module that has the meaning:
@@ -25,8 +26,8 @@
 //! # Inner workings
 //!
 //! 1. `show_run` (`show`) makes the text in memory (`shown`) and hands it to the writer at once. The texts come from
-//!    `write_outcome`, `write_answers`, `write_commits`, `write_record`, `write_capture` of `fr_listener`, `matrix_of`
-//!    of `fr_matrix` or `write_trace` of `fr_trace`.
+//!    `write_outcome`, `write_answers`, `write_commits`, `write_record`, `write_capture`, `matrix_of` of
+//!    `fr_matrix` or `write_trace` of `fr_trace`.
 //! 2. `idle_lines` returns the numbers of the fault lines without effect, by one walk along the record for each.
 //!
 //! To show something new of a run, call `play_file` or `play`. Both return the world with all journals, the record and
@@ -38,6 +39,7 @@ pub mod commits;
 pub mod ends;
 mod fates;
 pub mod idle;
+pub mod listener;
 mod origins;
 mod parts;
 pub mod record;

@@ -1,14 +1,14 @@
 //! The commands that show a run.
 ghost use Rattle.std.specs.Prelude.{◌≡◌, IfErr, IfOk, IfSome};
-ghost use Rattle.fr_commands.specs.declared.error.BenchError.TheVariants as bench;
+ghost use Rattle.fr_files.specs.declared.error.BenchError.TheVariants as bench;
 ghost use Rattle.fr_playing.specs.declared.error.PlayError.TheVariants as refusal;
 ghost use Rattle.fr_showing.specs.Idle.{idle_lines};
 ghost use Rattle.fr_showing.specs.Shows.{Prints, Tells};
 
 use crate::idle::idle_lines;
 use crate::shown::{Shown, text_of};
-use fr_commands::error::BenchError;
-use fr_commands::output::write_whole;
+use fr_files::error::BenchError;
+use fr_files::output::write_whole;
 use fr_playing::error::PlayError;
 use fr_playing::file::{PlayedFile, play_file};
 use fr_schedule::cluster::Cluster;

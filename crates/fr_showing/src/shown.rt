@@ -1,13 +1,13 @@
 //! The views of a run, as texts.
 ghost use Rattle.std.specs.Prelude.{◌≡◌, ◌⊎◌, Some, None, IfOk, OnOk, IfErr, length};
 ghost use Rattle.std.specs.List.{flat_map};
-ghost use Rattle.fr_commands.specs.declared.error.BenchError.TheVariants as bench;
-ghost use Rattle.fr_listener.specs.Listening.{capture_of};
+ghost use Rattle.fr_files.specs.declared.error.BenchError.TheVariants as bench;
 ghost use Rattle.fr_lines.specs.declared.versions.Version.TheVariants.{Three};
 ghost use Rattle.fr_outcome.specs.OutcomeText.{outcome_text};
 ghost use Rattle.fr_playing.specs.declared.error.PlayError.TheVariants as refusal;
 ghost use Rattle.fr_showing.specs.AnswerText.{answer_line};
 ghost use Rattle.fr_showing.specs.CommitText.{commit_line, commits};
+ghost use Rattle.fr_showing.specs.Listening.{capture_of};
 ghost use Rattle.fr_showing.specs.RecordText.{record_text};
 ghost use Rattle.fr_matrix.specs.Cells.{IsMatrix};
 ghost use Rattle.fr_showing.specs.Shows.{HasViewer, IsShown, LacksNode, LacksViewer};
@@ -15,12 +15,12 @@ ghost use Rattle.fr_trace.specs.TraceText.{trace_text};
 
 use crate::answers::write_answers;
 use crate::commits::write_commits;
+use crate::listener::write_capture;
 use crate::parts::params_of;
 use crate::record::write_record;
-use fr_commands::error::BenchError;
 use fr_core::world::World;
+use fr_files::error::BenchError;
 use fr_interface::interface::Interface;
-use fr_listener::capture::write_capture;
 use fr_matrix::matrix::matrix_of;
 use fr_matrix::view::View;
 use fr_outcome::outcome_text::write_outcome;

@@ -1,9 +1,9 @@
 -- The effect of `run` on the text of a scenario (project-defined).
 use Rattle.std.specs.Prelude.{⊤, ◌≡◌, ◌<◌, ℕ, Bool, not, List, length, Option, None, IfSome, Result, Ok, Err}
 use Rattle.std.specs.Io.KnownBytes.{Appends}
-use Rattle.fr_commands.specs.ClusterFiles.{IsClusterOf}
-use Rattle.fr_commands.specs.declared.error.BenchError.{BenchError}
-use Rattle.fr_commands.specs.declared.error.BenchError.TheVariants as bench
+use Rattle.fr_files.specs.ClusterFiles.{IsClusterOf}
+use Rattle.fr_files.specs.declared.error.BenchError.{BenchError}
+use Rattle.fr_files.specs.declared.error.BenchError.TheVariants as bench
 use Rattle.fr_outcome.specs.declared.file_error.FileError.{FileError}
 use Rattle.fr_outcome.specs.declared.file_error.FileError.TheVariants as file
 use Rattle.fr_outcome.specs.OutcomeText.{outcome_text}

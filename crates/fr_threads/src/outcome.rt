@@ -4,10 +4,10 @@ ghost use Rattle.fr_threads.specs.Outcomes.{Prints, Answers, IsFileRefused, IsFi
 
 use crate::outcome_error::OutcomeError;
 use crate::run::run_threads;
-use fr_commands::cluster_file::cluster_of;
-use fr_commands::error::BenchError;
-use fr_commands::output::write_whole;
 use fr_desks::gate::OpenGate;
+use fr_files::cluster_file::cluster_of;
+use fr_files::error::BenchError;
+use fr_files::output::write_whole;
 use fr_outcome::outcome_text::write_outcome;
 use fr_outcome::scenario_file::scenario_of;
 use fr_schedule::cluster::Cluster;

@@ -5,7 +5,7 @@ ghost use Rattle.fr_threads.specs.declared.outcome_error.OutcomeError.TheVariant
 ghost use Rattle.fr_threads.specs.Outcomes.{file_failure};
 
 use crate::error::RunError;
-use fr_commands::error::BenchError;
+use fr_files::error::BenchError;
 use fr_outcome::file_error::FileError;
 use fr_scenario::error::ScenarioError;
 use thiserror::Error;

@@ -2,17 +2,17 @@
 ghost use Rattle.std.specs.Prelude.{◌≡◌};
 ghost use Rattle.fr_view.specs.Failures.{status_of};
 
-use fr_commands::error::BenchError;
+use fr_cli::error::OrderError;
+use fr_files::error::BenchError;
 use fr_playing::error::PlayError;
 use fr_trace::error::TraceError;
-use fr_words::error::OrderError;
 use thiserror::Error;
 
 /// Reasons why the program hasn't executed its command (project-defined).
 ///
 /// An error prints as the line on standard error.
 #[derive(Clone, Copy, Debug, Drop, PartialEq, Eq, Error)]
-pub enum Failure {
+pub enum ViewFailure {
     /// The words are no command, or an allocation for them failed.
     #[error("{0}")]
     Words(#[from] OrderError),
@@ -30,14 +30,17 @@ pub enum Failure {
     Play(#[from] PlayError),
 }
 
-impl Failure {
+impl ViewFailure {
     /// Returns the program's exit status: 2 for words that are no command, 1 for everything else.
     pub fn status(&self) -> u8
         ensures { result ≡ status_of self.now }
     {
         match self {
-            Failure::Words(error) => error.status(),
-            Failure::Write | Failure::Text(_) | Failure::Trace(_) | Failure::Play(_) => 1,
+            ViewFailure::Words(error) => error.status(),
+            ViewFailure::Write
+            | ViewFailure::Text(_)
+            | ViewFailure::Trace(_)
+            | ViewFailure::Play(_) => 1,
         }
     }
 }

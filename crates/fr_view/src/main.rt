@@ -30,24 +30,23 @@
 
 mod failure;
 
-use failure::Failure;
+use failure::ViewFailure;
 use fr_capture::form::Form;
 use fr_capture::show::show_trace;
-use fr_commands::cluster_file::cluster_of;
-use fr_commands::files::file_named;
+use fr_cli::error::OrderError;
+use fr_cli::view::{Asked, ViewOrder, order};
+use fr_cli::waiting::{WaitingReader, WaitingWriter};
+use fr_cli::words::{texts_of, words_given};
+use fr_files::cluster_file::cluster_of;
+use fr_files::named::file_named;
 use fr_matrix::view::View;
 use fr_picture::picture::show_schedule;
 use fr_showing::show::show_run;
 use fr_showing::shown::Shown;
 use fr_slots::numbers::{Cycle, NodeId};
-use fr_view_orders::command::{Asked, Order};
-use fr_view_orders::order::order;
 use fr_why::explain::explain_trace;
 use fr_why::until_fault::show_until_fault;
 use fr_why::verdict::Verdict;
-use fr_words::error::OrderError;
-use fr_words::given::{texts_of, words_given};
-use fr_words::waiting::{WaitingReader, WaitingWriter};
 use std::io;
 use std::process::ExitCode;
 use std::rt::{Env, Files};
@@ -127,9 +126,9 @@ fn show_files<R: Files + Print + Eprint + AllocGlobal + Clock>(
     cluster: &str,
     scenario: &str,
     cycles: u16,
-) -> Result<(), Failure> {
+) -> Result<(), ViewFailure> {
     let Some(shown) = shown_of(asked) else {
-        return Err(Failure::Words(OrderError::Usage));
+        return Err(ViewFailure::Words(OrderError::Usage));
     };
     let alloc = rt.alloc();
     let cluster = cluster_of(alloc, &mut file_named(rt, cluster)?)?;
@@ -145,7 +144,7 @@ fn show_seen<R: Input + Print + AllocGlobal + Clock>(
     rt: &R,
     form: Form,
     until_fault: bool,
-) -> Result<(), Failure> {
+) -> Result<(), ViewFailure> {
     let (alloc, mut output) = (rt.alloc(), WaitingWriter::new(rt, io::writer(rt)));
     if until_fault {
         Ok(show_until_fault(
@@ -165,7 +164,7 @@ fn show_seen<R: Input + Print + AllocGlobal + Clock>(
 }
 
 /// Writes why an audit rejects the trace on standard input. The status shows whether it does.
-fn explain<R: Input + Print + AllocGlobal + Clock>(rt: &R) -> Result<ExitCode, Failure> {
+fn explain<R: Input + Print + AllocGlobal + Clock>(rt: &R) -> Result<ExitCode, ViewFailure> {
     let mut output = WaitingWriter::new(rt, io::writer(rt));
     match explain_trace(
         rt.alloc(),
@@ -182,9 +181,9 @@ fn show_cycle<R: Files + Print + AllocGlobal + Clock>(
     rt: &R,
     file: &str,
     cycle: u8,
-) -> Result<(), Failure> {
+) -> Result<(), ViewFailure> {
     let Some(cycle) = Cycle::new(cycle) else {
-        return Err(Failure::Words(OrderError::Usage));
+        return Err(ViewFailure::Words(OrderError::Usage));
     };
     let (mut file, mut output) = (
         file_named(rt, file)?,
@@ -194,30 +193,34 @@ fn show_cycle<R: Files + Print + AllocGlobal + Clock>(
 }
 
 /// Writes the list of commands.
-fn show_help<R: Print + Clock>(rt: &R) -> Result<(), Failure> {
+fn show_help<R: Print + Clock>(rt: &R) -> Result<(), ViewFailure> {
     match io::Write::write_all(&mut WaitingWriter::new(rt, io::writer(rt)), HELP.as_bytes()) {
         Ok(()) => Ok(()),
-        Err(_) => Err(Failure::Write),
+        Err(_) => Err(ViewFailure::Write),
     }
 }
 
 /// Executes the command.
 fn carry_out<R: Files + Input + Print + Eprint + AllocGlobal + Clock>(
     rt: &R,
-    order: Order<'_>,
-) -> Result<ExitCode, Failure> {
+    order: ViewOrder<'_>,
+) -> Result<ExitCode, ViewFailure> {
     match order {
-        Order::Schedule { file, cycle } => show_cycle(rt, file, cycle)?,
-        Order::Capture { until_fault, own } => show_seen(rt, Form::Capture { own }, until_fault)?,
-        Order::Frames { until_fault, all } => show_seen(rt, Form::Table { all }, until_fault)?,
-        Order::Why => return explain(rt),
-        Order::Show {
+        ViewOrder::Schedule { file, cycle } => show_cycle(rt, file, cycle)?,
+        ViewOrder::Capture { until_fault, own } => show_seen(
+            rt,
+            Form::Capture { own },
+            until_fault,
+        )?,
+        ViewOrder::Frames { until_fault, all } => show_seen(rt, Form::Table { all }, until_fault)?,
+        ViewOrder::Why => return explain(rt),
+        ViewOrder::Show {
             asked,
             cluster,
             scenario,
             cycles,
         } => show_files(rt, asked, cluster, scenario, cycles)?,
-        Order::Help => show_help(rt)?,
+        ViewOrder::Help => show_help(rt)?,
     }
     Ok(ExitCode::SUCCESS)
 }
@@ -225,7 +228,7 @@ fn carry_out<R: Files + Input + Print + Eprint + AllocGlobal + Clock>(
 /// Reads the words and executes their command.
 fn run<R: Env + Files + Input + Print + Eprint + AllocGlobal + Clock>(
     rt: &R,
-) -> Result<ExitCode, Failure> {
+) -> Result<ExitCode, ViewFailure> {
     let words = words_given(rt)?;
     let texts: Vec<&str> = texts_of(rt.alloc(), &words)?;
     carry_out(rt, order(rt.alloc(), texts.as_slice())?)

@@ -3,15 +3,15 @@ ghost use Rattle.std.specs.Prelude.{◌≡◌};
 ghost use Rattle.fr_world.specs.Failures.{status_of};
 
 use fr_bus::error::BusError;
-use fr_commands::error::BenchError;
+use fr_cli::error::OrderError;
+use fr_files::error::BenchError;
 use fr_session::error::SessionError;
-use fr_words::error::OrderError;
 use thiserror::Error;
 
 /// The reason for which the program hasn't executed its command (project-defined). Printed, it is the line on standard
 /// error.
 #[derive(Clone, Copy, Debug, Drop, PartialEq, Eq, Error)]
-pub enum Failure {
+pub enum WorldFailure {
     /// The words were no command, or memory for reading them was refused.
     #[error("{0}")]
     Words(#[from] OrderError),
@@ -29,14 +29,17 @@ pub enum Failure {
     Session(#[from] SessionError),
 }
 
-impl Failure {
+impl WorldFailure {
     /// Returns the program's exit status: 2 for words that are no command, 1 for everything else.
     pub fn status(&self) -> u8
         ensures { result ≡ status_of self.now }
     {
         match self {
-            Failure::Words(error) => error.status(),
-            Failure::Memory | Failure::Text(_) | Failure::World(_) | Failure::Session(_) => 1,
+            WorldFailure::Words(error) => error.status(),
+            WorldFailure::Memory
+            | WorldFailure::Text(_)
+            | WorldFailure::World(_)
+            | WorldFailure::Session(_) => 1,
         }
     }
 }

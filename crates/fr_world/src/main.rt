@@ -13,7 +13,7 @@
 //!
 //! # Definitions
 //!
-//! - `Commands`, `Failures`: the words that are a command of `fr_world`; the exit status of each failure.
+//! - `Failures`: the exit status of each failure of `fr_world`.
 //!
 //! # Inner workings
 //!
@@ -21,18 +21,17 @@
 //! (`fr_session`) answers until the reader ends.
 #![tactic(auto)]
 
-mod command;
 mod failure;
 
-use command::{Command, command_of};
-use failure::Failure;
-use fr_commands::cluster_file::cluster_of;
-use fr_commands::files::file_named;
+use failure::WorldFailure;
+use fr_cli::waiting::{WaitingReader, WaitingWriter};
+use fr_cli::words::{texts_of, words_given};
+use fr_cli::world::{WorldCommand, command_of};
 use fr_core::world::World;
+use fr_files::cluster_file::cluster_of;
+use fr_files::named::file_named;
 use fr_schedule::cluster::Cluster;
 use fr_session::session::serve;
-use fr_words::given::{texts_of, words_given};
-use fr_words::waiting::{WaitingReader, WaitingWriter};
 use std::io;
 use std::io::{BufReader, BufWriter};
 use std::process::ExitCode;
@@ -40,7 +39,10 @@ use std::rt::{Env, Files};
 use std::time::Clock;
 
 /// Returns the command's cluster.
-fn cluster_in<R: Files + AllocGlobal>(rt: &R, command: Command<'_>) -> Result<Cluster, Failure> {
+fn cluster_in<R: Files + AllocGlobal>(
+    rt: &R,
+    command: WorldCommand<'_>,
+) -> Result<Cluster, WorldFailure> {
     let mut file = file_named(rt, command.file)?;
     Ok(cluster_of(rt.alloc(), &mut file)?)
 }
@@ -50,16 +52,16 @@ fn cluster_in<R: Files + AllocGlobal>(rt: &R, command: Command<'_>) -> Result<Cl
 /// The room for reading and writing is taken first, so that no reply needs memory of its own.
 fn serve_world<R: Files + Input + Print + AllocGlobal + Clock>(
     rt: &R,
-    command: Command<'_>,
-) -> Result<(), Failure> {
+    command: WorldCommand<'_>,
+) -> Result<(), WorldFailure> {
     let cluster = cluster_in(rt, command)?;
     let cycles = command.cycles;
     let mut world = World::new(rt.alloc(), &cluster, cycles)?;
     let Ok(mut reader) = BufReader::new(rt.alloc(), WaitingReader::new(rt, rt.reader())) else {
-        return Err(Failure::Memory);
+        return Err(WorldFailure::Memory);
     };
     let Ok(mut writer) = BufWriter::new(rt.alloc(), WaitingWriter::new(rt, io::writer(rt))) else {
-        return Err(Failure::Memory);
+        return Err(WorldFailure::Memory);
     };
     let served = serve(
         rt.alloc(),
@@ -75,7 +77,7 @@ fn serve_world<R: Files + Input + Print + AllocGlobal + Clock>(
 }
 
 /// Does what the words ask for.
-fn run<R: Env + Files + Input + Print + AllocGlobal + Clock>(rt: &R) -> Result<(), Failure> {
+fn run<R: Env + Files + Input + Print + AllocGlobal + Clock>(rt: &R) -> Result<(), WorldFailure> {
     let words = words_given(rt)?;
     let texts: Vec<&str> = texts_of(rt.alloc(), &words)?;
     serve_world(rt, command_of(rt.alloc(), texts.as_slice())?)

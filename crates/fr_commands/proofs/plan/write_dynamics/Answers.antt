@@ -6,7 +6,7 @@ use Rattle.fr_slots.specs.declared.plan.Buffer.{Buffer}
 use Rattle.fr_slots.specs.Parameters.{Parameters}
 use Rattle.fr_slots.specs.Plans.{Plan}
 use Rattle.fr_commands.specs.PlanText.{buffer_text, node_text}
-use Rattle.fr_commands.proofs.PlanTextLemmas.{no_node, one_node}
+use Rattle.fr_files.proofs.NodeTextLemmas.{no_node, one_node}
 use Rattle.fr_commands.proofs.plan.write_dynamics.Goals as goal
 
 pub loop-number-init : goal.loop-number-init

@@ -1,5 +1,5 @@
 use Rattle.fr_commands.specs.PlanText.{node_text}
-use Rattle.fr_commands.proofs.PlanTextLemmas.{AreNodes}
+use Rattle.fr_files.proofs.NodeTextLemmas.{AreNodes}
 use Rattle.fr_commands.proofs.plan.write_dynamics.Given as goal
 
 abbrev pub invariant-loop-number : goal.invariant-loop-number

@@ -1,6 +1,6 @@
 use Rattle.std.proofs.Common.{refl}
 use Rattle.std.proofs.lemmas.Option.{slice_get_read}
-use Rattle.fr_commands.proofs.PlanTextLemmas.{no_node, one_node}
+use Rattle.fr_files.proofs.NodeTextLemmas.{no_node, one_node}
 use Rattle.fr_outcome.specs.OutcomeText.{node_text}
 use Rattle.fr_outcome.proofs.outcome_text.write_nodes.Goals as goal
 

@@ -1,4 +1,4 @@
-use Rattle.fr_commands.proofs.PlanTextLemmas.{AreNodes}
+use Rattle.fr_files.proofs.NodeTextLemmas.{AreNodes}
 use Rattle.fr_outcome.specs.OutcomeText.{node_text}
 use Rattle.fr_outcome.proofs.outcome_text.write_nodes.Given as goal
 

@@ -1,0 +1,5 @@
+pub mod BenchLemmas
+pub mod BenchWholeLemmas
+pub mod CommandLemmas
+pub mod ViewLemmas
+pub mod WorldLemmas

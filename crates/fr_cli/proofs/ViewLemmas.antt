@@ -1,0 +1,174 @@
+-- The answer to words follows from a parse, since the commands are of the kind for which `clap` reports all faults.
+use Rattle.std.proofs.Common.{◌≡◌, [], ◌∷◌, List, Option, Some, None, Err, refl, ap, ap₂, sym, subst, ◌∙◌, arith, inl}
+use Rattle.std.proofs.Common.{inr, true, false}
+use Rattle.std.proofs.Common.{◌&&◌, ◌||◌, codes, is_some, option_map}
+use Rattle.std.specs.Prelude.{IfSome, IfNone, option_and_then, if◌then◌else◌}
+use Rattle.std.specs.Str.{bytes_eq}
+use Rattle.std.specs.Option.{ok_or}
+use Rattle.clap.specs.Values.{kind_of}
+use Rattle.clap.specs.Words.{HasKind, IsAmong, Kinds, Row, Text, fault_of, first_of, is_simple, is_simple_and_free}
+use Rattle.clap.specs.Words.{subcommand_of}
+use Rattle.clap.specs.declared.error.Error.{Error}
+use Rattle.clap.proofs.OnLiterals.{clap_on_literals}
+use Rattle.fr_cli.specs.declared.view.ViewOrder.{ViewOrder}
+use Rattle.fr_cli.specs.declared.view.ViewOrder.TheVariants as the_order
+use Rattle.fr_cli.specs.declared.error.OrderError.{OrderError}
+use Rattle.fr_cli.specs.declared.error.OrderError.TheVariants as refusal
+use Rattle.fr_cli.specs.declared.view.Asked.{Asked}
+use Rattle.fr_cli.specs.declared.view.Asked.TheVariants.{Outcome, Answers, Commits, Record, Heard, Trace}
+use Rattle.fr_cli.specs.ViewOrders.{IsAnswerTo, IsOrder, IsScheduleBy, IsShowBy, asked_by, asks, channel_asked}
+use Rattle.fr_cli.specs.ViewOrders.{cycle_asked}
+use Rattle.fr_cli.specs.ViewOrders.{drawn_by, from_asked, has_schedule_by, has_show_by, matrix_of}
+use Rattle.fr_cli.specs.ViewOrders.{node_asked}
+use Rattle.fr_cli.specs.ViewOrders.{the_commands, viewer_asked}
+use Rattle.fr_cli.proofs.CommandLemmas.{has_run_alike}
+use Rattle.fr_cli.specs.Commands.{IsNamed, cycles_in, order_error_of, word_in}
+
+pub are_simple : is_simple the_commands ≡ true
+unfolding clap_on_literals
+are_simple = refl
+
+pub are_free : is_simple_and_free the_commands ≡ true
+unfolding clap_on_literals
+are_free = refl
+
+-- an error of `clap` is a fault of the words, or a failed allocation
+pub refused_for : (words : List Text) (e : Error) → HasKind (fault_of the_commands words) e
+    → IsAnswerTo words (Err (order_error_of (kind_of e)))
+refused_for words e (inl memory) = rw memory tt
+refused_for words e (inr among) = by (order_error_of (kind_of e)) (fault_of the_commands words) refl among
+  where
+    by : (given : OrderError) (kinds : Kinds) → fault_of the_commands words ≡ kinds → IsAmong (kind_of e) kinds
+        → IsAnswerTo words (Err given)
+    by refusal.Memory kinds are among = tt
+    by refusal.Usage [] are among = absurd among
+    by refusal.Usage (k ∷ ks) are among = inl (rw are (omega arith))
+
+-- without a fault, the order that was found is the answer
+pub taken_for : (words : List Text) (found : Option ViewOrder) → fault_of the_commands words ≡ []
+    → IfSome found (IsOrder (subcommand_of the_commands words))
+    → IfNone found (asks (subcommand_of the_commands words) ≡ false) → IsAnswerTo words (ok_or found refusal.Usage)
+taken_for words (Some order) none told nothing = (none, told)
+taken_for words None none told nothing = inr nothing
+
+-- ---- a picture
+
+-- two ways to the same words ask for a picture alike
+pub has_alike : (f g : Text → Option Text) → ((id : Text) → f id ≡ g id) → has_schedule_by f ≡ has_schedule_by g
+has_alike f g same =
+    ap₂ (λ a b. a && b) (ap is_some (same (codes "FILE"))) (ap (λ w. is_some (cycle_asked w)) (same (codes "cycle")))
+
+schedule_alike : (f g : Text → Option Text) → ((id : Text) → f id ≡ g id) → (o : ViewOrder) → IsScheduleBy f o
+    → IsScheduleBy g o
+schedule_alike f g same (the_order.Capture until_fault own) is = is
+schedule_alike f g same (the_order.Frames until_fault all) is = is
+schedule_alike f g same the_order.Why is = is
+schedule_alike f g same the_order.Help is = is
+schedule_alike f g same (the_order.Show asked cluster scenario cycles) is = is
+schedule_alike f g same (the_order.Schedule file cycle) is =
+    (sym (same (codes "FILE")) ∙ is.0, ap cycle_asked (sym (same (codes "cycle"))) ∙ is.1)
+
+pub schedule_told : (entered : Option (Text × List Row)) (look : Text → Option Text) (found : Option ViewOrder)
+    → IsNamed (codes "schedule") entered
+    → ((id : Text) → look id ≡ word_in entered id) → IfSome found (IsScheduleBy look) → IfSome found (IsOrder entered)
+schedule_told entered look None named same told = tt
+schedule_told entered look (Some o) named same told = by o (schedule_alike look (word_in entered) same o told)
+  where
+    by : (o : ViewOrder) → IsScheduleBy (word_in entered) o → IsOrder entered o
+    by (the_order.Capture until_fault own) is = absurd is
+    by (the_order.Frames until_fault all) is = absurd is
+    by the_order.Why is = absurd is
+    by the_order.Help is = absurd is
+    by (the_order.Show asked cluster scenario cycles) is = absurd is
+    by (the_order.Schedule file cycle) is = (named, is)
+
+asks_nothing : (entered : Option (Text × List Row)) → IsNamed (codes "schedule") entered
+    → has_schedule_by (word_in entered) ≡ false → asks entered ≡ false
+asks_nothing None named lacks = cc named
+asks_nothing (Some (name, rows)) named lacks =
+    let is : name ≡ codes "schedule" = cc named in
+    subst (λ (n : Text). asks (Some (n, rows)) ≡ false) (sym is) lacks
+
+pub schedule_lacks : (entered : Option (Text × List Row)) (look : Text → Option Text) (found : Option ViewOrder)
+    → IsNamed (codes "schedule") entered
+    → ((id : Text) → look id ≡ word_in entered id) → IfNone found (has_schedule_by look ≡ false)
+    → IfNone found (asks entered ≡ false)
+schedule_lacks entered look (Some o) named same lacks = tt
+schedule_lacks entered look None named same lacks = asks_nothing entered named
+    (sym (has_alike look (word_in entered) same) ∙ lacks)
+
+-- ---- views of a run
+
+drawn_alike : (f g : Text → Option Text) → ((id : Text) → f id ≡ g id) → drawn_by f ≡ drawn_by g
+drawn_alike f g same =
+    ap (λ w. matrix_of (channel_asked w) (viewer_asked (f (codes "node"))) (from_asked (f (codes "from"))))
+    (same (codes "channel"))
+    ∙ ap (λ w. matrix_of (channel_asked (g (codes "channel"))) (viewer_asked w) (from_asked (f (codes "from"))))
+    (same (codes "node"))
+    ∙ ap (λ w. matrix_of (channel_asked (g (codes "channel"))) (viewer_asked (g (codes "node"))) (from_asked w))
+    (same (codes "from"))
+
+-- the view of a command of this name, by the word for the node of a trace and by the picture
+abbrev asked_with : Text → Option Text → Option Asked → Option Asked
+asked_with name node drawn =
+    if bytes_eq name (codes "outcome") then Some Outcome else if bytes_eq name (codes "answers") then Some Answers
+    else if bytes_eq name (codes "commits") then Some Commits else if bytes_eq name (codes "record") then Some Record
+    else if bytes_eq name (codes "bus") then Some Heard
+    else if bytes_eq name (codes "trace") then option_map Trace (node_asked node)
+    else if bytes_eq name (codes "matrix") then drawn else None
+
+asked_alike : (name : Text) (f g : Text → Option Text) → ((id : Text) → f id ≡ g id) → asked_by name f ≡ asked_by name g
+asked_alike name f g same = ap₂ (λ w d. asked_with name w d) (same (codes "NODE")) (drawn_alike f g same)
+
+show_alike : (name : Text) (f g : Text → Option Text) → ((id : Text) → f id ≡ g id) → (o : ViewOrder)
+    → IsShowBy name f o → IsShowBy name g o
+show_alike name f g same (the_order.Capture until_fault own) is = is
+show_alike name f g same (the_order.Frames until_fault all) is = is
+show_alike name f g same the_order.Why is = is
+show_alike name f g same the_order.Help is = is
+show_alike name f g same (the_order.Schedule file cycle) is = is
+show_alike name f g same (the_order.Show asked cluster scenario cycles) is = (
+  sym (asked_alike name f g same) ∙ is.0,
+  sym (same (codes "FILE")) ∙ is.1,
+  sym (same (codes "SCENARIO")) ∙ is.2,
+  ap (λ w. option_and_then cycles_in w) (sym (same (codes "cycles"))) ∙ is.3,
+)
+
+pub show_told : (entered : Option (Text × List Row)) (name : Text) (look : Text → Option Text)
+    (found : Option ViewOrder) → IsNamed name entered
+    → ((id : Text) → look id ≡ word_in entered id) → IfSome found (IsShowBy name look) → IfSome found (IsOrder entered)
+show_told entered name look None named same told = tt
+show_told None name look (Some o) named same told = cc named
+show_told (Some (entered, rows)) name look (Some o) named same told =
+    by o (show_alike entered look (λ id. first_of id rows) same o
+    (subst (λ (n : Text). IsShowBy n look o) (sym is) told))
+  where
+    is : entered ≡ name
+    is = cc named
+
+    by : (o : ViewOrder) → IsShowBy entered (λ id. first_of id rows) o → IsOrder (Some (entered, rows)) o
+    by (the_order.Capture until_fault own) is = absurd is
+    by (the_order.Frames until_fault all) is = absurd is
+    by the_order.Why is = absurd is
+    by the_order.Help is = absurd is
+    by (the_order.Schedule file cycle) is = absurd is
+    by (the_order.Show asked cluster scenario cycles) is = is
+
+pub show_lacks : (entered : Option (Text × List Row)) (name : Text) (look : Text → Option Text)
+    (found : Option ViewOrder) → IsNamed name entered
+    → bytes_eq name (codes "capture") ≡ false → bytes_eq name (codes "frames") ≡ false
+    → bytes_eq name (codes "why") ≡ false
+    → bytes_eq name (codes "schedule") ≡ false
+    → ((id : Text) → look id ≡ word_in entered id) → IfNone found (has_show_by name look ≡ false)
+    → IfNone found (asks entered ≡ false)
+show_lacks entered name look (Some o) named capture frames why schedule same lacks = tt
+show_lacks None name look None named capture frames why schedule same lacks = cc named
+show_lacks (Some (entered, rows)) name look None named capture frames why schedule same lacks =
+    let is : entered ≡ name = cc named in
+    let words = λ (id : Text). first_of id rows in
+    let alike : has_show_by name look ≡ has_show_by name words =
+    ap₂ (λ a b. is_some a && b) (asked_alike name look words same) (has_run_alike look words same) in
+    subst (λ (n : Text). asks (Some (n, rows)) ≡ false) (sym is)
+    (ap₂ (λ a b. a || b)
+    (ap₂ (λ a b. a || b) (ap₂ (λ a b. a || b) (ap₂ (λ a b. a || b) (sym alike ∙ lacks) capture) frames) why)
+    (ap (λ b. b && has_schedule_by (word_in (Some (name, rows)))) schedule))

@@ -1,0 +1,23 @@
+use Rattle.std.proofs.Common.{rules, ap, ap₂, codes, ◌≡◌, ◌∙◌}
+use Rattle.std.proofs.lemmas.Result.{IfOk-weaker}
+use Rattle.clap.specs.Words.{App, app_of, with_subcommand}
+use Rattle.fr_cli.specs.ViewOrders.{of_trace, one_command, schedule_command, three_commands, two_commands}
+use Rattle.fr_cli.proofs.view.file_commands.Goals as goal
+
+pub returns : goal.returns
+returns c =
+    let top = λ (a : App). a.top in
+    let capture_is : app_of c.in_ok-of_trace.field-0 ≡ of_trace (codes "capture") (codes "own") =
+    c.in_ok-of_trace.ensures.app in
+    let frames_is : app_of c.in_ok-of_trace-2.field-0 ≡ of_trace (codes "frames") (codes "all") =
+    c.in_ok-of_trace-2.ensures.app in
+    let first : app_of c.in_ok-first.first ≡ one_command =
+    c.in_ok-first.ensures.shape (search rules) ∙ ap₂ with_subcommand c.program.ensures (ap top capture_is) in
+    let second : app_of c.in_ok-second.second ≡ two_commands =
+    c.in_ok-second.ensures.shape (search rules) ∙ ap₂ with_subcommand first (ap top frames_is) in
+    let third : app_of c.in_ok-third.third ≡ three_commands =
+    c.in_ok-third.ensures.shape (search rules) ∙ ap₂ with_subcommand second (ap top c.new.ensures.app) in
+    let schedule_is : app_of c.in_ok-schedule_command.field-0 ≡ schedule_command =
+    c.in_ok-schedule_command.ensures.app in
+    IfOk-weaker c.subcommand-4.result _ _ (λ m h. h.shape (search rules) ∙ ap₂ with_subcommand third
+    (ap top schedule_is)) c.subcommand-4.ensures

@@ -1,0 +1,4 @@
+pub mod BenchOrders
+pub mod Commands
+pub mod ViewOrders
+pub mod WorldCommands

@@ -1,0 +1,247 @@
+-- The words that are an order of `fr_view`, by the rules of `clap`, and the refusals that follow from its errors.
+use Rattle.std.specs.Prelude.{◌≡◌, ◌⊎◌, ◌<◌, ℕ, List, [], ◌∷◌, length, Option, Some, None, Result, Ok, Err, true}
+use Rattle.std.specs.Prelude.{false}
+use Rattle.std.specs.Prelude.{codes}
+use Rattle.std.specs.Prelude.{option_map, option_and_then, Bool, ◌&&◌, ◌||◌, is_some, if◌then◌else◌}
+use Rattle.fr_text.specs.Reading.{number_in}
+use Rattle.std.specs.Str.{bytes_eq}
+use Rattle.clap.specs.Words.{App, Row, Rule, Text, fault_of, first_of, new_app, new_rule, subcommand_of}
+use Rattle.clap.specs.Words.{with_rule, with_subcommand}
+use Rattle.fr_cli.specs.declared.view.Asked.{Asked}
+use Rattle.fr_cli.specs.declared.view.Asked.TheVariants.{Outcome, Answers, Commits, Record, Heard, Trace}
+use Rattle.fr_cli.specs.declared.view.Asked.TheVariants.{Matrix}
+use Rattle.fr_slots.specs.declared.channel.Channel.{Channel}
+use Rattle.fr_slots.specs.declared.channel.Channel.TheVariants.{A, B}
+use Rattle.clap.specs.declared.builder.action.ArgAction.TheVariants.{SetTrue}
+use Rattle.fr_cli.specs.declared.view.ViewOrder.{ViewOrder}
+use Rattle.fr_cli.specs.declared.view.ViewOrder.TheVariants as the_order
+use Rattle.fr_cli.specs.declared.error.OrderError.{OrderError}
+use Rattle.fr_cli.specs.declared.error.OrderError.TheVariants as refusal
+use Rattle.fr_cli.specs.Commands.{IsNamed, bare, cycles_in, has_run_by, is_true, named, the_cycles, the_file}
+use Rattle.fr_cli.specs.Commands.{the_scenario, with_file, word_in}
+
+-- a command that reads a trace, with the flag `--until-fault`, and a flag by which it shows more
+abbrev pub flag_named : Text → Rule
+flag_named name = record (new_rule name) { long = Some name; action = Some SetTrue }
+
+abbrev pub of_trace : Text → Text → App
+of_trace name more = with_rule (with_rule (new_app name) (flag_named (codes "until-fault"))) (flag_named more)
+
+-- the command of the picture of a cluster file, with a cycle that isn't required
+abbrev pub the_cycle : Rule
+the_cycle = record (new_rule (codes "cycle")) { long = Some (codes "cycle") }
+
+abbrev pub schedule_command : App
+schedule_command = with_rule (with_file (codes "schedule")) the_cycle
+
+-- the program with the commands that read one file
+abbrev pub one_command : App
+one_command = with_subcommand (bare (codes "fr_view")) (of_trace (codes "capture") (codes "own")).top
+
+abbrev pub two_commands : App
+two_commands = with_subcommand one_command (of_trace (codes "frames") (codes "all")).top
+
+abbrev pub three_commands : App
+three_commands = with_subcommand two_commands (named (codes "why"))
+
+abbrev pub file_commands : App
+file_commands = with_subcommand three_commands schedule_command.top
+
+-- a command of a run, with its two files and its number of cycles
+abbrev pub with_run : App → App
+with_run command = with_rule (with_rule (with_rule command the_file) the_scenario) the_cycles
+
+abbrev pub of_run : Text → App
+of_run name = with_run (new_app name)
+
+abbrev pub the_node : Rule
+the_node = record (new_rule (codes "NODE")) { required = true }
+
+abbrev pub trace_command : App
+trace_command = with_run (with_rule (new_app (codes "trace")) the_node)
+
+-- the command of the picture of a run, with its options
+abbrev pub option_named : Text → Rule
+option_named name = record (new_rule name) { long = Some name }
+
+abbrev pub matrix_drawn : App
+matrix_drawn =
+    with_rule (with_rule (with_rule (new_app (codes "matrix")) (option_named (codes "channel")))
+    (option_named (codes "node"))) (option_named (codes "from"))
+
+abbrev pub matrix_command : App
+matrix_command = with_run matrix_drawn
+
+-- with the commands that show a run as lines
+abbrev pub with_outcome : App
+with_outcome = with_subcommand file_commands (of_run (codes "outcome")).top
+
+abbrev pub with_answers : App
+with_answers = with_subcommand with_outcome (of_run (codes "answers")).top
+
+abbrev pub with_commits : App
+with_commits = with_subcommand with_answers (of_run (codes "commits")).top
+
+abbrev pub line_commands : App
+line_commands = with_subcommand with_commits (of_run (codes "record")).top
+
+-- and with those that show it in another form
+abbrev pub with_bus : App
+with_bus = with_subcommand line_commands (of_run (codes "bus")).top
+
+abbrev pub with_matrix : App
+with_matrix = with_subcommand with_bus matrix_command.top
+
+abbrev pub the_commands : App
+the_commands = with_subcommand with_matrix trace_command.top
+
+-- ---- what the words enter
+
+-- the name of the command is this one
+abbrev pub is_named : Text → Option (Text × List Row) → Bool
+is_named name None = false
+is_named name (Some entered) = bytes_eq entered.0 name
+
+-- the cycle that a word spells: 0 to 63, without a leading zero, and 0 without a word
+abbrev pub cycle_asked : Option Text → Option ℕ
+cycle_asked None = Some 0
+cycle_asked (Some word) = number_in 64 word
+
+-- the first words of these arguments ask for the picture of a cycle
+abbrev pub has_schedule_by : (Text → Option Text) → Bool
+has_schedule_by first_word = is_some (first_word (codes "FILE")) && is_some (cycle_asked (first_word (codes "cycle")))
+
+-- the order has the file and the cycle of these arguments
+abbrev pub IsScheduleBy : (Text → Option Text) → ViewOrder → Type 0
+IsScheduleBy first_word (the_order.Capture until_fault own) = ⊥
+IsScheduleBy first_word (the_order.Frames until_fault all) = ⊥
+IsScheduleBy first_word the_order.Why = ⊥
+IsScheduleBy first_word the_order.Help = ⊥
+IsScheduleBy first_word (the_order.Show asked cluster scenario cycles) = ⊥
+IsScheduleBy first_word (the_order.Schedule file cycle) =
+    (first_word (codes "FILE") ≡ Some file.now) × (cycle_asked (first_word (codes "cycle")) ≡ Some cycle)
+
+-- ---- a run
+
+-- the node that a word spells, if there is one: 0 to 15, without a leading zero
+abbrev pub node_asked : Option Text → Option ℕ
+node_asked word = option_and_then (number_in 16) word
+
+-- the channel that a word names, and A without a word
+abbrev pub channel_asked : Option Text → Option Channel
+channel_asked None = Some A
+channel_asked (Some word) =
+    if bytes_eq word (codes "A") then Some A else if bytes_eq word (codes "B") then Some B else None
+
+-- the node whose observations are drawn, and none without a word
+abbrev pub viewer_asked : Option Text → Option (Option ℕ)
+viewer_asked None = Some None
+viewer_asked (Some word) = option_map Some (number_in 16 word)
+
+-- the cycle of the run that is drawn first
+abbrev pub from_asked : Option Text → Option ℕ
+from_asked None = Some 0
+from_asked (Some word) = number_in 1024 word
+
+abbrev pub matrix_of : Option Channel → Option (Option ℕ) → Option ℕ → Option Asked
+matrix_of None viewer from = None
+matrix_of (Some channel) None from = None
+matrix_of (Some channel) (Some viewer) None = None
+matrix_of (Some channel) (Some viewer) (Some from) = Some (Matrix channel viewer from)
+
+-- the picture of a run that the arguments ask for
+abbrev pub drawn_by : (Text → Option Text) → Option Asked
+drawn_by first_word =
+    matrix_of (channel_asked (first_word (codes "channel"))) (viewer_asked (first_word (codes "node")))
+    (from_asked (first_word (codes "from")))
+
+-- the view of the command of this name, if it shows a run
+abbrev pub asked_by : Text → (Text → Option Text) → Option Asked
+asked_by name first_word =
+    if bytes_eq name (codes "outcome") then Some Outcome
+    else if bytes_eq name (codes "answers") then Some Answers
+    else if bytes_eq name (codes "commits") then Some Commits
+    else if bytes_eq name (codes "record") then Some Record
+    else if bytes_eq name (codes "bus") then Some Heard
+    else if bytes_eq name (codes "trace") then option_map Trace (node_asked (first_word (codes "NODE")))
+    else if bytes_eq name (codes "matrix") then drawn_by first_word
+    else None
+
+-- a command of this name shows a run, and its arguments name one
+abbrev pub has_show_by : Text → (Text → Option Text) → Bool
+has_show_by name first_word = is_some (asked_by name first_word) && has_run_by first_word
+
+-- the order has the view of the command of this name, and the run of its arguments
+abbrev pub IsShowBy : Text → (Text → Option Text) → ViewOrder → Type 0
+IsShowBy name first_word (the_order.Capture until_fault own) = ⊥
+IsShowBy name first_word (the_order.Frames until_fault all) = ⊥
+IsShowBy name first_word the_order.Why = ⊥
+IsShowBy name first_word the_order.Help = ⊥
+IsShowBy name first_word (the_order.Schedule file cycle) = ⊥
+IsShowBy name first_word (the_order.Show asked cluster scenario cycles) =
+    (asked_by name first_word ≡ Some asked)
+    × (first_word (codes "FILE") ≡ Some cluster.now)
+    × (first_word (codes "SCENARIO") ≡ Some scenario.now)
+    × (option_and_then cycles_in (first_word (codes "cycles")) ≡ Some cycles)
+
+-- the same for the entered command
+abbrev pub has_show : Option (Text × List Row) → Bool
+has_show None = false
+has_show (Some (name, rows)) = has_show_by name (λ id. first_of id rows)
+
+abbrev pub IsShow : Option (Text × List Row) → ViewOrder → Type 0
+IsShow None order = ⊥
+IsShow (Some (name, rows)) order = IsShowBy name (λ id. first_of id rows) order
+
+-- ---- a trace
+
+-- the flag of this name is set
+abbrev pub has_flag : Option (Text × List Row) → Text → Bool
+has_flag entered name = is_true (word_in entered name)
+
+-- a command of this name is entered, with these flags
+abbrev pub IsTraced : Text → Text → Option (Text × List Row) → Bool → Bool → Type 0
+IsTraced name more entered until_fault shows_more =
+    IsNamed name entered × (until_fault ≡ has_flag entered (codes "until-fault"))
+    × (shows_more ≡ has_flag entered more)
+
+-- ---- any command
+
+-- one of the commands is entered, with all its required arguments
+abbrev pub asks : Option (Text × List Row) → Bool
+asks entered =
+    has_show entered || is_named (codes "capture") entered || is_named (codes "frames") entered
+    || is_named (codes "why") entered || (is_named (codes "schedule") entered && has_schedule_by (word_in entered))
+
+-- the order is that of the entered command, with its arguments
+abbrev pub IsOrder : Option (Text × List Row) → ViewOrder → Type 0
+IsOrder entered (the_order.Capture until_fault own) = IsTraced (codes "capture") (codes "own") entered until_fault own
+IsOrder entered (the_order.Frames until_fault all) = IsTraced (codes "frames") (codes "all") entered until_fault all
+IsOrder entered the_order.Why = IsNamed (codes "why") entered
+IsOrder entered the_order.Help = ⊥
+IsOrder entered (the_order.Schedule file cycle) =
+    IsNamed (codes "schedule") entered × IsScheduleBy (word_in entered) (the_order.Schedule file cycle)
+IsOrder entered (the_order.Show asked cluster scenario cycles) =
+    IsShow entered (the_order.Show asked cluster scenario cycles)
+
+-- ---- the answer
+
+-- the call for help: this word alone
+abbrev pub is_help : List Text → Bool
+is_help (word ∷ []) = bytes_eq word (codes "--help")
+is_help words = false
+
+-- An order is that of the words, and `clap` finds no fault with these. Words are refused as no command only if it finds
+-- a fault, or if they enter no whole command. `Memory` may come for any words.
+abbrev pub IsAnswerTo : List Text → Result ViewOrder OrderError → Type 0
+IsAnswerTo words (Ok order) = (fault_of the_commands words ≡ []) × IsOrder (subcommand_of the_commands words) order
+IsAnswerTo words (Err refusal.Usage) = (0 < length (fault_of the_commands words))
+    ⊎ (asks (subcommand_of the_commands words) ≡ false)
+IsAnswerTo words (Err refusal.Memory) = Unit {0}
+
+abbrev pub IsAnswerBy : Bool → List Text → Result ViewOrder OrderError → Type 0
+IsAnswerBy true words answer = answer ≡ Ok the_order.Help
+IsAnswerBy false words answer = IsAnswerTo words answer
+
+abbrev pub IsAnswer : List Text → Result ViewOrder OrderError → Type 0
+IsAnswer words answer = IsAnswerBy (is_help words) words answer

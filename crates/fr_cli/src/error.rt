@@ -1,0 +1,51 @@
+//! Refusals of the words after a program's name.
+ghost use Rattle.std.specs.Prelude.{◌≡◌};
+ghost use Rattle.clap.specs.Words.{kind_of};
+ghost use Rattle.fr_cli.specs.Commands.{order_error_of, status_of_words};
+ghost use Rattle.fr_cli.specs.declared.error.OrderError.TheVariants as refusal;
+
+use clap::error::ErrorKind;
+use std::alloc::AllocError;
+use thiserror::Error;
+
+/// Reasons to refuse words (project-defined). Printed, it is the line on standard error.
+#[derive(Clone, Copy, Debug, Drop, PartialEq, Eq, Error)]
+pub enum OrderError {
+    /// The words are no command: a word is unknown, too many, missing, or out of its range.
+    #[error("usage")]
+    Usage,
+    /// An allocation failed.
+    #[error("refused Memory")]
+    Memory,
+}
+
+impl OrderError {
+    /// Returns the program's exit status: 2 for words that are no command, 1 if an allocation fails.
+    pub fn status(&self) -> u8
+        ensures { result ≡ status_of_words self.now }
+    {
+        match self {
+            OrderError::Usage => 2,
+            OrderError::Memory => 1,
+        }
+    }
+}
+
+impl From<AllocError> for OrderError {
+    ghost from_gives = { λ _ given. given ≡ refusal.Memory };
+
+    fn from(_error: AllocError) -> OrderError {
+        OrderError::Memory
+    }
+}
+
+impl From<clap::Error> for OrderError {
+    ghost from_gives = { λ error given. given ≡ order_error_of (kind_of error) };
+
+    fn from(error: clap::Error) -> OrderError {
+        match error.kind() {
+            ErrorKind::OutOfMemory => OrderError::Memory,
+            _ => OrderError::Usage,
+        }
+    }
+}

@@ -1,0 +1,34 @@
+//! The command lines of the three programs: the words after a program's name, read by the rules of `clap`, the refusal
+//! of words, and streams that wait where they would block (project-defined).
+//!
+//! ```text
+//! let words = words_given(&rt)?;
+//! let texts = texts_of(rt.alloc(), &words)?;
+//! bench::order(alloc, &["plan", "cluster.toml"])?; // BenchOrder::Plan("cluster.toml")
+//! bench::order(alloc, &["audit", "trace"]); // Err(OrderError::Usage)
+//! view::order(alloc, &["frames", "--until-fault"])?; // ViewOrder::Frames
+//! world::command_of(alloc, &["cluster.toml", "--cycles", "4"])?; // WorldCommand
+//! let mut output = WaitingWriter::new(&rt, io::writer(&rt));
+//! ```
+//!
+//! *(project-defined)* marks a project-defined rule, which the standard doesn't have.
+//!
+//! # Definitions
+//!
+//! - `Commands`: the parts of commands that programs share; the exit status of words that are no command.
+//! - `BenchOrders`, `ViewOrders`, `WorldCommands`: the words that are an order of `fr_bench`, an order of `fr_view`, a
+//!   command of `fr_world`.
+//!
+//! # Inner workings
+//!
+//! The programs' words are read here and not in the programs, so that proofs over `clap` run beside the others and not
+//! after the threads.
+#![tactic(auto)]
+
+pub mod bench;
+mod commands;
+pub mod error;
+pub mod view;
+pub mod waiting;
+pub mod words;
+pub mod world;

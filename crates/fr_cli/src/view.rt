@@ -1,0 +1,361 @@
+//! Orders of `fr_view`: the words after its name, read as what it has to do.
+ghost use Rattle.std.specs.Prelude.{◌≡◌, IfNone, IfOk, IfSome, codes, false, map};
+ghost use Rattle.clap.specs.Walk.{rule_of};
+ghost use Rattle.clap.specs.Words.{app_of, first_value, found_of, subcommand_rows_of};
+ghost use Rattle.clap.specs.declared.builder.command.Command.TheViews.{out-Command};
+ghost use Rattle.fr_text.specs.Reading.{number_in};
+ghost use Rattle.fr_cli.specs.Commands.{is_true};
+ghost use Rattle.fr_cli.specs.ViewOrders.{IsAnswer, IsOrder, IsScheduleBy, IsShowBy, asked_by, asks, channel_asked};
+ghost use Rattle.fr_cli.specs.ViewOrders.{drawn_by, file_commands, flag_named, from_asked, has_schedule_by};
+ghost use Rattle.fr_cli.specs.ViewOrders.{has_show_by, is_help, line_commands, matrix_command, of_trace};
+ghost use Rattle.fr_cli.specs.ViewOrders.{schedule_command};
+ghost use Rattle.fr_cli.specs.ViewOrders.{the_commands, trace_command, viewer_asked, with_run};
+
+use crate::commands::{cycles_of, of_file, program};
+use crate::error::OrderError;
+use clap::{Arg, ArgAction, ArgMatches, Command};
+use fr_slots::channel::Channel;
+use fr_text::numbers::number_of;
+use std::alloc::{AllocError, Global};
+
+/// A view of a run (project-defined).
+#[derive(Clone, Copy, PartialEq, Eq)]
+pub enum Asked {
+    /// Its outcome.
+    Outcome,
+    /// A line for each line of a script, with its answer.
+    Answers,
+    /// A line for each commit, with what became of it.
+    Commits,
+    /// A line for each transmission and each flipped bit.
+    Record,
+    /// A capture of the bus, as a passive listener receives it.
+    Heard,
+    /// The trace of the node of this number, 0 to 15.
+    Trace(u8),
+    /// A picture of what a channel carried.
+    Matrix {
+        /// The channel.
+        channel: Channel,
+        /// The number of the node whose observations are drawn, 0 to 15; `None` for what the bus carried.
+        node: Option<u8>,
+        /// The cycle of the run that is drawn first, 0 to 1023.
+        from: u16,
+    },
+}
+
+/// A command of `fr_view` (project-defined).
+#[derive(Clone, Copy, PartialEq, Eq)]
+pub enum ViewOrder<'a> {
+    /// Read the cluster file of this name and print a picture of one of its cycles.
+    Schedule {
+        /// The name of the cluster file.
+        file: &'a str,
+        /// The cycle, 0 to 63, and 0 where none is named.
+        cycle: u8,
+    },
+    /// Read the trace of one controller on standard input and print a capture of its observations.
+    Capture {
+        /// For a rejected trace, print the observations before the faulty line.
+        until_fault: bool,
+        /// With the frames that the controller sent itself.
+        own: bool,
+    },
+    /// Read such a trace and print a table of its observations.
+    Frames {
+        /// For a rejected trace, print the observations before the faulty line.
+        until_fault: bool,
+        /// With a line for each channel of each window.
+        all: bool,
+    },
+    /// Read such a trace and print the reason why an audit rejects it.
+    Why,
+    /// Run the cluster with a scenario in one thread, and print a view of the run.
+    Show {
+        /// The view.
+        asked: Asked,
+        /// The name of the cluster file.
+        cluster: &'a str,
+        /// The name of the scenario file.
+        scenario: &'a str,
+        /// The number of cycles, 1 to 1024.
+        cycles: u16,
+    },
+    /// Print the commands of the program.
+    Help,
+}
+
+/// Returns the command `schedule`, with its file and the number of a cycle.
+fn schedule_command<'a>(alloc: Global) -> Result<Command<'a>, AllocError>
+    ensures app { IfOk result (λ c. app_of c ≡ schedule_command) }
+    ensures local { IfOk result (λ c. (out-Command c).has_globals ≡ false) }
+{
+    let cycle = Arg::new(alloc, "cycle").long("cycle");
+    of_file(alloc, "schedule")?.arg(cycle)
+}
+
+/// Returns the command with the two files of a run and its number of cycles.
+fn of_run<'a>(alloc: Global, command: Command<'a>) -> Result<Command<'a>, AllocError>
+    requires { (out-Command command).has_globals ≡ false }
+    ensures app { IfOk result (λ c. app_of c ≡ with_run (app_of command.entry)) }
+    ensures local { IfOk result (λ c. (out-Command c).has_globals ≡ false) }
+{
+    let file = Arg::new(alloc, "FILE").required(true);
+    let scenario = Arg::new(alloc, "SCENARIO").required(true);
+    let cycles = Arg::new(alloc, "cycles").long("cycles").required(true);
+    command.arg(file)?.arg(scenario)?.arg(cycles)
+}
+
+/// Returns the command `trace`, with its node and its run.
+fn trace_command<'a>(alloc: Global) -> Result<Command<'a>, AllocError>
+    ensures app { IfOk result (λ c. app_of c ≡ trace_command) }
+    ensures local { IfOk result (λ c. (out-Command c).has_globals ≡ false) }
+{
+    let node = Arg::new(alloc, "NODE").required(true);
+    of_run(alloc, Command::new(alloc, "trace").arg(node)?)
+}
+
+/// Returns a flag of this name.
+fn flag<'a>(alloc: Global, name: &'a str) -> Arg<'a>
+    ensures rule { rule_of result ≡ flag_named name.now }
+    ensures local { result.global ≡ false }
+{
+    Arg::new(alloc, name).long(name).action(ArgAction::SetTrue)
+}
+
+/// Returns a command that reads a trace, with the flag `--until-fault`, and a flag by which it shows more.
+fn of_trace<'a>(alloc: Global, name: &'a str, more: &'a str) -> Result<Command<'a>, AllocError>
+    ensures app { IfOk result (λ c. app_of c ≡ of_trace name.now more.now) }
+    ensures local { IfOk result (λ c. (out-Command c).has_globals ≡ false) }
+{
+    let (until_fault, more) = (flag(alloc, "until-fault"), flag(alloc, more));
+    Command::new(alloc, name).arg(until_fault)?.arg(more)
+}
+
+/// Returns the command `matrix`, with the options of its picture.
+fn matrix_command<'a>(alloc: Global) -> Result<Command<'a>, AllocError>
+    ensures app { IfOk result (λ c. app_of c ≡ matrix_command) }
+    ensures local { IfOk result (λ c. (out-Command c).has_globals ≡ false) }
+{
+    let channel = Arg::new(alloc, "channel").long("channel");
+    let node = Arg::new(alloc, "node").long("node");
+    let from = Arg::new(alloc, "from").long("from");
+    let drawn = Command::new(alloc, "matrix")
+        .arg(channel)?
+        .arg(node)?
+        .arg(from)?;
+    of_run(alloc, drawn)
+}
+
+/// Returns the program with the commands that read one file.
+fn file_commands<'a>(alloc: Global) -> Result<Command<'a>, AllocError>
+    ensures { IfOk result (λ c. app_of c ≡ file_commands) }
+{
+    let first = program(alloc, "fr_view").subcommand(of_trace(alloc, "capture", "own")?)?;
+    let second = first.subcommand(of_trace(alloc, "frames", "all")?)?;
+    let third = second.subcommand(Command::new(alloc, "why"))?;
+    third.subcommand(schedule_command(alloc)?)
+}
+
+/// Adds the commands that show a run as lines.
+fn line_commands<'a>(alloc: Global, files: Command<'a>) -> Result<Command<'a>, AllocError>
+    requires { app_of files ≡ file_commands }
+    ensures { IfOk result (λ c. app_of c ≡ line_commands) }
+{
+    let outcome = of_run(alloc, Command::new(alloc, "outcome"))?;
+    let answers = of_run(alloc, Command::new(alloc, "answers"))?;
+    let commits = of_run(alloc, Command::new(alloc, "commits"))?;
+    let recorded = of_run(alloc, Command::new(alloc, "record"))?;
+    let first = files.subcommand(outcome)?;
+    let second = first.subcommand(answers)?;
+    let third = second.subcommand(commits)?;
+    third.subcommand(recorded)
+}
+
+/// Returns the program with all its commands.
+fn commands<'a>(alloc: Global) -> Result<Command<'a>, AllocError>
+    ensures { IfOk result (λ c. app_of c ≡ the_commands) }
+{
+    let lines = line_commands(alloc, file_commands(alloc)?)?;
+    let heard = lines.subcommand(of_run(alloc, Command::new(alloc, "bus"))?)?;
+    let drawn = heard.subcommand(matrix_command(alloc)?)?;
+    drawn.subcommand(trace_command(alloc)?)
+}
+
+/// Returns the cycle that a word spells: 0 to 63, without a leading zero.
+fn cycle_of(word: &str) -> Option<u8>
+    ensures { result ≡ number_in 64 word.now }
+{
+    match number_of(word.as_bytes(), 64) {
+        Some(number) => Some(number as u8),
+        None => None,
+    }
+}
+
+/// Returns the order for the picture of a cycle, if the arguments have a file and no other word than a cycle.
+fn schedule_in<'a>(arguments: &ArgMatches<'a>) -> Option<ViewOrder<'a>>
+    ensures told { IfSome result (IsScheduleBy (first_value (found_of arguments.now))) }
+    ensures nothing { IfNone result (has_schedule_by (first_value (found_of arguments.now)) ≡ false) }
+{
+    let file = arguments.get_str("FILE")?;
+    let cycle = match arguments.get_str("cycle") {
+        Some(word) => cycle_of(word)?,
+        None => 0,
+    };
+    Some(ViewOrder::Schedule { file, cycle })
+}
+
+/// Returns the number of a node that a word spells: 0 to 15, without a leading zero.
+fn node_of(word: &str) -> Option<u8>
+    ensures { result ≡ number_in 16 word.now }
+{
+    match number_of(word.as_bytes(), 16) {
+        Some(number) => Some(number as u8),
+        None => None,
+    }
+}
+
+/// Returns the channel that is drawn: A unless B is named.
+fn channel_in(arguments: &ArgMatches<'_>) -> Option<Channel>
+    ensures { result ≡ channel_asked (first_value (found_of arguments.now) (codes "channel")) }
+{
+    match arguments.get_str("channel") {
+        None | Some("A") => Some(Channel::A),
+        Some("B") => Some(Channel::B),
+        Some(_) => None,
+    }
+}
+
+/// Returns the node whose observations are drawn, or `Some(None)` if no node is named.
+fn viewer_in(arguments: &ArgMatches<'_>) -> Option<Option<u8>>
+    ensures { result ≡ viewer_asked (first_value (found_of arguments.now) (codes "node")) }
+{
+    match arguments.get_str("node") {
+        None => Some(None),
+        Some(word) => match node_of(word) {
+            Some(node) => Some(Some(node)),
+            None => None,
+        },
+    }
+}
+
+/// Returns the cycle of the run that is drawn first: 0 to 1023, without a leading zero, and 0 if none is named.
+fn first_in(arguments: &ArgMatches<'_>) -> Option<u16>
+    ensures { result ≡ from_asked (first_value (found_of arguments.now) (codes "from")) }
+{
+    match arguments.get_str("from") {
+        None => Some(0),
+        Some(word) => match number_of(word.as_bytes(), 1024) {
+            Some(number) => Some(number as u16),
+            None => None,
+        },
+    }
+}
+
+/// Returns the picture of a run, if its options are right.
+fn drawn_in(arguments: &ArgMatches<'_>) -> Option<Asked>
+    ensures { result ≡ drawn_by (first_value (found_of arguments.now)) }
+{
+    let channel = channel_in(arguments)?;
+    let node = viewer_in(arguments)?;
+    let from = first_in(arguments)?;
+    Some(Asked::Matrix {
+        channel,
+        node,
+        from,
+    })
+}
+
+/// Returns the view of the command of this name, if it shows a run.
+fn asked_in(name: &str, arguments: &ArgMatches<'_>) -> Option<Asked>
+    ensures { result ≡ asked_by name.now (first_value (found_of arguments.now)) }
+{
+    match name {
+        "outcome" => Some(Asked::Outcome),
+        "answers" => Some(Asked::Answers),
+        "commits" => Some(Asked::Commits),
+        "record" => Some(Asked::Record),
+        "bus" => Some(Asked::Heard),
+        "trace" => Some(Asked::Trace(node_of(arguments.get_str("NODE")?)?)),
+        "matrix" => drawn_in(arguments),
+        _ => None,
+    }
+}
+
+/// Returns the order of a command that shows a run.
+fn show_in<'a>(name: &str, arguments: &ArgMatches<'a>) -> Option<ViewOrder<'a>>
+    ensures told { IfSome result (IsShowBy name.now (first_value (found_of arguments.now))) }
+    ensures nothing { IfNone result (has_show_by name.now (first_value (found_of arguments.now)) ≡ false) }
+{
+    let asked = asked_in(name, arguments)?;
+    Some(ViewOrder::Show {
+        asked,
+        cluster: arguments.get_str("FILE")?,
+        scenario: arguments.get_str("SCENARIO")?,
+        cycles: cycles_of(arguments.get_str("cycles")?)?,
+    })
+}
+
+/// Returns whether the flag of this name is set.
+fn has_flag(arguments: &ArgMatches<'_>, name: &str) -> bool
+    ensures { result ≡ is_true (first_value (found_of arguments.now) name.now) }
+{
+    arguments.get_str(name) == Some("true")
+}
+
+/// Returns the flag `--until-fault`, and the flag of this name, by which the command shows more.
+fn flags_in(arguments: &ArgMatches<'_>, more: &str) -> (bool, bool)
+    ensures until_fault { result.0 ≡ is_true (first_value (found_of arguments.now) (codes "until-fault")) }
+    ensures more { result.1 ≡ is_true (first_value (found_of arguments.now) more.now) }
+{
+    (
+        has_flag(arguments, "until-fault"),
+        has_flag(arguments, more),
+    )
+}
+
+/// Returns the order of the command's name and arguments.
+fn order_in<'a>(matches: &ArgMatches<'a>) -> Option<ViewOrder<'a>>
+    ensures told { IfSome result (IsOrder (subcommand_rows_of matches.now)) }
+    ensures nothing { IfNone result (asks (subcommand_rows_of matches.now) ≡ false) }
+{
+    let (name, arguments) = matches.subcommand()?;
+    match name {
+        "schedule" => schedule_in(arguments),
+        "capture" => {
+            let (until_fault, own) = flags_in(arguments, "own");
+            Some(ViewOrder::Capture { until_fault, own })
+        }
+        "frames" => {
+            let (until_fault, all) = flags_in(arguments, "all");
+            Some(ViewOrder::Frames { until_fault, all })
+        }
+        "why" => Some(ViewOrder::Why),
+        name => show_in(name, arguments),
+    }
+}
+
+/// Returns whether the words are the call for help.
+fn is_help(words: &[&str]) -> bool
+    ensures { result ≡ is_help (map (λ word. word.now) words.now) }
+{
+    match words {
+        [word] => *word == "--help",
+        _ => false,
+    }
+}
+
+/// Returns the order of the words after the program's name (project-defined).
+///
+/// Refused with `Memory` if an allocation fails, otherwise with `Usage` for all words that are no command. A call for
+/// help is the word `--help` alone. A cycle of a picture is 0 to 63, the first one of a matrix 0 to 1023, a node 0 to
+/// 15 and a number of cycles 1 to 1024, without a leading zero.
+pub fn order<'a>(alloc: Global, words: &'a [&'a str]) -> Result<ViewOrder<'a>, OrderError>
+    ensures { IsAnswer (map (λ word. word.now) words.now) result }
+{
+    if is_help(words) {
+        return Ok(ViewOrder::Help);
+    }
+    let matches = commands(alloc)?.try_get_matches_from(words)?;
+    order_in(&matches).ok_or(OrderError::Usage)
+}

@@ -1,0 +1,13 @@
+-- The reading of an input up to a limit of bytes.
+use Rattle.std.specs.Prelude.{⊤, ◌≡◌, ◌<◌, ◌≤◌, ℕ, List, length, Result, Ok, Err, Vec}
+use Rattle.std.specs.declared.alloc.Global.{Global}
+use Rattle.fr_files.specs.declared.error.BenchError.{BenchError}
+use Rattle.fr_files.specs.declared.error.BenchError.TheVariants as refusal
+
+-- the whole text, or the text is too long; `Read` and `Memory` may come for any text
+abbrev pub IsReadUpTo : ℕ → List ℕ → Result (Vec ℕ Global) BenchError → Type 0
+IsReadUpTo limit text (Ok bytes) = (bytes.items ≡ text) × (length text ≤ limit)
+IsReadUpTo limit text (Err refusal.TooLong) = limit < length text
+IsReadUpTo limit text (Err refusal.Read) = ⊤
+IsReadUpTo limit text (Err refusal.Memory) = ⊤
+IsReadUpTo limit text (Err e) = ⊥

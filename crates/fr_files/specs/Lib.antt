@@ -1,0 +1,3 @@
+pub mod ClusterFiles
+pub mod Inputs
+pub mod NodeTexts

@@ -1,0 +1,37 @@
+//! A cluster file, read as a cluster.
+ghost use Rattle.std.specs.Prelude.{IfSome};
+ghost use Rattle.fr_files.specs.ClusterFiles.{IsClusterIn, IsClusterOf};
+
+use crate::error::BenchError;
+use crate::input::read_up_to;
+use fr_schedule::cluster::Cluster;
+use fr_schedule::error::ConfigError;
+use std::alloc::Global;
+use std::io::Read;
+use std::str;
+
+/// The most bytes that a cluster file may have.
+const MOST_BYTES: u64 = 1_048_576;
+
+/// Returns the cluster that the bytes of a cluster file describe.
+fn cluster_in(alloc: Global, bytes: &[u8]) -> Result<Cluster, BenchError>
+    ensures { IsClusterIn bytes.now result }
+{
+    let Ok(text) = str::from_utf8(bytes) else {
+        return Err(BenchError::Config(ConfigError::Toml));
+    };
+    Ok(Cluster::from_text_leaking(alloc, text)?)
+}
+
+/// Reads a cluster file to its end, and returns the cluster that it describes (project-defined).
+///
+/// Refused with `TooLong` for more than 1,048,576 bytes, then with the first fault of the file, which is `Toml` also if
+/// it isn't UTF-8. `Read` comes if the reader fails, and `Memory` if an allocation fails.
+pub fn cluster_of<R: Read>(alloc: Global, reader: &mut R) -> Result<Cluster, BenchError>
+    ensures { IfSome (R.remaining reader.old) (λ text. IsClusterOf text result) }
+{
+    // The limit is met while reading, so a file that is too long and no TOML is `TooLong`. Without numbers `TooLong`
+    // means the file; with two numbers it means the frame of a buffer.
+    let bytes = read_up_to(alloc, reader, MOST_BYTES)?;
+    cluster_in(alloc, bytes.as_slice())
+}

@@ -1,2 +1,0 @@
-pub mod OrderLemmas
-pub mod WholeLemmas
