@@ -72,6 +72,6 @@ module _ (all : Bool) (s : State) (m : Moment) (a b : Seen) where
       (λ i. line_by all s m came_a came_b (told_is i) (seen_is i) (word_is i) (frame_is i))
       ∙ ap (λ (takers : List Taker). if is_told all (slot_of m.window channel) on then
       front ++ seen_by channel takers on handed (frame_on s.params m.window channel on) else [])
-      (takers_is s.params s.plan m.window a b came_a came_b a_is b_is channel)
+      (takers_is s.params s.plan m.window a b came_a came_b a_is b_is channel None)
       ∙ ap (λ (t : List ℕ). if is_told all (slot_of m.window channel) on then front ++ t else [])
-      (seen_read s.params m.window channel (takers_of s.params s.plan m.window a b channel) on handed)
+      (seen_read s.params m.window channel (takers_of s.params s.plan m.window a b channel None) on handed)

@@ -1,12 +1,11 @@
 -- The receivers of a frame and their words, step by step.
-use Rattle.std.proofs.Common.{◌≡◌, ℕ, ◌+◌, Bool, true, false, cond, ◌||◌, List, [], ◌∷◌, ◌++◌, Option}
+use Rattle.std.proofs.Common.{◌≡◌, ℕ, ◌+◌, Bool, true, false, cond, ◌||◌, List, [], ◌∷◌, ◌++◌, Option, Some, None}
 use Rattle.std.proofs.Common.{Result, Ok, Err, refl, sym, ap, subst, ◌∙◌}
 use Rattle.std.specs.Prelude.{codes, is_some, IfOk, OnOk}
 use Rattle.std.specs.Io.KnownBytes.{Appends}
 use Rattle.std.proofs.KnownBytes.{Appends-trans, Appends-nil}
 use Rattle.std.proofs.lemmas.List.{append_assoc}
 use Rattle.fr_capture.specs.declared.takers.Taker.{Taker}
-use Rattle.fr_capture.specs.declared.takers.Taker.TheVariants as taker
 use Rattle.fr_capture.specs.Takers.{after_commas, buffers_from, taker_if, taker_word, takers_of, takers_word}
 use Rattle.fr_capture.specs.TakerSteps.{buffers_by, is_any, takers_by}
 use Rattle.fr_capture.proofs.TakingLemmas.{queue_is, takes_is}
@@ -124,21 +123,23 @@ module _ (p : Parameters) (w : Opportunity) (a b : Seen) where
   abbrev on_b : Option Fields
   on_b = data_frame_seen p w B b
 
-  buffers_is : (channel : Channel) (number : ℕ) (lines : List Buffer)
-      → buffers_by w (is_some on_a) (is_some on_b) channel number lines ≡ buffers_from p w a b channel number lines
-  buffers_is channel number [] = refl
-  buffers_is channel number (line ∷ lines) =
-      λ i. taker_if (takes_is p w a b channel line i) (taker.Buffer number) ++ buffers_is channel (number + 1) lines i
+  buffers_is : (channel : Channel) (node : Option ℕ) (number : ℕ) (lines : List Buffer)
+      → buffers_by w (is_some on_a) (is_some on_b) channel node number lines
+      ≡ buffers_from p w a b channel node number lines
+  buffers_is channel node number [] = refl
+  buffers_is channel node number (line ∷ lines) =
+      λ i. taker_if (takes_is p w a b channel line i) node (Some number)
+      ++ buffers_is channel node (number + 1) lines i
 
 module _ (p : Parameters) (plan : Plan) (w : Opportunity) (a b : Seen) where
   -- the receivers, if it is known whether data frames came
   pub takers_is : (came_a came_b : Bool) → came_a ≡ is_some (data_frame_seen p w A a)
-      → came_b ≡ is_some (data_frame_seen p w B b) → (channel : Channel)
-      → takers_by plan w came_a came_b channel ≡ takers_of p plan w a b channel
-  takers_is came_a came_b a_is b_is channel =
-      (λ i. takers_by plan w (a_is i) (b_is i) channel)
-      ∙ (λ i. buffers_is p w a b channel 0 plan.buffers i ++ taker_if
-      (queue_is p w a b plan channel plan.queue i) taker.Queue)
+      → came_b ≡ is_some (data_frame_seen p w B b) → (channel : Channel) (node : Option ℕ)
+      → takers_by plan w came_a came_b channel node ≡ takers_of p plan w a b channel node
+  takers_is came_a came_b a_is b_is channel node =
+      (λ i. takers_by plan w (a_is i) (b_is i) channel node)
+      ∙ (λ i. buffers_is p w a b channel node 0 plan.buffers i ++ taker_if
+      (queue_is p w a b plan channel plan.queue i) node None)
 
 -- ---- the results
 

@@ -1,6 +1,6 @@
 -- A line as the code writes it, if the valid frame and the data frames may be known. The proofs show that it agrees
 -- with `Table`.
-use Rattle.std.specs.Prelude.{ℕ, Bool, List, [], ◌++◌, Option, Some, if◌then◌else◌}
+use Rattle.std.specs.Prelude.{ℕ, Bool, List, [], ◌++◌, Option, Some, None, if◌then◌else◌}
 use Rattle.std.specs.Option.{option_or}
 use Rattle.arrayvec.specs.ArrayVec.{ArrayVec}
 use Rattle.fr_capture.specs.Clocks.{time_at}
@@ -34,5 +34,5 @@ abbrev pub line_by : Bool → State → Moment → Bool → Bool → Channel →
 line_by all s m a b channel seen word known =
     if is_told all (slot_of m.window channel) seen
     then first_text (time_at s.params m) m.window.cycle (slot_of m.window channel) channel word
-    ++ seen_by channel (takers_by s.plan m.window a b channel) seen (handed_by s (Some m.entry) channel) known
+    ++ seen_by channel (takers_by s.plan m.window a b channel None) seen (handed_by s (Some m.entry) channel) known
     else []

@@ -47,7 +47,7 @@ sighting_with s time fetch w channel seen takers =
 -- of the observations on channels A and B of a window, that on one of them
 abbrev pub sighting : State → ℕ → Option ℕ → Opportunity → Seen → Seen → Channel → Sighting
 sighting s time fetch w a b channel =
-    sighting_with s time fetch w channel (seen_on channel a b) (takers_of s.params s.plan w a b channel)
+    sighting_with s time fetch w channel (seen_on channel a b) (takers_of s.params s.plan w a b channel None)
 
 -- in a window, channel A before B; a legal journal observes only in a window
 abbrev pub in_window : State → List Entry → Option Opportunity → Seen → Seen → List Sighting

@@ -1,7 +1,6 @@
 -- The receivers and their words step by step, as the code goes. The proofs show that they agree with `Takers`.
-use Rattle.std.specs.Prelude.{ℕ, ◌+◌, Bool, true, false, List, [], ◌∷◌, ◌++◌}
+use Rattle.std.specs.Prelude.{ℕ, ◌+◌, Bool, true, false, List, [], ◌∷◌, ◌++◌, Option, Some, None}
 use Rattle.fr_capture.specs.declared.takers.Taker.{Taker}
-use Rattle.fr_capture.specs.declared.takers.Taker.TheVariants as taker
 use Rattle.fr_capture.specs.Takers.{taker_if}
 use Rattle.fr_capture.specs.TakingSteps.{queue_takes_by, takes_by}
 use Rattle.fr_slots.specs.declared.channel.Channel.{Channel}
@@ -10,15 +9,15 @@ use Rattle.fr_slots.specs.Plans.{Plan}
 use Rattle.fr_slots.specs.Windows.{Opportunity}
 
 -- the buffers that store the frame, from this number on
-abbrev pub buffers_by : Opportunity → Bool → Bool → Channel → ℕ → List Buffer → List Taker
-buffers_by w a b channel number [] = []
-buffers_by w a b channel number (line ∷ lines) =
-    taker_if (takes_by w a b channel line) (taker.Buffer number) ++ buffers_by w a b channel (number + 1) lines
+abbrev pub buffers_by : Opportunity → Bool → Bool → Channel → Option ℕ → ℕ → List Buffer → List Taker
+buffers_by w a b channel node number [] = []
+buffers_by w a b channel node number (line ∷ lines) =
+    taker_if (takes_by w a b channel line) node (Some number) ++ buffers_by w a b channel node (number + 1) lines
 
 -- the buffers, and then the receive FIFO
-abbrev pub takers_by : Plan → Opportunity → Bool → Bool → Channel → List Taker
-takers_by plan w a b channel =
-    buffers_by w a b channel 0 plan.buffers ++ taker_if (queue_takes_by plan w a b channel plan.queue) taker.Queue
+abbrev pub takers_by : Plan → Opportunity → Bool → Bool → Channel → Option ℕ → List Taker
+takers_by plan w a b channel node =
+    buffers_by w a b channel node 0 plan.buffers ++ taker_if (queue_takes_by plan w a b channel plan.queue) node None
 
 abbrev pub is_any : List Taker → Bool
 is_any [] = false

@@ -43,5 +43,5 @@ pub mod moment;
 pub mod pcap;
 pub mod show;
 mod table;
-mod takers;
+pub mod takers;
 pub mod taking;

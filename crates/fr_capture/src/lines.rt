@@ -13,7 +13,7 @@ ghost use Rattle.fr_text.specs.Writing.{Writes};
 
 use crate::moment::Moment;
 use crate::table::{status_word, write_first, write_known, write_nothing, write_read};
-use crate::takers::Takers;
+use crate::takers::{Observed, Takers};
 use crate::taking::Came;
 use fr_frame::frame::Bytes;
 use fr_frame::lent::LentFrame;
@@ -184,12 +184,14 @@ fn write_line<'a, W: Write>(
     }
     let time = moment.time(interface.params());
     write_first(writer, time, window, channel, told.word)?;
-    let plan = interface.plan();
     let takers = Takers {
-        plan,
-        window,
-        came,
-        channel,
+        plan: interface.plan(),
+        observed: Observed {
+            window,
+            came,
+            channel,
+            node: None,
+        },
     };
     write_told(writer, interface, moment.entry, &takers, told)
 }

@@ -1,34 +1,48 @@
 //! The receivers of a frame.
 
-ghost use Rattle.std.specs.Prelude.{◌≡◌, ◌||◌, ◌∷◌, [], false, IfOk};
+ghost use Rattle.std.specs.Prelude.{◌≡◌, ◌||◌, ◌∷◌, [], IfOk};
 ghost use Rattle.fr_capture.specs.Takers.{after_commas, taker_if, takers_word};
 ghost use Rattle.fr_capture.specs.TakerSteps.{buffers_by, is_any, takers_by};
 ghost use Rattle.fr_text.specs.Writing.{Writes};
 
 use crate::taking::{Came, queue_takes, takes};
 use fr_slots::channel::Channel;
+use fr_slots::numbers::NodeId;
 use fr_slots::plan::{Buffer, NodePlan};
 use fr_slots::window::Window;
 use std::io;
 use std::io::Write;
 use std::marker::Model;
 
-/// A receiver of a frame (project-defined).
+/// A receiver of a frame: a receive buffer, or a receive FIFO (project-defined).
 #[derive(Clone, Copy)]
-pub(crate) enum Taker {
-    /// The receive buffer of this number.
-    Buffer(usize),
-    /// The receive FIFO.
-    Queue,
+pub struct Taker {
+    /// The node, or none if only one node is shown.
+    pub node: Option<NodeId>,
+    /// The number of the receive buffer, or none for the receive FIFO.
+    pub buffer: Option<usize>,
 }
 
-/// The receivers of a frame on a channel of a window (project-defined). They are found when they are written.
+/// A channel of a window, as a node observed it (project-defined).
+#[derive(Clone, Copy)]
+pub struct Observed<'a> {
+    /// The window.
+    pub window: &'a Window,
+    /// The presence of data frames in the window.
+    pub came: Came,
+    /// The channel of the frame.
+    pub channel: Channel,
+    /// The node, or none if only one node is shown.
+    pub node: Option<NodeId>,
+}
+
+/// The receivers of a frame at a node (project-defined). They are found when they are written.
 #[derive(Drop)]
-pub(crate) struct Takers<'a> {
-    pub(crate) plan: &'a NodePlan,
-    pub(crate) window: &'a Window,
-    pub(crate) came: Came,
-    pub(crate) channel: Channel,
+pub struct Takers<'a> {
+    /// The plan of the node.
+    pub plan: &'a NodePlan,
+    /// The frame's channel and window.
+    pub observed: Observed<'a>,
 }
 
 impl<'a> Model for Takers<'a> {
@@ -38,7 +52,8 @@ impl<'a> Model for Takers<'a> {
 
     ghost Value = { List Taker };
 
-    ghost view = { λ t. takers_by t.plan.now t.window.now t.came.a t.came.b t.channel };
+    ghost view = { λ t. takers_by t.plan.now t.observed.window.now t.observed.came.a t.observed.came.b
+        t.observed.channel t.observed.node };
 }
 
 /// Writes a receiver, after a comma if one was written before.
@@ -47,17 +62,20 @@ fn write_taker<W: Write>(writer: &mut W, any: bool, taker: Taker) -> io::Result<
     ensures { Writes W.contents writer.old writer.new result (after_commas any (taker ∷ [])) }
 {
     let comma = if any { "," } else { "" };
-    match taker {
-        Taker::Buffer(number) => write!(writer, "{comma}b{number}"),
-        Taker::Queue => write!(writer, "{comma}queue"),
+    match (taker.node, taker.buffer) {
+        (None, None) => write!(writer, "{comma}queue"),
+        (None, Some(buffer)) => write!(writer, "{comma}b{buffer}"),
+        (Some(node), None) => write!(writer, "{comma}{}:queue", node.number()),
+        (Some(node), Some(buffer)) => write!(writer, "{comma}{}:b{buffer}", node.number()),
     }
 }
 
 /// Writes a receiver, if it is one, and returns whether any was written by then.
 #[tactic(auto, unfolding(crate::specs::Takers::after_commas))]
 fn write_if<W: Write>(writer: &mut W, any: bool, takes: bool, taker: Taker) -> io::Result<bool>
-    ensures text { Writes W.contents writer.old writer.new result (after_commas any (taker_if takes taker)) }
-    ensures any { IfOk result (λ now. now ≡ (any || is_any (taker_if takes taker))) }
+    ensures text { Writes W.contents writer.old writer.new result
+        (after_commas any (taker_if takes taker.node taker.buffer)) }
+    ensures any { IfOk result (λ now. now ≡ (any || is_any (taker_if takes taker.node taker.buffer))) }
 {
     if takes {
         write_taker(writer, any, taker)?;
@@ -67,42 +85,56 @@ fn write_if<W: Write>(writer: &mut W, any: bool, takes: bool, taker: Taker) -> i
     }
 }
 
-/// Writes the buffers that store the frame of the channel, and returns whether there were any.
+/// Writes the buffers that store the frame, and returns whether any receiver was written by then.
 fn write_buffers<W: Write>(
     writer: &mut W,
+    any: bool,
+    observed: Observed<'_>,
     lines: &[Buffer],
-    window: &Window,
-    came: Came,
-    channel: Channel,
 ) -> io::Result<bool>
-    ensures text { Writes W.contents writer.old writer.new result
-        (after_commas false (buffers_by window.now came.a came.b channel 0 lines.now)) }
-    ensures any { IfOk result (λ now. now ≡ is_any (buffers_by window.now came.a came.b channel 0 lines.now)) }
+    ensures text { Writes W.contents writer.old writer.new result (after_commas any (buffers_by
+        observed.window.now observed.came.a observed.came.b observed.channel observed.node 0 lines.now)) }
+    ensures any { IfOk result (λ now. now ≡ (any || is_any (buffers_by
+        observed.window.now observed.came.a observed.came.b observed.channel observed.node 0 lines.now))) }
 {
-    let mut any = false;
+    let node = observed.node;
+    let mut any = any;
     for (number, line) in lines.iter().enumerate() {
-        let takes = takes(window, came, channel, line);
-        any = write_if(writer, any, takes, Taker::Buffer(number))?;
+        let takes = takes(observed.window, observed.came, observed.channel, line);
+        let buffer = Some(number);
+        any = write_if(writer, any, takes, Taker { node, buffer })?;
     }
     Ok(any)
 }
 
-/// Writes the buffers that store the frame of the channel, and the receive FIFO if it does. Returns whether there were
-/// any.
+/// Writes the buffers that store the frame, and the receive FIFO if it does. Returns whether any receiver was written
+/// by then.
 fn write_any<W: Write>(
     writer: &mut W,
+    any: bool,
     plan: &NodePlan,
-    window: &Window,
-    came: Came,
-    channel: Channel,
+    observed: Observed<'_>,
 ) -> io::Result<bool>
-    ensures text { Writes W.contents writer.old writer.new result
-        (after_commas false (takers_by plan.now window.now came.a came.b channel)) }
-    ensures any { IfOk result (λ now. now ≡ is_any (takers_by plan.now window.now came.a came.b channel)) }
+    ensures text { Writes W.contents writer.old writer.new result (after_commas any (takers_by plan.now
+        observed.window.now observed.came.a observed.came.b observed.channel observed.node)) }
+    ensures any { IfOk result (λ now. now ≡ (any || is_any (takers_by plan.now
+        observed.window.now observed.came.a observed.came.b observed.channel observed.node))) }
 {
-    let any = write_buffers(writer, plan.buffers(), window, came, channel)?;
-    let takes = queue_takes(plan, window, came, channel);
-    write_if(writer, any, takes, Taker::Queue)
+    let any = write_buffers(writer, any, observed, plan.buffers())?;
+    let takes = queue_takes(plan, observed.window, observed.came, observed.channel);
+    let node = observed.node;
+    write_if(writer, any, takes, Taker { node, buffer: None })
+}
+
+/// Writes the receivers of the frame, each after a comma if one was written before. Returns whether any was written by
+/// then (project-defined).
+///
+/// They are the buffers of the node, and then its receive FIFO. Fails where the writer fails.
+pub fn write_more<W: Write>(writer: &mut W, any: bool, takers: &Takers<'_>) -> io::Result<bool>
+    ensures text { Writes W.contents writer.old writer.new result (after_commas any takers.now) }
+    ensures any { IfOk result (λ now. now ≡ (any || is_any takers.now)) }
+{
+    write_any(writer, any, takers.plan, takers.observed)
 }
 
 /// Writes the receivers of the frame with commas between them, or a dash.
@@ -111,8 +143,7 @@ fn write_any<W: Write>(
 pub(crate) fn write_takers<W: Write>(writer: &mut W, takers: &Takers<'_>) -> io::Result<()>
     ensures { Writes W.contents writer.old writer.new result (takers_word takers.now) }
 {
-    let (plan, window) = (takers.plan, takers.window);
-    if write_any(writer, plan, window, takers.came, takers.channel)? {
+    if write_more(writer, false, takers)? {
         Ok(())
     } else {
         write!(writer, "-")

@@ -158,7 +158,13 @@ fn has_line_at(
 
 // A walk along the journal goes through all scripts for the task of a host entry, so each journal is walked once.
 /// Returns whether each script for the task has the executed call as its line at the place.
-fn have_lines(scripts: &[Script], node: NodeId, task: TaskId, place: usize, executed: &Executed) -> bool
+fn have_lines(
+    scripts: &[Script],
+    node: NodeId,
+    task: TaskId,
+    place: usize,
+    executed: &Executed,
+) -> bool
     ensures { IsTrue result ↔ HaveLines scripts.now node task place executed.now }
 {
     for given in 0..scripts.len() {

@@ -162,11 +162,7 @@ fn strike_open(world: &mut World, faults: &[FaultLine])
 /// Finishes the open window: its faults, the events that are still due, and the bus's advance (project-defined).
 ///
 /// The events are those of a window, as `window_events` returns them. Returns the hindrance of the bus.
-pub fn finish_window(
-    world: &mut World,
-    faults: &[FaultLine],
-    events: &[Event],
-) -> Option<StepError>
+pub fn finish_window(world: &mut World, faults: &[FaultLine], events: &[Event]) -> Option<StepError>
     ensures { MovesOn faults.now events.now world.old result world.new }
 {
     strike_open(world, faults);

@@ -13,7 +13,7 @@ use Rattle.fr_showing.specs.CommitSteps.{is_takeable, node_text}
 use Rattle.fr_showing.specs.CommitText.{commit_by, commit_line, commits_in, entries_at, line_in, takers_by}
 use Rattle.fr_showing.specs.declared.ends.End.{End}
 use Rattle.fr_showing.specs.declared.ends.End.TheVariants.{Alone, Turned, Overrun, Collided, Muted, Blocked}
-use Rattle.fr_showing.specs.declared.takers.Taker.{Taker}
+use Rattle.fr_capture.specs.declared.takers.Taker.{Taker}
 use Rattle.fr_showing.specs.Fates.{cycles_of}
 use Rattle.fr_slots.specs.History.{each_after}
 

@@ -7,4 +7,3 @@ pub mod ListenerLemmas
 pub mod PartLemmas
 pub mod RecordLemmas
 pub mod ShowLemmas
-pub mod TakerLemmas

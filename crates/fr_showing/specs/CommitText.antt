@@ -13,10 +13,11 @@ use Rattle.fr_showing.specs.declared.fates.Became.TheVariants.{Sent, Withdrawn, 
 use Rattle.fr_showing.specs.declared.ends.End.{End}
 use Rattle.fr_showing.specs.declared.ends.End.TheVariants.{Alone, Turned}
 use Rattle.fr_showing.specs.declared.fates.Sending.{Sending}
-use Rattle.fr_showing.specs.declared.takers.Taker.{Taker}
+use Rattle.fr_capture.specs.declared.takers.Taker.{Taker}
 use Rattle.fr_showing.specs.Ends.{ended_word, offer_end}
 use Rattle.fr_showing.specs.Fates.{became, cycles_of, sendings}
-use Rattle.fr_showing.specs.Takers.{takers_in, takers_word}
+use Rattle.fr_capture.specs.Takers.{takers_word}
+use Rattle.fr_showing.specs.Takers.{takers_in}
 use Rattle.fr_slots.specs.Admission.{letter_of}
 use Rattle.fr_slots.specs.History.{each_after}
 use Rattle.fr_slots.specs.Windows.{slot_of}

@@ -9,5 +9,4 @@ pub mod Listening
 pub mod Origins
 pub mod RecordText
 pub mod Shows
-pub mod TakerSteps
 pub mod Takers

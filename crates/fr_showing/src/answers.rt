@@ -106,7 +106,11 @@ fn write_call<W: Write>(writer: &mut W, world: &World, call: &ExecutedCall) -> i
 /// a pop it is the cycle count, the slot, the channel and the payload of the frame. It is `-` for none.
 ///
 /// Fails if the writer fails. Then a part of the text may have gone out.
-pub fn write_answers<W: Write>(writer: &mut W, world: &World, calls: &[ExecutedCall]) -> io::Result<()>
+pub fn write_answers<W: Write>(
+    writer: &mut W,
+    world: &World,
+    calls: &[ExecutedCall],
+) -> io::Result<()>
     ensures { Writes W.contents writer.old writer.new result (flat_map (answer_line world.now) calls.now) }
 {
     for call in calls {

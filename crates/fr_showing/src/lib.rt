@@ -20,8 +20,7 @@
 //!
 //! Modules that follow the steps of the code, for private functions, with the module that has the meaning:
 //!
-//! - `CommitSteps`, `FateSteps`, `TakerSteps`: journals and plans, entry by entry. Meaning: `CommitText`, `Fates`,
-//!   `Takers`.
+//! - `CommitSteps`, `FateSteps`: journals, entry by entry. Meaning: `CommitText`, `Fates`.
 //!
 //! # Inner workings
 //!

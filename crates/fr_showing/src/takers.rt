@@ -1,35 +1,28 @@
 //! The receivers of a transmission.
-ghost use Rattle.std.specs.Prelude.{◌≡◌, ◌≤◌, ◌||◌, ◌∷◌, [], false, length, IfOk, is_some};
+ghost use Rattle.std.specs.Prelude.{◌≡◌, ◌≤◌, false, length, IfOk, is_some};
 ghost use Rattle.std.specs.Option.{option_and_then};
 ghost use Rattle.fr_bus.specs.Record.{seen_by};
 ghost use Rattle.fr_journal.specs.Held.{data_frame_seen, with_data};
-ghost use Rattle.fr_showing.specs.Takers.{after_commas, taker_if, takers_from, takers_of, takers_word};
-ghost use Rattle.fr_showing.specs.TakerSteps.{buffers_by, is_any};
+ghost use Rattle.fr_capture.specs.Takers.{after_commas, takers_word};
+ghost use Rattle.fr_capture.specs.TakerSteps.{is_any};
+ghost use Rattle.fr_showing.specs.Takers.{takers_from, takers_at};
 ghost use Rattle.fr_slots.specs.declared.channel.Channel.TheVariants as on;
 ghost use Rattle.fr_text.specs.Writing.{Writes};
 
 use fr_bus::outcome::Sealed;
-use fr_capture::taking::{Came, queue_takes, takes};
+use fr_capture::takers::{Observed, Takers, write_more};
+use fr_capture::taking::Came;
 use fr_frame::lent::LentFrame;
 use fr_interface::interface::Interface;
 use fr_slots::channel::Channel;
 use fr_slots::numbers::NodeId;
 use fr_slots::params::Params;
-use fr_slots::plan::{Buffer, NodePlan};
+use fr_slots::plan::NodePlan;
 use fr_slots::window::Window;
 use fr_status::seen::Seen;
 use fr_status::status::lent_status_of;
 use std::io;
 use std::io::Write;
-
-/// A receive buffer of a node, or its receive FIFO.
-#[derive(Clone, Copy)]
-pub(crate) struct Taker {
-    /// The node.
-    pub(crate) node: NodeId,
-    /// The buffer, or none for the receive FIFO.
-    pub(crate) buffer: Option<usize>,
-}
 
 /// Returns whether this is a data frame.
 fn is_data(frame: Option<LentFrame<'_>>) -> bool
@@ -80,80 +73,23 @@ fn came_to(params: &Params, sealed: &Sealed, node: NodeId) -> Came
     }
 }
 
-/// Writes a receiver, after a comma if one was written before.
-#[tactic(auto, unfolding(crate::specs::Takers::after_commas))]
-fn write_taker<W: Write>(writer: &mut W, any: bool, taker: &Taker) -> io::Result<()>
-    ensures { Writes W.contents writer.old writer.new result (after_commas any (taker.now ∷ [])) }
-{
-    let (comma, node) = (if any { "," } else { "" }, taker.node.number());
-    match taker.buffer {
-        Some(buffer) => write!(writer, "{comma}{node}:b{buffer}"),
-        None => write!(writer, "{comma}{node}:queue"),
-    }
-}
-
-/// Writes a receiver, if it is one, and returns whether any was written by then.
-#[tactic(auto, unfolding(crate::specs::Takers::after_commas))]
-fn write_if<W: Write>(
-    writer: &mut W,
-    any: bool,
-    takes: bool,
-    node: NodeId,
-    buffer: Option<usize>,
-) -> io::Result<bool>
-    ensures text { Writes W.contents writer.old writer.new result (after_commas any (taker_if takes node buffer)) }
-    ensures any { IfOk result (λ now. now ≡ (any || is_any (taker_if takes node buffer))) }
-{
-    if takes {
-        write_taker(writer, any, &Taker { node, buffer })?;
-        Ok(true)
-    } else {
-        Ok(any)
-    }
-}
-
-/// Writes the node's buffers that store the frame, and returns whether any was written by then.
-fn write_buffers<W: Write>(
-    writer: &mut W,
-    any: bool,
-    node: NodeId,
-    lines: &[Buffer],
-    window: &Window,
-    came: Came,
-    channel: Channel,
-) -> io::Result<bool>
-    ensures text { Writes W.contents writer.old writer.new result
-        (after_commas any (buffers_by window.now came.a came.b channel node 0 lines.now)) }
-    ensures any { IfOk result (λ now. now
-        ≡ (any || is_any (buffers_by window.now came.a came.b channel node 0 lines.now))) }
-{
-    let mut any = any;
-    for (number, line) in lines.iter().enumerate() {
-        let takes = takes(window, came, channel, line);
-        any = write_if(writer, any, takes, node, Some(number))?;
-    }
-    Ok(any)
-}
-
-/// Writes the receivers of the node: its buffers and its receive FIFO. Returns whether any was written by then.
-fn write_node<W: Write>(
-    writer: &mut W,
-    any: bool,
+/// Returns the receivers of the transmission at the node.
+fn takers_at<'a>(
     params: &Params,
-    plan: &NodePlan,
-    sealed: &Sealed,
+    plan: &'a NodePlan,
+    sealed: &'a Sealed,
     channel: Channel,
     node: NodeId,
-) -> io::Result<bool>
-    ensures text { Writes W.contents writer.old writer.new result
-        (after_commas any (takers_of params.now plan.now sealed.now channel node)) }
-    ensures any { IfOk result (λ now. now
-        ≡ (any || is_any (takers_of params.now plan.now sealed.now channel node))) }
+) -> Takers<'a>
+    ensures { result ≡ takers_at params.now plan.now sealed.now channel node }
 {
-    let (window, came) = (window_of(sealed), came_to(params, sealed, node));
-    let any = write_buffers(writer, any, node, plan.buffers(), window, came, channel)?;
-    let takes = queue_takes(plan, window, came, channel);
-    write_if(writer, any, takes, node, None)
+    let observed = Observed {
+        window: window_of(sealed),
+        came: came_to(params, sealed, node),
+        channel,
+        node: Some(node),
+    };
+    Takers { plan, observed }
 }
 
 /// Writes the receivers of the transmission, and returns whether there were any.
@@ -175,7 +111,8 @@ fn write_nodes<W: Write>(
     let mut any = false;
     for (number, interface) in interfaces.iter().enumerate() {
         let node = NodeId::from_number(number as u8);
-        any = write_node(writer, any, params, interface.plan(), sealed, channel, node)?;
+        let takers = takers_at(params, interface.plan(), sealed, channel, node);
+        any = write_more(writer, any, &takers)?;
     }
     Ok(any)
 }

@@ -1,8 +1,9 @@
 use Rattle.std.proofs.Common.{◌≡◌, List, [], sym, subst, ◌∙◌}
 use Rattle.fr_showing.proofs.CommitLemmas.{not_takeable, takeable}
 use Rattle.fr_showing.specs.CommitText.{recorded_of, taken_text, takers_by}
-use Rattle.fr_showing.specs.declared.takers.Taker.{Taker}
-use Rattle.fr_showing.specs.Takers.{takers_in, takers_word}
+use Rattle.fr_capture.specs.declared.takers.Taker.{Taker}
+use Rattle.fr_capture.specs.Takers.{takers_word}
+use Rattle.fr_showing.specs.Takers.{takers_in}
 use Rattle.fr_text.specs.Writing.{Writes}
 use Rattle.fr_showing.proofs.commits.write_taken.Goals as goal
 

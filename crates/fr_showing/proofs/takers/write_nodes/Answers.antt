@@ -2,10 +2,11 @@ use Rattle.std.proofs.Common.{◌≡◌, ◌≤◌, ◌||◌, ℕ, ◌+◌, fals
 use Rattle.std.specs.Io.KnownBytes.{Appends}
 use Rattle.fr_interface.specs.State.{State}
 use Rattle.fr_showing.proofs.GoingLemmas.{left_here, nothing_left}
-use Rattle.fr_showing.proofs.TakerLemmas.{goes_on, ends_text}
-use Rattle.fr_showing.specs.declared.takers.Taker.{Taker}
-use Rattle.fr_showing.specs.Takers.{after_commas, takers_from, takers_of}
-use Rattle.fr_showing.specs.TakerSteps.{is_any}
+use Rattle.fr_capture.proofs.TakerLemmas.{goes_on, ends_text}
+use Rattle.fr_capture.specs.declared.takers.Taker.{Taker}
+use Rattle.fr_capture.specs.Takers.{after_commas}
+use Rattle.fr_showing.specs.Takers.{takers_from, takers_at}
+use Rattle.fr_capture.specs.TakerSteps.{is_any}
 use Rattle.fr_showing.proofs.takers.write_nodes.Goals as goal
 
 pub loop-number-preserved : goal.loop-number-preserved
@@ -15,10 +16,11 @@ loop-number-preserved g c =
     let n : ℕ = c.loop-number.number in
     let s = c.index-interfaces-number.result in
     let now = g.W.Write.contents c.loop-number.writer in
-    let mid = g.W.Write.contents c.write_node.new.writer in
-    let part : List Taker = takers_of p s.plan r c.args.channel n in
-    let same : takers_of p c.plan.result.now r c.args.channel c.from_number-node.result ≡ part =
-    λ i. takers_of p (c.plan.ensures.value i) r c.args.channel (c.from_number-node.ensures i) in
+    let mid = g.W.Write.contents c.write_more.new.writer in
+    let part : List Taker = takers_at p s.plan r c.args.channel n in
+    let same : c.takers_at-takers.result ≡ part =
+    c.takers_at-takers.ensures
+    ∙ (λ i. takers_at p (c.plan.ensures.value i) r c.args.channel (c.from_number-node.ensures i)) in
     goes_on false (takers_from p r c.args.channel 0 c.args.interfaces.now)
     (g.W.Write.contents c.args.writer.now) now mid c.loop-number.any c.in_ok-any.any
     (takers_from p r c.args.channel n (drop n c.args.interfaces.now)) part

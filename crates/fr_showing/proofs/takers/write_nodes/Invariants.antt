@@ -1,5 +1,5 @@
 use Rattle.std.proofs.Common.{drop, false}
-use Rattle.fr_showing.proofs.TakerLemmas.{IsGoing}
+use Rattle.fr_capture.proofs.TakerLemmas.{IsGoing}
 use Rattle.fr_showing.specs.Takers.{takers_from}
 use Rattle.fr_showing.proofs.takers.write_nodes.Given as goal
 

@@ -1,9 +1,10 @@
 use Rattle.std.proofs.Common.{List, ℕ, false, sym, subst, ◌∙◌}
 use Rattle.std.specs.Prelude.{codes, OnOk}
 use Rattle.std.specs.Io.KnownBytes.{Appends}
-use Rattle.fr_showing.proofs.TakerLemmas.{no_word}
-use Rattle.fr_showing.specs.declared.takers.Taker.{Taker}
-use Rattle.fr_showing.specs.Takers.{after_commas, takers_from}
+use Rattle.fr_capture.proofs.TakerLemmas.{no_word}
+use Rattle.fr_capture.specs.declared.takers.Taker.{Taker}
+use Rattle.fr_capture.specs.Takers.{after_commas}
+use Rattle.fr_showing.specs.Takers.{takers_from}
 use Rattle.fr_trace.proofs.WritingLemmas.{appends-last}
 use Rattle.fr_showing.proofs.takers.write_takers.Goals as goal
 
