@@ -8,7 +8,7 @@ ghost use Rattle.fr_showing.specs.CommitSteps.{committed, entry_text, handed_tex
 ghost use Rattle.fr_showing.specs.CommitText.{became_text, commit_line, commits, end_in, line_in, made_text};
 ghost use Rattle.fr_showing.specs.CommitText.{recorded_of, sending_text, sendings_text, taken_text};
 ghost use Rattle.fr_showing.specs.Fates.{became, cycles_of, sending_if};
-ghost use Rattle.fr_capture.specs.Takers.{takers_word}
+ghost use Rattle.fr_capture.specs.Takers.{takers_word};
 ghost use Rattle.fr_showing.specs.Takers.{takers_in};
 ghost use Rattle.fr_text.specs.Writing.{Writes};
 
