@@ -58,26 +58,18 @@ impl Event {
     ghost use Rattle.fr_core.specs.Steps.{event_of};
 
     /// Returns the event of a call of a task of the node.
-    pub fn of_call(node: NodeId, task: TaskId, call: &Call) -> Event
-        ensures { result ≡ event_of node task call.now }
+    pub fn of_call(node: NodeId, task: TaskId, call: Call) -> Event
+        ensures { result ≡ event_of node task call }
     {
         match call {
             Call::Commit { buffer, payload } => Event::Commit {
                 node,
                 task,
-                buffer: *buffer,
-                payload: payload.duplicate(),
+                buffer,
+                payload,
             },
-            Call::Withdraw { buffer } => Event::Withdraw {
-                node,
-                task,
-                buffer: *buffer,
-            },
-            Call::Read { buffer } => Event::Read {
-                node,
-                task,
-                buffer: *buffer,
-            },
+            Call::Withdraw { buffer } => Event::Withdraw { node, task, buffer },
+            Call::Read { buffer } => Event::Read { node, task, buffer },
             Call::Pop => Event::Pop { node, task },
         }
     }

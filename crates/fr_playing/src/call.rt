@@ -52,7 +52,7 @@ fn do_call(
         × (executed.call ≡ call.now)) }
 {
     let entry = entries_of(world, node);
-    let reply = world.step(&Event::of_call(node, task, call))?;
+    let reply = world.step(&Event::of_call(node, task, call.duplicate()))?;
     Ok(ExecutedCall {
         node,
         task,

@@ -1,3 +1,4 @@
+pub mod CallLemmas
 pub mod PartLemmas
 pub mod LineLemmas
 pub mod CutLemmas

@@ -10,12 +10,12 @@ use Rattle.fr_interface.specs.declared.call.Call.{Call}
 use Rattle.fr_interface.specs.declared.call.Call.TheVariants.{Commit, Withdraw, Read, Pop}
 use Rattle.fr_core.specs.declared.script.Line.{Line}
 use Rattle.fr_lines.proofs.PartLemmas.{word_or}
-use Rattle.fr_lines.proofs.PlanPartLemmas.{payload_takes, payload_again}
 use Rattle.fr_lines.proofs.WordLemmas.{IsWord, number_word, payload_word}
-use Rattle.fr_lines.specs.PartReading.{channel_in, payload_in}
+use Rattle.fr_lines.specs.PartReading.{channel_in}
 use Rattle.fr_lines.specs.Spelling.{end_line}
 use Rattle.fr_runs.specs.declared.fault_line.FaultCycles.{FaultCycles}
 use Rattle.fr_runs.specs.declared.fault_line.FaultPlace.{FaultPlace}
+use Rattle.fr_scenario.proofs.CallLemmas.{told_takes, told_again}
 use Rattle.fr_scenario.proofs.PartLemmas.{channel_takes, channel_again, channel_plain, run_cycle_takes, run_cycle_again}
 use Rattle.fr_scenario.proofs.PartLemmas.{run_cycle_plain, cycles_takes, cycles_again, cycles_plain, place_takes}
 use Rattle.fr_scenario.proofs.PartLemmas.{place_again, place_plain}
@@ -23,7 +23,7 @@ use Rattle.fr_scenario.specs.declared.spelled.SpelledLine.{SpelledLine}
 use Rattle.fr_scenario.specs.declared.spelled.SpelledLine.TheVariants.{Host, Fault as FaultOf}
 use Rattle.fr_scenario.specs.declared.version.Version.{Version}
 use Rattle.fr_scenario.specs.declared.version.Version.TheVariants.{One, Two}
-use Rattle.fr_scenario.specs.LineReading.{host_line, fault_line, commit_in, withdraw_in, read_in, pop_in}
+use Rattle.fr_scenario.specs.LineReading.{host_line, host_in, told_call_in, fault_line}
 use Rattle.fr_scenario.specs.LineReading.{babble_in, mute_in}
 use Rattle.fr_scenario.specs.LineReading.{corrupt_in}
 use Rattle.fr_scenario.specs.LineReading.{line_in}
@@ -32,7 +32,7 @@ use Rattle.fr_scenario.specs.Parts.{channel_word, cycles_word, place_word}
 use Rattle.fr_scenario.specs.Spelled.{IsRunCycle, IsSpelledCall, IsSpelledHost, IsSpelledFault, AreSpelledCycles}
 use Rattle.fr_scenario.specs.Spelled.{IsSpelledPlace}
 use Rattle.fr_scenario.specs.Spelled.{IsSpelledLine}
-use Rattle.fr_scenario.specs.Spelling.{call_words, fault_words, line_words}
+use Rattle.fr_scenario.specs.Spelling.{kind_word, call_words, placed_words, fault_words, line_words}
 use Rattle.fr_text.proofs.BindLemmas.{bind_some}
 use Rattle.fr_text.proofs.HexTextLemmas.{bytes_takes, bytes_again, length-hex_text}
 use Rattle.fr_text.proofs.LineLemmas.{cons_same, line_of-words_of, words_of-line_of, has_no_feed-line_of}
@@ -46,122 +46,32 @@ use Rattle.fr_text.specs.Spelling.{hex_text}
 
 -- ---- a line that is read is spelled by these words
 
-commit_takes : (version : Version) (words : List (List ℕ)) (l : SpelledLine) → commit_in words ≡ Some l
-    → (codes "commit" ∷ words ≡ line_words l) × IsSpelledLine version l
-unfolding commit_in
-commit_takes version [] l h = cc h
-commit_takes version (a ∷ []) l h = cc h
-commit_takes version (a ∷ b ∷ []) l h = cc h
-commit_takes version (a ∷ b ∷ c ∷ []) l h = cc h
-commit_takes version (a ∷ b ∷ c ∷ d ∷ []) l h = cc h
-commit_takes version (a ∷ b ∷ c ∷ d ∷ e ∷ []) l h =
+host_takes : (version : Version) (kind : List ℕ) (words : List (List ℕ)) (l : SpelledLine)
+    → host_in version kind words ≡ Some l → (kind ∷ words ≡ line_words l) × IsSpelledLine version l
+unfolding host_in
+host_takes version kind [] l h = cc h
+host_takes version kind (a ∷ []) l h = cc h
+host_takes version kind (a ∷ b ∷ []) l h = cc h
+host_takes version kind (a ∷ b ∷ c ∷ words) l h =
     let (n, hn, h1) = bind_some (number_in 16 a) _ l h in
     let (t, ht, h2) = bind_some (number_in 8 b) _ l h1 in
     let (y, hy, h3) = bind_some (run_cycle_in c) _ l h2 in
-    let (m, hm, h4) = bind_some (number_in 64 d) _ l h3 in
-    let (p, hp, h5) = bind_some (payload_in e) _ l h4 in
-    let is : host_line n t y (Commit m p) ≡ l = cc h5 in
+    let (call, hc, h4) = bind_some (told_call_in version kind words) _ l h3 in
+    let is : host_line n t y call ≡ l = cc h4 in
     let node = number_takes 16 a n hn in
     let task = number_takes 8 b t ht in
     let cycle = run_cycle_takes c y hy in
-    let buffer = number_takes 64 d m hm in
-    let payload = payload_takes e p hp in
+    let told = told_takes version kind words call hc in
     rw (← is) (
-      cons_same refl (cons_same (sym node.0) (cons_same (sym task.0)
-          (cons_same cycle.0 (cons_same (sym buffer.0) (cons_same payload.0 refl))))),
+      cons_same told.0 (cons_same (sym node.0) (cons_same (sym task.0) (cons_same cycle.0 told.1))),
       record {
         node_fits = node.1;
         task_fits = task.1;
         cycle_fits = cycle.1;
-        action_fits =
-            (buffer.1, payload.1, payload.2);
+        action_fits = told.2;
         unanswered = refl;
       },
     )
-commit_takes version (a ∷ b ∷ c ∷ d ∷ e ∷ f ∷ words) l h = cc h
-
-withdraw_takes : (version : Version) (words : List (List ℕ)) (l : SpelledLine) → withdraw_in version words ≡ Some l
-    → (codes "withdraw" ∷ words ≡ line_words l) × IsSpelledLine version l
-unfolding withdraw_in
-withdraw_takes One words l h = cc h
-withdraw_takes Two [] l h = cc h
-withdraw_takes Two (a ∷ []) l h = cc h
-withdraw_takes Two (a ∷ b ∷ []) l h = cc h
-withdraw_takes Two (a ∷ b ∷ c ∷ []) l h = cc h
-withdraw_takes Two (a ∷ b ∷ c ∷ d ∷ []) l h =
-    let (n, hn, h1) = bind_some (number_in 16 a) _ l h in
-    let (t, ht, h2) = bind_some (number_in 8 b) _ l h1 in
-    let (y, hy, h3) = bind_some (run_cycle_in c) _ l h2 in
-    let (m, hm, h4) = bind_some (number_in 64 d) _ l h3 in
-    let is : host_line n t y (Withdraw m) ≡ l = cc h4 in
-    let node = number_takes 16 a n hn in
-    let task = number_takes 8 b t ht in
-    let cycle = run_cycle_takes c y hy in
-    let buffer = number_takes 64 d m hm in
-    rw (← is) (
-      cons_same refl (cons_same (sym node.0) (cons_same (sym task.0)
-          (cons_same cycle.0 (cons_same (sym buffer.0) refl)))),
-      record {
-        node_fits = node.1;
-        task_fits = task.1;
-        cycle_fits = cycle.1;
-        action_fits = buffer.1;
-        unanswered =
-            refl;
-      },
-    )
-withdraw_takes Two (a ∷ b ∷ c ∷ d ∷ e ∷ words) l h = cc h
-
-read_takes : (version : Version) (words : List (List ℕ)) (l : SpelledLine) → read_in words ≡ Some l
-    → (codes "read" ∷ words ≡ line_words l) × IsSpelledLine version l
-unfolding read_in
-read_takes version [] l h = cc h
-read_takes version (a ∷ []) l h = cc h
-read_takes version (a ∷ b ∷ []) l h = cc h
-read_takes version (a ∷ b ∷ c ∷ []) l h = cc h
-read_takes version (a ∷ b ∷ c ∷ d ∷ []) l h =
-    let (n, hn, h1) = bind_some (number_in 16 a) _ l h in
-    let (t, ht, h2) = bind_some (number_in 8 b) _ l h1 in
-    let (y, hy, h3) = bind_some (run_cycle_in c) _ l h2 in
-    let (m, hm, h4) = bind_some (number_in 64 d) _ l h3 in
-    let is : host_line n t y (Read m) ≡ l = cc h4 in
-    let node = number_takes 16 a n hn in
-    let task = number_takes 8 b t ht in
-    let cycle = run_cycle_takes c y hy in
-    let buffer = number_takes 64 d m hm in
-    rw (← is) (
-      cons_same refl (cons_same (sym node.0) (cons_same (sym task.0)
-          (cons_same cycle.0 (cons_same (sym buffer.0) refl)))),
-      record {
-        node_fits = node.1;
-        task_fits = task.1;
-        cycle_fits = cycle.1;
-        action_fits = buffer.1;
-        unanswered =
-            refl;
-      },
-    )
-read_takes version (a ∷ b ∷ c ∷ d ∷ e ∷ words) l h = cc h
-
-pop_takes : (version : Version) (words : List (List ℕ)) (l : SpelledLine) → pop_in words ≡ Some l
-    → (codes "pop" ∷ words ≡ line_words l) × IsSpelledLine version l
-unfolding pop_in
-pop_takes version [] l h = cc h
-pop_takes version (a ∷ []) l h = cc h
-pop_takes version (a ∷ b ∷ []) l h = cc h
-pop_takes version (a ∷ b ∷ c ∷ []) l h =
-    let (n, hn, h1) = bind_some (number_in 16 a) _ l h in
-    let (t, ht, h2) = bind_some (number_in 8 b) _ l h1 in
-    let (y, hy, h3) = bind_some (run_cycle_in c) _ l h2 in
-    let is : host_line n t y Pop ≡ l = cc h3 in
-    let node = number_takes 16 a n hn in
-    let task = number_takes 8 b t ht in
-    let cycle = run_cycle_takes c y hy in
-    rw (← is) (
-      cons_same refl (cons_same (sym node.0) (cons_same (sym task.0) (cons_same cycle.0 refl))),
-      record { node_fits = node.1; task_fits = task.1; cycle_fits = cycle.1; action_fits = tt; unanswered = refl },
-    )
-pop_takes version (a ∷ b ∷ c ∷ d ∷ words) l h = cc h
 
 babble_takes : (version : Version) (words : List (List ℕ)) (l : SpelledLine) → babble_in words ≡ Some l
     → (codes "babble" ∷ words ≡ line_words l) × IsSpelledLine version l
@@ -235,12 +145,11 @@ corrupt_takes version (a ∷ b ∷ c ∷ d ∷ []) l h =
     )
 corrupt_takes version (a ∷ b ∷ c ∷ d ∷ e ∷ words) l h = cc h
 
-fault_taken : (version : Version) (kind : List ℕ) (words : List (List ℕ)) (l : SpelledLine)
-    → (if bytes_eq kind (codes "babble") then babble_in words
-    else if bytes_eq kind (codes "mute") then mute_in words else if bytes_eq kind (codes "corrupt") then
-    corrupt_in words else None) ≡ Some l
-    → (kind ∷ words ≡ line_words l) × IsSpelledLine version l
-fault_taken version kind words l h =
+taken : (version : Version) (words : List (List ℕ)) (l : SpelledLine) → line_in version words ≡ Some l
+    → (words ≡ line_words l) × IsSpelledLine version l
+unfolding line_in
+taken version [] l h = cc h
+taken version (kind ∷ words) l h =
     elim (word_or kind (codes "babble") (babble_in words) _ l h) [
       | inl babble ↦ let t = babble_takes version words l babble.1 in (cons_same babble.0 refl ∙ t.0, t.1)
       | inr h1 ↦
@@ -250,29 +159,7 @@ fault_taken version kind words l h =
                 elim (word_or kind (codes "corrupt") (corrupt_in words) _ l h2) [
                   | inl corrupt ↦ let t = corrupt_takes version words l corrupt.1
                       in (cons_same corrupt.0 refl ∙ t.0, t.1)
-                  | inr h3 ↦ cc h3
-                ]
-          ]
-    ]
-
-taken : (version : Version) (words : List (List ℕ)) (l : SpelledLine) → line_in version words ≡ Some l
-    → (words ≡ line_words l) × IsSpelledLine version l
-unfolding line_in
-taken version [] l h = cc h
-taken version (kind ∷ words) l h =
-    elim (word_or kind (codes "commit") (commit_in words) _ l h) [
-      | inl commit ↦ let t = commit_takes version words l commit.1 in (cons_same commit.0 refl ∙ t.0, t.1)
-      | inr h1 ↦
-          elim (word_or kind (codes "withdraw") (withdraw_in version words) _ l h1) [
-            | inl withdraw ↦ let t = withdraw_takes version words l withdraw.1 in (cons_same withdraw.0 refl ∙ t.0, t.1)
-            | inr h2 ↦
-                elim (word_or kind (codes "read") (read_in words) _ l h2) [
-                  | inl read ↦ let t = read_takes version words l read.1 in (cons_same read.0 refl ∙ t.0, t.1)
-                  | inr h3 ↦
-                      elim (word_or kind (codes "pop") (pop_in words) _ l h3) [
-                        | inl pop ↦ let t = pop_takes version words l pop.1 in (cons_same pop.0 refl ∙ t.0, t.1)
-                        | inr h4 ↦ fault_taken version kind words l h4
-                      ]
+                  | inr h3 ↦ host_takes version kind words l h3
                 ]
           ]
     ]
@@ -286,36 +173,30 @@ line_takes version line l h =
 
 -- ---- a line that is spelled is read again
 
-action_again : (version : Version) (node task cycle : ℕ) (action : Call) → node < 16 → task < 8 → IsRunCycle cycle
-    → IsSpelledCall version action
-    → line_in version (call_words (decimal node) (decimal task) (decimal cycle) action) ≡ Some
-    (host_line node task cycle action)
-unfolding line_in commit_in withdraw_in read_in pop_in
-action_again version node task cycle (Commit buffer payload) n t c bytes =
+placed_again : (version : Version) (node task cycle : ℕ) (call : Call) → node < 16 → task < 8 → IsRunCycle cycle
+    → IsSpelledCall version call
+    → host_in version (kind_word call) (decimal node ∷ decimal task ∷ decimal cycle ∷ call_words call) ≡ Some
+    (host_line node task cycle call)
+unfolding host_in
+placed_again version node task cycle call n t c fits =
     rw (
       number_again 16 node n (omega arith),
       number_again 8 task t (omega arith),
       run_cycle_again cycle c,
-      number_again 64 buffer bytes.0 (omega arith),
-      payload_again payload bytes.1 bytes.2,
+      told_again version call fits,
     ) refl
-action_again One node task cycle (Withdraw buffer) n t c few = absurd few
-action_again Two node task cycle (Withdraw buffer) n t c few =
-    rw (
-      number_again 16 node n (omega arith),
-      number_again 8 task t (omega arith),
-      run_cycle_again cycle c,
-      number_again 64 buffer few (omega arith),
-    ) refl
-action_again version node task cycle (Read buffer) n t c few =
-    rw (
-      number_again 16 node n (omega arith),
-      number_again 8 task t (omega arith),
-      run_cycle_again cycle c,
-      number_again 64 buffer few (omega arith),
-    ) refl
-action_again version node task cycle Pop n t c fits =
-    rw (number_again 16 node n (omega arith), number_again 8 task t (omega arith), run_cycle_again cycle c) refl
+
+action_again : (version : Version) (node task cycle : ℕ) (call : Call) → node < 16 → task < 8 → IsRunCycle cycle
+    → IsSpelledCall version call
+    → line_in version (placed_words node task cycle call) ≡ Some (host_line node task cycle call)
+unfolding line_in
+action_again version node task cycle (Commit buffer payload) n t c fits =
+    placed_again version node task cycle (Commit buffer payload) n t c fits
+action_again version node task cycle (Withdraw buffer) n t c fits =
+    placed_again version node task cycle (Withdraw buffer) n t c fits
+action_again version node task cycle (Read buffer) n t c fits =
+    placed_again version node task cycle (Read buffer) n t c fits
+action_again version node task cycle Pop n t c fits = placed_again version node task cycle Pop n t c fits
 
 again_fault : (version : Version) (fault : Fault) (cycles : FaultCycles) (place : FaultPlace) → IsSpelledFault fault
     → AreSpelledCycles cycles → IsSpelledPlace place
@@ -367,7 +248,7 @@ spelled_so word words plain short = record { plain = plain; short = short; cut =
 
 action_spelled : (version : Version) (node task cycle : ℕ) (action : Call) → node < 16 → task < 8 → IsRunCycle cycle
     → IsSpelledCall version action
-    → IsSpelledSo (call_words (decimal node) (decimal task) (decimal cycle) action)
+    → IsSpelledSo (placed_words node task cycle action)
 action_spelled version node task cycle (Commit buffer payload) node_fits task_fits cycle_fits bytes =
     let n = number_word 2 node (omega arith) (omega arith) (omega arith) in
     let t = number_word 1 task (omega arith) (omega arith) (omega arith) in
@@ -463,8 +344,8 @@ line_no_feed version l fits = has_no_feed-line_of (line_words l) (spelled versio
 
 -- ---- no line is `end`
 
-action_not_end : (node task cycle : List ℕ) (action : Call)
-    → bytes_eq (line_of (call_words node task cycle action)) end_line ≡ false
+action_not_end : (node task cycle : ℕ) (action : Call)
+    → bytes_eq (line_of (placed_words node task cycle action)) end_line ≡ false
 action_not_end node task cycle (Commit buffer payload) = refl
 action_not_end node task cycle (Withdraw buffer) = refl
 action_not_end node task cycle (Read buffer) = refl
@@ -477,5 +358,5 @@ fault_not_end cycles place (Mute node channel) = refl
 fault_not_end cycles place (Corrupt channel bit) = refl
 
 pub line_not_end : (l : SpelledLine) → bytes_eq (line_of (line_words l)) end_line ≡ false
-line_not_end (Host node task line) = action_not_end (decimal node) (decimal task) (decimal line.cycle) line.action
+line_not_end (Host node task line) = action_not_end node task line.cycle line.action
 line_not_end (FaultOf f) = fault_not_end (cycles_word f.cycles) (place_word f.place) f.fault

@@ -1,6 +1,7 @@
 pub mod Parts
 pub mod Spelling
 pub mod PartReading
+pub mod CallReading
 pub mod LineReading
 pub mod Spelled
 pub mod Contents

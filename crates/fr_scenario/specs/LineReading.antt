@@ -4,9 +4,8 @@ use Rattle.std.specs.Str.{bytes_eq}
 use Rattle.fr_bus.specs.declared.fault.Fault.{Fault}
 use Rattle.fr_bus.specs.declared.fault.Fault.TheVariants.{Babble, Mute, Corrupt}
 use Rattle.fr_interface.specs.declared.call.Call.{Call}
-use Rattle.fr_interface.specs.declared.call.Call.TheVariants.{Commit, Withdraw, Read, Pop}
 use Rattle.fr_frame.specs.Payload.{most_frame_bytes}
-use Rattle.fr_lines.specs.PartReading.{channel_in, payload_in}
+use Rattle.fr_lines.specs.PartReading.{channel_in}
 use Rattle.fr_runs.specs.declared.fault_line.FaultCycles.{FaultCycles}
 use Rattle.fr_runs.specs.declared.fault_line.FaultLine.{FaultLine}
 use Rattle.fr_runs.specs.declared.fault_line.FaultPlace.{FaultPlace}
@@ -14,6 +13,7 @@ use Rattle.fr_scenario.specs.declared.spelled.SpelledLine.{SpelledLine}
 use Rattle.fr_scenario.specs.declared.spelled.SpelledLine.TheVariants.{Host, Fault as FaultOf}
 use Rattle.fr_scenario.specs.declared.version.Version.{Version}
 use Rattle.fr_scenario.specs.declared.version.Version.TheVariants.{One, Two}
+use Rattle.fr_scenario.specs.CallReading.{call_in}
 use Rattle.fr_scenario.specs.PartReading.{run_cycle_in, cycles_in, place_in}
 use Rattle.fr_text.specs.Reading.{◌>>=◌, number_in, bytes_in}
 
@@ -23,43 +23,19 @@ use Rattle.fr_text.specs.Reading.{◌>>=◌, number_in, bytes_in}
 abbrev pub host_line : ℕ → ℕ → ℕ → Call → SpelledLine
 host_line node task cycle call = Host node task (record { cycle = cycle; action = call; answer = None })
 
-unfoldable pub commit_in : List (List ℕ) → Option SpelledLine
-commit_in (node ∷ task ∷ cycle ∷ buffer ∷ payload ∷ []) = do
-  n ← number_in 16 node
-  t ← number_in 8 task
-  c ← run_cycle_in cycle
-  b ← number_in 64 buffer
-  p ← payload_in payload
-  Some (host_line n t c (Commit b p))
-commit_in words = None
+-- version 1 has no withdraw
+unfoldable pub told_call_in : Version → List ℕ → List (List ℕ) → Option Call
+told_call_in One kind words = if bytes_eq kind (codes "withdraw") then None else call_in kind words
+told_call_in Two kind words = call_in kind words
 
--- version 1 has no such line
-unfoldable pub withdraw_in : Version → List (List ℕ) → Option SpelledLine
-withdraw_in One words = None
-withdraw_in Two (node ∷ task ∷ cycle ∷ buffer ∷ []) = do
+unfoldable pub host_in : Version → List ℕ → List (List ℕ) → Option SpelledLine
+host_in version kind (node ∷ task ∷ cycle ∷ words) = do
   n ← number_in 16 node
   t ← number_in 8 task
   c ← run_cycle_in cycle
-  b ← number_in 64 buffer
-  Some (host_line n t c (Withdraw b))
-withdraw_in Two words = None
-
-unfoldable pub read_in : List (List ℕ) → Option SpelledLine
-read_in (node ∷ task ∷ cycle ∷ buffer ∷ []) = do
-  n ← number_in 16 node
-  t ← number_in 8 task
-  c ← run_cycle_in cycle
-  b ← number_in 64 buffer
-  Some (host_line n t c (Read b))
-read_in words = None
-
-unfoldable pub pop_in : List (List ℕ) → Option SpelledLine
-pop_in (node ∷ task ∷ cycle ∷ []) = do
-  n ← number_in 16 node
-  t ← number_in 8 task
-  c ← run_cycle_in cycle
-  Some (host_line n t c Pop)
-pop_in words = None
+  call ← told_call_in version kind words
+  Some (host_line n t c call)
+host_in version kind words = None
 
 -- ---- faults
 
@@ -99,14 +75,10 @@ corrupt_in words = None
 unfoldable pub line_in : Version → List (List ℕ) → Option SpelledLine
 line_in version [] = None
 line_in version (kind ∷ words) =
-    if bytes_eq kind (codes "commit") then commit_in words
-    else if bytes_eq kind (codes "withdraw") then withdraw_in version words
-    else if bytes_eq kind (codes "read") then read_in words
-    else if bytes_eq kind (codes "pop") then pop_in words
-    else if bytes_eq kind (codes "babble") then babble_in words
+    if bytes_eq kind (codes "babble") then babble_in words
     else if bytes_eq kind (codes "mute") then mute_in words
     else if bytes_eq kind (codes "corrupt") then corrupt_in words
-    else None
+    else host_in version kind words
 
 -- ---- a fault line alone
 

@@ -14,16 +14,27 @@ use Rattle.fr_text.specs.Spelling.{hex_text}
 
 -- ---- the calls of tasks
 
-abbrev pub call_words : List ℕ → List ℕ → List ℕ → Call → List (List ℕ)
-call_words node task cycle (Commit buffer payload) =
-    codes "commit" ∷ node ∷ task ∷ cycle ∷ decimal buffer ∷ hex_text payload ∷ []
-call_words node task cycle (Withdraw buffer) = codes "withdraw" ∷ node ∷ task ∷ cycle ∷ decimal buffer ∷ []
-call_words node task cycle (Read buffer) = codes "read" ∷ node ∷ task ∷ cycle ∷ decimal buffer ∷ []
-call_words node task cycle Pop = codes "pop" ∷ node ∷ task ∷ cycle ∷ []
+abbrev pub kind_word : Call → List ℕ
+kind_word (Commit buffer payload) = codes "commit"
+kind_word (Withdraw buffer) = codes "withdraw"
+kind_word (Read buffer) = codes "read"
+kind_word Pop = codes "pop"
+
+-- the words after the kind
+abbrev pub call_words : Call → List (List ℕ)
+call_words (Commit buffer payload) = decimal buffer ∷ hex_text payload ∷ []
+call_words (Withdraw buffer) = decimal buffer ∷ []
+call_words (Read buffer) = decimal buffer ∷ []
+call_words Pop = []
+
+-- the call of a task of a node in a cycle
+abbrev pub placed_words : ℕ → ℕ → ℕ → Call → List (List ℕ)
+placed_words node task cycle call =
+    kind_word call ∷ decimal node ∷ decimal task ∷ decimal cycle ∷ call_words call
 
 -- its answer isn't spelled
 abbrev pub host_words : ℕ → ℕ → Line → List (List ℕ)
-host_words node task line = call_words (decimal node) (decimal task) (decimal line.cycle) line.action
+host_words node task line = placed_words node task line.cycle line.action
 
 -- ---- faults
 

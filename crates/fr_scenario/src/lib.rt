@@ -13,7 +13,7 @@
 //!
 //! # Definitions
 //!
-//! - `Contents`, `ScenarioText`, `Spelling`, `Parts`, `Spelled`, `LineReading`, `PartReading`, `Reading`: the contents
+//! - `Contents`, `ScenarioText`, `Spelling`, `Parts`, `Spelled`, `LineReading`, `CallReading`, `PartReading`, `Reading`: the contents
 //!   of a scenario, with the number of each fault line; its text, lines and first fault.
 //!
 //! Modules that follow the steps of the code, for private functions, with the module that has the meaning:
@@ -25,6 +25,7 @@
 //! The crate isn't part of `fr_trace`, which would have to wait for the bus and the world.
 #![tactic(auto)]
 
+pub mod calls;
 pub mod error;
 mod gathered;
 mod left;

@@ -1,9 +1,10 @@
 //! The lines between the first one and `end`.
 ghost use Rattle.std.specs.Prelude.{◌≡◌};
 ghost use Rattle.fr_text.specs.Spaces.{words_of};
-ghost use Rattle.fr_scenario.specs.LineReading.{commit_in, withdraw_in, read_in, pop_in, babble_in, mute_in};
+ghost use Rattle.fr_scenario.specs.LineReading.{told_call_in, host_in, babble_in, mute_in};
 ghost use Rattle.fr_scenario.specs.LineReading.{corrupt_in, host_line, line_in, fault_line_in};
 
+use crate::calls::call_of;
 use crate::parts::{cycles_of, place_of, run_cycle_of};
 use crate::spelled::SpelledLine;
 use crate::version::Version;
@@ -11,7 +12,7 @@ use fr_bus::fault::Fault;
 use fr_core::script::Line;
 use fr_frame::frame::FRAME_BYTES;
 use fr_interface::call::Call;
-use fr_lines::parts::{buffer_of, channel_of, node_of, payload_of, task_of};
+use fr_lines::parts::{channel_of, node_of, task_of};
 use fr_runs::fault_line::FaultLine;
 use fr_slots::numbers::{NodeId, TaskId};
 use fr_text::hexes::bytes_of;
@@ -33,59 +34,28 @@ fn host_line(node: NodeId, task: TaskId, cycle: u16, call: Call) -> SpelledLine
     }
 }
 
-/// Returns the commit that the words spell.
-#[tactic(auto, unfolding(crate::specs::LineReading::commit_in))]
-fn commit_of(words: &mut Words<'_>) -> Option<SpelledLine>
-    ensures { result ≡ commit_in words.old }
+/// Returns the call of a task that the words spell, if a scenario of the version has such a line.
+#[tactic(auto, unfolding(crate::specs::LineReading::told_call_in))]
+fn told_call_of(version: Version, kind: &[u8], words: &mut Words<'_>) -> Option<Call>
+    ensures { result ≡ told_call_in version kind.now words.old }
 {
-    let (node, task, cycle, buffer, payload) = words.five()?;
-    let node = node_of(node)?;
-    let task = task_of(task)?;
-    let cycle = run_cycle_of(cycle)?;
-    let buffer = buffer_of(buffer)?;
-    let payload = payload_of(payload)?;
-    Some(host_line(node, task, cycle, Call::Commit { buffer, payload }))
-}
-
-/// Returns the withdraw that the words spell, if the version has such a line.
-#[tactic(auto, unfolding(crate::specs::LineReading::withdraw_in))]
-fn withdraw_of(version: Version, words: &mut Words<'_>) -> Option<SpelledLine>
-    ensures { result ≡ withdraw_in version words.old }
-{
-    if version == Version::One {
+    if version == Version::One && kind == b"withdraw".as_slice() {
         return None;
     }
-    let (node, task, cycle, buffer) = words.four()?;
-    let node = node_of(node)?;
-    let task = task_of(task)?;
-    let cycle = run_cycle_of(cycle)?;
-    let buffer = buffer_of(buffer)?;
-    Some(host_line(node, task, cycle, Call::Withdraw { buffer }))
+    call_of(kind, words)
 }
 
-/// Returns the read that the words spell.
-#[tactic(auto, unfolding(crate::specs::LineReading::read_in))]
-fn read_of(words: &mut Words<'_>) -> Option<SpelledLine>
-    ensures { result ≡ read_in words.old }
+/// Returns the line of a task that the words spell, given its kind.
+#[tactic(auto, unfolding(crate::specs::LineReading::host_in))]
+fn host_of(version: Version, kind: &[u8], words: &mut Words<'_>) -> Option<SpelledLine>
+    ensures { result ≡ host_in version kind.now words.old }
 {
-    let (node, task, cycle, buffer) = words.four()?;
+    let (node, task, cycle) = words.next_three()?;
     let node = node_of(node)?;
     let task = task_of(task)?;
     let cycle = run_cycle_of(cycle)?;
-    let buffer = buffer_of(buffer)?;
-    Some(host_line(node, task, cycle, Call::Read { buffer }))
-}
-
-/// Returns the pop that the words spell.
-#[tactic(auto, unfolding(crate::specs::LineReading::pop_in))]
-fn pop_of(words: &mut Words<'_>) -> Option<SpelledLine>
-    ensures { result ≡ pop_in words.old }
-{
-    let (node, task, cycle) = words.three()?;
-    let node = node_of(node)?;
-    let task = task_of(task)?;
-    let cycle = run_cycle_of(cycle)?;
-    Some(host_line(node, task, cycle, Call::Pop))
+    let call = told_call_of(version, kind, words)?;
+    Some(host_line(node, task, cycle, call))
 }
 
 /// Returns the babble that the words spell.
@@ -156,18 +126,6 @@ pub(crate) fn line_of(version: Version, line: &[u8]) -> Option<SpelledLine>
 {
     let mut words = Words::new(line);
     let kind = words.next_word()?;
-    if kind == b"commit".as_slice() {
-        return commit_of(&mut words);
-    }
-    if kind == b"withdraw".as_slice() {
-        return withdraw_of(version, &mut words);
-    }
-    if kind == b"read".as_slice() {
-        return read_of(&mut words);
-    }
-    if kind == b"pop".as_slice() {
-        return pop_of(&mut words);
-    }
     if kind == b"babble".as_slice() {
         return babble_of(&mut words);
     }
@@ -177,7 +135,7 @@ pub(crate) fn line_of(version: Version, line: &[u8]) -> Option<SpelledLine>
     if kind == b"corrupt".as_slice() {
         return corrupt_of(&mut words);
     }
-    None
+    host_of(version, kind, &mut words)
 }
 
 /// Returns the fault line that a line of the newest version spells (project-defined).

@@ -5,9 +5,11 @@ use Rattle.fr_bus.specs.declared.fault.Fault.{Fault}
 use Rattle.fr_bus.specs.declared.fault.Fault.TheVariants.{Babble, Mute, Corrupt}
 use Rattle.fr_core.specs.declared.event.Event.{Event}
 use Rattle.fr_core.specs.declared.event.Event.TheVariants as event
+use Rattle.fr_core.specs.Steps.{event_of}
 use Rattle.fr_frame.specs.Payload.{most_frame_bytes}
-use Rattle.fr_lines.specs.PartReading.{channel_in, payload_in}
+use Rattle.fr_lines.specs.PartReading.{channel_in}
 use Rattle.fr_runs.specs.declared.fault_line.FaultLine.{FaultLine}
+use Rattle.fr_scenario.specs.CallReading.{call_in}
 use Rattle.fr_scenario.specs.LineReading.{fault_line_in}
 use Rattle.fr_session.specs.Lines.{longest_line}
 use Rattle.fr_session.specs.declared.request.Request.{Request}
@@ -17,45 +19,13 @@ use Rattle.fr_text.specs.Spaces.{words_of}
 
 -- ---- calls of tasks
 
-unfoldable pub commit_in : List (List ℕ) → Option Event
-commit_in (node ∷ task ∷ buffer ∷ payload ∷ []) = do
-  n ← number_in 16 node
-  t ← number_in 8 task
-  b ← number_in 64 buffer
-  p ← payload_in payload
-  Some (event.Commit n t b p)
-commit_in words = None
-
-unfoldable pub withdraw_in : List (List ℕ) → Option Event
-withdraw_in (node ∷ task ∷ buffer ∷ []) = do
-  n ← number_in 16 node
-  t ← number_in 8 task
-  b ← number_in 64 buffer
-  Some (event.Withdraw n t b)
-withdraw_in words = None
-
-unfoldable pub read_in : List (List ℕ) → Option Event
-read_in (node ∷ task ∷ buffer ∷ []) = do
-  n ← number_in 16 node
-  t ← number_in 8 task
-  b ← number_in 64 buffer
-  Some (event.Read n t b)
-read_in words = None
-
-unfoldable pub pop_in : List (List ℕ) → Option Event
-pop_in (node ∷ task ∷ []) = do
-  n ← number_in 16 node
-  t ← number_in 8 task
-  Some (event.Pop n t)
-pop_in words = None
-
 unfoldable pub host_request : List ℕ → List (List ℕ) → Option Event
-host_request kind words =
-    if bytes_eq kind (codes "commit") then commit_in words
-    else if bytes_eq kind (codes "withdraw") then withdraw_in words
-    else if bytes_eq kind (codes "read") then read_in words
-    else if bytes_eq kind (codes "pop") then pop_in words
-    else None
+host_request kind (node ∷ task ∷ words) = do
+  n ← number_in 16 node
+  t ← number_in 8 task
+  call ← call_in kind words
+  Some (event_of n t call)
+host_request kind words = None
 
 -- ---- steps of controllers
 

@@ -1,6 +1,6 @@
 //! Lines, read as requests.
 ghost use Rattle.std.specs.Prelude.{◌≡◌};
-ghost use Rattle.fr_session.specs.Reading.{commit_in, withdraw_in, read_in, pop_in, babble_in, mute_in, corrupt_in};
+ghost use Rattle.fr_session.specs.Reading.{babble_in, mute_in, corrupt_in};
 ghost use Rattle.fr_session.specs.Reading.{node_in, alone, run_in, record_in, report_in, trace_in, origin_in};
 ghost use Rattle.fr_session.specs.Reading.{host_request};
 ghost use Rattle.fr_session.specs.Reading.{step_of};
@@ -15,65 +15,13 @@ use crate::request::Request;
 use fr_bus::fault::Fault;
 use fr_core::event::Event;
 use fr_frame::frame::FRAME_BYTES;
-use fr_lines::parts::{buffer_of, channel_of, node_of, payload_of, task_of};
+use fr_lines::parts::{channel_of, node_of, task_of};
+use fr_scenario::calls::call_of;
 use fr_scenario::lines::fault_line_of;
 use fr_slots::numbers::NodeId;
 use fr_text::hexes::bytes_of;
 use fr_text::numbers::number_of;
 use fr_text::words::Words;
-
-/// Returns the commit that the words spell.
-#[tactic(auto, unfolding(crate::specs::Reading::commit_in))]
-fn commit_of(words: &mut Words<'_>) -> Option<Event>
-    ensures { result ≡ commit_in words.old }
-{
-    let (node, task, buffer, payload) = words.four()?;
-    let node = node_of(node)?;
-    let task = task_of(task)?;
-    let buffer = buffer_of(buffer)?;
-    let payload = payload_of(payload)?;
-    Some(Event::Commit {
-        node,
-        task,
-        buffer,
-        payload,
-    })
-}
-
-/// Returns the withdraw that the words spell.
-#[tactic(auto, unfolding(crate::specs::Reading::withdraw_in))]
-fn withdraw_of(words: &mut Words<'_>) -> Option<Event>
-    ensures { result ≡ withdraw_in words.old }
-{
-    let (node, task, buffer) = words.three()?;
-    let node = node_of(node)?;
-    let task = task_of(task)?;
-    let buffer = buffer_of(buffer)?;
-    Some(Event::Withdraw { node, task, buffer })
-}
-
-/// Returns the read that the words spell.
-#[tactic(auto, unfolding(crate::specs::Reading::read_in))]
-fn read_of(words: &mut Words<'_>) -> Option<Event>
-    ensures { result ≡ read_in words.old }
-{
-    let (node, task, buffer) = words.three()?;
-    let node = node_of(node)?;
-    let task = task_of(task)?;
-    let buffer = buffer_of(buffer)?;
-    Some(Event::Read { node, task, buffer })
-}
-
-/// Returns the pop that the words spell.
-#[tactic(auto, unfolding(crate::specs::Reading::pop_in))]
-fn pop_of(words: &mut Words<'_>) -> Option<Event>
-    ensures { result ≡ pop_in words.old }
-{
-    let (node, task) = words.two()?;
-    let node = node_of(node)?;
-    let task = task_of(task)?;
-    Some(Event::Pop { node, task })
-}
 
 /// Returns the babble that the words spell.
 #[tactic(auto, unfolding(crate::specs::Reading::babble_in))]
@@ -131,19 +79,12 @@ fn node_in(words: &mut Words<'_>) -> Option<NodeId>
 fn host_request(kind: &[u8], words: &mut Words<'_>) -> Option<Event>
     ensures { result ≡ host_request kind.now words.old }
 {
-    if kind == b"commit".as_slice() {
-        return commit_of(words);
-    }
-    if kind == b"withdraw".as_slice() {
-        return withdraw_of(words);
-    }
-    if kind == b"read".as_slice() {
-        return read_of(words);
-    }
-    if kind == b"pop".as_slice() {
-        return pop_of(words);
-    }
-    None
+    let node = words.next_word()?;
+    let task = words.next_word()?;
+    let node = node_of(node)?;
+    let task = task_of(task)?;
+    let call = call_of(kind, words)?;
+    Some(Event::of_call(node, task, call))
 }
 
 /// Returns the step of the controller of a node that this word names.

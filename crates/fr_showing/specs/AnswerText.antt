@@ -5,7 +5,6 @@ use Rattle.std.specs.Option.{option_and_then}
 use Rattle.fr_core.specs.declared.event.Reply.{Reply}
 use Rattle.fr_core.specs.declared.event.Reply.TheVariants.{Committed, Withdrawn, Frame, Window, Done}
 use Rattle.fr_interface.specs.declared.call.Call.{Call}
-use Rattle.fr_interface.specs.declared.call.Call.TheVariants as host_call
 use Rattle.fr_core.specs.Worlds.{WorldState}
 use Rattle.fr_frame.specs.Fields.{Fields}
 use Rattle.fr_interface.specs.State.{State}
@@ -15,6 +14,7 @@ use Rattle.fr_journal.specs.declared.entry.Origin.{Origin}
 use Rattle.fr_lines.specs.Parts.{absent}
 use Rattle.fr_lines.specs.Spelling.{line_text}
 use Rattle.fr_playing.specs.declared.call.ExecutedCall.{ExecutedCall}
+use Rattle.fr_scenario.specs.Spelling.{kind_word, call_words}
 use Rattle.fr_slots.specs.Admission.{letter_of}
 use Rattle.fr_slots.specs.declared.channel.Channel.{Channel}
 use Rattle.fr_text.specs.Spaces.{line_of}
@@ -41,12 +41,9 @@ channel_in (Some s) number = channel_at (slice_get s.entries number)
 
 -- ---- words
 
--- the call of a task, in the words of a scenario
-abbrev pub call_words : Call → List (List ℕ)
-call_words (host_call.Commit buffer payload) = codes "commit" ∷ decimal buffer ∷ hex_text payload ∷ []
-call_words (host_call.Withdraw buffer) = codes "withdraw" ∷ decimal buffer ∷ []
-call_words (host_call.Read buffer) = codes "read" ∷ decimal buffer ∷ []
-call_words host_call.Pop = codes "pop" ∷ []
+-- the call in the words of a scenario, without its places
+abbrev pub told_words : Call → List (List ℕ)
+told_words call = kind_word call ∷ call_words call
 
 abbrev pub channel_word : Option Channel → List ℕ
 channel_word None = absent
@@ -70,5 +67,5 @@ answer_words channel Done = absent ∷ []
 -- the node, the task, the cycle of the run, the call, and its answer
 abbrev pub answer_line : WorldState → ExecutedCall → List ℕ
 answer_line w call =
-    line_text (decimal call.node ∷ decimal call.task ∷ decimal call.cycle ∷ line_of (call_words call.call)
+    line_text (decimal call.node ∷ decimal call.task ∷ decimal call.cycle ∷ line_of (told_words call.call)
     ∷ codes "=" ∷ line_of (answer_words (channel_in (slice_get w.interfaces call.node) call.entry) call.reply) ∷ [])

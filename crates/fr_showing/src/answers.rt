@@ -3,7 +3,7 @@ ghost use Rattle.std.specs.Prelude.{◌≡◌, slice_get};
 ghost use Rattle.std.specs.List.{flat_map};
 ghost use Rattle.fr_text.specs.Spaces.{line_of};
 ghost use Rattle.fr_text.specs.Writing.{Writes};
-ghost use Rattle.fr_showing.specs.AnswerText.{call_words, answer_words, channel_word, answer_line, origin_of};
+ghost use Rattle.fr_showing.specs.AnswerText.{told_words, answer_words, channel_word, answer_line, origin_of};
 ghost use Rattle.fr_showing.specs.AnswerText.{channel_in, frame_words};
 
 use fr_core::event::Reply;
@@ -41,7 +41,7 @@ fn channel_of(world: &World, node: NodeId, number: u32) -> Option<Channel>
 
 /// Writes the call of a task.
 fn write_host_call<W: Write>(writer: &mut W, call: &Call) -> io::Result<()>
-    ensures { Writes W.contents writer.old writer.new result (line_of (call_words call.now)) }
+    ensures { Writes W.contents writer.old writer.new result (line_of (told_words call.now)) }
 {
     match call {
         Call::Commit { buffer, payload } => {

@@ -166,15 +166,24 @@ impl<'a> Words<'a> {
         }
     }
 
+    /// Takes the next three words, from left to right. `None` if fewer are left; these are then taken.
+    pub fn next_three(&mut self) -> Option<(&'a [u8], &'a [u8], &'a [u8])>
+        ensures found { IfSome result (λ words. self.old ≡ words.0.now ∷ words.1.now ∷ words.2.now ∷ self.new) }
+        ensures fewer { IfNone result (length self.old < 3) }
+    {
+        let first = self.next_word()?;
+        let second = self.next_word()?;
+        let third = self.next_word()?;
+        Some((first, second, third))
+    }
+
     /// Takes the next four words, from left to right. `None` if fewer are left; these are then taken.
     pub fn next_four(&mut self) -> Option<(&'a [u8], &'a [u8], &'a [u8], &'a [u8])>
         ensures found { IfSome result (λ words.
             self.old ≡ words.0.now ∷ words.1.now ∷ words.2.now ∷ words.3.now ∷ self.new) }
         ensures fewer { IfNone result (length self.old < 4) }
     {
-        let first = self.next_word()?;
-        let second = self.next_word()?;
-        let third = self.next_word()?;
+        let (first, second, third) = self.next_three()?;
         let fourth = self.next_word()?;
         Some((first, second, third, fourth))
     }
@@ -208,11 +217,9 @@ impl<'a> Words<'a> {
         ensures left { IfSome result (λ _. self.new ≡ []) }
         ensures other { IfNone result (length self.old ≢ 3) }
     {
-        let first = self.next_word()?;
-        let second = self.next_word()?;
-        let third = self.next_word()?;
+        let words = self.next_three()?;
         self.end()?;
-        Some((first, second, third))
+        Some(words)
     }
 
     /// Returns the four words that are left, from left to right. `None` if there are more or fewer.
