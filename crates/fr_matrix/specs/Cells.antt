@@ -18,6 +18,7 @@ use Rattle.fr_slots.specs.declared.channel.Channel.{Channel}
 use Rattle.fr_slots.specs.History.{each_after}
 use Rattle.fr_slots.specs.Parameters.{Parameters}
 use Rattle.fr_slots.specs.Windows.{slot_of}
+use Rattle.fr_svg.specs.Elements.{group_end, moved_front, rect_text, text_end}
 use Rattle.fr_text.specs.Spelling.{hex_text}
 
 -- ---- words
@@ -72,28 +73,20 @@ turned_text (Some bit) = codes "; bit " ++ (decimal bit ++ codes " turned")
 
 -- ---- a cell
 
-unfoldable pub box_text : ℕ → ℕ → List ℕ
-box_text left top =
-    codes "<rect x='" ++ (decimal left ++ (codes "' y='" ++ (decimal top ++ codes "' width='20' height='20'/>")))
-
 unfoldable pub label_text : Cell → List ℕ
 label_text c =
-    (codes "<text x='" ++ (decimal c.left ++ (codes "' y='" ++ (decimal c.top ++ codes "' dx='10' dy='14'>"))))
-    ++ sender_number c.sender ++ sign c.look ++ marks_letters c.marks ++ codes "</text>"
+    moved_front c.left c.top 10 14 ++ sender_number c.sender ++ sign c.look ++ marks_letters c.marks ++ text_end
 
-unfoldable pub close_text : List ℕ
-close_text = codes "</title>"
+unfoldable pub title_end : List ℕ
+title_end = codes "</title>"
 
 abbrev pub front_text : Cell → Channel → List Sent → Option ℕ → List ℕ
 front_text c channel sent turned =
-    head_text c ++ title_text c ++ flat_map (sent_on channel) sent ++ turned_text turned ++ close_text
-
-abbrev pub end_text : List ℕ
-end_text = codes "</g>" ++ codes "\n"
+    head_text c ++ title_text c ++ flat_map (sent_on channel) sent ++ turned_text turned ++ title_end
 
 abbrev pub cell_text : Cell → Channel → List Sent → Option ℕ → List ℕ
 cell_text c channel sent turned =
-    front_text c channel sent turned ++ box_text c.left c.top ++ label_text c ++ end_text
+    front_text c channel sent turned ++ rect_text c.left c.top 20 20 ++ label_text c ++ group_end
 
 -- ---- where a window stands
 

@@ -3,15 +3,16 @@
 ghost use Rattle.std.specs.Prelude.{◌≡◌, ◌≤◌, ◌<◌, ◌^◌, [], if◌then◌else◌};
 ghost use Rattle.std.specs.List.{flat_map};
 ghost use Rattle.fr_text.specs.Writing.{Writes};
-ghost use Rattle.fr_matrix.specs.Cells.{box_text, cell_text, close_text, fate_text, front_text, head_text};
+ghost use Rattle.fr_matrix.specs.Cells.{cell_text, fate_text, front_text, head_text};
 ghost use Rattle.fr_matrix.specs.Cells.{label_text, mark_text, marks_class};
 ghost use Rattle.fr_matrix.specs.Cells.{marks_letters, sender_class, sender_number, sent_on, sent_text, title_text};
-ghost use Rattle.fr_matrix.specs.Cells.{turned_text};
+ghost use Rattle.fr_matrix.specs.Cells.{title_end, turned_text};
 
 use crate::look::{Look, Marks, look_word, sign};
 use fr_bus::outcome::{Fate, Sent};
 use fr_slots::channel::Channel;
 use fr_slots::numbers::{NodeId, SlotId};
+use fr_svg::elements::{close_group, close_text, open_text, write_rect};
 use fr_text::hexes::write_hex;
 use std::io;
 use std::io::Write;
@@ -165,22 +166,11 @@ fn write_turned<W: Write>(writer: &mut W, turned: Option<u16>) -> io::Result<()>
 }
 
 /// Writes how its title ends.
-#[tactic(auto, unfolding(crate::specs::Cells::close_text))]
+#[tactic(auto, unfolding(crate::specs::Cells::title_end))]
 fn write_close<W: Write>(writer: &mut W) -> io::Result<()>
-    ensures { Writes W.contents writer.old writer.new result close_text }
+    ensures { Writes W.contents writer.old writer.new result title_end }
 {
     write!(writer, "</title>")
-}
-
-/// Writes its box.
-#[tactic(auto, unfolding(crate::specs::Cells::box_text))]
-fn write_box<W: Write>(writer: &mut W, left: u64, top: u64) -> io::Result<()>
-    ensures { Writes W.contents writer.old writer.new result (box_text left top) }
-{
-    write!(
-        writer,
-        "<rect x='{left}' y='{top}' width='20' height='20'/>"
-    )
 }
 
 /// Writes what stands in it: the sender's number, and signs for all that is to be read without colours.
@@ -188,12 +178,11 @@ fn write_box<W: Write>(writer: &mut W, left: u64, top: u64) -> io::Result<()>
 fn write_label<W: Write>(writer: &mut W, cell: &Cell) -> io::Result<()>
     ensures { Writes W.contents writer.old writer.new result (label_text cell.now) }
 {
-    let (left, top) = (cell.left, cell.top);
-    write!(writer, "<text x='{left}' y='{top}' dx='10' dy='14'>")?;
+    open_text(writer, cell.left, cell.top, 10, 14)?;
     write_sender_number(writer, cell.sender)?;
     writer.write_all(sign(cell.look).as_bytes())?;
     write_marks_letters(writer, cell.marks)?;
-    write!(writer, "</text>")
+    close_text(writer)
 }
 
 /// Writes what stands before its box: its classes, and its title.
@@ -226,7 +215,7 @@ pub fn write_cell<W: Write>(
     ensures { Writes W.contents writer.old writer.new result (cell_text cell.now channel all.now turned) }
 {
     write_front(writer, cell, channel, all, turned)?;
-    write_box(writer, cell.left, cell.top)?;
+    write_rect(writer, cell.left, cell.top, 20, 20)?;
     write_label(writer, cell)?;
-    writeln!(writer, "</g>")
+    close_group(writer)
 }

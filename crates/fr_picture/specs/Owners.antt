@@ -11,6 +11,7 @@ use Rattle.fr_slots.specs.Admission.{letter_of}
 use Rattle.fr_slots.specs.declared.channel.Channel.{Channel}
 use Rattle.fr_slots.specs.declared.channel.Channel.TheVariants.{A, B}
 use Rattle.fr_slots.specs.Parameters.{Parameters}
+use Rattle.fr_svg.specs.Elements.{group_end, moved_front, rect_text, text_end}
 
 -- ---- where a static slot begins, and where the next one does
 
@@ -22,17 +23,14 @@ end_of p slot = slot * p.static_mt
 
 -- ---- elements
 
-unfoldable pub box_text : ℕ → ℕ → Channel → List ℕ
-box_text left length channel =
-    codes "<rect x='" ++ (decimal left ++ (codes "' y='" ++ (decimal (row_of channel) ++ (codes "' width='"
-    ++ (decimal length ++ codes "' height='420'/>")))))
+abbrev pub box_text : ℕ → ℕ → Channel → List ℕ
+box_text left length channel = rect_text left (row_of channel) length 420
 
 -- left out where it doesn't fit
 unfoldable pub number_text : ℕ → ℕ → Channel → ℕ → List ℕ
 number_text left length channel node =
     if nat_lt length 150 then []
-    else codes "<text x='" ++ (decimal left ++ (codes "' y='" ++ (decimal (row_of channel) ++ (codes "' dx='"
-    ++ (decimal (length / 2) ++ (codes "' dy='260'>" ++ (decimal node ++ codes "</text>")))))))
+    else moved_front left (row_of channel) (length / 2) 260 ++ decimal node ++ text_end
 
 unfoldable pub owned_title : ℕ → Channel → ℕ → List ℕ
 owned_title slot channel node =
@@ -44,9 +42,6 @@ free_title slot channel =
     codes "<g class='free'><title>slot " ++ (decimal slot ++
     (codes " on " ++ (letter_of channel ++ codes ": nobody</title>")))
 
-abbrev pub end_text : List ℕ
-end_text = codes "</g>" ++ codes "\n"
-
 abbrev pub boxed : Parameters → ℕ → Channel → List ℕ
 boxed p slot channel = box_text (across p (start_of p slot)) (extent p (start_of p slot) (end_of p slot)) channel
 
@@ -57,11 +52,11 @@ numbered p slot channel node = number_text (across p (start_of p slot))
 -- a slot on a channel that the node owns in the cycle
 abbrev pub owned_element : Parameters → ℕ → Channel → ℕ → List ℕ
 owned_element p slot channel node =
-    owned_title slot channel node ++ boxed p slot channel ++ numbered p slot channel node ++ end_text
+    owned_title slot channel node ++ boxed p slot channel ++ numbered p slot channel node ++ group_end
 
 -- a slot on a channel that nobody owns in the cycle
 abbrev pub free_element : Parameters → ℕ → Channel → List ℕ
-free_element p slot channel = free_title slot channel ++ boxed p slot channel ++ end_text
+free_element p slot channel = free_title slot channel ++ boxed p slot channel ++ group_end
 
 -- ---- the static slots
 

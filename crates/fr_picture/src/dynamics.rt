@@ -5,6 +5,7 @@ use fr_schedule::cluster::Cluster;
 use fr_slots::channel::Channel;
 use fr_slots::numbers::{Cycle, LAST_SLOT, NodeId, SlotId};
 use fr_slots::plan::Buffer;
+use fr_svg::elements::{close_group, write_number, write_rect};
 use fr_timing::segments::{Segments, segments_of};
 use std::io;
 use std::io::Write;
@@ -94,13 +95,14 @@ fn write_numbers<W: Write>(
     let middle = cell.left.saturating_add(cell.length / 2);
     let (over, under) = (top.saturating_add(195), top.saturating_add(315));
     if cell.length >= SLOT_LENGTH {
-        write!(writer, "<text x='{middle}' y='{over}'>{slot}</text>")?;
-        write!(writer, "<text x='{middle}' y='{under}'>{node}</text>")
+        write_number(writer, middle, over, u64::from(slot.number()))?;
+        write_number(writer, middle, under, u64::from(node.number()))
     } else if cell.length >= NUMBER_LENGTH {
-        write!(
+        write_number(
             writer,
-            "<text x='{middle}' y='{}'>{node}</text>",
-            top.saturating_add(260)
+            middle,
+            top.saturating_add(260),
+            u64::from(node.number()),
         )
     } else {
         Ok(())
@@ -145,19 +147,16 @@ fn write_slot<W: Write>(
     if never_sends(cluster, node, channel) {
         write!(writer, ", never sent: the node's latest minislot is 0")?;
     }
-    write!(
+    write!(writer, "</title>")?;
+    write_rect(
         writer,
-        "</title><rect x='{left}' y='{}' ",
-        top.saturating_add(70)
-    )?;
-    write!(
-        writer,
-        "width='{}' height='{}'/>",
+        left,
+        top.saturating_add(70),
         cell.length,
-        CHANNEL_HEIGHT - 140
+        CHANNEL_HEIGHT - 140,
     )?;
     write_numbers(writer, slot, node, cell, top)?;
-    writeln!(writer, "</g>")
+    close_group(writer)
 }
 
 /// Writes the dynamic segment of a channel, in which the slots that have a sender share the room in their order.
@@ -182,8 +181,8 @@ pub(crate) fn write_dynamic<W: Write>(
         writer,
         "<g class='dynamic'><title>dynamic segment on {channel}</title>"
     )?;
-    write!(writer, "<rect x='{left}' y='{}' ", row_of(channel))?;
-    writeln!(writer, "width='{length}' height='{CHANNEL_HEIGHT}'/></g>")?;
+    write_rect(writer, left, row_of(channel), length, CHANNEL_HEIGHT)?;
+    close_group(writer)?;
     let count = count_senders(cluster, cycle, channel).max(1);
     let mut index: u64 = 0;
     for number in 1..=LAST_SLOT {

@@ -5,6 +5,7 @@ use crate::scale::{across, extent};
 use fr_guardian::guardian::Guardian;
 use fr_slots::channel::Channel;
 use fr_slots::numbers::{Cycle, NodeId};
+use fr_svg::elements::{close_group, write_rect};
 use std::alloc::Global;
 use std::io;
 use std::io::Write;
@@ -26,8 +27,8 @@ fn write_row<W: Write>(
             "<g class='open n{node}'><title>node {node} on {channel}: "
         )?;
         write!(writer, "open from {start} to {end}</title>")?;
-        write!(writer, "<rect x='{left}' y='{top}' ")?;
-        writeln!(writer, "width='{length}' height='150'/></g>")?;
+        write_rect(writer, left, top, length, 150)?;
+        close_group(writer)?;
     }
     Ok(())
 }

@@ -11,6 +11,7 @@ use fr_schedule::cluster::Cluster;
 use fr_slots::channel::Channel;
 use fr_slots::numbers::{Cycle, NodeId, SlotId};
 use fr_slots::params::Params;
+use fr_svg::elements::{close_group, close_text, open_text, write_rect};
 use std::io;
 use std::io::Write;
 
@@ -29,15 +30,10 @@ fn end_of(params: &Params, slot: SlotId) -> u32
 }
 
 /// Writes a box in the row of a channel.
-#[tactic(auto, unfolding(crate::specs::Owners::box_text))]
 fn write_box<W: Write>(writer: &mut W, left: u64, length: u64, channel: Channel) -> io::Result<()>
     ensures { Writes W.contents writer.old writer.new result (box_text left length channel) }
 {
-    let top = row_of(channel);
-    write!(
-        writer,
-        "<rect x='{left}' y='{top}' width='{length}' height='420'/>"
-    )
+    write_rect(writer, left, row_of(channel), length, 420)
 }
 
 /// Writes the number of a node into its box, where it fits.
@@ -54,11 +50,9 @@ fn write_number<W: Write>(
     if length < NUMBER_LENGTH {
         return Ok(());
     }
-    let (top, half) = (row_of(channel), length / 2);
-    write!(
-        writer,
-        "<text x='{left}' y='{top}' dx='{half}' dy='260'>{node}</text>"
-    )
+    open_text(writer, left, row_of(channel), length / 2, 260)?;
+    write!(writer, "{node}")?;
+    close_text(writer)
 }
 
 /// Writes how the element of a slot begins that a node owns.
@@ -103,7 +97,7 @@ fn write_owned<W: Write>(
     write_owned_title(writer, slot.number(), channel, node.number())?;
     write_box(writer, left, length, channel)?;
     write_number(writer, left, length, channel, node.number())?;
-    writeln!(writer, "</g>")
+    close_group(writer)
 }
 
 /// Writes the element of a static slot on the channel that nobody owns in the cycle.
@@ -119,7 +113,7 @@ fn write_free<W: Write>(
     let (left, length) = (across(params, start), extent(params, start, end));
     write_free_title(writer, slot.number(), channel)?;
     write_box(writer, left, length, channel)?;
-    writeln!(writer, "</g>")
+    close_group(writer)
 }
 
 /// Writes the element of a static slot on the channel, which names its owner in the cycle.

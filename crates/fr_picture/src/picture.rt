@@ -6,7 +6,7 @@ ghost use Rattle.fr_picture.specs.Owners.{AreOwnerTexts};
 ghost use Rattle.fr_picture.specs.Schedules.{Draws, IsPicture};
 
 use crate::dynamics::write_dynamic;
-use crate::frame::{write_axis, write_end, write_head, write_name, write_segments};
+use crate::frame::{write_axis, write_head, write_name, write_segments};
 use crate::guards::write_guards;
 use crate::owners::write_owners;
 use crate::scale::row_of;
@@ -17,6 +17,7 @@ use fr_guardian::guardian::Guardian;
 use fr_schedule::cluster::Cluster;
 use fr_slots::channel::Channel;
 use fr_slots::numbers::Cycle;
+use fr_svg::elements::close_picture;
 use std::alloc::Global;
 use std::io;
 use std::io::{Read, Write};
@@ -43,7 +44,7 @@ fn write_after(
         Ok(guardian) => write_guards(alloc, text, &guardian, cycle)?,
         Err(error) => return Err(io::Error::from(error)),
     }
-    write_end(text)
+    close_picture(text)
 }
 
 /// Returns the elements of the static slots.
