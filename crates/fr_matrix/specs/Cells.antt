@@ -1,5 +1,5 @@
--- The cells of a matrix: for each window of the record in which the channel has a slot, what was seen there and what
--- was sent (project-defined).
+-- The cells of a matrix: for each window of the record in which the channel has a slot, the observation and the
+-- transmissions there (project-defined).
 use Rattle.std.specs.Prelude.{◌≡◌, ℕ, ◌+◌, ◌-◌, ◌*◌, nat_lt, nat_le, Bool, ◌&&◌, List, [], ◌∷◌, ◌++◌}
 use Rattle.std.specs.Prelude.{length, codes, Option, Some, None, if◌then◌else◌}
 use Rattle.std.specs.Fmt.{decimal}
@@ -49,7 +49,7 @@ title_text c =
     codes "<title>cycle " ++ (decimal c.cycle ++ (codes ", slot " ++ (decimal c.slot ++ (codes ", window "
     ++ (decimal c.number ++ (codes ": " ++ look_word c.look))))))
 
--- ---- what was sent
+-- ---- transmissions
 
 abbrev pub fate_text : Fate → List ℕ
 fate_text Passed = codes ""
@@ -88,7 +88,7 @@ abbrev pub cell_text : Cell → Channel → List Sent → Option ℕ → List �
 cell_text c channel sent turned =
     front_text c channel sent turned ++ rect_text c.left c.top 20 20 ++ label_text c ++ group_end
 
--- ---- where a window stands
+-- ---- the place of a window
 
 -- the row of a window is its cycle of the run, its column the number of windows of that cycle before it
 abbrev pub cycle_of : List Recorded → Recorded → ℕ
@@ -121,7 +121,7 @@ cell_of p v cycle column slot r = record {
   marks = marks_in p v.channel r;
 }
 
--- none where the channel has no slot
+-- none if the channel has no slot
 abbrev pub slot_cell : Parameters → View → ℕ → ℕ → Recorded → Option ℕ → List ℕ
 slot_cell p v cycle column r None = []
 slot_cell p v cycle column r (Some slot) =
@@ -138,8 +138,8 @@ cell_after p v before r = cell_at p v (cycle_of before r) (column_of before r) r
 abbrev pub cells_text : Parameters → View → List Recorded → List ℕ
 cells_text p v recorded = each_after (cell_after p v) [] recorded
 
--- The cells stand one after another in the picture. What stands before and after them, as the style and the legend,
--- isn't told here.
+-- The cells stand one after another in the picture. Nothing is said of the parts before and after them, such as the
+-- style and the legend.
 pub record IsMatrix (p : Parameters) (v : View) (recorded : List Recorded) (text : List ℕ) : Type 0 where
   pub before : List ℕ
   pub after : List ℕ

@@ -17,28 +17,28 @@ use fr_text::hexes::write_hex;
 use std::io;
 use std::io::Write;
 
-/// What a cell of the matrix shows, and where (project-defined).
+/// The content of a cell of the matrix, and its place (project-defined).
 #[derive(Clone, Copy)]
 pub struct Cell {
-    /// How far it stands from the left.
+    /// The distance from the left.
     pub left: u64,
-    /// How far it stands from the top.
+    /// The distance from the top.
     pub top: u64,
     /// The cycle of the run.
     pub cycle: usize,
-    /// The slot that the channel has open.
+    /// The open slot of the channel.
     pub slot: SlotId,
     /// The number of the window.
     pub number: u32,
-    /// What was seen.
+    /// The observation.
     pub look: Look,
-    /// Who sent what passed first.
+    /// The sender of the first transmission that passed.
     pub sender: Option<NodeId>,
-    /// What became of all else.
+    /// The results of the other transmissions.
     pub marks: Marks,
 }
 
-/// Writes a word where something is so.
+/// Writes a word, if its condition holds.
 fn write_mark<W: Write>(writer: &mut W, is_so: bool, word: &'static str) -> io::Result<()>
     ensures { Writes W.contents writer.old writer.new result (mark_text is_so word.entry.now) }
 {
@@ -49,7 +49,7 @@ fn write_mark<W: Write>(writer: &mut W, is_so: bool, word: &'static str) -> io::
     }
 }
 
-/// Writes the classes of what became of all else.
+/// Writes the classes of the marks.
 #[tactic(auto, unfolding(crate::specs::Cells::marks_class))]
 fn write_marks_class<W: Write>(writer: &mut W, marks: Marks) -> io::Result<()>
     ensures { Writes W.contents writer.old writer.new result (marks_class marks) }
@@ -59,7 +59,7 @@ fn write_marks_class<W: Write>(writer: &mut W, marks: Marks) -> io::Result<()>
     write_mark(writer, marks.turned, " turned")
 }
 
-/// Writes the letters of what became of all else.
+/// Writes the letters of the marks.
 #[tactic(auto, unfolding(crate::specs::Cells::marks_letters))]
 fn write_marks_letters<W: Write>(writer: &mut W, marks: Marks) -> io::Result<()>
     ensures { Writes W.contents writer.old writer.new result (marks_letters marks) }
@@ -89,7 +89,7 @@ fn write_sender_number<W: Write>(writer: &mut W, sender: Option<NodeId>) -> io::
     }
 }
 
-/// Writes how a cell begins.
+/// Writes the front of a cell.
 #[tactic(auto, unfolding(crate::specs::Cells::head_text))]
 fn write_head<W: Write>(writer: &mut W, cell: &Cell) -> io::Result<()>
     ensures { Writes W.contents writer.old writer.new result (head_text cell.now) }
@@ -100,7 +100,7 @@ fn write_head<W: Write>(writer: &mut W, cell: &Cell) -> io::Result<()>
     write!(writer, "'>")
 }
 
-/// Writes how its title begins.
+/// Writes the front of its title.
 #[tactic(auto, unfolding(crate::specs::Cells::title_text))]
 fn write_title<W: Write>(writer: &mut W, cell: &Cell) -> io::Result<()>
     ensures { Writes W.contents writer.old writer.new result (title_text cell.now) }
@@ -112,7 +112,7 @@ fn write_title<W: Write>(writer: &mut W, cell: &Cell) -> io::Result<()>
     )
 }
 
-/// Returns the words of what became of a transmission.
+/// Returns the words for the result of a transmission.
 fn fate_text(fate: Fate) -> &'static str
     ensures { result.now ≡ fate_text fate }
 {
@@ -145,7 +145,7 @@ fn write_sent_on<W: Write>(writer: &mut W, channel: Channel, sent: &Sent) -> io:
     }
 }
 
-/// Writes what was sent on the channel.
+/// Writes all transmissions on the channel.
 fn write_all_sent<W: Write>(writer: &mut W, channel: Channel, all: &[Sent]) -> io::Result<()>
     ensures { Writes W.contents writer.old writer.new result (flat_map (sent_on channel) all.now) }
 {
@@ -155,7 +155,7 @@ fn write_all_sent<W: Write>(writer: &mut W, channel: Channel, all: &[Sent]) -> i
     Ok(())
 }
 
-/// Writes which bit a fault turned.
+/// Writes the bit that a fault flipped, if there is one.
 fn write_turned<W: Write>(writer: &mut W, turned: Option<u16>) -> io::Result<()>
     ensures { Writes W.contents writer.old writer.new result (turned_text turned) }
 {
@@ -165,7 +165,7 @@ fn write_turned<W: Write>(writer: &mut W, turned: Option<u16>) -> io::Result<()>
     }
 }
 
-/// Writes how its title ends.
+/// Writes the end of its title.
 #[tactic(auto, unfolding(crate::specs::Cells::title_end))]
 fn write_close<W: Write>(writer: &mut W) -> io::Result<()>
     ensures { Writes W.contents writer.old writer.new result title_end }
@@ -173,7 +173,7 @@ fn write_close<W: Write>(writer: &mut W) -> io::Result<()>
     write!(writer, "</title>")
 }
 
-/// Writes what stands in it: the sender's number, and signs for all that is to be read without colours.
+/// Writes its label: the sender's number, and the signs by which it is read without colours.
 #[tactic(auto, unfolding(crate::specs::Cells::label_text))]
 fn write_label<W: Write>(writer: &mut W, cell: &Cell) -> io::Result<()>
     ensures { Writes W.contents writer.old writer.new result (label_text cell.now) }
@@ -185,7 +185,7 @@ fn write_label<W: Write>(writer: &mut W, cell: &Cell) -> io::Result<()>
     close_text(writer)
 }
 
-/// Writes what stands before its box: its classes, and its title.
+/// Writes the part before its box: its classes, and its title.
 fn write_front<W: Write>(
     writer: &mut W,
     cell: &Cell,
@@ -202,9 +202,9 @@ fn write_front<W: Write>(
     write_close(writer)
 }
 
-/// Writes a cell, with all that was sent on the channel and the bit that was turned (project-defined).
+/// Writes a cell, with all transmissions on the channel and the flipped bit (project-defined).
 ///
-/// Fails where the writer fails, and then a part of it may have gone out.
+/// Fails if the writer fails, which may have written a part by then.
 pub fn write_cell<W: Write>(
     writer: &mut W,
     cell: &Cell,

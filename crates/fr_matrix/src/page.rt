@@ -1,4 +1,4 @@
-//! What stands round the cells of a matrix: its style, the numbers of its rows and columns, and the legend.
+//! The parts around the cells of a matrix: its style, the numbers of its rows and columns, and the legend.
 
 use crate::cells::{MOST_CYCLES, MOST_WINDOWS, across, down};
 use crate::view::View;
@@ -55,7 +55,7 @@ const LEGEND: [&str; 3] = [
     "b a guardian stopped a transmission, l a fault lost one, t a fault turned a bit. Each cell has a title with all that was sent.",
 ];
 
-/// How many cycles began in the record, and how many windows the longest of those has that are drawn.
+/// The extent of a record: its cycles, those that are drawn, and the numbers of windows of the longest cycles.
 #[derive(Clone, Copy)]
 struct Extent {
     cycles: usize,
@@ -64,7 +64,7 @@ struct Extent {
     longest: usize,
 }
 
-/// Returns how far the record goes.
+/// Returns the extent of the record.
 fn extent_of(view: &View, recorded: &[Sealed]) -> Extent {
     let from = usize::from(view.from);
     let (mut cycles, mut windows, mut most, mut longest): (usize, usize, usize, usize) = (
@@ -89,7 +89,7 @@ fn extent_of(view: &View, recorded: &[Sealed]) -> Extent {
     }
 }
 
-/// Writes what the picture is of.
+/// Writes the subject of the picture.
 fn write_subject<W: Write>(writer: &mut W, view: &View) -> io::Result<()> {
     match view.node {
         Some(node) => write!(writer, "What node {node} saw on channel {}", view.channel),
@@ -97,7 +97,7 @@ fn write_subject<W: Write>(writer: &mut W, view: &View) -> io::Result<()> {
     }
 }
 
-/// Writes which of the cycles and windows are drawn, and how the others are.
+/// Writes which cycles and windows are drawn, and the option that shows more.
 fn write_scope<W: Write>(writer: &mut W, view: &View, extent: &Extent) -> io::Result<()> {
     let last = u64::from(view.from).saturating_add(extent.drawn as u64);
     if extent.drawn == 0 {
@@ -120,7 +120,7 @@ fn write_scope<W: Write>(writer: &mut W, view: &View, extent: &Extent) -> io::Re
     Ok(())
 }
 
-/// Writes how a picture begins.
+/// Writes the front of a picture.
 fn write_begin<W: Write>(writer: &mut W, view: &View, extent: &Extent) -> io::Result<()> {
     let width = across(extent.windows.min(MOST_WINDOWS))
         .max(760)
@@ -141,7 +141,7 @@ fn write_begin<W: Write>(writer: &mut W, view: &View, extent: &Extent) -> io::Re
     close_group(writer)
 }
 
-/// Writes the numbers of the columns: the static slots, and then a minislot or what comes after them.
+/// Writes the numbers of the static slots above their columns, and a heading above those of the dynamic segment.
 fn write_columns<W: Write>(writer: &mut W, params: &Params, windows: usize) -> io::Result<()> {
     open_group(writer, "axis", "static slots")?;
     for column in 0..windows.min(MOST_WINDOWS) {
@@ -172,7 +172,7 @@ fn write_rows<W: Write>(writer: &mut W, view: &View, drawn: usize) -> io::Result
     close_group(writer)
 }
 
-/// Writes what stands before the cells.
+/// Writes the part before the cells.
 pub(crate) fn write_before<W: Write>(
     writer: &mut W,
     params: &Params,
@@ -185,7 +185,7 @@ pub(crate) fn write_before<W: Write>(
     write_rows(writer, view, extent.drawn)
 }
 
-/// Writes what stands after them.
+/// Writes the part after the cells.
 pub(crate) fn write_after<W: Write>(
     writer: &mut W,
     view: &View,

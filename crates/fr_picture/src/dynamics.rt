@@ -10,7 +10,7 @@ use fr_timing::segments::{Segments, segments_of};
 use std::io;
 use std::io::Write;
 
-/// What the number of a slot takes that is written into a box.
+/// The length of a box that has room for the number of a slot.
 const SLOT_LENGTH: u64 = 300;
 
 /// The place of a slot among those of the segment: its left end, and its length.
@@ -35,7 +35,7 @@ fn sender_in(
     Some((slot, node))
 }
 
-/// Returns how many dynamic slots of the channel have a sender in the cycle.
+/// Returns the number of dynamic slots of the channel that have a sender in the cycle.
 fn count_senders(cluster: &Cluster, cycle: Cycle, channel: Channel) -> u64 {
     let mut count: u64 = 0;
     for number in 1..=LAST_SLOT {
@@ -62,7 +62,7 @@ fn buffer_for(
     None
 }
 
-/// Writes what a buffer sends: its words, base and repetition.
+/// Writes the payload length of a buffer in two-byte words, and its base and repetition.
 fn write_buffer<W: Write>(writer: &mut W, buffer: &Buffer) -> io::Result<()> {
     if let Some(words) = buffer.words {
         write!(writer, ", {words} words")?;
@@ -84,7 +84,7 @@ fn never_sends(cluster: &Cluster, node: NodeId, channel: Channel) -> bool {
     }
 }
 
-/// Writes the numbers of the slot and of its node into a cell, where they fit.
+/// Writes the numbers of the slot and of its node into a cell, if they fit.
 fn write_numbers<W: Write>(
     writer: &mut W,
     slot: SlotId,
@@ -109,7 +109,7 @@ fn write_numbers<W: Write>(
     }
 }
 
-/// Writes how the element of a dynamic slot begins.
+/// Writes the front of the element of a dynamic slot.
 fn write_sender<W: Write>(
     writer: &mut W,
     cluster: &Cluster,
@@ -129,7 +129,7 @@ fn write_sender<W: Write>(
     write!(writer, " on {channel}: node {node}")
 }
 
-/// Writes the element of a dynamic slot, whose cell says nothing of when it comes.
+/// Writes the element of a dynamic slot. The place of its cell isn't the time of the slot.
 fn write_slot<W: Write>(
     writer: &mut W,
     cluster: &Cluster,
@@ -159,7 +159,7 @@ fn write_slot<W: Write>(
     close_group(writer)
 }
 
-/// Writes the dynamic segment of a channel, in which the slots that have a sender share the room in their order.
+/// Writes the dynamic segment of a channel, in which the slots with a sender share the room in their order.
 pub(crate) fn write_dynamic<W: Write>(
     writer: &mut W,
     cluster: &Cluster,

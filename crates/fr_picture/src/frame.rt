@@ -1,4 +1,4 @@
-//! What stands round the slots of a picture: its style, the segments of the cycle, and the names of the rows.
+//! The frame of a picture: its style, the segments of the cycle, and the names of the rows.
 
 use crate::scale::{LEFT, across, extent};
 use fr_schedule::cluster::Cluster;
@@ -12,13 +12,13 @@ use fr_timing::segments::{Segments, segments_of};
 use std::io;
 use std::io::Write;
 
-/// How far the first row of the guardians stands from the top.
+/// The distance of the first row of the guardians from the top.
 pub(crate) const GUARDS_TOP: u64 = 2300;
 
-/// What the number of a slot takes over its box.
+/// The length that the number of a slot takes above its box.
 const AXIS_LENGTH: u64 = 220;
 
-/// How far one row of them stands from the next.
+/// The distance from one row of the guardians to the next.
 pub(crate) const GUARD_PITCH: u64 = 180;
 
 /// The rules in front of those for the nodes.
@@ -71,7 +71,7 @@ fn write_stripes<W: Write>(writer: &mut W) -> io::Result<()> {
     writeln!(writer, "</defs>")
 }
 
-/// Writes how far boxes stand apart: less where static slots are short, so that these are seen.
+/// Writes the gap between boxes, which is smaller if static slots are short, so that they can be seen.
 fn write_gaps<W: Write>(writer: &mut W, params: &Params) -> io::Result<()> {
     let gap = (extent(params, 0, u32::from(params.static_mt)) / 12).min(6);
     writer.write_all(b"<style>rect{stroke-width:")?;
@@ -79,7 +79,7 @@ fn write_gaps<W: Write>(writer: &mut W, params: &Params) -> io::Result<()> {
     writer.write_all(b"}</style>\n")
 }
 
-/// Writes how a picture begins, up to its first row.
+/// Writes the front of a picture, up to its first row.
 pub(crate) fn write_head<W: Write>(
     writer: &mut W,
     cluster: &Cluster,
@@ -108,7 +108,7 @@ pub(crate) fn write_head<W: Write>(
     writeln!(writer, "{} {name}</text></g>", cluster.nodes())
 }
 
-/// Writes a segment of the cycle with its name, where it has any macroticks.
+/// Writes a segment of the cycle with its name, if it has any macroticks.
 fn write_segment<W: Write>(
     writer: &mut W,
     params: &Params,
@@ -124,7 +124,7 @@ fn write_segment<W: Write>(
     write!(writer, "<g class='{class}'><title>{name}: ")?;
     write!(writer, "macroticks {start} to {end}</title>")?;
     write_rect(writer, left, 620, length, 260)?;
-    // So many letters fit that take some 65 each.
+    // A letter takes about 65.
     if length / 65 >= name.len() as u64 {
         let middle = left.saturating_add(length / 2);
         write_text(writer, middle, 790, name)?;
@@ -132,7 +132,7 @@ fn write_segment<W: Write>(
     close_group(writer)
 }
 
-/// Writes the number of a macrotick over the segments, and gives where the next one fits.
+/// Writes the number of a macrotick above the segments, and returns the place at which the next one fits.
 fn write_tick<W: Write>(
     writer: &mut W,
     params: &Params,
@@ -149,7 +149,7 @@ fn write_tick<W: Write>(
     Ok(left.saturating_add(400))
 }
 
-/// Writes the four segments of the cycle, and where they begin.
+/// Writes the four segments of the cycle, and the macroticks at which they begin.
 pub(crate) fn write_segments<W: Write>(writer: &mut W, params: &Params) -> io::Result<()> {
     let Segments {
         dynamic,
@@ -175,7 +175,7 @@ pub(crate) fn write_segments<W: Write>(writer: &mut W, params: &Params) -> io::R
     Ok(())
 }
 
-/// Of how many static slots one has its number written: so many that a number has room.
+/// Returns the number of static slots of which one has its number written, so that the numbers have room.
 fn axis_step(params: &Params) -> u16 {
     let length = extent(params, 0, u32::from(params.static_mt));
     for step in [1, 2, 5, 10, 20, 50, 100, 200, 500] {
@@ -186,7 +186,7 @@ fn axis_step(params: &Params) -> u16 {
     1000
 }
 
-/// Writes the numbers of the static slots over their boxes.
+/// Writes the numbers of the static slots above their boxes.
 pub(crate) fn write_axis<W: Write>(writer: &mut W, params: &Params) -> io::Result<()> {
     let step = axis_step(params).max(1);
     open_group(writer, "axis", "static slots")?;
@@ -206,7 +206,7 @@ pub(crate) fn write_axis<W: Write>(writer: &mut W, params: &Params) -> io::Resul
     close_group(writer)
 }
 
-/// Writes the name of a row, whose middle stands so far from the top.
+/// Writes the name of a row with its middle at a distance from the top.
 pub(crate) fn write_name<W: Write>(writer: &mut W, top: u64, name: &str) -> io::Result<()> {
     let (left, foot) = (LEFT - 80, top.saturating_add(40));
     open_group(writer, "name", name)?;

@@ -1,4 +1,4 @@
-//! When each channel is open to each node in the cycle.
+//! The intervals of the cycle in which each channel is open to each node.
 
 use crate::frame::{GUARD_PITCH, GUARDS_TOP, write_name};
 use crate::scale::{across, extent};
@@ -33,7 +33,7 @@ fn write_row<W: Write>(
     Ok(())
 }
 
-/// Writes the rows of all nodes, of each that of channel A before that of channel B.
+/// Writes the rows of all nodes; in each node that of channel A before that of channel B.
 pub(crate) fn write_guards(
     alloc: Global,
     text: &mut Vec<u8>,

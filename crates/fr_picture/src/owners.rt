@@ -22,7 +22,7 @@ fn start_of(params: &Params, slot: SlotId) -> u32
     u32::from(slot.number() - 1) * u32::from(params.static_mt)
 }
 
-/// Returns the macrotick at which the slot after it begins.
+/// Returns the macrotick at which the slot after this one begins.
 fn end_of(params: &Params, slot: SlotId) -> u32
     ensures { result ≡ end_of params.now slot }
 {
@@ -36,7 +36,7 @@ fn write_box<W: Write>(writer: &mut W, left: u64, length: u64, channel: Channel)
     write_rect(writer, left, row_of(channel), length, 420)
 }
 
-/// Writes the number of a node into its box, where it fits.
+/// Writes the number of a node into its box, if it fits.
 #[tactic(auto, unfolding(crate::specs::Owners::number_text))]
 fn write_number<W: Write>(
     writer: &mut W,
@@ -55,7 +55,7 @@ fn write_number<W: Write>(
     close_text(writer)
 }
 
-/// Writes how the element of a slot begins that a node owns.
+/// Writes the front of the element of a slot that a node owns.
 #[tactic(auto, unfolding(crate::specs::Owners::owned_title))]
 fn write_owned_title<W: Write>(
     writer: &mut W,
@@ -71,7 +71,7 @@ fn write_owned_title<W: Write>(
     )
 }
 
-/// Writes how the element of a slot begins that nobody owns in the cycle.
+/// Writes the front of the element of a slot that has no owner in the cycle.
 #[tactic(auto, unfolding(crate::specs::Owners::free_title))]
 fn write_free_title<W: Write>(writer: &mut W, slot: u16, channel: Channel) -> io::Result<()>
     ensures { Writes W.contents writer.old writer.new result (free_title slot channel) }
@@ -100,7 +100,7 @@ fn write_owned<W: Write>(
     close_group(writer)
 }
 
-/// Writes the element of a static slot on the channel that nobody owns in the cycle.
+/// Writes the element of a static slot on the channel that has no owner in the cycle.
 fn write_free<W: Write>(
     writer: &mut W,
     params: &Params,
@@ -133,10 +133,12 @@ fn write_owner<W: Write>(
     }
 }
 
-/// Writes the elements of the static slots, each with the node that the sender table has for it in the cycle, and of
-/// each slot that on channel A before that on channel B (chapter 5; the picture is project-defined).
+/// Writes the elements of the static slots, each with its owner (chapter 5; the picture is project-defined).
 ///
-/// Fails where the writer fails, and then a part of them may have gone out.
+/// The owner is the node that the sender table has for the slot in the cycle. In each slot the element on channel A
+/// stands before that on channel B.
+///
+/// Fails if the writer fails, which may have written a part by then.
 pub fn write_owners<W: Write>(writer: &mut W, cluster: &Cluster, cycle: Cycle) -> io::Result<()>
     ensures { OnOk result
         (Adds

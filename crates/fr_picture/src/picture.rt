@@ -22,7 +22,7 @@ use std::alloc::Global;
 use std::io;
 use std::io::{Read, Write};
 
-/// Writes what stands before the static slots.
+/// Writes the part before the static slots.
 fn write_before<W: Write>(writer: &mut W, cluster: &Cluster, cycle: Cycle) -> io::Result<()> {
     write_head(writer, cluster, cycle)?;
     write_segments(writer, cluster.params())?;
@@ -31,7 +31,7 @@ fn write_before<W: Write>(writer: &mut W, cluster: &Cluster, cycle: Cycle) -> io
     write_name(writer, row_of(Channel::B).saturating_add(210), "channel B")
 }
 
-/// Writes what stands after the static slots.
+/// Writes the part after the static slots.
 fn write_after(
     alloc: Global,
     text: &mut Vec<u8>,
@@ -63,9 +63,13 @@ fn owners_of(alloc: Global, cluster: &Cluster, cycle: Cycle) -> Result<Vec<u8>, 
 
 /// Returns the picture of a cycle: an SVG text (project-defined).
 ///
-/// It has the four segments of the cycle, for each channel the static slots with their owners and the dynamic slots
-/// that have a sender, and for each node and channel the intervals in which its guardian is open, all of them in this
-/// cycle. Refused with `Memory` alone.
+/// All its parts are of this cycle:
+///
+/// - the four segments;
+/// - for each channel, the static slots with their owners, and the dynamic slots with a sender;
+/// - for each node and channel, the intervals in which its guardian is open.
+///
+/// The only error is `Memory`.
 pub fn picture_of(alloc: Global, cluster: &Cluster, cycle: Cycle) -> Result<Vec<u8>, BenchError>
     ensures picture { IfOk result (λ text. IsPicture cluster.now cycle text.items) }
     ensures refused { IfErr result (λ e. e ≡ refusal.Memory) }
@@ -90,7 +94,7 @@ pub fn picture_of(alloc: Global, cluster: &Cluster, cycle: Cycle) -> Result<Vec<
 
 /// Reads a cluster file to its end, and writes a picture of one of its cycles (project-defined).
 ///
-/// Refused as `check` is. On every refusal but `Write` nothing is written.
+/// The errors are those of `check`. Every error but `Write` leaves the writer unchanged.
 pub fn show_schedule<R: Read, W: Write>(
     alloc: Global,
     reader: &mut R,
