@@ -38,7 +38,7 @@ pub(crate) fn down(row: usize) -> u64
     90 + 22 * (row as u64)
 }
 
-/// Returns whether a window of this cycle of the run is drawn, which `column` windows of the cycle precede.
+/// Returns whether a window of this cycle of the run and of this column is drawn.
 fn is_drawn(view: &View, cycle: usize, column: usize) -> bool
     ensures { result ≡ is_drawn view.now cycle column }
 {

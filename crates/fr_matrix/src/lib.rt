@@ -6,7 +6,7 @@
 //! matrix_of(alloc, cluster.params(), world.bus().record(), &view)?; // an SVG picture
 //! ```
 //!
-//! *(project-defined)* marks a rule of this project's own, which says nothing of the standard.
+//! *(project-defined)* marks a rule of this project, and makes no claim about the standard.
 //!
 //! # Definitions
 //!

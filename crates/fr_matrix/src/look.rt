@@ -86,7 +86,7 @@ pub fn look_in(params: &Params, view: &View, sealed: &Sealed) -> Look
     look_of(view.channel, &sight)
 }
 
-/// Returns the sender of the first transmission that passed on the channel, if any did (project-defined).
+/// Returns the sender of the first transmission that passed on the channel (project-defined).
 pub fn sender_in(channel: Channel, sent: &[Sent]) -> Option<NodeId>
     ensures { result ≡ sender_in channel sent.now }
 {
@@ -124,7 +124,7 @@ fn any_lost(channel: Channel, sent: &[Sent]) -> bool
     sent.iter().any(|t| is_lost(channel, t))
 }
 
-/// Returns the bit that a fault flipped in the bytes that came through on the channel, if any (project-defined).
+/// Returns the bit that a fault flipped in the bytes on the channel, if any (project-defined).
 pub fn turned_bit(params: &Params, channel: Channel, sealed: &Sealed) -> Option<u16>
     ensures { result ≡ turned_bit params.now channel sealed.now }
 {

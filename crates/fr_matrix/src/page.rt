@@ -55,7 +55,7 @@ const LEGEND: [&str; 3] = [
     "b a guardian stopped a transmission, l a fault lost one, t a fault turned a bit. Each cell has a title with all that was sent.",
 ];
 
-/// The extent of a record: its cycles, those that are drawn, and the numbers of windows of the longest cycles.
+/// The extent of a record: its cycles, the drawn ones, and the windows of the longest cycles.
 #[derive(Clone, Copy)]
 struct Extent {
     cycles: usize,
@@ -141,7 +141,7 @@ fn write_begin<W: Write>(writer: &mut W, view: &View, extent: &Extent) -> io::Re
     close_group(writer)
 }
 
-/// Writes the numbers of the static slots above their columns, and a heading above those of the dynamic segment.
+/// Writes the numbers of the static slots, and a heading above the dynamic segment.
 fn write_columns<W: Write>(writer: &mut W, params: &Params, windows: usize) -> io::Result<()> {
     open_group(writer, "axis", "static slots")?;
     for column in 0..windows.min(MOST_WINDOWS) {

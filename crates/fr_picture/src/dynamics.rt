@@ -159,7 +159,7 @@ fn write_slot<W: Write>(
     close_group(writer)
 }
 
-/// Writes the dynamic segment of a channel, in which the slots with a sender share the room in their order.
+/// Writes the dynamic segment of a channel, in which the slots with a sender share the room.
 pub(crate) fn write_dynamic<W: Write>(
     writer: &mut W,
     cluster: &Cluster,

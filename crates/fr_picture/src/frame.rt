@@ -132,7 +132,7 @@ fn write_segment<W: Write>(
     close_group(writer)
 }
 
-/// Writes the number of a macrotick above the segments, and returns the place at which the next one fits.
+/// Writes the number of a macrotick above the segments, and returns the next one's first place.
 fn write_tick<W: Write>(
     writer: &mut W,
     params: &Params,
@@ -175,7 +175,7 @@ pub(crate) fn write_segments<W: Write>(writer: &mut W, params: &Params) -> io::R
     Ok(())
 }
 
-/// Returns the number of static slots of which one has its number written, so that the numbers have room.
+/// Returns the step between the static slots whose numbers are written, so that these have room.
 fn axis_step(params: &Params) -> u16 {
     let length = extent(params, 0, u32::from(params.static_mt));
     for step in [1, 2, 5, 10, 20, 50, 100, 200, 500] {

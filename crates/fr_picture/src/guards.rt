@@ -10,7 +10,7 @@ use std::alloc::Global;
 use std::io;
 use std::io::Write;
 
-/// Writes the row of a node and a channel: an element for each interval of the cycle in which its guardian is open.
+/// Writes the row of a node and a channel: an element for each interval in which the guardian is open.
 fn write_row<W: Write>(
     writer: &mut W,
     guardian: &Guardian,

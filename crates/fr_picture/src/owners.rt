@@ -133,10 +133,10 @@ fn write_owner<W: Write>(
     }
 }
 
-/// Writes the elements of the static slots, each with its owner (chapter 5; the picture is project-defined).
+/// Writes the elements of the static slots, each with its owner (chapter 5).
 ///
-/// The owner is the node that the sender table has for the slot in the cycle. In each slot the element on channel A
-/// stands before that on channel B.
+/// The picture is project-defined. The owner is the node that the sender table has for the slot in the cycle. In each
+/// slot the element on channel A stands before that on channel B.
 ///
 /// Fails if the writer fails, which may have written a part by then.
 pub fn write_owners<W: Write>(writer: &mut W, cluster: &Cluster, cycle: Cycle) -> io::Result<()>

@@ -11,7 +11,7 @@
 //!
 //! All attributes stand in single quotes. Texts and classes are written as they are, so they have no `<`, `&` or `'`.
 //!
-//! *(project-defined)* marks a rule of this project's own, which says nothing of the standard.
+//! *(project-defined)* marks a rule of this project, and makes no claim about the standard.
 //!
 //! # Definitions
 //!
