@@ -17,7 +17,7 @@ pub enum BenchOrder<'a> {
     Audit,
     /// Read the cluster file of this name and print the line of its parameters.
     Check(&'a str),
-    /// Read the cluster file of this name and print the sender of each slot and the open windows of the guardians.
+    /// Read the cluster file of this name and print the senders and the guardians' open windows.
     Plan(&'a str),
     /// Read numbers on standard input and print their fault-tolerant midpoint.
     Midpoint,

@@ -11,7 +11,7 @@
 //! let mut output = WaitingWriter::new(&rt, io::writer(&rt));
 //! ```
 //!
-//! *(project-defined)* marks a project-defined rule, which the standard doesn't have.
+//! *(project-defined)* marks a rule of this project, and makes no claim about the standard.
 //!
 //! # Definitions
 //!

@@ -123,7 +123,7 @@ fn flag<'a>(alloc: Global, name: &'a str) -> Arg<'a>
     Arg::new(alloc, name).long(name).action(ArgAction::SetTrue)
 }
 
-/// Returns a command that reads a trace, with the flag `--until-fault`, and a flag by which it shows more.
+/// Returns a command that reads a trace, with `--until-fault`, and a flag by which it shows more.
 fn of_trace<'a>(alloc: Global, name: &'a str, more: &'a str) -> Result<Command<'a>, AllocError>
     ensures app { IfOk result (λ c. app_of c ≡ of_trace name.now more.now) }
     ensures local { IfOk result (λ c. (out-Command c).has_globals ≡ false) }
@@ -192,7 +192,7 @@ fn cycle_of(word: &str) -> Option<u8>
     }
 }
 
-/// Returns the order for the picture of a cycle, if the arguments have a file and no other word than a cycle.
+/// Returns the order for the picture of a cycle, if the arguments have a file and no wrong cycle.
 fn schedule_in<'a>(arguments: &ArgMatches<'a>) -> Option<ViewOrder<'a>>
     ensures told { IfSome result (IsScheduleBy (first_value (found_of arguments.now))) }
     ensures nothing { IfNone result (has_schedule_by (first_value (found_of arguments.now)) ≡ false) }
@@ -239,7 +239,9 @@ fn viewer_in(arguments: &ArgMatches<'_>) -> Option<Option<u8>>
     }
 }
 
-/// Returns the cycle of the run that is drawn first: 0 to 1023, without a leading zero, and 0 if none is named.
+/// Returns the cycle of the run that is drawn first, and 0 if none is named.
+///
+/// A cycle is 0 to 1023, without a leading zero.
 fn first_in(arguments: &ArgMatches<'_>) -> Option<u16>
     ensures { result ≡ from_asked (first_value (found_of arguments.now) (codes "from")) }
 {

@@ -9,11 +9,11 @@ use fr_lines::writing::write_params;
 use std::alloc::Global;
 use std::io::{Read, Write};
 
-/// Reads a cluster file to its end and writes the line of its parameters, as a trace has it (project-defined).
+/// Reads a cluster file to its end and writes the line of its parameters (project-defined).
 ///
-/// The whole file is compared with the rules. Refused with `TooLong` for more than 1,048,576 bytes, and then with the
-/// file's first fault. `Read` comes if the reader fails, `Write` if the writer fails, and `Memory` if an allocation
-/// fails. Every error but `Write` leaves the writer unchanged.
+/// A trace has the same line. The whole file is compared with the rules. Refused with `TooLong` for more than 1,048,576
+/// bytes, and then with the file's first fault. `Read` comes if the reader fails, `Write` if the writer fails, and
+/// `Memory` if an allocation fails. Every error but `Write` leaves the writer unchanged.
 pub fn check_text<R: Read, W: Write>(
     alloc: Global,
     reader: &mut R,

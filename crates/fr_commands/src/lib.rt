@@ -6,8 +6,8 @@
 //! midpoint_text(alloc, &mut numbers, &mut output)?; // 4 2 6
 //! ```
 //!
-//! A chapter in parentheses is one of the FlexRay Protocol Specification 2.1, revision A, whose rule it is.
-//! *(project-defined)* marks a rule of this project's own, which says nothing of the standard.
+//! A chapter in parentheses is one of the FlexRay Protocol Specification 2.1, revision A.
+//! *(project-defined)* marks a rule of this project, and makes no claim about the standard.
 //!
 //! # Definitions
 //!

@@ -11,10 +11,12 @@ ghost use Rattle.fr_lines.specs.Spelling.{line_text};
 use itoa::write_digits;
 use std::io::{self, Write};
 
-/// Room for a line: two words of up to 7 and 2 letters, four numbers of up to 20 digits, five spaces and a line feed.
+/// Room for a line, in bytes.
+///
+/// A line has two words of up to 7 and 2 letters, four numbers of up to 20 digits, five spaces and a line feed.
 const ROOM: usize = 95;
 
-/// Puts a space and the word right before `end`, and returns the place at which they begin.
+/// Puts a space and the word right before `end`, and returns their place.
 fn put_word(line: &mut [u8; ROOM], end: usize, word: &str) -> usize
     requires room { length word.now < end }
     requires inside { end ≤ ROOM }
@@ -27,7 +29,7 @@ fn put_word(line: &mut [u8; ROOM], end: usize, word: &str) -> usize
     start - 1
 }
 
-/// Puts a space and the digits of the number right before `end`, and returns the place at which they begin.
+/// Puts a space and the digits of the number right before `end`, and returns their place.
 fn put_number(line: &mut [u8; ROOM], end: usize, number: u64) -> usize
     requires room { 21 ≤ end }
     requires inside { end ≤ ROOM }

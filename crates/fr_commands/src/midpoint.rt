@@ -31,10 +31,10 @@ fn write_midpoint<W: Write>(writer: &mut W, answer: Option<Midpoint>) -> io::Res
     }
 }
 
-/// Reads numbers to the end and writes their fault-tolerant midpoint (chapter 8; the texts are project-defined).
+/// Reads numbers to the end and writes their fault-tolerant midpoint (chapter 8).
 ///
-/// The line has the midpoint and the ranks of the two values that it lies between, or is `none`. Numbers are separated
-/// by spaces and line feeds. The errors in their order:
+/// The texts are project-defined. The line has the midpoint and the ranks of the two values that it lies between, or is
+/// `none`. Numbers are separated by spaces and line feeds. The errors in their order:
 ///
 /// - `TooLong` for more than 4096 bytes;
 /// - `BadNumber` for a word that isn't a number;

@@ -45,7 +45,7 @@ fn begins_at(own: &Own, slot: SlotId, channel: Channel, base: Cycle) -> bool
     own.slot == slot && own.channels.includes(channel) && own.cycles.base() == base.number()
 }
 
-/// Writes the line of an ownership line of the node, if it is for the slot on the channel and this is its first cycle.
+/// Writes the line of an ownership line of the node, if it begins there (`begins_at`).
 fn write_own<W: Write>(
     writer: &mut W,
     slot: SlotId,
@@ -86,7 +86,7 @@ fn write_slot_line<W: Write>(
     )
 }
 
-/// Writes the lines of the node's ownership lines for the slot on the channel whose first cycle this is.
+/// Writes the lines of the node's ownership lines that begin there (`begins_at`).
 fn write_owner<W: Write>(
     writer: &mut W,
     slot: SlotId,
@@ -104,7 +104,7 @@ fn write_owner<W: Write>(
     Ok(())
 }
 
-/// Writes the line of the ownership line for the static slot on the channel whose first cycle this is, if there is one.
+/// Writes the line of the ownership line that begins there (`begins_at`), if there is one.
 fn write_base<W: Write>(
     writer: &mut W,
     cluster: &Cluster,

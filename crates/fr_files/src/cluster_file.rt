@@ -25,8 +25,8 @@ fn cluster_in(alloc: Global, bytes: &[u8]) -> Result<Cluster, BenchError>
 
 /// Reads a cluster file to its end, and returns the cluster that it describes (project-defined).
 ///
-/// Refused with `TooLong` for more than 1,048,576 bytes, then with the first fault of the file, which is `Toml` also if
-/// it isn't UTF-8. `Read` comes if the reader fails, and `Memory` if an allocation fails.
+/// Refused with `TooLong` for more than 1,048,576 bytes, then with the first fault of the file. A file that isn't UTF-8
+/// is refused with `Toml`. `Read` comes if the reader fails, and `Memory` if an allocation fails.
 pub fn cluster_of<R: Read>(alloc: Global, reader: &mut R) -> Result<Cluster, BenchError>
     ensures { IfSome (R.remaining reader.old) (λ text. IsClusterOf text result) }
 {

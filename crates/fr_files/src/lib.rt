@@ -7,7 +7,7 @@
 //! write_whole(&mut output, text.as_slice())?;
 //! ```
 //!
-//! *(project-defined)* marks a rule of this project's own, which says nothing of the standard.
+//! *(project-defined)* marks a rule of this project, and makes no claim about the standard.
 //!
 //! # Definitions
 //!

@@ -6,7 +6,9 @@ ghost use Rattle.fr_files.specs.declared.error.BenchError.TheVariants as refusal
 use crate::error::BenchError;
 use std::io::Write;
 
-/// Hands the whole text to the writer, so that a reader of the output never sees a part of a line (project-defined).
+/// Hands the whole text to the writer at once (project-defined).
+///
+/// So a reader of the output never sees a part of a line.
 ///
 /// Refused with `Write` if the writer fails, which may have written a part by then.
 pub fn write_whole<W: Write>(writer: &mut W, text: &[u8]) -> Result<(), BenchError>

@@ -1,4 +1,4 @@
--- How far a walk along the record has come: the cycles that began, and the windows of the last one; and one cell more.
+-- A walk along the record: the cycles that began so far, and the windows of the last one; and one cell more.
 use Rattle.std.proofs.Common.{◌≡◌, ℕ, ◌+◌, ◌-◌, ◌≤◌, ◌<◌, Bool, true, false, cond, List, [], ◌∷◌, ◌++◌, length}
 use Rattle.std.proofs.Common.{length-append}
 use Rattle.std.proofs.Common.{take, get_or, Option, refl, sym, ap, ap₂, subst, ◌∙◌, arith}
@@ -14,7 +14,7 @@ use Rattle.fr_matrix.specs.declared.view.View.{View}
 use Rattle.fr_slots.specs.Parameters.{Parameters}
 use Rattle.fr_slots.proofs.HistoryLemmas.{each_after-snoc}
 
--- the walk has counted the windows before
+-- the counts of a walk over the windows before
 pub record Counted (before : List Recorded) (cycles windows place : ℕ) : Type 0 where
   pub cycles_are : cycles ≡ cycles_begun before
   pub windows_are : windows ≡ length (this_cycle before)
@@ -49,7 +49,7 @@ first_counted rs r cycles windows place more_cycles no_windows e more none h =
       few_windows = omega (arith, none);
     }
 
--- and a later one
+-- a later window of a cycle
 pub later_counted : (rs : List Recorded) (r : Recorded) (cycles windows place same_cycles same_windows : ℕ)
     → begins_cycle r ≡ false
     → same_cycles ≡ cycles → same_windows ≡ windows → Counted rs cycles windows place

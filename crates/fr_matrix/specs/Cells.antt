@@ -1,5 +1,5 @@
--- The cells of a matrix: for each window of the record in which the channel has a slot, what was seen there and what
--- was sent (project-defined).
+-- The cells of a matrix: for each window of the record in which the channel has a slot, the observation and the
+-- transmissions there (project-defined).
 use Rattle.std.specs.Prelude.{◌≡◌, ℕ, ◌+◌, ◌-◌, ◌*◌, nat_lt, nat_le, Bool, ◌&&◌, List, [], ◌∷◌, ◌++◌}
 use Rattle.std.specs.Prelude.{length, codes, Option, Some, None, if◌then◌else◌}
 use Rattle.std.specs.Fmt.{decimal}
@@ -18,6 +18,7 @@ use Rattle.fr_slots.specs.declared.channel.Channel.{Channel}
 use Rattle.fr_slots.specs.History.{each_after}
 use Rattle.fr_slots.specs.Parameters.{Parameters}
 use Rattle.fr_slots.specs.Windows.{slot_of}
+use Rattle.fr_svg.specs.Elements.{group_end, moved_front, rect_text, text_end}
 use Rattle.fr_text.specs.Spelling.{hex_text}
 
 -- ---- words
@@ -48,7 +49,7 @@ title_text c =
     codes "<title>cycle " ++ (decimal c.cycle ++ (codes ", slot " ++ (decimal c.slot ++ (codes ", window "
     ++ (decimal c.number ++ (codes ": " ++ look_word c.look))))))
 
--- ---- what was sent
+-- ---- transmissions
 
 abbrev pub fate_text : Fate → List ℕ
 fate_text Passed = codes ""
@@ -72,30 +73,22 @@ turned_text (Some bit) = codes "; bit " ++ (decimal bit ++ codes " turned")
 
 -- ---- a cell
 
-unfoldable pub box_text : ℕ → ℕ → List ℕ
-box_text left top =
-    codes "<rect x='" ++ (decimal left ++ (codes "' y='" ++ (decimal top ++ codes "' width='20' height='20'/>")))
-
 unfoldable pub label_text : Cell → List ℕ
 label_text c =
-    (codes "<text x='" ++ (decimal c.left ++ (codes "' y='" ++ (decimal c.top ++ codes "' dx='10' dy='14'>"))))
-    ++ sender_number c.sender ++ sign c.look ++ marks_letters c.marks ++ codes "</text>"
+    moved_front c.left c.top 10 14 ++ sender_number c.sender ++ sign c.look ++ marks_letters c.marks ++ text_end
 
-unfoldable pub close_text : List ℕ
-close_text = codes "</title>"
+unfoldable pub title_end : List ℕ
+title_end = codes "</title>"
 
 abbrev pub front_text : Cell → Channel → List Sent → Option ℕ → List ℕ
 front_text c channel sent turned =
-    head_text c ++ title_text c ++ flat_map (sent_on channel) sent ++ turned_text turned ++ close_text
-
-abbrev pub end_text : List ℕ
-end_text = codes "</g>" ++ codes "\n"
+    head_text c ++ title_text c ++ flat_map (sent_on channel) sent ++ turned_text turned ++ title_end
 
 abbrev pub cell_text : Cell → Channel → List Sent → Option ℕ → List ℕ
 cell_text c channel sent turned =
-    front_text c channel sent turned ++ box_text c.left c.top ++ label_text c ++ end_text
+    front_text c channel sent turned ++ rect_text c.left c.top 20 20 ++ label_text c ++ group_end
 
--- ---- where a window stands
+-- ---- the place of a window
 
 -- the row of a window is its cycle of the run, its column the number of windows of that cycle before it
 abbrev pub cycle_of : List Recorded → Recorded → ℕ
@@ -128,7 +121,7 @@ cell_of p v cycle column slot r = record {
   marks = marks_in p v.channel r;
 }
 
--- none where the channel has no slot
+-- none if the channel has no slot
 abbrev pub slot_cell : Parameters → View → ℕ → ℕ → Recorded → Option ℕ → List ℕ
 slot_cell p v cycle column r None = []
 slot_cell p v cycle column r (Some slot) =
@@ -145,8 +138,8 @@ cell_after p v before r = cell_at p v (cycle_of before r) (column_of before r) r
 abbrev pub cells_text : Parameters → View → List Recorded → List ℕ
 cells_text p v recorded = each_after (cell_after p v) [] recorded
 
--- The cells stand one after another in the picture. What stands before and after them, as the style and the legend,
--- isn't told here.
+-- The cells stand one after another in the picture. Nothing is said of the parts before and after them, such as the
+-- style and the legend.
 pub record IsMatrix (p : Parameters) (v : View) (recorded : List Recorded) (text : List ℕ) : Type 0 where
   pub before : List ℕ
   pub after : List ℕ

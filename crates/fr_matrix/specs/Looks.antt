@@ -1,5 +1,5 @@
--- What a cell shows of a window of the record: what was seen there, who sent it, and what became of all else
--- (project-defined).
+-- The content of a cell, which follows from a window of the record: the observation, the sender, and the results of the
+-- other transmissions (project-defined).
 use Rattle.std.specs.Prelude.{ℕ, ◌/◌, nat_lt, length, Bool, true, false, ◌&&◌, List, Option, Some, None, is_some}
 use Rattle.std.specs.Prelude.{codes, option_map, if◌then◌else◌}
 use Rattle.std.specs.List.{find, list_any}
@@ -20,7 +20,7 @@ use Rattle.fr_slots.specs.Parameters.{Parameters}
 use Rattle.fr_status.specs.Forms.{Seen}
 use Rattle.fr_status.specs.declared.seen.Seen.TheVariants as seen
 
--- ---- what was seen
+-- ---- observations
 
 abbrev pub look_read : Option Fields → Look
 look_read None = look.Broken
@@ -34,7 +34,7 @@ look_of channel seen.Noise = look.Collision
 look_of channel seen.Overrun = look.Overrun
 look_of channel (seen.Bytes bytes) = look_read (decoded channel bytes.items)
 
--- what the node sees, and without one what is heard by who sends nothing
+-- the observation of the node, or without one that of a passive listener
 abbrev pub sight_in : Parameters → Channel → Recorded → Option ℕ → Seen
 sight_in p channel r (Some node) = seen_by p r channel node
 sight_in p channel r None = heard p r channel
@@ -42,11 +42,11 @@ sight_in p channel r None = heard p r channel
 abbrev pub look_in : Parameters → View → Recorded → Look
 look_in p v r = look_of v.channel (sight_in p v.channel r v.node)
 
--- who sent what passed first on the channel
+-- the sender of the first transmission that passed on the channel
 abbrev pub sender_in : Channel → List Sent → Option ℕ
 sender_in channel sent = option_map (λ (t : Sent). t.node) (find (passed_on channel) sent)
 
--- ---- what became of all else
+-- ---- the results of the other transmissions
 
 abbrev pub was_blocked : Fate → Bool
 was_blocked Passed = false
@@ -64,8 +64,8 @@ is_blocked channel t = is_channel t.channel channel && was_blocked t.fate
 abbrev pub is_lost : Channel → Sent → Bool
 is_lost channel t = is_channel t.channel channel && was_lost t.fate
 
--- The bit that was to be turned is turned where bytes came through that have it: not where several transmissions
--- passed, or none, or one that was too long.
+-- The bit is flipped if the bytes that came through have it: not if several transmissions passed, or none, or one that
+-- was too long.
 abbrev pub turned_in : Option ℕ → Seen → Option ℕ
 turned_in None sight = None
 turned_in (Some bit) seen.Silence = None
@@ -96,7 +96,7 @@ look_word look.Broken = codes "broken"
 look_word look.Collision = codes "collision"
 look_word look.Overrun = codes "overrun"
 
--- what stands after the sender's number
+-- the sign after the sender's number
 abbrev pub sign : Look → List ℕ
 sign look.Silence = codes ""
 sign look.Own = codes "="

@@ -3,41 +3,42 @@
 ghost use Rattle.std.specs.Prelude.{◌≡◌, ◌≤◌, ◌<◌, ◌^◌, [], if◌then◌else◌};
 ghost use Rattle.std.specs.List.{flat_map};
 ghost use Rattle.fr_text.specs.Writing.{Writes};
-ghost use Rattle.fr_matrix.specs.Cells.{box_text, cell_text, close_text, fate_text, front_text, head_text};
+ghost use Rattle.fr_matrix.specs.Cells.{cell_text, fate_text, front_text, head_text};
 ghost use Rattle.fr_matrix.specs.Cells.{label_text, mark_text, marks_class};
 ghost use Rattle.fr_matrix.specs.Cells.{marks_letters, sender_class, sender_number, sent_on, sent_text, title_text};
-ghost use Rattle.fr_matrix.specs.Cells.{turned_text};
+ghost use Rattle.fr_matrix.specs.Cells.{title_end, turned_text};
 
 use crate::look::{Look, Marks, look_word, sign};
 use fr_bus::outcome::{Fate, Sent};
 use fr_slots::channel::Channel;
 use fr_slots::numbers::{NodeId, SlotId};
+use fr_svg::elements::{close_group, close_text, open_text, write_rect};
 use fr_text::hexes::write_hex;
 use std::io;
 use std::io::Write;
 
-/// What a cell of the matrix shows, and where (project-defined).
+/// The content of a cell of the matrix, and its place (project-defined).
 #[derive(Clone, Copy)]
 pub struct Cell {
-    /// How far it stands from the left.
+    /// The distance from the left.
     pub left: u64,
-    /// How far it stands from the top.
+    /// The distance from the top.
     pub top: u64,
     /// The cycle of the run.
     pub cycle: usize,
-    /// The slot that the channel has open.
+    /// The open slot of the channel.
     pub slot: SlotId,
     /// The number of the window.
     pub number: u32,
-    /// What was seen.
+    /// The observation.
     pub look: Look,
-    /// Who sent what passed first.
+    /// The sender of the first transmission that passed.
     pub sender: Option<NodeId>,
-    /// What became of all else.
+    /// The results of the other transmissions.
     pub marks: Marks,
 }
 
-/// Writes a word where something is so.
+/// Writes a word, if its condition holds.
 fn write_mark<W: Write>(writer: &mut W, is_so: bool, word: &'static str) -> io::Result<()>
     ensures { Writes W.contents writer.old writer.new result (mark_text is_so word.entry.now) }
 {
@@ -48,7 +49,7 @@ fn write_mark<W: Write>(writer: &mut W, is_so: bool, word: &'static str) -> io::
     }
 }
 
-/// Writes the classes of what became of all else.
+/// Writes the classes of the marks.
 #[tactic(auto, unfolding(crate::specs::Cells::marks_class))]
 fn write_marks_class<W: Write>(writer: &mut W, marks: Marks) -> io::Result<()>
     ensures { Writes W.contents writer.old writer.new result (marks_class marks) }
@@ -58,7 +59,7 @@ fn write_marks_class<W: Write>(writer: &mut W, marks: Marks) -> io::Result<()>
     write_mark(writer, marks.turned, " turned")
 }
 
-/// Writes the letters of what became of all else.
+/// Writes the letters of the marks.
 #[tactic(auto, unfolding(crate::specs::Cells::marks_letters))]
 fn write_marks_letters<W: Write>(writer: &mut W, marks: Marks) -> io::Result<()>
     ensures { Writes W.contents writer.old writer.new result (marks_letters marks) }
@@ -88,7 +89,7 @@ fn write_sender_number<W: Write>(writer: &mut W, sender: Option<NodeId>) -> io::
     }
 }
 
-/// Writes how a cell begins.
+/// Writes the front of a cell.
 #[tactic(auto, unfolding(crate::specs::Cells::head_text))]
 fn write_head<W: Write>(writer: &mut W, cell: &Cell) -> io::Result<()>
     ensures { Writes W.contents writer.old writer.new result (head_text cell.now) }
@@ -99,7 +100,7 @@ fn write_head<W: Write>(writer: &mut W, cell: &Cell) -> io::Result<()>
     write!(writer, "'>")
 }
 
-/// Writes how its title begins.
+/// Writes the front of its title.
 #[tactic(auto, unfolding(crate::specs::Cells::title_text))]
 fn write_title<W: Write>(writer: &mut W, cell: &Cell) -> io::Result<()>
     ensures { Writes W.contents writer.old writer.new result (title_text cell.now) }
@@ -111,7 +112,7 @@ fn write_title<W: Write>(writer: &mut W, cell: &Cell) -> io::Result<()>
     )
 }
 
-/// Returns the words of what became of a transmission.
+/// Returns the words for the result of a transmission.
 fn fate_text(fate: Fate) -> &'static str
     ensures { result.now ≡ fate_text fate }
 {
@@ -144,7 +145,7 @@ fn write_sent_on<W: Write>(writer: &mut W, channel: Channel, sent: &Sent) -> io:
     }
 }
 
-/// Writes what was sent on the channel.
+/// Writes all transmissions on the channel.
 fn write_all_sent<W: Write>(writer: &mut W, channel: Channel, all: &[Sent]) -> io::Result<()>
     ensures { Writes W.contents writer.old writer.new result (flat_map (sent_on channel) all.now) }
 {
@@ -154,7 +155,7 @@ fn write_all_sent<W: Write>(writer: &mut W, channel: Channel, all: &[Sent]) -> i
     Ok(())
 }
 
-/// Writes which bit a fault turned.
+/// Writes the bit that a fault flipped, if there is one.
 fn write_turned<W: Write>(writer: &mut W, turned: Option<u16>) -> io::Result<()>
     ensures { Writes W.contents writer.old writer.new result (turned_text turned) }
 {
@@ -164,39 +165,27 @@ fn write_turned<W: Write>(writer: &mut W, turned: Option<u16>) -> io::Result<()>
     }
 }
 
-/// Writes how its title ends.
-#[tactic(auto, unfolding(crate::specs::Cells::close_text))]
+/// Writes the end of its title.
+#[tactic(auto, unfolding(crate::specs::Cells::title_end))]
 fn write_close<W: Write>(writer: &mut W) -> io::Result<()>
-    ensures { Writes W.contents writer.old writer.new result close_text }
+    ensures { Writes W.contents writer.old writer.new result title_end }
 {
     write!(writer, "</title>")
 }
 
-/// Writes its box.
-#[tactic(auto, unfolding(crate::specs::Cells::box_text))]
-fn write_box<W: Write>(writer: &mut W, left: u64, top: u64) -> io::Result<()>
-    ensures { Writes W.contents writer.old writer.new result (box_text left top) }
-{
-    write!(
-        writer,
-        "<rect x='{left}' y='{top}' width='20' height='20'/>"
-    )
-}
-
-/// Writes what stands in it: the sender's number, and signs for all that is to be read without colours.
+/// Writes its label: the sender's number, and the signs by which it is read without colours.
 #[tactic(auto, unfolding(crate::specs::Cells::label_text))]
 fn write_label<W: Write>(writer: &mut W, cell: &Cell) -> io::Result<()>
     ensures { Writes W.contents writer.old writer.new result (label_text cell.now) }
 {
-    let (left, top) = (cell.left, cell.top);
-    write!(writer, "<text x='{left}' y='{top}' dx='10' dy='14'>")?;
+    open_text(writer, cell.left, cell.top, 10, 14)?;
     write_sender_number(writer, cell.sender)?;
     writer.write_all(sign(cell.look).as_bytes())?;
     write_marks_letters(writer, cell.marks)?;
-    write!(writer, "</text>")
+    close_text(writer)
 }
 
-/// Writes what stands before its box: its classes, and its title.
+/// Writes the part before its box: its classes, and its title.
 fn write_front<W: Write>(
     writer: &mut W,
     cell: &Cell,
@@ -213,9 +202,9 @@ fn write_front<W: Write>(
     write_close(writer)
 }
 
-/// Writes a cell, with all that was sent on the channel and the bit that was turned (project-defined).
+/// Writes a cell, with all transmissions on the channel and the flipped bit (project-defined).
 ///
-/// Fails where the writer fails, and then a part of it may have gone out.
+/// Fails if the writer fails, which may have written a part by then.
 pub fn write_cell<W: Write>(
     writer: &mut W,
     cell: &Cell,
@@ -226,7 +215,7 @@ pub fn write_cell<W: Write>(
     ensures { Writes W.contents writer.old writer.new result (cell_text cell.now channel all.now turned) }
 {
     write_front(writer, cell, channel, all, turned)?;
-    write_box(writer, cell.left, cell.top)?;
+    write_rect(writer, cell.left, cell.top, 20, 20)?;
     write_label(writer, cell)?;
-    writeln!(writer, "</g>")
+    close_group(writer)
 }

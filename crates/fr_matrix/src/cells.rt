@@ -16,13 +16,13 @@ use fr_slots::params::Params;
 use std::io;
 use std::io::Write;
 
-/// How many cycles a matrix shows.
+/// The greatest number of cycles in a matrix.
 pub const MOST_CYCLES: usize = 64;
 
-/// How many windows of a cycle it shows.
+/// The greatest number of windows of a cycle in a matrix.
 pub const MOST_WINDOWS: usize = 512;
 
-/// Returns how far a column stands from the left.
+/// Returns the distance of a column from the left.
 pub(crate) fn across(column: usize) -> u64
     requires { column ≤ 512 }
     ensures { result ≡ across column }
@@ -30,7 +30,7 @@ pub(crate) fn across(column: usize) -> u64
     70 + 22 * (column as u64)
 }
 
-/// Returns how far a row stands from the top.
+/// Returns the distance of a row from the top.
 pub(crate) fn down(row: usize) -> u64
     requires { row ≤ 64 }
     ensures { result ≡ down row }
@@ -38,7 +38,7 @@ pub(crate) fn down(row: usize) -> u64
     90 + 22 * (row as u64)
 }
 
-/// Returns whether a window of this cycle of the run, before which so many of the cycle were, is drawn.
+/// Returns whether a window of this cycle of the run and of this column is drawn.
 fn is_drawn(view: &View, cycle: usize, column: usize) -> bool
     ensures { result ≡ is_drawn view.now cycle column }
 {
@@ -113,7 +113,7 @@ fn write_at<W: Write>(
 
 /// Writes the cells of the record, in the order of its windows (project-defined).
 ///
-/// Fails where the writer fails, and then a part of them may have gone out.
+/// Fails if the writer fails, which may have written a part by then.
 pub fn write_cells<W: Write>(
     writer: &mut W,
     params: &Params,

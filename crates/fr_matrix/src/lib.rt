@@ -1,12 +1,12 @@
-//! The communication matrix of a run as it happened: a row for each cycle, a column for each of its windows, and in
-//! each cell what the bus carried there on a channel, or what a node saw there (project-defined).
+//! The communication matrix of a run: a row for each cycle, and a column for each of its windows. A cell shows what the
+//! bus carried on a channel in the window, or what a node received there (project-defined).
 //!
 //! ```text
 //! let view = View { channel: Channel::A, node: None, from: 0 };
 //! matrix_of(alloc, cluster.params(), world.bus().record(), &view)?; // an SVG picture
 //! ```
 //!
-//! *(project-defined)* marks a rule of this project's own, which says nothing of the standard.
+//! *(project-defined)* marks a rule of this project, and makes no claim about the standard.
 //!
 //! # Definitions
 //!

@@ -1,4 +1,4 @@
-//! What a cell shows of a window.
+//! The content of a cell, which follows from a window.
 
 ghost use Rattle.std.specs.Prelude.{◌≡◌, option_map};
 ghost use Rattle.std.specs.List.{find, list_any};
@@ -15,7 +15,7 @@ use fr_slots::numbers::NodeId;
 use fr_slots::params::Params;
 use fr_status::seen::Seen;
 
-/// What was seen in a window on a channel (project-defined).
+/// An observation on a channel in a window, as a cell shows it (project-defined).
 #[derive(Clone, Copy, PartialEq, Eq)]
 pub enum Look {
     /// Nothing.
@@ -34,18 +34,18 @@ pub enum Look {
     Overrun,
 }
 
-/// What became of transmissions that didn't come through, and of the bits of those that did (project-defined).
+/// The marks of transmissions that didn't pass, and of a flipped bit (project-defined).
 #[derive(Clone, Copy, PartialEq, Eq)]
 pub struct Marks {
-    /// A guardian stopped one.
+    /// A guardian blocked a transmission.
     pub blocked: bool,
-    /// A fault lost one.
+    /// A fault muted a transmission.
     pub lost: bool,
-    /// A fault turned a bit.
+    /// A fault flipped a bit.
     pub turned: bool,
 }
 
-/// Returns what bytes are on the channel.
+/// Returns the look of bytes on the channel.
 fn look_read(channel: Channel, bytes: &[u8]) -> Look
     ensures { result ≡ look_read (decoded channel bytes.now) }
 {
@@ -59,7 +59,7 @@ fn look_read(channel: Channel, bytes: &[u8]) -> Look
     }
 }
 
-/// Returns what was seen.
+/// Returns the look of an observation.
 fn look_of(channel: Channel, seen: &Seen) -> Look
     ensures { result ≡ look_of channel seen.now }
 {
@@ -72,12 +72,13 @@ fn look_of(channel: Channel, seen: &Seen) -> Look
     }
 }
 
-/// Returns what the node of the view sees of the window, and without one what is heard there by who sends nothing
-/// (project-defined).
+/// Returns the look of the observation of the view's node in the window (project-defined).
+///
+/// Without a node it is the observation of a passive listener.
 pub fn look_in(params: &Params, view: &View, sealed: &Sealed) -> Look
     ensures { result ≡ look_in params.now view.now sealed.now }
 {
-    // Without a node the cell shows what a node hears that sends nothing, since the record has what was sent.
+    // The record has what was sent, so the cell shows what a node receives that sends nothing.
     let sight = match view.node {
         Some(viewer) => sealed.seen(params, view.channel, viewer),
         None => sealed.heard(params, view.channel),
@@ -85,7 +86,7 @@ pub fn look_in(params: &Params, view: &View, sealed: &Sealed) -> Look
     look_of(view.channel, &sight)
 }
 
-/// Who sent what passed first on the channel, if anything did (project-defined).
+/// Returns the sender of the first transmission that passed on the channel (project-defined).
 pub fn sender_in(channel: Channel, sent: &[Sent]) -> Option<NodeId>
     ensures { result ≡ sender_in channel sent.now }
 {
@@ -95,35 +96,35 @@ pub fn sender_in(channel: Channel, sent: &[Sent]) -> Option<NodeId>
     }
 }
 
-/// Returns whether a guardian stopped it on the channel.
+/// Returns whether the transmission was on the channel, and a guardian blocked it.
 fn is_blocked(channel: Channel, sent: &Sent) -> bool
     ensures { result ≡ is_blocked channel sent.now }
 {
     sent.channel == channel && sent.fate == Fate::Blocked
 }
 
-/// Returns whether a fault lost it on the channel.
+/// Returns whether the transmission was on the channel, and a fault muted it.
 fn is_lost(channel: Channel, sent: &Sent) -> bool
     ensures { result ≡ is_lost channel sent.now }
 {
     sent.channel == channel && sent.fate == Fate::Muted
 }
 
-/// Returns whether a guardian stopped any of them on the channel.
+/// Returns whether a guardian blocked any of the transmissions on the channel.
 fn any_blocked(channel: Channel, sent: &[Sent]) -> bool
     ensures { result ≡ list_any (is_blocked channel) sent.now }
 {
     sent.iter().any(|t| is_blocked(channel, t))
 }
 
-/// Returns whether a fault lost any of them on the channel.
+/// Returns whether a fault muted any of the transmissions on the channel.
 fn any_lost(channel: Channel, sent: &[Sent]) -> bool
     ensures { result ≡ list_any (is_lost channel) sent.now }
 {
     sent.iter().any(|t| is_lost(channel, t))
 }
 
-/// Returns the bit that a fault turned of what came through on the channel, if any (project-defined).
+/// Returns the bit that a fault flipped in the bytes on the channel, if any (project-defined).
 pub fn turned_bit(params: &Params, channel: Channel, sealed: &Sealed) -> Option<u16>
     ensures { result ≡ turned_bit params.now channel sealed.now }
 {
@@ -133,7 +134,7 @@ pub fn turned_bit(params: &Params, channel: Channel, sealed: &Sealed) -> Option<
     }
 }
 
-/// Returns what became of the transmissions on the channel (project-defined).
+/// Returns the marks of the transmissions on the channel (project-defined).
 pub fn marks_in(params: &Params, channel: Channel, sealed: &Sealed) -> Marks
     ensures { result ≡ marks_in params.now channel sealed.now }
 {
@@ -159,7 +160,7 @@ pub fn look_word(look: Look) -> &'static str
     }
 }
 
-/// Returns what stands in a cell after the sender's number, so that it is read without its colour.
+/// Returns the sign after the sender's number, by which a cell is read without its colour.
 pub fn sign(look: Look) -> &'static str
     ensures { result.now ≡ sign look }
 {

@@ -27,11 +27,11 @@ fn cells_of(
     }
 }
 
-/// Returns the communication matrix of a run with this record, as it happened: an SVG text (project-defined).
+/// Returns the communication matrix of a run with this record: an SVG text (project-defined).
 ///
 /// It has a row for each cycle of the run from `view.from` on, up to 64, and a column for each window of the cycle, up
-/// to 512: the static slots, and then the windows of the dynamic segment in their order. A cell is left out where the
-/// channel has no slot. Refused where memory is refused.
+/// to 512. Static slots come first, then the windows of the dynamic segment in their order. A cell is left out if the
+/// channel has no slot there. Fails if an allocation fails.
 pub fn matrix_of(
     alloc: Global,
     params: &Params,

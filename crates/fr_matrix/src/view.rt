@@ -1,15 +1,15 @@
-//! What of a run is drawn.
+//! The part of a run that is drawn.
 
 use fr_slots::channel::Channel;
 use fr_slots::numbers::NodeId;
 
-/// What of a run is drawn (project-defined).
+/// The part of a run that is drawn (project-defined).
 #[derive(Clone, Copy, PartialEq, Eq)]
 pub struct View {
-    /// On this channel.
+    /// The channel.
     pub channel: Channel,
-    /// What this node saw, or what the bus carried.
+    /// The node whose observations are drawn; `None` for what the bus carried.
     pub node: Option<NodeId>,
-    /// From this cycle of the run on, counted from 0.
+    /// The first cycle of the run that is drawn, counted from 0.
     pub from: u16,
 }

@@ -32,7 +32,7 @@ one_slot d cycle slot number old mid first new is before on_a on_b =
       Appends-trans old first new (texts ++ a) b (Appends-trans old mid first texts a added added_a) added_b,
     )
 
--- where a text of the kind has been written, one has
+-- a text of the kind that has been written is one
 pub adds_text : {A E : Type 0} (r : Result A E) (IsText : List ℕ → Type 0) (text : List ℕ) (old new : Option (List ℕ))
     → IsText text → OnOk r (Appends old new text) → OnOk r (Adds IsText old new)
 adds_text (Ok x) IsText text old new is written = (text, is, written)

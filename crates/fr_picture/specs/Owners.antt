@@ -1,5 +1,5 @@
--- The static slots of a picture: an element for each of them and each channel, which names its owner in the cycle, as
--- the sender table has it.
+-- The static slots of a picture: an element for each slot and channel, which names the owner in the cycle by the sender
+-- table.
 use Rattle.std.specs.Prelude.{◌≡◌, ◌⊎◌, ℕ, zero, suc, ◌-◌, ◌*◌, ◌/◌, nat_lt, List, [], ◌++◌, codes, Option}
 use Rattle.std.specs.Prelude.{if◌then◌else◌}
 use Rattle.std.specs.Fmt.{decimal}
@@ -11,8 +11,9 @@ use Rattle.fr_slots.specs.Admission.{letter_of}
 use Rattle.fr_slots.specs.declared.channel.Channel.{Channel}
 use Rattle.fr_slots.specs.declared.channel.Channel.TheVariants.{A, B}
 use Rattle.fr_slots.specs.Parameters.{Parameters}
+use Rattle.fr_svg.specs.Elements.{group_end, moved_front, rect_text, text_end}
 
--- ---- where a static slot begins, and where the next one does
+-- ---- the macroticks at which a static slot and the next one begin
 
 abbrev pub start_of : Parameters → ℕ → ℕ
 start_of p slot = (slot - 1) * p.static_mt
@@ -22,17 +23,14 @@ end_of p slot = slot * p.static_mt
 
 -- ---- elements
 
-unfoldable pub box_text : ℕ → ℕ → Channel → List ℕ
-box_text left length channel =
-    codes "<rect x='" ++ (decimal left ++ (codes "' y='" ++ (decimal (row_of channel) ++ (codes "' width='"
-    ++ (decimal length ++ codes "' height='420'/>")))))
+abbrev pub box_text : ℕ → ℕ → Channel → List ℕ
+box_text left length channel = rect_text left (row_of channel) length 420
 
--- left out where it doesn't fit
+-- left out if it doesn't fit
 unfoldable pub number_text : ℕ → ℕ → Channel → ℕ → List ℕ
 number_text left length channel node =
     if nat_lt length 150 then []
-    else codes "<text x='" ++ (decimal left ++ (codes "' y='" ++ (decimal (row_of channel) ++ (codes "' dx='"
-    ++ (decimal (length / 2) ++ (codes "' dy='260'>" ++ (decimal node ++ codes "</text>")))))))
+    else moved_front left (row_of channel) (length / 2) 260 ++ decimal node ++ text_end
 
 unfoldable pub owned_title : ℕ → Channel → ℕ → List ℕ
 owned_title slot channel node =
@@ -44,9 +42,6 @@ free_title slot channel =
     codes "<g class='free'><title>slot " ++ (decimal slot ++
     (codes " on " ++ (letter_of channel ++ codes ": nobody</title>")))
 
-abbrev pub end_text : List ℕ
-end_text = codes "</g>" ++ codes "\n"
-
 abbrev pub boxed : Parameters → ℕ → Channel → List ℕ
 boxed p slot channel = box_text (across p (start_of p slot)) (extent p (start_of p slot) (end_of p slot)) channel
 
@@ -57,11 +52,11 @@ numbered p slot channel node = number_text (across p (start_of p slot))
 -- a slot on a channel that the node owns in the cycle
 abbrev pub owned_element : Parameters → ℕ → Channel → ℕ → List ℕ
 owned_element p slot channel node =
-    owned_title slot channel node ++ boxed p slot channel ++ numbered p slot channel node ++ end_text
+    owned_title slot channel node ++ boxed p slot channel ++ numbered p slot channel node ++ group_end
 
--- a slot on a channel that nobody owns in the cycle
+-- a slot on a channel that has no owner in the cycle
 abbrev pub free_element : Parameters → ℕ → Channel → List ℕ
-free_element p slot channel = free_title slot channel ++ boxed p slot channel ++ end_text
+free_element p slot channel = free_title slot channel ++ boxed p slot channel ++ group_end
 
 -- ---- the static slots
 
@@ -69,13 +64,13 @@ free_element p slot channel = free_title slot channel ++ boxed p slot channel ++
 abbrev pub Adds : (List ℕ → Type 0) → Option (List ℕ) → Option (List ℕ) → Type 0
 Adds IsText old new = (text : List ℕ) × IsText text × Appends old new text
 
--- the element of a slot on a channel names its sender in the cycle, and where it has none, nobody
+-- the element of a slot on a channel names its sender in the cycle, or says that it has none
 abbrev pub IsOwnerText : Description → ℕ → ℕ → Channel → List ℕ → Type 0
 IsOwnerText d cycle slot channel text =
     ((node : ℕ) × IsSender d cycle slot channel node × (text ≡ owned_element d.params slot channel node))
     ⊎ (((node : ℕ) → IsSender d cycle slot channel node → ⊥) × (text ≡ free_element d.params slot channel))
 
--- the elements of so many slots, the first of them first, each on channel A before channel B
+-- the elements of this number of slots, from the first on, in each slot on channel A before channel B
 abbrev pub AreOwnerTexts : Description → ℕ → ℕ → List ℕ → Type 0
 AreOwnerTexts d cycle zero text = text ≡ []
 AreOwnerTexts d cycle (suc slot) text =

@@ -5,11 +5,12 @@ use fr_schedule::cluster::Cluster;
 use fr_slots::channel::Channel;
 use fr_slots::numbers::{Cycle, LAST_SLOT, NodeId, SlotId};
 use fr_slots::plan::Buffer;
+use fr_svg::elements::{close_group, write_number, write_rect};
 use fr_timing::segments::{Segments, segments_of};
 use std::io;
 use std::io::Write;
 
-/// What the number of a slot takes that is written into a box.
+/// The length of a box that has room for the number of a slot.
 const SLOT_LENGTH: u64 = 300;
 
 /// The place of a slot among those of the segment: its left end, and its length.
@@ -34,7 +35,7 @@ fn sender_in(
     Some((slot, node))
 }
 
-/// Returns how many dynamic slots of the channel have a sender in the cycle.
+/// Returns the number of dynamic slots of the channel that have a sender in the cycle.
 fn count_senders(cluster: &Cluster, cycle: Cycle, channel: Channel) -> u64 {
     let mut count: u64 = 0;
     for number in 1..=LAST_SLOT {
@@ -61,7 +62,7 @@ fn buffer_for(
     None
 }
 
-/// Writes what a buffer sends: its words, base and repetition.
+/// Writes the payload length of a buffer in two-byte words, and its base and repetition.
 fn write_buffer<W: Write>(writer: &mut W, buffer: &Buffer) -> io::Result<()> {
     if let Some(words) = buffer.words {
         write!(writer, ", {words} words")?;
@@ -83,7 +84,7 @@ fn never_sends(cluster: &Cluster, node: NodeId, channel: Channel) -> bool {
     }
 }
 
-/// Writes the numbers of the slot and of its node into a cell, where they fit.
+/// Writes the numbers of the slot and of its node into a cell, if they fit.
 fn write_numbers<W: Write>(
     writer: &mut W,
     slot: SlotId,
@@ -94,20 +95,21 @@ fn write_numbers<W: Write>(
     let middle = cell.left.saturating_add(cell.length / 2);
     let (over, under) = (top.saturating_add(195), top.saturating_add(315));
     if cell.length >= SLOT_LENGTH {
-        write!(writer, "<text x='{middle}' y='{over}'>{slot}</text>")?;
-        write!(writer, "<text x='{middle}' y='{under}'>{node}</text>")
+        write_number(writer, middle, over, u64::from(slot.number()))?;
+        write_number(writer, middle, under, u64::from(node.number()))
     } else if cell.length >= NUMBER_LENGTH {
-        write!(
+        write_number(
             writer,
-            "<text x='{middle}' y='{}'>{node}</text>",
-            top.saturating_add(260)
+            middle,
+            top.saturating_add(260),
+            u64::from(node.number()),
         )
     } else {
         Ok(())
     }
 }
 
-/// Writes how the element of a dynamic slot begins.
+/// Writes the front of the element of a dynamic slot.
 fn write_sender<W: Write>(
     writer: &mut W,
     cluster: &Cluster,
@@ -127,7 +129,7 @@ fn write_sender<W: Write>(
     write!(writer, " on {channel}: node {node}")
 }
 
-/// Writes the element of a dynamic slot, whose cell says nothing of when it comes.
+/// Writes the element of a dynamic slot. The place of its cell isn't the time of the slot.
 fn write_slot<W: Write>(
     writer: &mut W,
     cluster: &Cluster,
@@ -145,22 +147,19 @@ fn write_slot<W: Write>(
     if never_sends(cluster, node, channel) {
         write!(writer, ", never sent: the node's latest minislot is 0")?;
     }
-    write!(
+    write!(writer, "</title>")?;
+    write_rect(
         writer,
-        "</title><rect x='{left}' y='{}' ",
-        top.saturating_add(70)
-    )?;
-    write!(
-        writer,
-        "width='{}' height='{}'/>",
+        left,
+        top.saturating_add(70),
         cell.length,
-        CHANNEL_HEIGHT - 140
+        CHANNEL_HEIGHT - 140,
     )?;
     write_numbers(writer, slot, node, cell, top)?;
-    writeln!(writer, "</g>")
+    close_group(writer)
 }
 
-/// Writes the dynamic segment of a channel, in which the slots that have a sender share the room in their order.
+/// Writes the dynamic segment of a channel, in which the slots with a sender share the room.
 pub(crate) fn write_dynamic<W: Write>(
     writer: &mut W,
     cluster: &Cluster,
@@ -182,8 +181,8 @@ pub(crate) fn write_dynamic<W: Write>(
         writer,
         "<g class='dynamic'><title>dynamic segment on {channel}</title>"
     )?;
-    write!(writer, "<rect x='{left}' y='{}' ", row_of(channel))?;
-    writeln!(writer, "width='{length}' height='{CHANNEL_HEIGHT}'/></g>")?;
+    write_rect(writer, left, row_of(channel), length, CHANNEL_HEIGHT)?;
+    close_group(writer)?;
     let count = count_senders(cluster, cycle, channel).max(1);
     let mut index: u64 = 0;
     for number in 1..=LAST_SLOT {

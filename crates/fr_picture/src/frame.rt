@@ -1,27 +1,28 @@
-//! What stands round the slots of a picture: its style, the segments of the cycle, and the names of the rows.
+//! The frame of a picture: its style, the segments of the cycle, and the names of the rows.
 
 use crate::scale::{LEFT, across, extent};
 use fr_schedule::cluster::Cluster;
 use fr_slots::numbers::Cycle;
 use fr_slots::params::Params;
+use fr_svg::elements::{
+    close_group, open_group, open_picture, write_number, write_rect, write_text,
+};
+use fr_svg::style::{colour_of, write_text_rule};
 use fr_timing::segments::{Segments, segments_of};
 use std::io;
 use std::io::Write;
 
-/// How far the first row of the guardians stands from the top.
+/// The distance of the first row of the guardians from the top.
 pub(crate) const GUARDS_TOP: u64 = 2300;
 
-/// What the number of a slot takes over its box.
+/// The length that the number of a slot takes above its box.
 const AXIS_LENGTH: u64 = 220;
 
-/// How far one row of them stands from the next.
+/// The distance from one row of the guardians to the next.
 pub(crate) const GUARD_PITCH: u64 = 180;
 
-/// The style of all pictures. The colours are those of Okabe and Ito, and a wine red in place of their black, which
-/// colour-blind people tell apart; nodes 8 to 15 have the same with stripes.
-const STYLE: &str = "<style>
-text{font-family:sans-serif;font-size:110px;text-anchor:middle;fill:#000;stroke:#fff;stroke-width:24px;paint-order:stroke;stroke-linejoin:round}
-.name text{text-anchor:end}
+/// The rules in front of those for the nodes.
+const RULES: &str = ".name text{text-anchor:end}
 .head text{font-size:170px;text-anchor:start}
 rect{stroke:#fff}
 .page rect,.stripe{stroke:none}
@@ -31,26 +32,29 @@ rect{stroke:#fff}
 .dynamic rect{fill:#ececec}
 .symbol rect{fill:#c4c4c4}
 .idle rect{fill:#f6f6f6;stroke:#bbb}
-.n0 rect,.s0{fill:#e69f00}
-.n1 rect,.s1{fill:#56b4e9}
-.n2 rect,.s2{fill:#009e73}
-.n3 rect,.s3{fill:#f0e442}
-.n4 rect,.s4{fill:#0072b2}
-.n5 rect,.s5{fill:#d55e00}
-.n6 rect,.s6{fill:#cc79a7}
-.n7 rect,.s7{fill:#882255}
-.n8 rect{fill:url(#p0)}
-.n9 rect{fill:url(#p1)}
-.n10 rect{fill:url(#p2)}
-.n11 rect{fill:url(#p3)}
-.n12 rect{fill:url(#p4)}
-.n13 rect{fill:url(#p5)}
-.n14 rect{fill:url(#p6)}
-.n15 rect{fill:url(#p7)}
-.never rect{fill-opacity:.25;stroke:#000;stroke-dasharray:40}
+";
+
+/// The rules after those for the nodes.
+const LAST_RULES: &str = ".never rect{fill-opacity:.25;stroke:#000;stroke-dasharray:40}
 .axis text{font-size:90px}
 </style>
 ";
+
+/// Writes the style of all pictures. Nodes 8 to 15 have the colours of nodes 0 to 7 with stripes.
+fn write_style<W: Write>(writer: &mut W) -> io::Result<()> {
+    writeln!(writer, "<style>")?;
+    write_text_rule(writer, 110, 24)?;
+    writer.write_all(RULES.as_bytes())?;
+    for number in 0..8u8 {
+        let colour = colour_of(number);
+        writeln!(writer, ".n{number} rect,.s{number}{{fill:{colour}}}")?;
+    }
+    for number in 0..8u8 {
+        let node = number.saturating_add(8);
+        writeln!(writer, ".n{node} rect{{fill:url(#p{number})}}")?;
+    }
+    writer.write_all(LAST_RULES.as_bytes())
+}
 
 /// Writes the striped fillings.
 fn write_stripes<W: Write>(writer: &mut W) -> io::Result<()> {
@@ -67,7 +71,7 @@ fn write_stripes<W: Write>(writer: &mut W) -> io::Result<()> {
     writeln!(writer, "</defs>")
 }
 
-/// Writes how far boxes stand apart: less where static slots are short, so that these are seen.
+/// Writes the gap between boxes, which is smaller if static slots are short, so that they can be seen.
 fn write_gaps<W: Write>(writer: &mut W, params: &Params) -> io::Result<()> {
     let gap = (extent(params, 0, u32::from(params.static_mt)) / 12).min(6);
     writer.write_all(b"<style>rect{stroke-width:")?;
@@ -75,28 +79,24 @@ fn write_gaps<W: Write>(writer: &mut W, params: &Params) -> io::Result<()> {
     writer.write_all(b"}</style>\n")
 }
 
-/// Writes how a picture begins, up to its first row.
+/// Writes the front of a picture, up to its first row.
 pub(crate) fn write_head<W: Write>(
     writer: &mut W,
     cluster: &Cluster,
     cycle: Cycle,
 ) -> io::Result<()> {
     let height = GUARDS_TOP + 2 * GUARD_PITCH * u64::from(cluster.nodes()) + 160;
-    write!(writer, "<svg xmlns='http://www.w3.org/2000/svg' ")?;
-    write!(writer, "width='1160' height='{}' ", height / 10)?;
-    writeln!(writer, "viewBox='0 0 11600 {height}'>")?;
+    open_picture(writer, 1160, height / 10, 11600, height)?;
     writeln!(writer, "<title>Schedule of cycle {cycle}</title>")?;
-    writer.write_all(STYLE.as_bytes())?;
+    write_style(writer)?;
     write_gaps(writer, cluster.params())?;
     write_stripes(writer)?;
     write!(
         writer,
         "<g class='page'><title>Schedule of cycle {cycle}</title>"
     )?;
-    writeln!(
-        writer,
-        "<rect x='0' y='0' width='11600' height='{height}'/></g>"
-    )?;
+    write_rect(writer, 0, 0, 11600, height)?;
+    close_group(writer)?;
     write!(writer, "<g class='head'><title>cycle {cycle}</title>")?;
     write!(writer, "<text x='{LEFT}' y='260'>Cycle {cycle}, ")?;
     write!(writer, "{} macroticks, ", cluster.params().cycle_mt)?;
@@ -108,7 +108,7 @@ pub(crate) fn write_head<W: Write>(
     writeln!(writer, "{} {name}</text></g>", cluster.nodes())
 }
 
-/// Writes a segment of the cycle with its name, where it has any macroticks.
+/// Writes a segment of the cycle with its name, if it has any macroticks.
 fn write_segment<W: Write>(
     writer: &mut W,
     params: &Params,
@@ -123,17 +123,16 @@ fn write_segment<W: Write>(
     let (left, length) = (across(params, start), extent(params, start, end));
     write!(writer, "<g class='{class}'><title>{name}: ")?;
     write!(writer, "macroticks {start} to {end}</title>")?;
-    write!(writer, "<rect x='{left}' y='620' ")?;
-    write!(writer, "width='{length}' height='260'/>")?;
-    // So many letters fit that take some 65 each.
+    write_rect(writer, left, 620, length, 260)?;
+    // A letter takes about 65.
     if length / 65 >= name.len() as u64 {
         let middle = left.saturating_add(length / 2);
-        write!(writer, "<text x='{middle}' y='790'>{name}</text>")?;
+        write_text(writer, middle, 790, name)?;
     }
-    writeln!(writer, "</g>")
+    close_group(writer)
 }
 
-/// Writes the number of a macrotick over the segments, and gives where the next one fits.
+/// Writes the number of a macrotick above the segments, and returns the next one's first place.
 fn write_tick<W: Write>(
     writer: &mut W,
     params: &Params,
@@ -145,11 +144,12 @@ fn write_tick<W: Write>(
         return Ok(from);
     }
     write!(writer, "<g><title>macrotick {macrotick}</title>")?;
-    writeln!(writer, "<text x='{left}' y='560'>{macrotick}</text></g>")?;
+    write_number(writer, left, 560, u64::from(macrotick))?;
+    close_group(writer)?;
     Ok(left.saturating_add(400))
 }
 
-/// Writes the four segments of the cycle, and where they begin.
+/// Writes the four segments of the cycle, and the macroticks at which they begin.
 pub(crate) fn write_segments<W: Write>(writer: &mut W, params: &Params) -> io::Result<()> {
     let Segments {
         dynamic,
@@ -175,7 +175,7 @@ pub(crate) fn write_segments<W: Write>(writer: &mut W, params: &Params) -> io::R
     Ok(())
 }
 
-/// Of how many static slots one has its number written: so many that a number has room.
+/// Returns the step between the static slots whose numbers are written, so that these have room.
 fn axis_step(params: &Params) -> u16 {
     let length = extent(params, 0, u32::from(params.static_mt));
     for step in [1, 2, 5, 10, 20, 50, 100, 200, 500] {
@@ -186,10 +186,10 @@ fn axis_step(params: &Params) -> u16 {
     1000
 }
 
-/// Writes the numbers of the static slots over their boxes.
+/// Writes the numbers of the static slots above their boxes.
 pub(crate) fn write_axis<W: Write>(writer: &mut W, params: &Params) -> io::Result<()> {
     let step = axis_step(params).max(1);
-    write!(writer, "<g class='axis'><title>static slots</title>")?;
+    open_group(writer, "axis", "static slots")?;
     for earlier in 0..params.static_slots {
         let slot = earlier.saturating_add(1);
         if slot == 1 || slot % step == 0 {
@@ -200,20 +200,16 @@ pub(crate) fn write_axis<W: Write>(writer: &mut W, params: &Params) -> io::Resul
                 start.saturating_add(u32::from(params.static_mt)),
             );
             let middle = across(params, start).saturating_add(length / 2);
-            write!(writer, "<text x='{middle}' y='975'>{slot}</text>")?;
+            write_number(writer, middle, 975, u64::from(slot))?;
         }
     }
-    writeln!(writer, "</g>")
+    close_group(writer)
 }
 
-/// Writes the name of a row, whose middle stands so far from the top.
+/// Writes the name of a row with its middle at a distance from the top.
 pub(crate) fn write_name<W: Write>(writer: &mut W, top: u64, name: &str) -> io::Result<()> {
     let (left, foot) = (LEFT - 80, top.saturating_add(40));
-    write!(writer, "<g class='name'><title>{name}</title>")?;
-    writeln!(writer, "<text x='{left}' y='{foot}'>{name}</text></g>")
-}
-
-/// Writes how a picture ends.
-pub(crate) fn write_end<W: Write>(writer: &mut W) -> io::Result<()> {
-    writeln!(writer, "</svg>")
+    open_group(writer, "name", name)?;
+    write_text(writer, left, foot, name)?;
+    close_group(writer)
 }

@@ -1,15 +1,16 @@
-//! When each channel is open to each node in the cycle.
+//! The intervals of the cycle in which each channel is open to each node.
 
 use crate::frame::{GUARD_PITCH, GUARDS_TOP, write_name};
 use crate::scale::{across, extent};
 use fr_guardian::guardian::Guardian;
 use fr_slots::channel::Channel;
 use fr_slots::numbers::{Cycle, NodeId};
+use fr_svg::elements::{close_group, write_rect};
 use std::alloc::Global;
 use std::io;
 use std::io::Write;
 
-/// Writes the row of a node and a channel: an element for each interval of the cycle in which its guardian is open.
+/// Writes the row of a node and a channel: an element for each interval in which the guardian is open.
 fn write_row<W: Write>(
     writer: &mut W,
     guardian: &Guardian,
@@ -26,13 +27,13 @@ fn write_row<W: Write>(
             "<g class='open n{node}'><title>node {node} on {channel}: "
         )?;
         write!(writer, "open from {start} to {end}</title>")?;
-        write!(writer, "<rect x='{left}' y='{top}' ")?;
-        writeln!(writer, "width='{length}' height='150'/></g>")?;
+        write_rect(writer, left, top, length, 150)?;
+        close_group(writer)?;
     }
     Ok(())
 }
 
-/// Writes the rows of all nodes, of each that of channel A before that of channel B.
+/// Writes the rows of all nodes; in each node that of channel A before that of channel B.
 pub(crate) fn write_guards(
     alloc: Global,
     text: &mut Vec<u8>,

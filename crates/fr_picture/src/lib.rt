@@ -7,8 +7,8 @@
 //!
 //! All lengths in a picture are whole numbers, tenths of its units, and time goes from left to right.
 //!
-//! A chapter in parentheses is one of the FlexRay Protocol Specification 2.1, revision A, whose rule it is.
-//! *(project-defined)* marks a rule of this project's own, which says nothing of the standard.
+//! A chapter in parentheses is one of the FlexRay Protocol Specification 2.1, revision A.
+//! *(project-defined)* marks a rule of this project, and makes no claim about the standard.
 //!
 //! # Definitions
 //!

@@ -11,6 +11,7 @@ use fr_schedule::cluster::Cluster;
 use fr_slots::channel::Channel;
 use fr_slots::numbers::{Cycle, NodeId, SlotId};
 use fr_slots::params::Params;
+use fr_svg::elements::{close_group, close_text, open_text, write_rect};
 use std::io;
 use std::io::Write;
 
@@ -21,7 +22,7 @@ fn start_of(params: &Params, slot: SlotId) -> u32
     u32::from(slot.number() - 1) * u32::from(params.static_mt)
 }
 
-/// Returns the macrotick at which the slot after it begins.
+/// Returns the macrotick at which the slot after this one begins.
 fn end_of(params: &Params, slot: SlotId) -> u32
     ensures { result ≡ end_of params.now slot }
 {
@@ -29,18 +30,13 @@ fn end_of(params: &Params, slot: SlotId) -> u32
 }
 
 /// Writes a box in the row of a channel.
-#[tactic(auto, unfolding(crate::specs::Owners::box_text))]
 fn write_box<W: Write>(writer: &mut W, left: u64, length: u64, channel: Channel) -> io::Result<()>
     ensures { Writes W.contents writer.old writer.new result (box_text left length channel) }
 {
-    let top = row_of(channel);
-    write!(
-        writer,
-        "<rect x='{left}' y='{top}' width='{length}' height='420'/>"
-    )
+    write_rect(writer, left, row_of(channel), length, 420)
 }
 
-/// Writes the number of a node into its box, where it fits.
+/// Writes the number of a node into its box, if it fits.
 #[tactic(auto, unfolding(crate::specs::Owners::number_text))]
 fn write_number<W: Write>(
     writer: &mut W,
@@ -54,14 +50,12 @@ fn write_number<W: Write>(
     if length < NUMBER_LENGTH {
         return Ok(());
     }
-    let (top, half) = (row_of(channel), length / 2);
-    write!(
-        writer,
-        "<text x='{left}' y='{top}' dx='{half}' dy='260'>{node}</text>"
-    )
+    open_text(writer, left, row_of(channel), length / 2, 260)?;
+    write!(writer, "{node}")?;
+    close_text(writer)
 }
 
-/// Writes how the element of a slot begins that a node owns.
+/// Writes the front of the element of a slot that a node owns.
 #[tactic(auto, unfolding(crate::specs::Owners::owned_title))]
 fn write_owned_title<W: Write>(
     writer: &mut W,
@@ -77,7 +71,7 @@ fn write_owned_title<W: Write>(
     )
 }
 
-/// Writes how the element of a slot begins that nobody owns in the cycle.
+/// Writes the front of the element of a slot that has no owner in the cycle.
 #[tactic(auto, unfolding(crate::specs::Owners::free_title))]
 fn write_free_title<W: Write>(writer: &mut W, slot: u16, channel: Channel) -> io::Result<()>
     ensures { Writes W.contents writer.old writer.new result (free_title slot channel) }
@@ -103,10 +97,10 @@ fn write_owned<W: Write>(
     write_owned_title(writer, slot.number(), channel, node.number())?;
     write_box(writer, left, length, channel)?;
     write_number(writer, left, length, channel, node.number())?;
-    writeln!(writer, "</g>")
+    close_group(writer)
 }
 
-/// Writes the element of a static slot on the channel that nobody owns in the cycle.
+/// Writes the element of a static slot on the channel that has no owner in the cycle.
 fn write_free<W: Write>(
     writer: &mut W,
     params: &Params,
@@ -119,7 +113,7 @@ fn write_free<W: Write>(
     let (left, length) = (across(params, start), extent(params, start, end));
     write_free_title(writer, slot.number(), channel)?;
     write_box(writer, left, length, channel)?;
-    writeln!(writer, "</g>")
+    close_group(writer)
 }
 
 /// Writes the element of a static slot on the channel, which names its owner in the cycle.
@@ -139,10 +133,12 @@ fn write_owner<W: Write>(
     }
 }
 
-/// Writes the elements of the static slots, each with the node that the sender table has for it in the cycle, and of
-/// each slot that on channel A before that on channel B (chapter 5; the picture is project-defined).
+/// Writes the elements of the static slots, each with its owner (chapter 5).
 ///
-/// Fails where the writer fails, and then a part of them may have gone out.
+/// The picture is project-defined. The owner is the node that the sender table has for the slot in the cycle. In each
+/// slot the element on channel A stands before that on channel B.
+///
+/// Fails if the writer fails, which may have written a part by then.
 pub fn write_owners<W: Write>(writer: &mut W, cluster: &Cluster, cycle: Cycle) -> io::Result<()>
     ensures { OnOk result
         (Adds

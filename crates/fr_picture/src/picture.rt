@@ -6,7 +6,7 @@ ghost use Rattle.fr_picture.specs.Owners.{AreOwnerTexts};
 ghost use Rattle.fr_picture.specs.Schedules.{Draws, IsPicture};
 
 use crate::dynamics::write_dynamic;
-use crate::frame::{write_axis, write_end, write_head, write_name, write_segments};
+use crate::frame::{write_axis, write_head, write_name, write_segments};
 use crate::guards::write_guards;
 use crate::owners::write_owners;
 use crate::scale::row_of;
@@ -17,11 +17,12 @@ use fr_guardian::guardian::Guardian;
 use fr_schedule::cluster::Cluster;
 use fr_slots::channel::Channel;
 use fr_slots::numbers::Cycle;
+use fr_svg::elements::close_picture;
 use std::alloc::Global;
 use std::io;
 use std::io::{Read, Write};
 
-/// Writes what stands before the static slots.
+/// Writes the part before the static slots.
 fn write_before<W: Write>(writer: &mut W, cluster: &Cluster, cycle: Cycle) -> io::Result<()> {
     write_head(writer, cluster, cycle)?;
     write_segments(writer, cluster.params())?;
@@ -30,7 +31,7 @@ fn write_before<W: Write>(writer: &mut W, cluster: &Cluster, cycle: Cycle) -> io
     write_name(writer, row_of(Channel::B).saturating_add(210), "channel B")
 }
 
-/// Writes what stands after the static slots.
+/// Writes the part after the static slots.
 fn write_after(
     alloc: Global,
     text: &mut Vec<u8>,
@@ -43,7 +44,7 @@ fn write_after(
         Ok(guardian) => write_guards(alloc, text, &guardian, cycle)?,
         Err(error) => return Err(io::Error::from(error)),
     }
-    write_end(text)
+    close_picture(text)
 }
 
 /// Returns the elements of the static slots.
@@ -62,9 +63,13 @@ fn owners_of(alloc: Global, cluster: &Cluster, cycle: Cycle) -> Result<Vec<u8>, 
 
 /// Returns the picture of a cycle: an SVG text (project-defined).
 ///
-/// It has the four segments of the cycle, for each channel the static slots with their owners and the dynamic slots
-/// that have a sender, and for each node and channel the intervals in which its guardian is open, all of them in this
-/// cycle. Refused with `Memory` alone.
+/// All its parts are of this cycle:
+///
+/// - the four segments;
+/// - for each channel, the static slots with their owners, and the dynamic slots with a sender;
+/// - for each node and channel, the intervals in which its guardian is open.
+///
+/// The only error is `Memory`.
 pub fn picture_of(alloc: Global, cluster: &Cluster, cycle: Cycle) -> Result<Vec<u8>, BenchError>
     ensures picture { IfOk result (λ text. IsPicture cluster.now cycle text.items) }
     ensures refused { IfErr result (λ e. e ≡ refusal.Memory) }
@@ -89,7 +94,7 @@ pub fn picture_of(alloc: Global, cluster: &Cluster, cycle: Cycle) -> Result<Vec<
 
 /// Reads a cluster file to its end, and writes a picture of one of its cycles (project-defined).
 ///
-/// Refused as `check` is. On every refusal but `Write` nothing is written.
+/// The errors are those of `check`. Every error but `Write` leaves the writer unchanged.
 pub fn show_schedule<R: Read, W: Write>(
     alloc: Global,
     reader: &mut R,

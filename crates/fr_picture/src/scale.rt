@@ -1,4 +1,4 @@
-//! Where things stand in a picture.
+//! The places of a picture.
 
 ghost use Rattle.std.specs.Prelude.{◌≡◌};
 ghost use Rattle.fr_picture.specs.Places.{across, extent, row_of};
@@ -6,19 +6,19 @@ ghost use Rattle.fr_picture.specs.Places.{across, extent, row_of};
 use fr_slots::channel::Channel;
 use fr_slots::params::Params;
 
-/// Where a cycle begins, from the left.
+/// The distance of the beginning of a cycle from the left.
 pub const LEFT: u64 = 1400;
 
-/// How long a cycle is.
+/// The length of a cycle.
 pub const LENGTH: u64 = 10_000;
 
-/// The height of what is drawn of a channel.
+/// The height of the row of a channel.
 pub const CHANNEL_HEIGHT: u64 = 420;
 
-/// What a number takes that is written into a box.
+/// The length of a box that has room for a number.
 pub const NUMBER_LENGTH: u64 = 150;
 
-/// Returns how far a macrotick of the cycle stands from the left.
+/// Returns the distance of a macrotick of the cycle from the left.
 #[tactic(auto, unfolding(crate::specs::Places::across))]
 pub fn across(params: &Params, macrotick: u32) -> u64
     ensures { result ≡ across params.now macrotick }
@@ -26,7 +26,7 @@ pub fn across(params: &Params, macrotick: u32) -> u64
     LEFT + u64::from(macrotick) * LENGTH / u64::from(params.cycle_mt)
 }
 
-/// Returns how long the box of an interval is, at least 1.
+/// Returns the length of the box of an interval, at least 1.
 #[tactic(auto, unfolding(crate::specs::Places::extent))]
 pub fn extent(params: &Params, start: u32, end: u32) -> u64
     ensures { result ≡ extent params.now start end }
@@ -36,7 +36,7 @@ pub fn extent(params: &Params, start: u32, end: u32) -> u64
         .max(1)
 }
 
-/// Returns how far what is drawn of a channel stands from the top.
+/// Returns the distance of the row of a channel from the top.
 #[tactic(auto, unfolding(crate::specs::Places::row_of))]
 pub fn row_of(channel: Channel) -> u64
     ensures { result ≡ row_of channel }

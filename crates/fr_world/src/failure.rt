@@ -12,10 +12,10 @@ use thiserror::Error;
 /// error.
 #[derive(Clone, Copy, Debug, Drop, PartialEq, Eq, Error)]
 pub enum WorldFailure {
-    /// The words were no command, or memory for reading them was refused.
+    /// The words were no command, or an allocation failed while they were read.
     #[error("{0}")]
     Words(#[from] OrderError),
-    /// Memory for reading and writing was refused.
+    /// The allocation of a buffer for reading or writing failed.
     #[error("refused Memory")]
     Memory,
     /// The cluster file was refused, or couldn't be read.

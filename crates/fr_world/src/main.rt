@@ -9,7 +9,7 @@
 //! Its exit status is 0 at the end of the input, 1 if the cluster is refused or a stream fails, and 2 if the words are
 //! no command. Such a refusal is one line on standard error. The refusal of a request is its reply.
 //!
-//! *(project-defined)* marks a rule of this project's own, which says nothing of the standard.
+//! *(project-defined)* marks a rule of this project, and makes no claim about the standard.
 //!
 //! # Definitions
 //!
@@ -17,8 +17,8 @@
 //!
 //! # Inner workings
 //!
-//! `main` reads the words, makes the cluster, opens its world, and takes the room for reading and writing. Then `serve`
-//! (`fr_session`) answers until the reader ends.
+//! `main` reads the words, makes the cluster, opens its world, and allocates the buffers for reading and writing. Then
+//! `serve` (`fr_session`) answers until the reader ends.
 #![tactic(auto)]
 
 mod failure;
@@ -49,7 +49,7 @@ fn cluster_in<R: Files + AllocGlobal>(
 
 /// Serves the world of the command's cluster on standard input and output.
 ///
-/// The room for reading and writing is taken first, so that no reply needs memory of its own.
+/// The buffers for reading and writing are allocated first, so that no reply needs memory of its own.
 fn serve_world<R: Files + Input + Print + AllocGlobal + Clock>(
     rt: &R,
     command: WorldCommand<'_>,
@@ -76,7 +76,7 @@ fn serve_world<R: Files + Input + Print + AllocGlobal + Clock>(
     Ok(served?)
 }
 
-/// Does what the words ask for.
+/// Executes the command of the words.
 fn run<R: Env + Files + Input + Print + AllocGlobal + Clock>(rt: &R) -> Result<(), WorldFailure> {
     let words = words_given(rt)?;
     let texts: Vec<&str> = texts_of(rt.alloc(), &words)?;
