@@ -1,5 +1,5 @@
 -- Stations whose flags and sides are kept apart.
-use Rattle.std.proofs.Common.{◌≡◌, ℕ, zero, suc, ◌+◌, ◌<◌, ◌≤◌, Bool, true, false, List, [], ◌∷◌, ◌++◌, length, drop}
+use Rattle.std.proofs.Common.{◌≡◌, ℕ, zero, suc, ◌+◌, ◌<◌, ◌≤◌, Bool, false, List, [], ◌∷◌, ◌++◌, length, drop}
 use Rattle.std.proofs.Common.{replicate, refl, sym, ap, ◌∙◌, add-one, arith}
 use Rattle.std.specs.Prelude.{slice_index_or, slice_set}
 use Rattle.arrayvec.specs.ArrayVec.{ArrayVec}

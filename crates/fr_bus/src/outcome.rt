@@ -1,14 +1,13 @@
 //! The outcome of the transmissions of a window, and each node's observation.
 
-ghost use Rattle.std.specs.Prelude.{◌≡◌, ◌<◌, ◌≤◌, [], ◌∷◌, ◌++◌, List, length, IfOk, OnOk, OnErr};
-ghost use Rattle.std.specs.Prelude.{None, ◌&&◌, ◌+◌, ◌↔◌, IsTrue, IfSome, IfNone, if◌then◌else◌};
+ghost use Rattle.std.specs.Prelude.{◌≡◌, ◌<◌, ◌≤◌, [], ◌∷◌, ◌++◌, List, length, IfOk, OnOk, OnErr, None, ◌&&◌, ◌+◌};
+ghost use Rattle.std.specs.Prelude.{◌↔◌, IsTrue, IfSome, IfNone, if◌then◌else◌, slice_index_or};
 ghost use Rattle.std.specs.List.{list_any};
 ghost use Rattle.std.specs.Option.{option_copied};
 ghost use Rattle.fr_bus.specs.Outcome.{fate_of, transmission, sent_on, sent_in, sent_of, sent_from, passed_on, is_of};
 ghost use Rattle.fr_bus.specs.Outcome.{heard_of, overruns, seen_of, all_passed, received, longest};
 ghost use Rattle.fr_bus.specs.Record.{is_offer_of, offer_in};
 ghost use Rattle.fr_bus.specs.States.{idle_station};
-ghost use Rattle.std.specs.Prelude.{slice_index_or};
 ghost use Rattle.fr_bus.specs.Corruption.{turned, with_bit_turned, corrupted};
 ghost use Rattle.fr_slots.specs.declared.channel.Channel.TheVariants as Channel;
 ghost use Rattle.fr_guardian.specs.Guarding.{passes};

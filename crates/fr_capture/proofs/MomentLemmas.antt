@@ -1,7 +1,6 @@
 -- The moment that the code keeps is the one that follows from the entries, with one entry more.
-use Rattle.std.proofs.Common.{◌≡◌, ℕ, ◌+◌, ◌*◌, ◌≤◌, Bool, true, false, cond}
-use Rattle.std.proofs.Common.{List, [], ◌∷◌, ◌++◌, length, Option, Some, None}
-use Rattle.std.proofs.Common.{refl, sym, ap, ◌∙◌, arith, leb}
+use Rattle.std.proofs.Common.{◌≡◌, ℕ, ◌+◌, ◌*◌, ◌≤◌, Bool, true, false, cond, List, [], ◌∷◌, ◌++◌, length, Option, Some}
+use Rattle.std.proofs.Common.{None, refl, sym, ap, ◌∙◌, arith, leb}
 use Rattle.std.specs.Option.{option_or}
 use Rattle.fr_capture.specs.Clocks.{IsMoment, moment_after, rounds_at, seen_after, in_moment, time_at, HasRounds}
 use Rattle.fr_capture.specs.declared.moment.Moment.{Moment}

@@ -1,7 +1,6 @@
 -- The window fetched last with its time, entry by entry, as the code goes along a journal. The proofs show that it
 -- agrees with `Moments`.
-use Rattle.std.specs.Prelude.{◌≡◌, ℕ, ◌+◌, ◌*◌, ◌≤◌, List, [], ◌∷◌, Option, Some, None, nat_le}
-use Rattle.std.specs.Prelude.{if◌then◌else◌}
+use Rattle.std.specs.Prelude.{◌≡◌, ℕ, ◌+◌, ◌*◌, ◌≤◌, List, [], ◌∷◌, Option, Some, None, nat_le, if◌then◌else◌}
 use Rattle.fr_capture.specs.declared.moment.Moment.{Moment}
 use Rattle.fr_capture.specs.Moments.{last_fetch, last_window, place_in_round, round_length, rounds}
 use Rattle.fr_capture.specs.Sightings.{Sighting, sighting}

@@ -1,7 +1,7 @@
 -- The times of a journal's windows. The time is counted in microseconds from the start of the round of 64 cycles of the
 -- first window, and a macrotick is one microsecond (project-defined).
-use Rattle.std.specs.Prelude.{ℕ, ◌+◌, ◌*◌, nat_le, Bool, false, List, [], length, Option, Some, None}
-use Rattle.std.specs.Prelude.{unwrap_or}
+use Rattle.std.specs.Prelude.{ℕ, ◌+◌, ◌*◌, nat_le, Bool, false, List, [], length, Option, Some, None, unwrap_or}
+use Rattle.std.specs.Prelude.{if◌then◌else◌}
 use Rattle.fr_journal.specs.Forms.{Entry}
 use Rattle.fr_journal.specs.declared.entry.Entry.TheVariants.{Commit, Withdraw, Read, Pop, Fetch, Observe}
 use Rattle.fr_slots.specs.History.{last_after, count_after}
@@ -11,7 +11,6 @@ use Rattle.fr_slots.specs.Windows.{Opportunity, is_static}
 use Rattle.fr_timing.specs.declared.place.Place.{Place}
 use Rattle.fr_timing.specs.declared.place.Place.TheVariants.{Static, Minislot}
 use Rattle.fr_timing.specs.Division.{start_at}
-use Rattle.std.specs.Prelude.{if◌then◌else◌}
 
 -- ---- in the cycle
 

@@ -1,8 +1,7 @@
 -- The receivers of a frame: the receive buffers and the receive FIFO of a node that observed it (chapter 9; the
 -- receive FIFO, and channel A before B, are project-defined). Where several nodes receive it, each receiver has its
 -- node.
-use Rattle.std.specs.Prelude.{ℕ, ◌+◌, Bool, true, false, List, [], ◌∷◌, ◌++◌, codes, Option, Some, None}
-use Rattle.std.specs.Prelude.{if◌then◌else◌}
+use Rattle.std.specs.Prelude.{ℕ, ◌+◌, Bool, true, false, List, [], ◌∷◌, ◌++◌, codes, Option, Some, None, if◌then◌else◌}
 use Rattle.std.specs.Fmt.{decimal}
 use Rattle.fr_capture.specs.declared.takers.Taker.{Taker}
 use Rattle.fr_capture.specs.Taking.{buffer_takes, queue_takes}

@@ -1,7 +1,6 @@
 -- The answer to words follows from a parse, since the commands are of the kind for which `clap` reports all faults.
 use Rattle.std.proofs.Common.{◌≡◌, [], ◌∷◌, List, Option, Some, None, Err, refl, ap, ap₂, sym, subst, ◌∙◌, arith, inl}
-use Rattle.std.proofs.Common.{inr, true, false}
-use Rattle.std.proofs.Common.{◌&&◌, ◌||◌, codes, is_some, option_map}
+use Rattle.std.proofs.Common.{inr, true, false, ◌&&◌, ◌||◌, codes, is_some, option_map}
 use Rattle.std.specs.Prelude.{IfSome, IfNone, option_and_then, if◌then◌else◌}
 use Rattle.std.specs.Str.{bytes_eq}
 use Rattle.std.specs.Option.{ok_or}
@@ -17,10 +16,8 @@ use Rattle.fr_cli.specs.declared.error.OrderError.TheVariants as refusal
 use Rattle.fr_cli.specs.declared.view.Asked.{Asked}
 use Rattle.fr_cli.specs.declared.view.Asked.TheVariants.{Outcome, Answers, Commits, Record, Heard, Trace}
 use Rattle.fr_cli.specs.ViewOrders.{IsAnswerTo, IsOrder, IsScheduleBy, IsShowBy, asked_by, asks, channel_asked}
-use Rattle.fr_cli.specs.ViewOrders.{cycle_asked}
-use Rattle.fr_cli.specs.ViewOrders.{drawn_by, from_asked, has_schedule_by, has_show_by, matrix_of}
-use Rattle.fr_cli.specs.ViewOrders.{node_asked}
-use Rattle.fr_cli.specs.ViewOrders.{the_commands, viewer_asked}
+use Rattle.fr_cli.specs.ViewOrders.{cycle_asked, drawn_by, from_asked, has_schedule_by, has_show_by, matrix_of}
+use Rattle.fr_cli.specs.ViewOrders.{node_asked, the_commands, viewer_asked}
 use Rattle.fr_cli.proofs.CommandLemmas.{has_run_alike}
 use Rattle.fr_cli.specs.Commands.{IsNamed, cycles_in, order_error_of, word_in}
 

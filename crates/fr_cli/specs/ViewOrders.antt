@@ -1,15 +1,12 @@
 -- The words that are an order of `fr_view`, by the rules of `clap`, and the refusals that follow from its errors.
-use Rattle.std.specs.Prelude.{◌≡◌, ◌⊎◌, ◌<◌, ℕ, List, [], ◌∷◌, length, Option, Some, None, Result, Ok, Err, true}
-use Rattle.std.specs.Prelude.{false}
-use Rattle.std.specs.Prelude.{codes}
-use Rattle.std.specs.Prelude.{option_map, option_and_then, Bool, ◌&&◌, ◌||◌, is_some, if◌then◌else◌}
+use Rattle.std.specs.Prelude.{◌≡◌, ◌⊎◌, ◌<◌, ℕ, List, [], ◌∷◌, length, Option, Some, None, Result, Ok, Err, true, false}
+use Rattle.std.specs.Prelude.{codes, option_map, option_and_then, Bool, ◌&&◌, ◌||◌, is_some, if◌then◌else◌}
 use Rattle.fr_text.specs.Reading.{number_in}
 use Rattle.std.specs.Str.{bytes_eq}
 use Rattle.clap.specs.Words.{App, Row, Rule, Text, fault_of, first_of, new_app, new_rule, subcommand_of}
 use Rattle.clap.specs.Words.{with_rule, with_subcommand}
 use Rattle.fr_cli.specs.declared.view.Asked.{Asked}
-use Rattle.fr_cli.specs.declared.view.Asked.TheVariants.{Outcome, Answers, Commits, Record, Heard, Trace}
-use Rattle.fr_cli.specs.declared.view.Asked.TheVariants.{Matrix}
+use Rattle.fr_cli.specs.declared.view.Asked.TheVariants.{Outcome, Answers, Commits, Record, Heard, Trace, Matrix}
 use Rattle.fr_slots.specs.declared.channel.Channel.{Channel}
 use Rattle.fr_slots.specs.declared.channel.Channel.TheVariants.{A, B}
 use Rattle.clap.specs.declared.builder.action.ArgAction.TheVariants.{SetTrue}

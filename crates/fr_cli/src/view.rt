@@ -8,8 +8,7 @@ ghost use Rattle.fr_cli.specs.Commands.{is_true};
 ghost use Rattle.fr_cli.specs.ViewOrders.{IsAnswer, IsOrder, IsScheduleBy, IsShowBy, asked_by, asks, channel_asked};
 ghost use Rattle.fr_cli.specs.ViewOrders.{drawn_by, file_commands, flag_named, from_asked, has_schedule_by};
 ghost use Rattle.fr_cli.specs.ViewOrders.{has_show_by, is_help, line_commands, matrix_command, of_trace};
-ghost use Rattle.fr_cli.specs.ViewOrders.{schedule_command};
-ghost use Rattle.fr_cli.specs.ViewOrders.{the_commands, trace_command, viewer_asked, with_run};
+ghost use Rattle.fr_cli.specs.ViewOrders.{schedule_command, the_commands, trace_command, viewer_asked, with_run};
 
 use crate::commands::{cycles_of, of_file, program};
 use crate::error::OrderError;

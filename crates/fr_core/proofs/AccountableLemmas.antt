@@ -10,10 +10,9 @@ use Rattle.std.proofs.lemmas.List.Quantifiers.{position-Some}
 use Rattle.std.proofs.lemmas.Option.{slice_get-get_or}
 use Rattle.fr_core.specs.Accounts.{account, left_over, left_over_in, turn_of, frame_by, frame_by_account}
 use Rattle.fr_core.specs.Receivers.{offered_on}
-use Rattle.fr_slots.proofs.PlaceLemmas.{AllAfter-front}
+use Rattle.fr_slots.proofs.PlaceLemmas.{AllAfter-front, same_some, AllAfter-cut}
 use Rattle.fr_core.proofs.TimingLemmas.{IsTimed}
 use Rattle.fr_core.proofs.CaseLemmas.{both, both_first, both_rest}
-use Rattle.fr_slots.proofs.PlaceLemmas.{same_some, AllAfter-cut}
 use Rattle.fr_core.proofs.HandingLemmas.{offer_is}
 use Rattle.fr_core.proofs.SendingLemmas.{found_in, account_is_ready}
 use Rattle.fr_core.proofs.TakingLemmas.{transmitter_admits, transmitter_transmits}

@@ -7,8 +7,7 @@ use Rattle.arrayvec.specs.ArrayVec.{ArrayVec}
 use Rattle.fr_bus.specs.Record.{Recorded, offer_in, seen_by}
 use Rattle.fr_slots.proofs.PlaceLemmas.{same_some, get-append, get-after, get-map, map-get, each_after-cut}
 use Rattle.fr_core.proofs.CaseLemmas.{kept, kept_if}
-use Rattle.fr_core.specs.Agreeing.{Handed, Sight, fetched, sight_of, sight_at, observed, offers_of, sights_of}
-use Rattle.fr_core.specs.Agreeing.{Follows}
+use Rattle.fr_core.specs.Agreeing.{Handed, Sight, fetched, sight_of, sight_at, observed, offers_of, sights_of, Follows}
 use Rattle.fr_core.proofs.JudgedLemmas.{AreJudged}
 use Rattle.fr_core.specs.Receivers.{IsFaultlessAt, Holds, HandsOver, IsReceived, Receivers}
 use Rattle.fr_core.proofs.HandingLemmas.{handed_on, hands_over}

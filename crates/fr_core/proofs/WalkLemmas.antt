@@ -14,8 +14,7 @@ use Rattle.fr_core.specs.declared.walk.Fetches.{Fetches}
 use Rattle.fr_core.specs.declared.walk.Observes.{Observes}
 use Rattle.fr_core.specs.Settling.{HasWindows, fetches_at, observes_at, windows_fetched, windows_observed, windows_of}
 use Rattle.fr_core.specs.Walks.{Finds, FindsBelow, FindsNext, IsCompared, AreFetches, FetchesNext, AreObserves}
-use Rattle.fr_core.specs.Walks.{SightsNext, ObservesNext}
-use Rattle.fr_core.specs.Walks.{handed_by, opened_after, sight_told, is_nothing, is_silent}
+use Rattle.fr_core.specs.Walks.{SightsNext, ObservesNext, handed_by, opened_after, sight_told, is_nothing, is_silent}
 use Rattle.fr_interface.specs.Handing.{offered_on, bytes_in_entry, bytes_handed}
 use Rattle.fr_interface.specs.State.{State}
 use Rattle.fr_journal.proofs.OpenWindowLemmas.{open_window-snoc}

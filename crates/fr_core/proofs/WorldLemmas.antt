@@ -1,6 +1,5 @@
 -- Each event keeps the properties of every world.
-use Rattle.std.proofs.Common.{◌≡◌, ℕ, List, [], ◌∷◌, length, map, refl, sym, ap, ◌∙◌, Option, Some, None}
-use Rattle.std.proofs.Common.{length-set}
+use Rattle.std.proofs.Common.{◌≡◌, ℕ, List, [], ◌∷◌, length, map, refl, sym, ap, ◌∙◌, Option, Some, None, length-set}
 use Rattle.std.specs.Prelude.{Result, Ok, Err}
 use Rattle.std.proofs.lemmas.List.{length-map, length-replicate}
 use Rattle.std.proofs.Math.Seq.{map-set_same}
@@ -15,8 +14,7 @@ use Rattle.fr_core.specs.declared.event.Event.TheVariants.{Commit, Withdraw, Rea
 use Rattle.fr_core.specs.declared.event.Event.TheVariants.{Observe, Inject, Seal, Advance}
 use Rattle.fr_core.specs.declared.event.Reply.{Reply}
 use Rattle.fr_core.specs.Steps.{Steps, step_done, with_interface, with_carried, with_bus, looked, fetched, put_on_bus}
-use Rattle.fr_core.specs.Steps.{taken}
-use Rattle.fr_core.specs.Steps.{observed}
+use Rattle.fr_core.specs.Steps.{taken, observed}
 use Rattle.fr_core.specs.Worlds.{WorldState, interface_at, carried_at, no_interface, new_interface, opening_world}
 use Rattle.fr_core.specs.Worlds.{without_entries}
 use Rattle.fr_interface.specs.State.{State}

@@ -1,6 +1,5 @@
 -- Frames that receivers hold from a fault-free slot are commits of its owner (project-defined).
-use Rattle.std.specs.Prelude.{◌≡◌, ◌<◌, ℕ, not, Bool, true, false, ◌&&◌, ◌||◌, ◌⊎◌, List, take, slice_get}
-use Rattle.std.specs.Prelude.{Some, None}
+use Rattle.std.specs.Prelude.{◌≡◌, ◌<◌, ℕ, not, Bool, true, false, ◌&&◌, ◌||◌, ◌⊎◌, List, take, slice_get, Some, None}
 use Rattle.std.specs.List.{list_all}
 use Rattle.fr_bus.specs.declared.outcome.Fate.{Fate}
 use Rattle.fr_bus.specs.declared.outcome.Fate.TheVariants.{Passed, Blocked, Muted}

@@ -1,6 +1,5 @@
 -- Lists of events (project-defined).
-use Rattle.std.specs.Prelude.{◌≡◌, ℕ, ◌+◌, ◌==◌, Bool, false, ◌&&◌, List, [], ◌∷◌, Result, count_by}
-use Rattle.std.specs.Prelude.{if◌then◌else◌}
+use Rattle.std.specs.Prelude.{◌≡◌, ℕ, ◌+◌, ◌==◌, Bool, false, ◌&&◌, List, [], ◌∷◌, Result, count_by, if◌then◌else◌}
 use Rattle.std.specs.Result.{is_ok}
 use Rattle.fr_interface.specs.Commits.{commits_of}
 use Rattle.fr_core.specs.declared.error.StepError.{StepError}

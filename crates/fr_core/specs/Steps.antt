@@ -1,7 +1,6 @@
 -- One atomic step of a world (project-defined): the refusals of events, in the order of the tests, the reply to an
 -- accepted event, and the world after it.
-use Rattle.std.specs.Prelude.{◌≡◌, ℕ, length, Option, Some, None, option_map, Result, Ok, Err}
-use Rattle.std.specs.Prelude.{slice_set, if◌then◌else◌}
+use Rattle.std.specs.Prelude.{◌≡◌, ℕ, length, Option, Some, None, option_map, Result, Ok, Err, slice_set, if◌then◌else◌}
 use Rattle.fr_bus.specs.declared.error.BusError.TheVariants.{NotCollecting, Memory}
 use Rattle.fr_bus.specs.States.{BusState, collecting_of, put_refusal, put_done, take_refusal, take_done, seen_last}
 use Rattle.fr_bus.specs.States.{inject_refusal, inject_done, seal_refusal, sealed_now, advance_refusal, advanced}

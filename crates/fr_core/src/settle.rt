@@ -4,9 +4,8 @@ ghost use Rattle.std.specs.Prelude.{◌≡◌, ◌↔◌, ◌<◌, ◌+◌, true
 ghost use Rattle.std.specs.List.{list_all};
 ghost use Rattle.fr_bus.specs.States.{OneSenderEach};
 ghost use Rattle.fr_core.specs.Receivers.{Receivers};
-ghost use Rattle.fr_core.specs.Settling.{ArePlanned, PlansAgree, WindowsAgree, IsFatedAt};
-ghost use Rattle.fr_core.specs.Settling.{is_due, is_right, are_right, Settles, EachFollows, IsBetweenWindows};
-ghost use Rattle.fr_core.specs.Settling.{DiffersInScriptsAlone};
+ghost use Rattle.fr_core.specs.Settling.{ArePlanned, PlansAgree, WindowsAgree, IsFatedAt, is_due, is_right, are_right};
+ghost use Rattle.fr_core.specs.Settling.{Settles, EachFollows, IsBetweenWindows, DiffersInScriptsAlone};
 ghost use Rattle.fr_core.specs.Walks.{Finds, FindsNext, FindsPlace, FindsLeast, AreDifferences};
 ghost use Rattle.fr_core.specs.Walks.{AreFirstFindings, earlier, found_or, lesser_node, or_lesser};
 ghost use Rattle.fr_slots.specs.Numbers.{last_node};

@@ -1,8 +1,7 @@
 //! The walk along the journal of one node, beside the record and the scripts.
 
-ghost use Rattle.std.specs.Prelude.{◌≡◌, ◌<◌, ◌≤◌, ◌+◌, ◌↔◌, IsTrue, Some, None, nat_lt, if◌then◌else◌, length};
-ghost use Rattle.std.specs.Prelude.{IfSome, slice_get};
-ghost use Rattle.std.specs.Prelude.{option_map, is_none, ◌&&◌};
+ghost use Rattle.std.specs.Prelude.{◌≡◌, ◌<◌, ◌≤◌, ◌+◌, ◌↔◌, IsTrue, Some, None, nat_lt, if◌then◌else◌, length, IfSome};
+ghost use Rattle.std.specs.Prelude.{slice_get, option_map, is_none, ◌&&◌};
 ghost use Rattle.std.specs.Option.{option_copied, option_or};
 ghost use Rattle.fr_bus.specs.Record.{seen_by};
 ghost use Rattle.fr_core.specs.Agreeing.{offers_of, sight_of, sights_of};

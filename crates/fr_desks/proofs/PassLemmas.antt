@@ -1,9 +1,8 @@
 -- Lists of task handles, each at the place of its task's number.
 use Rattle.std.proofs.Common.{◌≡◌, ℕ, ◌+◌, ◌<◌, ◌++◌, ◌∷◌, List, [], length, Some, ap, ◌∙◌, sym, subst, arith}
-use Rattle.std.proofs.Common.{below_more, refl}
-use Rattle.std.proofs.Common.{length-append, get_or}
+use Rattle.std.proofs.Common.{below_more, length-append, get_or}
 use Rattle.std.specs.List.{All}
-use Rattle.std.specs.Prelude.{slice_get, Option}
+use Rattle.std.specs.Prelude.{slice_get}
 use Rattle.std.proofs.lemmas.List.{get_or_push}
 use Rattle.std.proofs.lemmas.Option.{slice_get_within, get_or_from_slice_get}
 use Rattle.std.proofs.Math.ListN.{get_or-append}

@@ -20,8 +20,7 @@ use Rattle.fr_frame.proofs.FieldLemmas.{bits_of-split, bits_of-byte}
 use Rattle.fr_frame.proofs.LoopLemmas.{divided-bits}
 use Rattle.fr_frame.proofs.NumberLemmas.{length-bits_of_bytes}
 use Rattle.fr_frame.proofs.SumLemmas.{xor_bits_assoc, xor_bits-padded, length-xor_front, xor_front-append}
-use Rattle.fr_frame.proofs.SumLemmas.{left_by-append}
-use Rattle.fr_frame.proofs.SumLemmas.{left_by-zeros, stepped_all-long, stepped_all-short}
+use Rattle.fr_frame.proofs.SumLemmas.{left_by-append, left_by-zeros, stepped_all-long, stepped_all-short}
 
 -- ---- tables that pass a test
 

@@ -1,8 +1,7 @@
 -- A binary search finds the interval in which a number lies, and a slot is open to its owner from its first macrotick
 -- on.
 use Rattle.std.proofs.Common.{◌≡◌, ℕ, ◌+◌, ◌-◌, ◌*◌, ◌<◌, ◌≤◌, ◌||◌, leb, nat_lt, not, Bool, true, false, List, length}
-use Rattle.std.proofs.Common.{get_or, ◌&&◌, Option, Some, slice_get}
-use Rattle.std.proofs.Common.{refl, sym, ap, subst, ◌∙◌, inl, inr, arith}
+use Rattle.std.proofs.Common.{get_or, ◌&&◌, Option, Some, slice_get, refl, sym, ap, subst, ◌∙◌, inl, inr, arith}
 use Rattle.std.specs.Prelude.{IsTrue, ◌↔◌}
 use Rattle.std.specs.List.{All, AllPairs}
 use Rattle.std.proofs.lemmas.Bool.{cases_Bool, cases_lt, cases_eq, and_parts, leb-true, both_ways, ltb-true, lt-ltb}

@@ -1,8 +1,7 @@
 -- One changed element of a list, and lists with an element for each buffer.
 use Rattle.std.proofs.Common.{◌≡◌, ℕ, zero, suc, ◌+◌, ◌≤◌, ◌<◌, Bool, true, false, cond, eqb, List, [], ◌∷◌, set}
-use Rattle.std.proofs.Common.{get_or, length, map, Some, refl, sym, ap, subst, ◌∙◌, arith, option_map}
+use Rattle.std.proofs.Common.{get_or, length, map, Some, refl, sym, ap, subst, ◌∙◌, arith, option_map, eq-eqb}
 use Rattle.std.specs.Prelude.{slice_get}
-use Rattle.std.proofs.Common.{eq-eqb}
 use Rattle.std.proofs.lemmas.Bool.{eqb-true}
 use Rattle.fr_buffers.specs.Transmitting.{Transmitter}
 use Rattle.fr_interface.specs.Known.{each_buffer, change_at}

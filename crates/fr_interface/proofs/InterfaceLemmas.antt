@@ -1,14 +1,10 @@
 -- An interface with one more entry, whose kept data made the same call.
-use Rattle.std.proofs.Common.{◌≡◌, ℕ, ◌+◌, ◌-◌, ◌≤◌, ◌<◌, List, [], ◌∷◌, ◌++◌, Option, Some, None, sym, ap, subst, ◌∙◌}
-use Rattle.std.proofs.Common.{arith}
-use Rattle.std.specs.Prelude.{IfSome, count_by}
-use Rattle.fr_buffers.specs.Waiting.{Waiting}
+use Rattle.std.proofs.Common.{◌≡◌, ℕ, ◌+◌, ◌-◌, ◌≤◌, ◌<◌, [], ◌∷◌, ◌++◌, sym, ap, subst, ◌∙◌}
 use Rattle.fr_interface.specs.declared.interface.Interface.TheInside.{Inside}
 use Rattle.fr_interface.specs.InterfaceFields.{state_in, IsLawful}
 use Rattle.fr_interface.specs.Standing.{Standing, IsHistory, KeepsTerms}
-use Rattle.fr_interface.specs.State.{State, with_entry}
+use Rattle.fr_interface.specs.State.{with_entry}
 use Rattle.fr_journal.specs.Forms.{Entry}
-use Rattle.fr_journal.specs.Entries.{is_slot}
 use Rattle.fr_journal.specs.Kept.{Kept}
 use Rattle.fr_slots.specs.Faults.{plan_fault}
 use Rattle.fr_slots.specs.Plans.{Plan, IsPlan}

@@ -1,10 +1,8 @@
 -- Searches among lines that find nothing outside a range, and the range of each slot.
 use Rattle.std.proofs.Common.{◌≡◌, ℕ, zero, suc, ◌+◌, ◌-◌, ◌≤◌, ◌<◌, Bool, true, false, cond, eqb, ltb, ◌||◌, List, []}
 use Rattle.std.proofs.Common.{◌∷◌, ◌++◌, length, map, take, drop, set, slice_range, Option, Some, None, option_map}
-use Rattle.std.proofs.Common.{refl}
-use Rattle.std.proofs.Common.{sym, ap, subst, ◌∙◌, arith, min, max, is_some, inl, inr, ◌⊎◌, replicate, get_or, take_all}
-use Rattle.std.proofs.Common.{length-append, length-set}
-use Rattle.std.proofs.Common.{eqb-true, ltb-true}
+use Rattle.std.proofs.Common.{refl, sym, ap, subst, ◌∙◌, arith, min, max, is_some, inl, inr, ◌⊎◌, replicate, get_or}
+use Rattle.std.proofs.Common.{take_all, length-append, length-set, eqb-true, ltb-true}
 use Rattle.std.proofs.lemmas.Bool.Decides.{nat_tests}
 use Rattle.std.specs.List.{position, position_from, position_or_len, list_any}
 use Rattle.std.specs.Option.{option_and_then, option_or}

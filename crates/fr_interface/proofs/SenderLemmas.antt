@@ -1,9 +1,8 @@
 -- The frames in a window, and the transmit buffers after it.
-use Rattle.std.proofs.Common.{◌≡◌, ℕ, ◌+◌, Bool, true, false, cond, eqb, ◌||◌, List, [], ◌∷◌, ◌++◌, length}
-use Rattle.std.proofs.Common.{Option, Some, None, refl, sym, ap, subst, ◌∙◌, arith, option_map}
+use Rattle.std.proofs.Common.{◌≡◌, ℕ, ◌+◌, Bool, true, false, cond, eqb, ◌||◌, List, [], ◌∷◌, ◌++◌, length, Option}
+use Rattle.std.proofs.Common.{Some, None, refl, sym, ap, subst, ◌∙◌, arith, option_map, eq-eqb}
 use Rattle.std.specs.Prelude.{IfSome, IsSomeAnd, slice_get, is_some, unwrap_or}
 use Rattle.std.specs.Option.{option_and_then, option_or}
-use Rattle.std.proofs.Common.{eq-eqb}
 use Rattle.std.proofs.lemmas.Bool.{eqb-true}
 use Rattle.std.proofs.lemmas.List.{append_assoc}
 use Rattle.fr_buffers.specs.Transmitting.{Transmitter, offer_of, after_send}

@@ -1,5 +1,5 @@
 -- The kept data after one more call, from those of some history.
-use Rattle.std.proofs.Common.{◌≡◌, ℕ, zero, suc, ◌+◌, ◌*◌, ◌≤◌, ◌<◌, ◌^◌, Bool, true, false, cond, List, [], ◌∷◌, ◌++◌}
+use Rattle.std.proofs.Common.{◌≡◌, ℕ, ◌+◌, ◌*◌, ◌≤◌, ◌<◌, ◌^◌, Bool, true, false, cond, List, [], ◌∷◌, ◌++◌}
 use Rattle.std.proofs.Common.{not, length, map, Option, Some, None, refl, sym, ap, subst, ◌∙◌, arith, option_map}
 use Rattle.std.specs.Prelude.{IfSome, IsSomeAnd, count_by, nat_le, slice_get, is_some}
 use Rattle.std.specs.Option.{option_and_then, ForSome}
@@ -7,36 +7,29 @@ use Rattle.std.proofs.lemmas.List.Sums.{sum_by-append}
 use Rattle.fr_buffers.specs.Transmitting.{Transmitter, with_commit, entry_of}
 use Rattle.fr_buffers.specs.Waiting.{Waiting}
 use Rattle.fr_frame.specs.Fields.{Fields}
-use Rattle.fr_interface.specs.declared.errors.HostError.{HostError}
 use Rattle.fr_interface.specs.declared.errors.HostError.TheVariants.{UnknownTask, UnknownBuffer}
-use Rattle.fr_interface.specs.declared.errors.SlotError.{SlotError}
-use Rattle.fr_interface.specs.declared.opening.Opening.{Opening}
 use Rattle.fr_interface.specs.declared.offers.Outgoing.{Outgoing}
 use Rattle.fr_interface.specs.declared.sending.Sender.{Sender}
-use Rattle.fr_interface.specs.Known.{opening_of, transmitters, held_in, waiting_of, change_at, stored_all}
-use Rattle.fr_interface.specs.Known.{with_arrivals, with_seen}
+use Rattle.fr_interface.specs.Known.{transmitters, held_in, waiting_of, change_at, stored_all, with_arrivals, with_seen}
 use Rattle.fr_interface.specs.Seeing.{status_seen}
 use Rattle.fr_interface.specs.Sending.{sender_in, frame_at, pending_at, frame_by, outgoing_in, sender_on, outgoing_on}
 use Rattle.fr_interface.specs.Sending.{owner_on, offered_by}
 use Rattle.fr_interface.specs.Standing.{Leaves, limited, with_limits, IsLegalHistory, Standing, standing_of, IsHistory}
 use Rattle.fr_interface.specs.Standing.{entries_before, after_commit, after_read, after_fetch, after_observe}
 use Rattle.fr_interface.specs.Standing.{after_taking_back, after_pop, sending_fault, withdraw_refused, queue_fault}
-use Rattle.fr_interface.specs.Standing.{pop_refused, held_at, oldest_at, source_where, source_at}
-use Rattle.fr_interface.specs.Standing.{tally_where, tally_at, received_where, received_at}
-use Rattle.fr_interface.specs.Standing.{is_full, commit_fault, commit_refused, read_fault, read_refused, fetch_refused}
-use Rattle.fr_interface.specs.Standing.{observe_refused}
+use Rattle.fr_interface.specs.Standing.{pop_refused, held_at, oldest_at, source_where, source_at, tally_where, tally_at}
+use Rattle.fr_interface.specs.Standing.{received_where, received_at, is_full, commit_fault, commit_refused, read_fault}
+use Rattle.fr_interface.specs.Standing.{read_refused, fetch_refused, observe_refused}
 use Rattle.fr_interface.specs.State.{State, with_entry, is_host_full, unless_transmit, commit_refusal, unless_receive}
-use Rattle.fr_interface.specs.State.{read_refusal}
-use Rattle.fr_interface.specs.State.{fetch_refusal, observe_refusal, withdraw_entry, read_entry, pop_entry, fetch_entry}
-use Rattle.fr_interface.specs.State.{received_by, received_in, source_by, source_of}
-use Rattle.fr_interface.specs.State.{arrived_of, popped_of, queued_of, unless_open, tally_in, tally_by, oldest_of}
-use Rattle.fr_interface.specs.State.{length_of, unless_sending, withdraw_refusal, unless_queued, pop_refusal}
+use Rattle.fr_interface.specs.State.{read_refusal, fetch_refusal, observe_refusal, withdraw_entry, read_entry}
+use Rattle.fr_interface.specs.State.{pop_entry, fetch_entry, received_by, received_in, source_by, source_of, arrived_of}
+use Rattle.fr_interface.specs.State.{popped_of, queued_of, unless_open, tally_in, tally_by, oldest_of, length_of}
+use Rattle.fr_interface.specs.State.{unless_sending, withdraw_refusal, unless_queued, pop_refusal}
 use Rattle.fr_interface.proofs.AnswerLemmas.{received-place, observed-place, commit-place, pending-place, tally-place}
 use Rattle.fr_interface.proofs.AnswerLemmas.{length-place, balance-place}
 use Rattle.fr_interface.proofs.CounterLemmas.{counters-other, counters-observe, room_on_a, room_on_b}
-use Rattle.fr_interface.proofs.KeptLemmas.{front_of, front_receivable, queue-pop, pop_queued, queue-other}
-use Rattle.fr_interface.proofs.KeptLemmas.{queue-observe, number_there, commits_fit, losses_fit, for_some}
-use Rattle.fr_interface.proofs.KeptLemmas.{received_line}
+use Rattle.fr_interface.proofs.KeptLemmas.{front_of, queue-pop, pop_queued, queue-other, queue-observe, number_there}
+use Rattle.fr_interface.proofs.KeptLemmas.{commits_fit, losses_fit, for_some, received_line}
 use Rattle.fr_interface.proofs.OpeningLemmas.{opening-withdraw, opening-pop, opening-commit, opening-read}
 use Rattle.fr_interface.proofs.OpeningLemmas.{opening-fetch, opening-observe}
 use Rattle.fr_interface.proofs.ReceiveLemmas.{held-other, held-observe}
@@ -65,7 +58,7 @@ use Rattle.fr_journal.specs.Arrivals.{moves}
 use Rattle.fr_journal.proofs.SeenPlaceLemmas.{held_is_receivable}
 use Rattle.fr_slots.specs.declared.filter.Filter.{Filter}
 use Rattle.fr_journal.specs.Legal.{IsLegal, IsLegalJournal, AreEntries}
-use Rattle.fr_journal.specs.OpenWindow.{open_window, last_number}
+use Rattle.fr_journal.specs.OpenWindow.{open_window}
 use Rattle.fr_journal.proofs.KindLemmas.{kinds_fill}
 use Rattle.std.proofs.lemmas.List.{length-map}
 use Rattle.fr_slots.proofs.HistoryLemmas.{AllAfter-snoc}

@@ -1,10 +1,9 @@
 -- The transmit buffers, with one more entry.
 use Rattle.std.proofs.Common.{◌≡◌, ℕ, ◌+◌, ◌≤◌, ◌<◌, Bool, true, false, cond, eqb, List, [], ◌∷◌, ◌++◌, length, map}
-use Rattle.std.proofs.Common.{Option, Some, None, refl, sym, ap, subst, ◌∙◌, arith, option_map, length-append}
+use Rattle.std.proofs.Common.{Option, Some, None, refl, sym, ap, subst, ◌∙◌, arith, option_map, length-append, eq-eqb}
 use Rattle.std.specs.Prelude.{count_by, IfSome, IsSomeAnd, is_some, slice_get}
 use Rattle.std.specs.Option.{option_or}
 use Rattle.std.proofs.lemmas.List.{append_assoc}
-use Rattle.std.proofs.Common.{eq-eqb}
 use Rattle.std.proofs.lemmas.Bool.{eqb-true}
 use Rattle.std.proofs.lemmas.List.Sums.{sum_by-append}
 use Rattle.fr_buffers.specs.declared.transmit.HeldCommit.{HeldCommit}
@@ -23,13 +22,11 @@ use Rattle.fr_journal.specs.Fate.{tally_of, pending_commit, held_commit}
 use Rattle.fr_journal.specs.Offers.{ready}
 use Rattle.fr_journal.proofs.FateStepLemmas.{after_commit, after_other, fates_from-commit, fates_from-other, MarksLast}
 use Rattle.fr_journal.proofs.FateStepLemmas.{LastStands, OnlyLast, marks_none, stands_unsent, marks_last_from}
-use Rattle.fr_journal.proofs.HeldCommitLemmas.{pending_is, held-below, held-other}
-use Rattle.fr_journal.proofs.HeldCommitLemmas.{held-commit, held-taken, held_pending-counts}
-use Rattle.fr_journal.proofs.HeldCommitLemmas.{same_entry, last_there, one_buffer}
+use Rattle.fr_journal.proofs.HeldCommitLemmas.{pending_is, held-below, held-other, held-commit, held-taken}
+use Rattle.fr_journal.proofs.HeldCommitLemmas.{held_pending-counts, same_entry, last_there, one_buffer}
 use Rattle.fr_journal.proofs.LastCommitLemmas.{IsCommitAt, payload_of-front, payload_of-next, slice_get-next}
-use Rattle.fr_journal.proofs.TallyLemmas.{fates_fill, after_commit-counts}
-use Rattle.fr_journal.proofs.TallyLemmas.{sending-counts, withdrawing-counts, same_fates}
-use Rattle.fr_journal.proofs.TallyLemmas.{pending-one}
+use Rattle.fr_journal.proofs.TallyLemmas.{fates_fill, after_commit-counts, sending-counts, withdrawing-counts}
+use Rattle.fr_journal.proofs.TallyLemmas.{same_fates, pending-one}
 use Rattle.fr_slots.specs.declared.plan.Buffer.{Buffer}
 use Rattle.fr_slots.specs.declared.plan.Mode.{Mode}
 use Rattle.fr_slots.specs.declared.plan.Mode.TheVariants as mode

@@ -7,7 +7,7 @@ use Rattle.std.proofs.lemmas.Bool.{ltb-true, ltb-false}
 use Rattle.std.proofs.lemmas.List.Sums.{fold-append, sum_by-append, sum_by-cons}
 use Rattle.fr_journal.specs.Entries.{is_slot}
 use Rattle.fr_journal.proofs.OpenWindowLemmas.{open_window-snoc}
-use Rattle.fr_slots.specs.History.{last_after}
+use Rattle.fr_slots.specs.History.{last_after, each_after}
 use Rattle.fr_buffers.specs.Waiting.{Waiting, with_frame, without_oldest}
 use Rattle.fr_interface.specs.Known.{waiting_of, queued_on, with_arrival}
 use Rattle.fr_journal.specs.Arrivals.{Move, arrives, pops, arrive_all, moves_at, moves, arrived, length_after}
@@ -26,7 +26,6 @@ use Rattle.fr_journal.proofs.MoveLemmas.{moves-snoc, arrived-append, arrived-all
 use Rattle.fr_slots.specs.declared.channel.Channel.{Channel}
 use Rattle.fr_slots.specs.declared.channel.Channel.TheVariants.{A, B}
 use Rattle.fr_slots.specs.declared.plan.Queue.{Queue}
-use Rattle.fr_slots.specs.History.{each_after}
 use Rattle.fr_slots.specs.Parameters.{Parameters}
 use Rattle.fr_slots.specs.Plans.{Plan}
 use Rattle.fr_slots.specs.Windows.{Opportunity}

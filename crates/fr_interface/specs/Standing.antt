@@ -15,8 +15,7 @@ use Rattle.fr_interface.specs.declared.sending.Sender.{Sender}
 use Rattle.fr_interface.specs.declared.source.Source.{Source}
 use Rattle.fr_interface.specs.declared.source.Source.TheVariants as source
 use Rattle.fr_interface.specs.Known.{opening_of, transmitters, held_in, waiting_of, change_at, stored_all}
-use Rattle.fr_interface.specs.Known.{with_arrivals}
-use Rattle.fr_interface.specs.Known.{with_seen}
+use Rattle.fr_interface.specs.Known.{with_arrivals, with_seen}
 use Rattle.fr_interface.specs.Sending.{after_sender}
 use Rattle.fr_interface.specs.State.{State, has_words, is_not_above, unless_open}
 use Rattle.fr_journal.specs.Counts.{counters_of}

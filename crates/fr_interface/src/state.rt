@@ -71,14 +71,12 @@ impl InterfaceState {
     ghost use Rattle.fr_journal.specs.Entries.{is_host, is_slot, IsOffered};
     ghost use Rattle.fr_interface.specs.State.{with_entry, withdraw_entry, read_entry, pop_entry, fetch_entry};
     ghost use Rattle.fr_interface.specs.State.{received_by};
-    ghost use Rattle.fr_interface.specs.Standing.{after_commit, after_read, after_fetch, after_observe};
-    ghost use Rattle.fr_interface.specs.Standing.{commit_refused, read_refused, fetch_refused, observe_refused};
-    ghost use Rattle.fr_interface.specs.Standing.{entries_before};
-    ghost use Rattle.fr_interface.specs.Sending.{outgoing_on, pending_at, frame_by};
+    ghost use Rattle.fr_interface.specs.Standing.{after_commit, after_read, after_fetch, after_observe, commit_refused};
+    ghost use Rattle.fr_interface.specs.Standing.{read_refused, fetch_refused, observe_refused, entries_before};
     ghost use Rattle.fr_interface.specs.Standing.{withdraw_refused, pop_refused, oldest_at, source_at, tally_at};
-    ghost use Rattle.fr_interface.specs.Standing.{received_at};
+    ghost use Rattle.fr_interface.specs.Standing.{received_at, with_limits, KeepsTerms};
+    ghost use Rattle.fr_interface.specs.Sending.{outgoing_on, pending_at, frame_by};
     ghost use Rattle.fr_journal.specs.Offers.{IsHandedOut, bytes_of};
-    ghost use Rattle.fr_interface.specs.Standing.{with_limits, KeepsTerms};
 
     /// Returns the data before any call, with room for so many entries of the host and of the controller. The room that
     /// the plan gives doesn't count. Fails only with `Memory`.

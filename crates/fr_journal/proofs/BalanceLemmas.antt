@@ -3,9 +3,8 @@ use Rattle.std.proofs.Common.{◌≡◌, ℕ, ◌+◌, ◌-◌, ◌≤◌, Bool,
 use Rattle.std.proofs.Common.{Some, refl, ap, subst, ◌∙◌, arith, option_map, length-append}
 use Rattle.std.specs.Prelude.{IsSomeAnd, count_by, is_some, slice_get}
 use Rattle.std.proofs.lemmas.List.Sums.{fold-append, sum_by-append}
-use Rattle.fr_journal.specs.Arrivals.{Move, pops, arrive_all, moves_at, moves, arrived, length_after}
-use Rattle.fr_journal.specs.Arrivals.{queue_length, queue_content, oldest, is_answered_pop, queue_arrivals_in}
-use Rattle.fr_journal.specs.Arrivals.{queue_lost}
+use Rattle.fr_journal.specs.Arrivals.{Move, pops, arrive_all, moves_at, moves, arrived, length_after, queue_length}
+use Rattle.fr_journal.specs.Arrivals.{queue_content, oldest, is_answered_pop, queue_arrivals_in, queue_lost}
 use Rattle.fr_journal.specs.declared.entry.Arrival.{Arrival}
 use Rattle.fr_journal.specs.Forms.{Entry}
 use Rattle.fr_journal.specs.declared.entry.Entry.TheVariants.{Commit, Withdraw, Read, Pop, Fetch, Observe}

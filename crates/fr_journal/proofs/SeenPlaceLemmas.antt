@@ -17,7 +17,7 @@ use Rattle.fr_journal.specs.Entries.{IsEntry}
 use Rattle.fr_journal.specs.Held.{held, arrival_at, arrival_in, arrival_on, arrival_of, data_frame_seen, with_data}
 use Rattle.fr_journal.specs.Held.{frame_of, IsReceivable}
 use Rattle.fr_journal.specs.Legal.{AreEntries}
-use Rattle.fr_slots.specs.Plans.{admits_window}
+use Rattle.fr_slots.specs.Plans.{admits_window, Plan}
 use Rattle.fr_journal.specs.OpenWindow.{open_window, window_mark}
 use Rattle.fr_journal.proofs.MoveLemmas.{arrived-append, arrived-all}
 use Rattle.fr_slots.proofs.PlaceLemmas.{same_some, IsAmong, IsCutAt, among-append, among-drop, last_after-at}
@@ -27,10 +27,8 @@ use Rattle.fr_slots.specs.declared.channel.Channel.TheVariants.{A, B}
 use Rattle.fr_slots.specs.declared.filter.Filter.{Filter}
 use Rattle.fr_slots.specs.declared.plan.Queue.{Queue}
 use Rattle.fr_slots.specs.History.{last_after, each_after}
-use Rattle.fr_slots.specs.Parameters.{is_static_slot}
+use Rattle.fr_slots.specs.Parameters.{is_static_slot, Parameters}
 use Rattle.fr_slots.specs.Numbers.{IsSlot}
-use Rattle.fr_slots.specs.Parameters.{Parameters}
-use Rattle.fr_slots.specs.Plans.{Plan}
 use Rattle.fr_slots.specs.Windows.{Opportunity, IsInRange, IsSlotOrNone, slot_of}
 use Rattle.fr_status.specs.Forms.{Seen}
 use Rattle.fr_status.specs.declared.seen.Seen.TheVariants.{Silence, Own, Conflict, Noise, Overrun, Bytes}

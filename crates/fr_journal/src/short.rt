@@ -1,7 +1,6 @@
 //! Entries in short form: the numbers of an entry, and the place of its bytes in a pool.
 
-ghost use Rattle.std.specs.Prelude.{◌≡◌, ◌+◌, ◌<◌, ◌≤◌, ◌^◌, ◌++◌, length, vec_capacity, IsTrue, false};
-ghost use Rattle.std.specs.Prelude.{Some, IfSome};
+ghost use Rattle.std.specs.Prelude.{◌≡◌, ◌+◌, ◌<◌, ◌≤◌, ◌^◌, ◌++◌, length, vec_capacity, IsTrue, false, Some, IfSome};
 ghost use Rattle.fr_frame.specs.Payload.{most_payload_bytes, most_frame_bytes};
 ghost use Rattle.fr_journal.specs.Entries.{is_host};
 ghost use Rattle.fr_journal.specs.Lent.{whole, HasPayload};

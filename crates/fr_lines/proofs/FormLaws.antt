@@ -1,8 +1,8 @@
 -- A line that a trace of a version can have has no wrong word. If a word of a line is wrong, no such line begins with
 -- the words up to it.
-use Rattle.std.proofs.Common.{◌≡◌, ℕ, suc, ◌+◌, ◌^◌, ℤ, Bool, true, false, List, [], ◌∷◌, take, codes, Option, Some}
+use Rattle.std.proofs.Common.{◌≡◌, ℕ, suc, ◌+◌, ◌^◌, ℤ, true, false, List, [], ◌∷◌, take, codes, Option, Some}
 use Rattle.std.proofs.Common.{None, is_some, inl, inr}
-use Rattle.std.proofs.Common.{option_map, leb, refl, sym, ap, ◌∙◌, arith, if◌then◌else◌, IsSome, IfSome, zero}
+use Rattle.std.proofs.Common.{option_map, leb, refl, sym, ap, ◌∙◌, arith, if◌then◌else◌, IsSome, zero}
 use Rattle.std.proofs.lemmas.Bool.{cases_Bool, and_parts}
 use Rattle.std.specs.Prelude.{nat_le, not, ◌&&◌, ◌||◌}
 use Rattle.std.specs.Result.{result_ok}
@@ -16,22 +16,16 @@ use Rattle.fr_lines.specs.declared.plan_lines.PlanLine.TheVariants as plan_line
 use Rattle.fr_lines.specs.declared.versions.Version.{Version}
 use Rattle.fr_lines.specs.declared.versions.Version.TheVariants.{One, Two, Three}
 use Rattle.fr_lines.specs.Forms.{fits, number_from_in, static_slot_in, repetition_in, params_forms, node_forms}
-use Rattle.fr_lines.specs.Forms.{own_forms, tx_forms, rx_forms}
-use Rattle.fr_lines.specs.Forms.{queue_forms}
-use Rattle.fr_lines.specs.Forms.{commit_forms, withdraw_forms, read_forms, pop_forms, fetch_forms, see_forms, forms_of}
-use Rattle.fr_lines.specs.Forms.{wrong_at, wrong_after, wrong_in, place_in, IsLine, BeginsNoLine}
+use Rattle.fr_lines.specs.Forms.{own_forms, tx_forms, rx_forms, queue_forms, commit_forms, withdraw_forms, read_forms}
+use Rattle.fr_lines.specs.Forms.{pop_forms, fetch_forms, see_forms, forms_of, wrong_at, wrong_after, wrong_in, place_in}
+use Rattle.fr_lines.specs.Forms.{IsLine, BeginsNoLine}
 use Rattle.fr_lines.specs.PartReading.{slot_in, optional_slot_in, channels_in, cycles_in, filter_in, flag_in, mode_in}
-use Rattle.fr_lines.specs.PartReading.{size_in}
-use Rattle.fr_lines.specs.PartReading.{payload_in, taken_back_in, from_in, offered_in, seen_in, window_in}
+use Rattle.fr_lines.specs.PartReading.{size_in, payload_in, taken_back_in, from_in, offered_in, seen_in, window_in}
 use Rattle.fr_lines.specs.Reading.{Five, parameter_in, five_in, at_end, ten_in, params_in, limits_in, node_in}
-use Rattle.fr_lines.specs.Reading.{last_cycles_in}
-use Rattle.fr_lines.specs.Reading.{own_cycles_in, fitting_own, fitting_queue, ownership_in, transmit_in, receive_in}
-use Rattle.fr_lines.specs.Reading.{reception_in, plan_line_in}
-use Rattle.fr_lines.specs.Reading.{every_cycle}
-use Rattle.fr_lines.specs.Reading.{commit_in, told_withdraw_in, withdraw_in, read_in, pop_in, fetch_in, observe_in}
-use Rattle.fr_lines.specs.Reading.{entry_in}
-use Rattle.fr_lines.specs.Spelling.{begin_line, end_line}
-use Rattle.fr_lines.specs.Versions.{has_withdraws, has_own_cycles}
+use Rattle.fr_lines.specs.Reading.{last_cycles_in, own_cycles_in, fitting_own, fitting_queue, ownership_in, transmit_in}
+use Rattle.fr_lines.specs.Reading.{receive_in, reception_in, plan_line_in, every_cycle, commit_in, told_withdraw_in}
+use Rattle.fr_lines.specs.Reading.{withdraw_in, read_in, pop_in, fetch_in, observe_in, entry_in}
+use Rattle.fr_lines.specs.Versions.{has_withdraws}
 use Rattle.fr_slots.specs.Admission.{CycleClass, cycle_class, is_repetition}
 use Rattle.fr_slots.specs.declared.filter.Filter.{Filter}
 use Rattle.fr_slots.specs.declared.plan.Buffer.{Buffer}

@@ -1,7 +1,6 @@
 -- The wrong word of a line, word by word, and the columns of words.
 use Rattle.std.proofs.Common.{◌≡◌, ℕ, zero, suc, ◌+◌, ◌<◌, ◌≤◌, Bool, true, false, List, [], ◌∷◌, length, take, drop}
-use Rattle.std.proofs.Common.{Option, Some, None}
-use Rattle.std.proofs.Common.{option_map, refl, sym, ap, ◌∙◌, arith, if◌then◌else◌, slice_index_or}
+use Rattle.std.proofs.Common.{Option, Some, None, option_map, refl, sym, ap, ◌∙◌, arith, if◌then◌else◌, slice_index_or}
 use Rattle.fr_lines.specs.declared.forms.WordForm.{WordForm}
 use Rattle.fr_lines.specs.Forms.{fits, wrong_at}
 use Rattle.fr_text.specs.Spaces.{words_of, line_of, room_of}

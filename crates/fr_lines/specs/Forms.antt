@@ -1,8 +1,6 @@
 -- The words of a line of a trace after its first, and the first of its words that is wrong (project-defined).
 use Rattle.std.specs.Prelude.{◌≡◌, ◌⊎◌, IsSome, ℕ, ◌+◌, ◌^◌, nat_le, Bool, List, [], ◌∷◌, codes, take, Option, Some}
-use Rattle.std.specs.Prelude.{None}
-use Rattle.std.specs.Prelude.{is_some, option_map}
-use Rattle.std.specs.Prelude.{if◌then◌else◌}
+use Rattle.std.specs.Prelude.{None, is_some, option_map, if◌then◌else◌}
 use Rattle.std.specs.Str.{bytes_eq}
 use Rattle.fr_lines.specs.declared.forms.WordForm.{WordForm}
 use Rattle.fr_lines.specs.declared.forms.WordForm.TheVariants as form

@@ -1,8 +1,7 @@
 //! The words of a line of a trace after its first, and the first of its words that is wrong.
 ghost use Rattle.std.specs.Prelude.{◌≡◌, ◌+◌, ◌≤◌, ◌^◌, is_some, length, option_map, take, IfSome};
 ghost use Rattle.fr_lines.specs.Forms.{number_from_in, static_slot_in, repetition_in, own_forms, plan_forms_of};
-ghost use Rattle.fr_lines.specs.Forms.{journal_forms_of, forms_of};
-ghost use Rattle.fr_lines.specs.Forms.{wrong_at, wrong_in, place_in, BeginsNoLine};
+ghost use Rattle.fr_lines.specs.Forms.{journal_forms_of, forms_of, wrong_at, wrong_in, place_in, BeginsNoLine};
 ghost use Rattle.fr_lines.specs.PartReading.{optional_slot_in, offered_in, seen_in};
 ghost use Rattle.fr_text.specs.Spaces.{words_of, room_of};
 

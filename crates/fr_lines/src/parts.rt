@@ -2,10 +2,9 @@
 ghost use Rattle.std.specs.Prelude.{◌≡◌, ◌<◌, ◌^◌, None, drop};
 ghost use Rattle.fr_frame.specs.Payload.{most_frame_bytes};
 ghost use Rattle.fr_text.specs.Reading.{number_in, bytes_in, read_as, first_in};
-ghost use Rattle.fr_lines.specs.PartReading.{slot_in, channels_in, cycles_in, filter_in, flag_in};
-ghost use Rattle.fr_lines.specs.PartReading.{mode_in, size_in, payload_in, taken_back_in, channel_in};
-ghost use Rattle.fr_lines.specs.PartReading.{marked_channel_in, origin_in, from_in};
-ghost use Rattle.fr_lines.specs.PartReading.{seen_in, same_slot, window_of};
+ghost use Rattle.fr_lines.specs.PartReading.{slot_in, channels_in, cycles_in, filter_in, flag_in, mode_in, size_in};
+ghost use Rattle.fr_lines.specs.PartReading.{payload_in, taken_back_in, channel_in, marked_channel_in, origin_in};
+ghost use Rattle.fr_lines.specs.PartReading.{from_in, seen_in, same_slot, window_of};
 
 use arrayvec::ArrayVec;
 use fr_frame::frame::Bytes;

@@ -1,7 +1,6 @@
 -- A walk along the record: the cycles that began so far, and the windows of the last one; and one cell more.
 use Rattle.std.proofs.Common.{◌≡◌, ℕ, ◌+◌, ◌-◌, ◌≤◌, ◌<◌, Bool, true, false, cond, List, [], ◌∷◌, ◌++◌, length}
-use Rattle.std.proofs.Common.{length-append}
-use Rattle.std.proofs.Common.{take, get_or, Option, refl, sym, ap, ap₂, subst, ◌∙◌, arith}
+use Rattle.std.proofs.Common.{length-append, take, get_or, Option, refl, sym, ap, ap₂, subst, ◌∙◌, arith}
 use Rattle.std.specs.Io.KnownBytes.{Appends}
 use Rattle.std.specs.List.{fold}
 use Rattle.std.proofs.KnownBytes.{Appends-trans}

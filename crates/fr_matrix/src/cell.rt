@@ -3,10 +3,9 @@
 ghost use Rattle.std.specs.Prelude.{◌≡◌, ◌≤◌, ◌<◌, ◌^◌, [], if◌then◌else◌};
 ghost use Rattle.std.specs.List.{flat_map};
 ghost use Rattle.fr_text.specs.Writing.{Writes};
-ghost use Rattle.fr_matrix.specs.Cells.{cell_text, fate_text, front_text, head_text};
-ghost use Rattle.fr_matrix.specs.Cells.{label_text, mark_text, marks_class};
-ghost use Rattle.fr_matrix.specs.Cells.{marks_letters, sender_class, sender_number, sent_on, sent_text, title_text};
-ghost use Rattle.fr_matrix.specs.Cells.{title_end, turned_text};
+ghost use Rattle.fr_matrix.specs.Cells.{cell_text, fate_text, front_text, head_text, label_text, mark_text};
+ghost use Rattle.fr_matrix.specs.Cells.{marks_class, marks_letters, sender_class, sender_number, sent_on, sent_text};
+ghost use Rattle.fr_matrix.specs.Cells.{title_text, title_end, turned_text};
 
 use crate::look::{Look, Marks, look_word, sign};
 use fr_bus::outcome::{Fate, Sent};

@@ -1,5 +1,5 @@
 -- The rows of both channels of the small cycle: A is silent, and B sends four words of payload in its first slot.
-use Rattle.std.proofs.Common.{◌≡◌, ℕ, Bool, true, false, List, [], ◌∷◌, replicate, Option, Some, None, refl}
+use Rattle.std.proofs.Common.{◌≡◌, ℕ, false, [], ◌∷◌, replicate, Option, Some, None, refl}
 use Rattle.fr_minislot.specs.DynamicRows.{row_length, opened_after, has_row_after}
 use Rattle.fr_slots.specs.Parameters.{Parameters}
 

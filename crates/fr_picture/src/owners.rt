@@ -3,8 +3,7 @@
 ghost use Rattle.std.specs.Prelude.{◌≡◌, OnOk};
 ghost use Rattle.fr_text.specs.Writing.{Writes};
 ghost use Rattle.fr_picture.specs.Owners.{box_text, end_of, free_element, free_title, number_text, owned_element};
-ghost use Rattle.fr_picture.specs.Owners.{owned_title, start_of};
-ghost use Rattle.fr_picture.specs.Owners.{Adds, AreOwnerTexts, IsOwnerText};
+ghost use Rattle.fr_picture.specs.Owners.{owned_title, start_of, Adds, AreOwnerTexts, IsOwnerText};
 
 use crate::scale::{NUMBER_LENGTH, across, extent, row_of};
 use fr_schedule::cluster::Cluster;

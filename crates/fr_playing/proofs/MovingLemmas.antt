@@ -13,8 +13,7 @@ use Rattle.fr_core.specs.Steps.{Steps}
 use Rattle.fr_core.specs.Worlds.{WorldState}
 use Rattle.fr_runs.specs.declared.fault_line.FaultLine.{FaultLine}
 use Rattle.fr_playing.specs.Moving.{first_refusal, run_cycle_after, struck_after, Strikes, DoesAll, MovesOn, for_nodes}
-use Rattle.fr_playing.specs.Moving.{is_at_cycle}
-use Rattle.fr_playing.specs.Moving.{WithinCycle, PassesCycles, EndsCycle}
+use Rattle.fr_playing.specs.Moving.{is_at_cycle, WithinCycle, PassesCycles, EndsCycle}
 use Rattle.fr_playing.specs.Striking.{strike_events, Tries}
 use Rattle.fr_playing.proofs.StrikingLemmas.{tries_none}
 use Rattle.fr_slots.specs.Windows.{Opportunity}

@@ -1,12 +1,10 @@
 -- Events, calls, windows and cycles that come one after another.
 use Rattle.std.proofs.Common.{◌≡◌, ℕ, zero, suc, ◌+◌, ◌<◌, true, false, List, [], ◌∷◌, ◌++◌, length, map, take, get_or}
-use Rattle.std.proofs.Common.{Result, Ok, Err, Some, None}
-use Rattle.std.proofs.Common.{Bool, cond, refl, ap, ap₂, sym, subst, ◌∙◌, append-nil, append_assoc, arith, eq-eqb}
-use Rattle.std.proofs.Common.{true≢false}
-use Rattle.std.specs.Prelude.{◌==◌}
+use Rattle.std.proofs.Common.{Result, Ok, Err, Some, None, Bool, cond, refl, ap, ap₂, sym, subst, ◌∙◌, append-nil}
+use Rattle.std.proofs.Common.{append_assoc, arith, eq-eqb, true≢false}
+use Rattle.std.specs.Prelude.{◌==◌, OnOk}
 use Rattle.std.proofs.lemmas.Bool.{eqb-true}
 use Rattle.std.specs.List.{flat_map, range_with_len}
-use Rattle.std.specs.Prelude.{OnOk}
 use Rattle.std.proofs.lemmas.Grind.{flat_map-append}
 use Rattle.fr_core.specs.declared.event.Event.{Event}
 use Rattle.fr_core.specs.declared.event.Event.TheVariants.{Advance}

@@ -1,7 +1,6 @@
 //! The calls of scripts in the world.
 ghost use Rattle.std.specs.Prelude.{◌≡◌, slice_get, IfOk, OnOk};
-ghost use Rattle.fr_playing.specs.Calls.{entries_in, asked_in_line, asked_in_script, asked_in, AddsCalls};
-ghost use Rattle.fr_playing.specs.Calls.{DoesCall};
+ghost use Rattle.fr_playing.specs.Calls.{entries_in, asked_in_line, asked_in_script, asked_in, AddsCalls, DoesCall};
 
 use crate::hindrance::Hindrance;
 use crate::nodes::interface_of;

@@ -2,10 +2,9 @@
 ghost use Rattle.std.specs.Prelude.{◌≡◌, ◌≤◌, ◌++◌, List, IfOk, OnOk};
 ghost use Rattle.std.specs.List.{flat_map, range_with_len};
 ghost use Rattle.fr_core.specs.Runs.{Answer, StepsAll};
-ghost use Rattle.fr_playing.specs.Moving.{first_refusal, hindrance};
-ghost use Rattle.fr_playing.specs.Moving.{observe_events, offer_events, see_events, for_nodes};
-ghost use Rattle.fr_playing.specs.Moving.{whole_window, window_events, run_cycle_after, Strikes, DoesAll, MovesOn};
-ghost use Rattle.fr_playing.specs.Moving.{is_at_cycle, EndsCycle, RunsCycles};
+ghost use Rattle.fr_playing.specs.Moving.{first_refusal, hindrance, observe_events, offer_events, see_events};
+ghost use Rattle.fr_playing.specs.Moving.{for_nodes, whole_window, window_events, run_cycle_after, Strikes, DoesAll};
+ghost use Rattle.fr_playing.specs.Moving.{MovesOn, is_at_cycle, EndsCycle, RunsCycles};
 
 use crate::striking::strike_all;
 use fr_bus::bus::Bus;

@@ -1,7 +1,6 @@
 -- A window transmission by transmission, and line by line.
 use Rattle.std.proofs.Common.{◌≡◌, ℕ, zero, suc, ◌+◌, Bool, true, false, cond, ◌&&◌, ◌||◌, List, [], ◌∷◌, take, ◌-◌}
-use Rattle.std.proofs.Common.{Option, Some, None, refl, sym, ap}
-use Rattle.std.proofs.Common.{subst, ◌∙◌, ◌<◌, ◌≤◌, length, arith, inl, inr}
+use Rattle.std.proofs.Common.{Option, Some, None, refl, sym, ap, subst, ◌∙◌, ◌<◌, ◌≤◌, length, arith, inl, inr}
 use Rattle.std.specs.Prelude.{◌==◌, IfSome, slice_get, not}
 use Rattle.std.specs.Option.{option_or}
 use Rattle.std.proofs.lemmas.Bool.{eqb-true}
@@ -17,9 +16,8 @@ use Rattle.fr_bus.specs.Windows.{begins_cycle, cycles_begun}
 use Rattle.fr_core.proofs.CaseLemmas.{both_first, both_rest}
 use Rattle.fr_runs.specs.declared.fault_line.FaultLine.{FaultLine}
 use Rattle.fr_runs.specs.Faulted.{HasFaultsAt, cycle_at, bytes_babbled, bit_due, babble_by, babble_due, is_babble_of}
-use Rattle.fr_runs.specs.Faulted.{babble_in, HasFaults, IsDue}
-use Rattle.fr_runs.specs.Faulted.{is_muted, is_loss_due, IsDueAt, IsBabbled, IsBabbledBy, IsBabbledAt}
-use Rattle.fr_runs.specs.Faulted.{bit_turned, bit_by, is_lost_by, loses, lines_of_cycle}
+use Rattle.fr_runs.specs.Faulted.{babble_in, HasFaults, IsDue, is_muted, is_loss_due, IsDueAt, IsBabbled, IsBabbledBy}
+use Rattle.fr_runs.specs.Faulted.{IsBabbledAt, bit_turned, bit_by, is_lost_by, loses, lines_of_cycle}
 use Rattle.fr_runs.specs.Striking.{names_cycle, names_window, strikes}
 use Rattle.fr_slots.specs.Admission.{is_channel}
 use Rattle.fr_slots.specs.declared.channel.Channel.{Channel}

@@ -1,6 +1,5 @@
 -- One more entry of a journal, beside the record and the scripts.
-use Rattle.std.proofs.Common.{◌≡◌, ◌<◌, ◌≤◌, ℕ, zero, suc, ◌+◌, Bool, true, false, cond, List, [], ◌∷◌, length, set}
-use Rattle.std.proofs.Common.{Option}
+use Rattle.std.proofs.Common.{◌≡◌, ◌<◌, ◌≤◌, ℕ, zero, suc, ◌+◌, Bool, true, false, List, [], ◌∷◌, length, set, Option}
 use Rattle.std.proofs.Common.{Some, None, refl, sym, ap, subst, ◌∙◌, arith, take, get_or, inl, inr, IsTrue, ◌↔◌}
 use Rattle.std.specs.Prelude.{count_by, slice_get, IfSome, replicate, ◌==◌}
 use Rattle.std.proofs.lemmas.Bool.{eq-eqb}

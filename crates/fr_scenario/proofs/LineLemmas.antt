@@ -1,7 +1,6 @@
 -- A line of a scenario spells at most one value, and the words of a spelled line are read as this value.
-use Rattle.std.proofs.Common.{◌≡◌, ℕ, ◌<◌, ◌≤◌, inl, inr, true, false, List, [], ◌∷◌, length, codes, None, Some, refl}
-use Rattle.std.proofs.Common.{sym, ap}
-use Rattle.std.proofs.Common.{◌∙◌, arith, if◌then◌else◌}
+use Rattle.std.proofs.Common.{◌≡◌, ℕ, ◌<◌, ◌≤◌, inl, inr, true, false, List, [], ◌∷◌, length, codes, Some, refl, sym}
+use Rattle.std.proofs.Common.{ap, ◌∙◌, arith, if◌then◌else◌}
 use Rattle.std.specs.Fmt.{decimal}
 use Rattle.std.specs.Str.{bytes_eq}
 use Rattle.fr_bus.specs.declared.fault.Fault.{Fault}
@@ -23,15 +22,12 @@ use Rattle.fr_scenario.specs.declared.spelled.SpelledLine.{SpelledLine}
 use Rattle.fr_scenario.specs.declared.spelled.SpelledLine.TheVariants.{Host, Fault as FaultOf}
 use Rattle.fr_scenario.specs.declared.version.Version.{Version}
 use Rattle.fr_scenario.specs.declared.version.Version.TheVariants.{One, Two}
-use Rattle.fr_scenario.specs.LineReading.{host_line, host_in, told_call_in, fault_line}
-use Rattle.fr_scenario.specs.LineReading.{babble_in, mute_in}
-use Rattle.fr_scenario.specs.LineReading.{corrupt_in}
+use Rattle.fr_scenario.specs.LineReading.{host_line, host_in, told_call_in, fault_line, babble_in, mute_in, corrupt_in}
 use Rattle.fr_scenario.specs.LineReading.{line_in}
 use Rattle.fr_scenario.specs.PartReading.{run_cycle_in, cycles_in, place_in}
 use Rattle.fr_scenario.specs.Parts.{channel_word, cycles_word, place_word}
 use Rattle.fr_scenario.specs.Spelled.{IsRunCycle, IsSpelledCall, IsSpelledHost, IsSpelledFault, AreSpelledCycles}
-use Rattle.fr_scenario.specs.Spelled.{IsSpelledPlace}
-use Rattle.fr_scenario.specs.Spelled.{IsSpelledLine}
+use Rattle.fr_scenario.specs.Spelled.{IsSpelledPlace, IsSpelledLine}
 use Rattle.fr_scenario.specs.Spelling.{kind_word, call_words, placed_words, fault_words, line_words}
 use Rattle.fr_text.proofs.BindLemmas.{bind_some}
 use Rattle.fr_text.proofs.HexTextLemmas.{bytes_takes, bytes_again, length-hex_text}

@@ -11,8 +11,7 @@ use Rattle.fr_runs.specs.declared.fault_line.FaultCycles.TheVariants.{Every, Onl
 use Rattle.fr_runs.specs.declared.fault_line.FaultPlace.{FaultPlace}
 use Rattle.fr_runs.specs.declared.fault_line.FaultPlace.TheVariants.{EverySlot, Slot, Minislot}
 use Rattle.fr_lines.specs.PartReading.{channel_in}
-use Rattle.fr_scenario.specs.PartReading.{run_cycle_in, cycles_in, counted_in, slots_in, minislot_in}
-use Rattle.fr_scenario.specs.PartReading.{place_in}
+use Rattle.fr_scenario.specs.PartReading.{run_cycle_in, cycles_in, counted_in, slots_in, minislot_in, place_in}
 use Rattle.fr_scenario.specs.Parts.{star, channel_word, cycles_word, place_word}
 use Rattle.fr_scenario.specs.Spelled.{IsRunCycle, AreSpelledCycles, IsCounted, IsSpelledPlace}
 use Rattle.fr_slots.specs.declared.channel.Channel.{Channel}

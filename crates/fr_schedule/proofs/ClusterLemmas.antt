@@ -1,8 +1,7 @@
 -- Lawful plans that fit these parameters, without a fault among them, are those of a cluster.
 use Rattle.std.proofs.Common.{◌≡◌, ℕ, zero, suc, ◌+◌, ◌<◌, ◌≤◌, ◌==◌, Bool, true, false, ◌&&◌, ◌||◌, if◌then◌else◌}
-use Rattle.std.proofs.Common.{List, []}
-use Rattle.std.proofs.Common.{◌∷◌, ◌++◌, length, Option, Some, None, option_map, refl, sym, ap, subst, ◌∙◌, inl, inr}
-use Rattle.std.proofs.Common.{arith}
+use Rattle.std.proofs.Common.{List, [], ◌∷◌, ◌++◌, length, Option, Some, None, option_map, refl, sym, ap, subst, ◌∙◌}
+use Rattle.std.proofs.Common.{inl, inr, arith}
 use Rattle.std.proofs.lemmas.Bool.{cases_Bool, cases_eq, eqb-true, and_parts, or_cases, or_parts, or_left, or_right}
 use Rattle.std.proofs.lemmas.Bool.{cond-true, cond-false, both_ways}
 use Rattle.std.proofs.lemmas.Option.{same_Some}
@@ -16,9 +15,8 @@ use Rattle.fr_schedule.specs.Descriptions.{Description}
 use Rattle.fr_schedule.specs.SenderTable.{HasOneSender, may_send}
 use Rattle.fr_schedule.specs.declared.error.ConfigError.{ConfigError}
 use Rattle.fr_schedule.specs.declared.error.ConfigError.TheVariants as error
-use Rattle.fr_schedule.specs.FileFaults.{all_owned, all_buffers, first_overlap, buffer_fault}
-use Rattle.fr_schedule.specs.FileFaults.{first_in_nodes, first_by, not_owned_in, dynamic_both_in, too_long_in}
-use Rattle.fr_schedule.specs.FileFaults.{file_fault}
+use Rattle.fr_schedule.specs.FileFaults.{all_owned, all_buffers, first_overlap, buffer_fault, first_in_nodes, first_by}
+use Rattle.fr_schedule.specs.FileFaults.{not_owned_in, dynamic_both_in, too_long_in, file_fault}
 use Rattle.fr_slots.proofs.FaultLemmas.{first-none}
 use Rattle.fr_slots.proofs.FaultlessLemmas.{or_none, cond_none, map_none, on_channels, in_slots}
 use Rattle.fr_slots.specs.declared.channel.Channel.{Channel}
@@ -27,11 +25,9 @@ use Rattle.fr_slots.specs.declared.plan.Own.{Own}
 use Rattle.fr_slots.specs.declared.plan.Buffer.{Buffer}
 use Rattle.fr_slots.specs.Admission.{includes, cycle_admitted}
 use Rattle.fr_slots.specs.Faults as plan
-use Rattle.fr_slots.specs.Faults.{buffer_fault as sending_fault}
-use Rattle.fr_slots.specs.Faults.{first_of, two_pass, slots, channels, cycles}
-use Rattle.fr_slots.specs.Faults.{claims, sends_at, is_owned, is_overlap, transmits}
-use Rattle.fr_slots.specs.Faults.{not_owned, dynamic_both, too_long, is_out_of_params, out_of_params, ownership_fault}
-use Rattle.fr_slots.specs.Faults.{plan_fault}
+use Rattle.fr_slots.specs.Faults.{buffer_fault as sending_fault, first_of, two_pass, slots, channels, cycles, claims}
+use Rattle.fr_slots.specs.Faults.{sends_at, is_owned, is_overlap, transmits, not_owned, dynamic_both, too_long}
+use Rattle.fr_slots.specs.Faults.{is_out_of_params, out_of_params, ownership_fault, plan_fault}
 use Rattle.fr_slots.specs.Numbers.{IsSlot}
 use Rattle.fr_slots.specs.Parameters.{Parameters, IsParameters, is_static_slot}
 use Rattle.fr_slots.specs.Plans.{Plan, IsPlan, IsOwn, IsBuffer, Each, filter_admits}

@@ -19,10 +19,9 @@ use Rattle.fr_slots.proofs.PlanLemmas.{Each-snoc}
 use Rattle.fr_slots.proofs.SharingLemmas.{IsFirst-earlier, shared-more, shared-none}
 use Rattle.fr_schedule.specs.declared.claims.Claim.{Claim}
 use Rattle.fr_schedule.specs.DenseTable.{nobody, at_place, is_taken_in, taken_in, first_taken_in, node_at, is_taken}
-use Rattle.fr_schedule.specs.DenseTable.{IsFree}
-use Rattle.fr_schedule.specs.DenseTable.{is_admitted_on, is_retaken_on, is_retaken, IsEntered}
+use Rattle.fr_schedule.specs.DenseTable.{IsFree, is_admitted_on, is_retaken_on, is_retaken, IsEntered, after_claims}
+use Rattle.fr_schedule.specs.DenseTable.{AreEntered}
 use Rattle.fr_schedule.specs.Claims.{IsClaim, filter_of, filters_of}
-use Rattle.fr_schedule.specs.DenseTable.{after_claims, AreEntered}
 
 -- ---- places
 

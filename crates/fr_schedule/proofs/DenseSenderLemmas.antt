@@ -1,11 +1,8 @@
 -- The table of senders is that of the cluster.
-use Rattle.std.proofs.Common.{◌≡◌, ℕ, zero, suc, ◌+◌, ◌-◌, ◌<◌, ◌≤◌, ◌==◌, Bool, true, false, not, cond, ◌&&◌}
-use Rattle.std.proofs.Common.{◌||◌}
-use Rattle.std.proofs.Common.{List, [], ◌∷◌, ◌++◌, length, get_or, map, replicate, Option, Some, None, refl}
-use Rattle.std.proofs.Common.{sym, ap, subst}
-use Rattle.std.proofs.Common.{◌∙◌, inl, inr, arith}
-use Rattle.std.proofs.lemmas.Bool.{cases_Bool, eqb-true, cond-true, cond-false, and_from, and_parts, or_cases}
-use Rattle.std.proofs.lemmas.Bool.{or_left}
+use Rattle.std.proofs.Common.{◌≡◌, ℕ, zero, suc, ◌+◌, ◌-◌, ◌<◌, ◌≤◌, ◌==◌, Bool, true, false, not, cond, ◌&&◌, ◌||◌}
+use Rattle.std.proofs.Common.{List, [], ◌∷◌, ◌++◌, length, get_or, map, replicate, Option, Some, None, refl, sym, ap}
+use Rattle.std.proofs.Common.{subst, ◌∙◌, inl, inr, arith}
+use Rattle.std.proofs.lemmas.Bool.{cases_Bool, eqb-true, cond-true, cond-false, and_from, and_parts, or_cases, or_left}
 use Rattle.std.proofs.lemmas.Bool.{or_right, both_ways, le-leb}
 use Rattle.std.proofs.lemmas.List.{map-append, get_or-replicate, length-replicate, get_or_default}
 use Rattle.std.specs.Prelude.{IfNone, nat_le}
@@ -22,9 +19,8 @@ use Rattle.fr_slots.specs.Faults.{transmits_static, FitsStatic, IsFaultless}
 use Rattle.fr_slots.specs.Numbers.{IsSlot, number_within}
 use Rattle.fr_slots.specs.Parameters.{Parameters, is_static_slot}
 use Rattle.fr_slots.specs.Plans.{Plan, filter_admits}
-use Rattle.fr_slots.specs.Sharing.{place_of, earlier, IsFirst, is_shared, admits_at}
-use Rattle.fr_slots.specs.Sharing.{own_filter, own_filters, buffer_filter}
-use Rattle.fr_slots.specs.Sharing.{transmit_filters}
+use Rattle.fr_slots.specs.Sharing.{place_of, earlier, IsFirst, is_shared, admits_at, own_filter, own_filters}
+use Rattle.fr_slots.specs.Sharing.{buffer_filter, transmit_filters}
 use Rattle.fr_slots.proofs.FaultlessLemmas.{faultless}
 use Rattle.fr_slots.proofs.ScanLemmas.{overlap-shared}
 use Rattle.fr_slots.proofs.SharingLemmas.{IsFirst-earlier}

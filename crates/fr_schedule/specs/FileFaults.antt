@@ -6,8 +6,7 @@ use Rattle.std.specs.Option.{option_or}
 use Rattle.fr_slots.specs.declared.channel.Channel.{Channel}
 use Rattle.fr_slots.specs.declared.plan.Own.{Own}
 use Rattle.fr_slots.specs.declared.plan.Buffer.{Buffer}
-use Rattle.fr_slots.specs.Faults.{first_of, slots, channels, cycles, is_overlap, not_owned, dynamic_both}
-use Rattle.fr_slots.specs.Faults.{too_long}
+use Rattle.fr_slots.specs.Faults.{first_of, slots, channels, cycles, is_overlap, not_owned, dynamic_both, too_long}
 use Rattle.fr_slots.specs.Parameters.{Parameters}
 use Rattle.fr_slots.specs.Plans.{Plan}
 use Rattle.fr_schedule.specs.declared.error.ConfigError.{ConfigError}

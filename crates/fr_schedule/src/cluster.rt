@@ -1,7 +1,6 @@
 //! A cluster without fault.
 
-ghost use Rattle.std.specs.Prelude.{◌≡◌, Err, None, length, option_map, slice_get, IfOk, IfSome, IfNone};
-ghost use Rattle.std.specs.Prelude.{ℕ};
+ghost use Rattle.std.specs.Prelude.{◌≡◌, Err, None, length, option_map, slice_get, IfOk, IfSome, IfNone, ℕ};
 ghost use Rattle.fr_schedule.specs.Clusters.{IsCluster};
 ghost use Rattle.fr_schedule.specs.Descriptions.{is_guarded};
 ghost use Rattle.fr_schedule.specs.SenderTable.{IsSender};

@@ -6,10 +6,9 @@ ghost use Rattle.fr_slots.specs.Numbers.{IsSlot, cycle_count};
 ghost use Rattle.fr_slots.specs.Plans.{Each};
 ghost use Rattle.fr_slots.specs.Sharing.{place_of, IsFirst, is_shared, admits_at};
 ghost use Rattle.fr_schedule.specs.Claims.{IsClaim, filters_of};
-ghost use Rattle.fr_schedule.specs.DenseTable.{occasions, nobody, at_place, first_taken_in, IsRowEntered};
-ghost use Rattle.fr_schedule.specs.DenseTable.{is_retaken, is_retaken_on};
-ghost use Rattle.fr_schedule.specs.DenseTable.{IsEntered, AreEntered, IsFree, is_admitted_on, free, HasClaims};
-ghost use Rattle.fr_schedule.specs.DenseTable.{IsRowFree, IsRowFilled};
+ghost use Rattle.fr_schedule.specs.DenseTable.{occasions, nobody, at_place, first_taken_in, IsRowEntered, is_retaken};
+ghost use Rattle.fr_schedule.specs.DenseTable.{is_retaken_on, IsEntered, AreEntered, IsFree, is_admitted_on, free};
+ghost use Rattle.fr_schedule.specs.DenseTable.{HasClaims, IsRowFree, IsRowFilled};
 ghost use Rattle.fr_schedule.specs.declared.error.ConfigError.TheVariants as error;
 ghost use Rattle.fr_schedule.specs.FileFaults.{file_fault};
 

@@ -17,8 +17,7 @@ use Rattle.fr_runs.specs.Suiting.{are_alike, cycles_meet, places_meet, lines_mee
 use Rattle.fr_schedule.specs.Descriptions.{Description}
 use Rattle.fr_slots.specs.Admission.{is_channel}
 use Rattle.fr_session.specs.Marks.{mark_eq, is_same, target_eq, is_b, target_of, cycles_of, places_of, in_static}
-use Rattle.fr_session.specs.Marks.{mark_of, at}
-use Rattle.fr_session.specs.Marks.{leaves_on, first_by, other_by, finds, is_left_by, AreMarksOf, AddsMarks}
+use Rattle.fr_session.specs.Marks.{mark_of, at, leaves_on, first_by, other_by, finds, is_left_by, AreMarksOf, AddsMarks}
 
 -- ---- on each axis
 

@@ -1,12 +1,10 @@
 //! Lines, read as requests.
 ghost use Rattle.std.specs.Prelude.{◌≡◌};
-ghost use Rattle.fr_session.specs.Reading.{babble_in, mute_in, corrupt_in};
-ghost use Rattle.fr_session.specs.Reading.{node_in, alone, run_in, record_in, report_in, trace_in, origin_in};
-ghost use Rattle.fr_session.specs.Reading.{host_request};
-ghost use Rattle.fr_session.specs.Reading.{step_of};
-ghost use Rattle.fr_session.specs.Reading.{step_request, fault_of, fault_request, event_request, begins_event};
-ghost use Rattle.fr_session.specs.Reading.{is_fault_word, is_step_word, is_host_word, other_request, request_in};
-ghost use Rattle.fr_session.specs.Reading.{with_fault, request_or_fault, asked_in};
+ghost use Rattle.fr_session.specs.Reading.{babble_in, mute_in, corrupt_in, node_in, alone, run_in, record_in};
+ghost use Rattle.fr_session.specs.Reading.{report_in, trace_in, origin_in, host_request, step_of, step_request};
+ghost use Rattle.fr_session.specs.Reading.{fault_of, fault_request, event_request, begins_event, is_fault_word};
+ghost use Rattle.fr_session.specs.Reading.{is_step_word, is_host_word, other_request, request_in, with_fault};
+ghost use Rattle.fr_session.specs.Reading.{request_or_fault, asked_in};
 ghost use Rattle.fr_scenario.specs.LineReading.{fault_line_in};
 ghost use Rattle.fr_text.specs.Spaces.{words_of};
 

@@ -1,7 +1,6 @@
 -- The fate of a commit, entry after entry.
 use Rattle.std.proofs.Common.{◌≡◌, ℕ, ◌+◌, ◌-◌, ◌≤◌, ◌<◌, Bool, true, false, cond, ◌||◌, List, [], ◌∷◌, ◌++◌, length}
-use Rattle.std.proofs.Common.{take, drop}
-use Rattle.std.proofs.Common.{Option, Some, None, option_map, refl, sym, ap, subst, ◌∙◌, append-nil, arith}
+use Rattle.std.proofs.Common.{take, drop, Option, Some, None, option_map, refl, sym, ap, subst, ◌∙◌, append-nil, arith}
 use Rattle.std.specs.Prelude.{slice_get, IsSomeAnd}
 use Rattle.std.specs.List.{flat_map, list_any}
 use Rattle.std.specs.Option.{option_or}
@@ -12,10 +11,9 @@ use Rattle.fr_core.specs.Worlds.{WorldState}
 use Rattle.fr_interface.specs.State.{State, IsLegalInterface}
 use Rattle.fr_journal.proofs.FateStepLemmas.{fate_by}
 use Rattle.fr_journal.proofs.LastCommitLemmas.{IsCommitAt, slice_get-front}
-use Rattle.fr_journal.specs.Forms.{Entry}
+use Rattle.fr_journal.specs.Forms.{Entry, LentEntry}
 use Rattle.fr_journal.specs.declared.entry.Entry.TheVariants.{Commit, Withdraw, Read, Pop, Fetch, Observe}
 use Rattle.fr_journal.specs.Fate.{is_commit_on, is_data_of, sends, takes_back}
-use Rattle.fr_journal.specs.Forms.{LentEntry}
 use Rattle.fr_journal.specs.Legal.{IsLegal}
 use Rattle.fr_journal.specs.Lent.{whole}
 use Rattle.fr_showing.proofs.DecidedLemmas.{undone, gone_by_commit, gone_by_withdraw}

@@ -4,9 +4,8 @@ ghost use Rattle.std.specs.List.{flat_map};
 ghost use Rattle.fr_bus.specs.Record.{corrupt_on};
 ghost use Rattle.fr_bus.specs.Windows.{begins_cycle};
 ghost use Rattle.fr_lines.specs.Parts.{optional_number};
-ghost use Rattle.fr_showing.specs.RecordText.{bit_lines, bytes_line, fate_text, frame_text};
-ghost use Rattle.fr_showing.specs.RecordText.{minislot_word, place_text, record_text, sent_line, turned_line};
-ghost use Rattle.fr_showing.specs.RecordText.{window_text};
+ghost use Rattle.fr_showing.specs.RecordText.{bit_lines, bytes_line, fate_text, frame_text, minislot_word, place_text};
+ghost use Rattle.fr_showing.specs.RecordText.{record_text, sent_line, turned_line, window_text};
 ghost use Rattle.fr_text.specs.Writing.{Writes};
 
 use crate::ends::{end_of, end_word};

@@ -1,7 +1,6 @@
 -- The properties of a plan without fault.
-use Rattle.std.proofs.Common.{◌≡◌, ℕ, zero, suc, ◌+◌, ◌-◌, ◌<◌, ◌≤◌, nat_lt}
-use Rattle.std.proofs.Common.{leb, not, Bool, true, false, cond, ◌&&◌, ◌||◌}
-use Rattle.std.proofs.Common.{List, [], ◌∷◌, Option, Some, None, refl, sym, ap, ◌∙◌, inl, inr, arith}
+use Rattle.std.proofs.Common.{◌≡◌, ℕ, zero, suc, ◌+◌, ◌-◌, ◌<◌, ◌≤◌, nat_lt, leb, not, Bool, true, false, cond, ◌&&◌}
+use Rattle.std.proofs.Common.{◌||◌, List, [], ◌∷◌, Option, Some, None, refl, sym, ap, ◌∙◌, inl, inr, arith}
 use Rattle.std.proofs.lemmas.Bool.{cases_Bool, and_from, or_parts, both_ways, not-false, true_from_ne_false}
 use Rattle.std.proofs.lemmas.Bool.{false_from_ne_true, ltb-false, le-leb, leb-true, cond-true, cond-false}
 use Rattle.std.proofs.lemmas.Iterator.Adapters.{position_from-zero}
@@ -20,10 +19,9 @@ use Rattle.fr_slots.specs.Faults.{two_pass, first_of, channels, slots, claims, i
 use Rattle.fr_slots.specs.Faults.{transmits_dynamic, words_of, latest_on, minislots_filled, has_wrong_words}
 use Rattle.fr_slots.specs.Faults.{is_owned_beyond, has_late_latest, is_out_of_params, out_of_params, any_unowned}
 use Rattle.fr_slots.specs.Faults.{first_buffer, is_unowned_on, is_unowned_in, not_owned, dynamic_both, is_overlap}
-use Rattle.fr_slots.specs.Faults.{overlap_at, overlap_on, overlap_in, first_overlap}
-use Rattle.fr_slots.specs.Faults.{cycles, ends_late, ends_late_on, too_long}
-use Rattle.fr_slots.specs.Faults.{ownership_fault, buffer_fault, plan_fault, HasOneSender, HasOneOwner, FitsStatic}
-use Rattle.fr_slots.specs.Faults.{FitsDynamic, IsFaultless}
+use Rattle.fr_slots.specs.Faults.{overlap_at, overlap_on, overlap_in, first_overlap, cycles, ends_late, ends_late_on}
+use Rattle.fr_slots.specs.Faults.{too_long, ownership_fault, buffer_fault, plan_fault, HasOneSender, HasOneOwner}
+use Rattle.fr_slots.specs.Faults.{FitsStatic, FitsDynamic, IsFaultless}
 use Rattle.fr_slots.specs.Numbers.{IsSlot}
 use Rattle.fr_slots.specs.Parameters.{Parameters, is_static_slot}
 use Rattle.fr_slots.specs.Plans.{Plan}

@@ -2,11 +2,10 @@
 
 ghost use Rattle.std.specs.Prelude.{◌≡◌, ◌<◌, ◌≤◌, length, position, IfSome};
 ghost use Rattle.std.specs.List.{list_any};
-ghost use Rattle.fr_slots.specs.Faults.{ownership_fault, buffer_fault, first_overlap, first_buffer};
-ghost use Rattle.fr_slots.specs.Faults.{out_of_params, is_owned_beyond, has_late_latest, has_wrong_words};
-ghost use Rattle.fr_slots.specs.Faults.{is_unowned_on, any_unowned, is_unowned_in, is_owned_always, is_undivided};
-ghost use Rattle.fr_slots.specs.Faults.{is_owned, claims, not_owned, dynamic_both};
-ghost use Rattle.fr_slots.specs.Faults.{too_long, ends_late_on, ends_late, minislots_filled};
+ghost use Rattle.fr_slots.specs.Faults.{ownership_fault, buffer_fault, first_overlap, first_buffer, out_of_params};
+ghost use Rattle.fr_slots.specs.Faults.{is_owned_beyond, has_late_latest, has_wrong_words, is_unowned_on, any_unowned};
+ghost use Rattle.fr_slots.specs.Faults.{is_unowned_in, is_owned_always, is_undivided, is_owned, claims, not_owned};
+ghost use Rattle.fr_slots.specs.Faults.{dynamic_both, too_long, ends_late_on, ends_late, minislots_filled};
 ghost use Rattle.fr_slots.specs.Numbers.{most_lines};
 ghost use Rattle.fr_slots.specs.Sharing.{own_filter, own_filters, transmit_filters};
 

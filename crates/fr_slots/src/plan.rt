@@ -208,9 +208,8 @@ impl Model for NodePlan {
 impl NodePlan {
     ghost use Rattle.std.specs.Prelude.{◌≡◌, ◌<◌, ◌↔◌, IfOk, OnOk, OnErr, IfSome, IfNone, IsTrue, ◌==◌, length};
     ghost use Rattle.std.specs.Prelude.{position, slice_index};
-    ghost use Rattle.fr_slots.specs.Plans.{IsPlan, plan_of, buffer_at};
-    ghost use Rattle.fr_slots.specs.Plans.{own_refusal, with_own, buffer_refusal, with_buffer, queue_refusal};
-    ghost use Rattle.fr_slots.specs.Plans.{with_queue};
+    ghost use Rattle.fr_slots.specs.Plans.{IsPlan, plan_of, buffer_at, own_refusal, with_own, buffer_refusal};
+    ghost use Rattle.fr_slots.specs.Plans.{with_buffer, queue_refusal, with_queue};
     ghost use Rattle.fr_slots.specs.Faults.{latest_on, plan_fault, IsFaultless, not_owned, dynamic_both, too_long};
 
     /// Returns a plan with no lines yet.

@@ -1,7 +1,6 @@
 -- The words of a line, from its first space.
 use Rattle.std.proofs.Common.{◌≡◌, ℕ, ◌+◌, ◌≤◌, inl, inr, List, [], ◌∷◌, length, take, drop, Some, None, refl, ap, ◌∙◌}
-use Rattle.std.proofs.Common.{arith, ltb, ◌<◌, true, zero, suc, get_or}
-use Rattle.std.proofs.Common.{sym, length-take}
+use Rattle.std.proofs.Common.{arith, ltb, ◌<◌, true, zero, suc, get_or, sym, length-take}
 use Rattle.std.proofs.lemmas.Bool.Decides.{nat_tests}
 use Rattle.std.proofs.lemmas.Bool.{cases_Bool, ltb-true, lt-ltb, le-ltb}
 use Rattle.std.proofs.lemmas.List.{get_or-take, take_all}

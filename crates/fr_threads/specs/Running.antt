@@ -1,7 +1,6 @@
 -- The result of a run in threads (project-defined).
-use Rattle.std.specs.Prelude.{◌≡◌, ℕ, Bool, true, List, length, map, Option, Some, None, IsSome, Result, Ok, Err}
+use Rattle.std.specs.Prelude.{◌≡◌, ℕ, Bool, true, List, length, map, Option, Some, None, Result, Ok, Err}
 use Rattle.std.specs.Prelude.{option_map, slice_get}
-use Rattle.std.specs.List.{All}
 use Rattle.std.specs.Option.{option_and_then}
 use Rattle.std.specs.Global.{Vec}
 use Rattle.fr_bus.specs.declared.error.Phase.TheVariants.{Finished}

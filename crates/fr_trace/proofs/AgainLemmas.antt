@@ -1,7 +1,6 @@
 -- The text of a legal interface is read.
-use Rattle.std.proofs.Common.{◌≡◌, ℕ, true, zero, suc, ◌+◌, ◌≤◌, ◌<◌}
-use Rattle.std.proofs.Common.{List, [], ◌∷◌, ◌++◌, length, Option, Some, Ok, refl}
-use Rattle.std.proofs.Common.{sym, ap, subst, ◌∙◌, append_assoc, None, arith, length-append}
+use Rattle.std.proofs.Common.{◌≡◌, ℕ, true, zero, suc, ◌+◌, ◌≤◌, ◌<◌, List, [], ◌∷◌, ◌++◌, length, Option, Some, Ok}
+use Rattle.std.proofs.Common.{refl, sym, ap, subst, ◌∙◌, append_assoc, None, arith, length-append}
 use Rattle.std.specs.Prelude.{slice_get, IsSomeAnd}
 use Rattle.std.proofs.lemmas.List.{append-nil}
 use Rattle.std.proofs.lemmas.List.Sums.{fold-append}
@@ -18,7 +17,7 @@ use Rattle.fr_lines.proofs.VersionLemmas.{version_again}
 use Rattle.fr_text.specs.Plain.{has_no_feed}
 use Rattle.fr_lines.specs.Spelled.{IsSpelledEntry, IsSpelledOwn, IsSpelledBuffer, IsSpelledQueue, bare_plan}
 use Rattle.fr_lines.specs.Spelling.{first_line, begin_line, end_line, params_words, node_words, own_words, buffer_words}
-use Rattle.fr_lines.specs.Spelling.{queue_words, entry_words}
+use Rattle.fr_lines.specs.Spelling.{queue_words, entry_words, line_feed, line_text}
 use Rattle.fr_lines.proofs.BufferLemmas.{buffer_line_again, buffer_no_feed, buffer_short, buffer_not_begin}
 use Rattle.fr_lines.proofs.EntryLemmas.{entry_line_again, entry_no_feed, entry_short, entry_not_end}
 use Rattle.fr_lines.proofs.NodeLemmas.{node_line_again, node_no_feed, node_short}
@@ -36,10 +35,8 @@ use Rattle.fr_slots.specs.Plans.{Plan, IsPlan, IsBuffer, IsOwn, IsQueueOrNone, Q
 use Rattle.fr_slots.specs.Plans.{own_fits, with_buffer, with_own, with_queue}
 use Rattle.fr_text.specs.Spaces.{words_of, line_of}
 use Rattle.fr_trace.specs.Answers.{made_by}
-use Rattle.fr_trace.specs.Stream.{magic, params, node, lines, body, finished, reading}
-use Rattle.fr_trace.specs.Stream.{after_magic, after_parameters, after_numbers}
-use Rattle.fr_trace.specs.Stream.{after_node, line_number, take_line, take_byte, take_bytes, fresh}
-use Rattle.fr_lines.specs.Spelling.{line_feed, line_text}
+use Rattle.fr_trace.specs.Stream.{magic, params, node, lines, body, finished, reading, after_magic, after_parameters}
+use Rattle.fr_trace.specs.Stream.{after_numbers, after_node, line_number, take_line, take_byte, take_bytes, fresh}
 use Rattle.fr_trace.specs.TraceText.{entry_line, head_text, params_text, plan_text, begin_text, body_text, trace_text}
 use Rattle.fr_trace.specs.TraceText.{AreOwnedTold, AreTold}
 use Rattle.fr_trace.proofs.AnswerLemmas.{no_fault, legal_accepted, made-answered}

@@ -8,8 +8,7 @@ use Rattle.std.proofs.lemmas.List.Folds.{fold_stays}
 use Rattle.fr_text.specs.Plain.{is_feed, has_no_feed}
 use Rattle.fr_trace.specs.Feeds.{Reads, EndsLine, held, with_line}
 use Rattle.fr_trace.specs.Stream.{Phase, Progress, magic, params, node, lines, body, reading, failed, finished}
-use Rattle.fr_trace.specs.Stream.{take_byte, take_bytes, take_in, too_long}
-use Rattle.fr_trace.specs.Stream.{longest_line, line_number}
+use Rattle.fr_trace.specs.Stream.{take_byte, take_bytes, take_in, too_long, longest_line, line_number}
 use Rattle.fr_trace.specs.declared.error.TraceError.{TraceError}
 use Rattle.fr_trace.specs.declared.error.TraceError.TheVariants.{BadLine}
 use Rattle.fr_interface.specs.State.{State}

@@ -32,10 +32,9 @@ use Rattle.fr_trace.specs.Feeds.{Reads}
 use Rattle.fr_trace.specs.Refusals.{line_of_error, feed_count, IsFirstFault, NamesItsLine, LineIsNamed, IsHopeless}
 use Rattle.fr_trace.specs.Refusals.{HopelessIfRefused, HasFewLines, ShortIfTaken, longest_text}
 use Rattle.fr_trace.specs.Stream.{Phase, magic, params, node, lines, body, finished, Progress, reading, failed}
-use Rattle.fr_trace.specs.Stream.{line_count, line_number, after_magic, after_parameters}
-use Rattle.fr_trace.specs.Stream.{after_numbers, after_node, after_queue}
-use Rattle.fr_trace.specs.Stream.{after_buffer, has_owned_alone, after_own, after_plan_line, after_begin, after_fault}
-use Rattle.fr_trace.specs.Stream.{after_entry, take_line, too_long, after_line, take_open, take_in}
+use Rattle.fr_trace.specs.Stream.{line_count, line_number, after_magic, after_parameters, after_numbers, after_node}
+use Rattle.fr_trace.specs.Stream.{after_queue, after_buffer, has_owned_alone, after_own, after_plan_line, after_begin}
+use Rattle.fr_trace.specs.Stream.{after_fault, after_entry, take_line, too_long, after_line, take_open, take_in}
 use Rattle.fr_trace.specs.Stream.{take_byte, take_bytes, fresh, longest_line, answer_of, outcome_of}
 use Rattle.fr_trace.proofs.OutcomeLemmas.{legal_outcome}
 use Rattle.fr_trace.proofs.PlanLemmas.{no_queue_yet}

@@ -10,7 +10,7 @@ use Rattle.std.specs.Str.{bytes_eq}
 use Rattle.fr_journal.specs.Forms.{Entry}
 use Rattle.fr_interface.specs.State.{State, with_entry}
 use Rattle.fr_lines.specs.Reading.{version_in, params_in, node_in, own_in, buffer_in, queue_in, plan_line_in, entry_in}
-use Rattle.fr_lines.specs.Spelling.{begin_line, end_line, node_words, queue_words, entry_words}
+use Rattle.fr_lines.specs.Spelling.{begin_line, end_line, node_words, queue_words, entry_words, line_feed, line_text}
 use Rattle.fr_lines.proofs.BufferLemmas.{buffer_line_takes}
 use Rattle.fr_lines.proofs.EntryLemmas.{entry_line_takes}
 use Rattle.fr_lines.proofs.NodeLemmas.{node_line_takes, node_no_lines}
@@ -32,7 +32,6 @@ use Rattle.fr_text.specs.Spaces.{words_of, line_of}
 use Rattle.fr_trace.specs.Answers.{fault_of, made_by, is_answered, is_refused}
 use Rattle.fr_trace.specs.declared.error.TraceError.{TraceError}
 use Rattle.fr_slots.specs.Faults.{plan_fault}
-use Rattle.fr_lines.specs.Spelling.{line_feed, line_text}
 use Rattle.fr_trace.specs.TraceText.{own_line, buffer_line, queue_lines, entry_line, head_text, params_text, plan_text}
 use Rattle.fr_trace.specs.TraceText.{begin_text, body_text, trace_text}
 use Rattle.fr_trace.specs.Stream.{Phase, magic, params, node, lines, body, finished, Progress, reading, failed}

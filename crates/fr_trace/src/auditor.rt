@@ -7,9 +7,8 @@ ghost use Rattle.fr_slots.specs.Faults.{plan_fault};
 ghost use Rattle.fr_text.specs.Spaces.{words_of};
 ghost use Rattle.fr_trace.specs.Auditor.{phase_of};
 ghost use Rattle.fr_trace.specs.Feeds.{GivesPhase, GivesUnless, IsBegin, IsNoEntry};
-ghost use Rattle.fr_trace.specs.Stream.{magic, params, node, lines, body, take_line, too_long, line_number};
-ghost use Rattle.fr_trace.specs.Stream.{line_count, has_owned_alone, after_begin, after_own, after_buffer};
-ghost use Rattle.fr_trace.specs.Stream.{after_entry};
+ghost use Rattle.fr_trace.specs.Stream.{magic, params, node, lines, body, take_line, too_long, line_number, line_count};
+ghost use Rattle.fr_trace.specs.Stream.{has_owned_alone, after_begin, after_own, after_buffer, after_entry};
 ghost use Rattle.fr_trace.specs.Stream.{after_queue, after_plan_line};
 
 use crate::error::TraceError;
@@ -320,8 +319,7 @@ impl Model for Auditor {
 }
 
 impl Auditor {
-    ghost use Rattle.std.specs.Prelude.{◌≡◌, ◌∷◌, [], Ok, Err, true};
-    ghost use Rattle.std.specs.Prelude.{ℕ, List, ◌++◌};
+    ghost use Rattle.std.specs.Prelude.{◌≡◌, ◌∷◌, [], Ok, Err, true, ℕ, List, ◌++◌};
     ghost use Rattle.fr_trace.specs.Stream.{fresh, take_bytes, answer_of, outcome_of};
     ghost use Rattle.fr_text.specs.Plain.{has_no_feed};
     ghost use Rattle.fr_trace.specs.Feeds.{Reads, EndsLine, held, with_line};

@@ -3,9 +3,8 @@
 ghost use Rattle.std.specs.Prelude.{◌≡◌, IfErr};
 ghost use Rattle.fr_text.specs.Writing.{Writes};
 ghost use Rattle.fr_interface.specs.State.{received_by, tally_by};
-ghost use Rattle.fr_trace.specs.ReportText.{answer_words, channels_report, counts_in, errors_text};
-ghost use Rattle.fr_trace.specs.ReportText.{channel_words, held_words, queue_report, report_text};
-ghost use Rattle.fr_trace.specs.ReportText.{reports_from, tally_words};
+ghost use Rattle.fr_trace.specs.ReportText.{answer_words, channels_report, counts_in, errors_text, channel_words};
+ghost use Rattle.fr_trace.specs.ReportText.{held_words, queue_report, report_text, reports_from, tally_words};
 ghost use Rattle.fr_lines.specs.Spelling.{line_text};
 
 use crate::error::TraceError;

@@ -9,8 +9,7 @@ use Rattle.fr_trace.specs.declared.error.TraceError.{TraceError}
 use Rattle.fr_trace.specs.declared.error.TraceError.TheVariants.{Memory}
 use Rattle.fr_trace.specs.Feeds.{Begins}
 use Rattle.fr_trace.specs.Stream.{Phase, magic, params, node, lines, body, finished, Progress, reading, fresh}
-use Rattle.fr_trace.specs.Stream.{take_byte}
-use Rattle.fr_trace.specs.Stream.{take_bytes, outcome_of}
+use Rattle.fr_trace.specs.Stream.{take_byte, take_bytes, outcome_of}
 use Rattle.fr_why.specs.declared.head.Head.{Head}
 use Rattle.fr_why.specs.declared.head.Head.TheVariants as head
 use Rattle.fr_why.specs.Faults.{state_at}

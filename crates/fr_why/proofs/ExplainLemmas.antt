@@ -1,7 +1,6 @@
 -- The bytes that are kept of a text, and the explanation of its line at fault.
 use Rattle.std.proofs.Common.{◌≡◌, ℕ, ◌<◌, ◌≤◌, List, [], ◌++◌, length, take, Option, Some, None, Ok, Err, IfSome, inl}
-use Rattle.std.proofs.Common.{Result, OnOk, IfErr, sym, ◌⊎◌}
-use Rattle.std.proofs.Common.{inr, ap, ◌∙◌, subst, arith, lit<}
+use Rattle.std.proofs.Common.{Result, OnOk, IfErr, sym, ◌⊎◌, inr, ap, ◌∙◌, subst, arith, lit<}
 use Rattle.std.proofs.lemmas.Bool.{cases_lt}
 use Rattle.std.proofs.lemmas.List.{length-take-le, take_all}
 use Rattle.std.specs.Io.KnownBytes.{Appends, Keeps}

@@ -1,5 +1,5 @@
 -- If the reason of a refusal is `Feed`, the text becomes a trace with one line feed more.
-use Rattle.std.proofs.Common.{◌≡◌, ℕ, Bool, true, false, List, [], ◌∷◌, ◌++◌, Ok, inl, inr, refl, sym, ap, ◌∙◌, arith}
+use Rattle.std.proofs.Common.{◌≡◌, ℕ, List, [], ◌∷◌, ◌++◌, Ok, inl, inr, refl, sym, ap, ◌∙◌, arith}
 use Rattle.std.proofs.lemmas.Bool.{cases_Bool}
 use Rattle.std.proofs.lemmas.List.Sums.{fold-append}
 use Rattle.std.proofs.lemmas.Slice.Eq.{bytes_eq-Decides}
@@ -9,7 +9,7 @@ use Rattle.fr_lines.specs.declared.versions.Version.{Version}
 use Rattle.fr_lines.specs.Spelling.{end_line}
 use Rattle.fr_trace.specs.declared.error.TraceError.TheVariants as refusal
 use Rattle.fr_trace.specs.Stream.{Phase, magic, params, node, lines, body, finished, Progress, reading, fresh}
-use Rattle.fr_trace.specs.Stream.{take_byte, take_bytes, take_line, after_line, outcome_of}
+use Rattle.fr_trace.specs.Stream.{take_byte, take_bytes, outcome_of}
 use Rattle.fr_trace.proofs.LineLemmas.{fill}
 use Rattle.fr_trace.proofs.TextLemmas.{take_in-open}
 use Rattle.fr_why.specs.declared.reason.Reason.TheVariants as reason

@@ -21,11 +21,10 @@ use Rattle.fr_text.specs.Spaces.{words_of}
 use Rattle.fr_trace.specs.Answers.{fault_of}
 use Rattle.fr_trace.specs.declared.error.TraceError.{TraceError}
 use Rattle.fr_trace.specs.declared.error.TraceError.TheVariants as refusal
-use Rattle.fr_trace.specs.Stream.{Phase, magic, params, node, lines, body, finished, reading}
-use Rattle.fr_trace.specs.Stream.{after_magic, after_parameters, after_plan_line, has_owned_alone, after_begin}
-use Rattle.fr_trace.specs.Stream.{after_own, after_buffer, after_queue, after_fault, after_entry, take_line}
-use Rattle.fr_trace.specs.Stream.{line_number}
-use Rattle.fr_trace.specs.Stream.{fresh, take_bytes}
+use Rattle.fr_trace.specs.Stream.{Phase, magic, params, node, lines, body, finished, reading, after_magic}
+use Rattle.fr_trace.specs.Stream.{after_parameters, after_plan_line, has_owned_alone, after_begin, after_own}
+use Rattle.fr_trace.specs.Stream.{after_buffer, after_queue, after_fault, after_entry, take_line, line_number, fresh}
+use Rattle.fr_trace.specs.Stream.{take_bytes}
 use Rattle.fr_trace.specs.Stream as stream
 use Rattle.fr_why.specs.Asking.{reason_asked}
 use Rattle.fr_why.specs.declared.head.Head.{Head}

@@ -30,9 +30,8 @@ use Rattle.fr_trace.specs.declared.error.TraceError.TheVariants as refusal
 use Rattle.fr_trace.specs.Feeds.{held}
 use Rattle.fr_trace.specs.Stream.{Phase, magic, params, node, lines, body, finished, Progress, reading, failed, fresh}
 use Rattle.fr_trace.specs.Stream.{after_magic, after_parameters, after_numbers, after_node, after_plan_line}
-use Rattle.fr_trace.specs.Stream.{after_fault, after_entry, has_owned_alone, line_count}
-use Rattle.fr_trace.specs.Stream.{take_line, take_byte, take_bytes, after_line, answer_of, outcome_of, too_long}
-use Rattle.fr_trace.specs.Stream.{line_number}
+use Rattle.fr_trace.specs.Stream.{after_fault, after_entry, has_owned_alone, line_count, take_line, take_byte}
+use Rattle.fr_trace.specs.Stream.{take_bytes, after_line, answer_of, outcome_of, too_long, line_number}
 use Rattle.fr_trace.proofs.CutLemmas.{overflow, stays_failed}
 use Rattle.fr_trace.proofs.LineLemmas.{fill}
 use Rattle.fr_trace.proofs.TextLemmas.{is_open, take_in-open}

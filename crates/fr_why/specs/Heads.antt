@@ -11,8 +11,7 @@ use Rattle.fr_slots.specs.declared.params.RangeError.{RangeError}
 use Rattle.fr_slots.specs.Parameters.{Parameters, parameters_of}
 use Rattle.fr_slots.specs.Plans.{Plan, own_refusal, buffer_refusal, queue_refusal, with_own, with_buffer, with_queue}
 use Rattle.fr_text.specs.Spaces.{words_of}
-use Rattle.fr_trace.specs.Stream.{Phase, magic, params, node, lines, body, finished, reading, fresh}
-use Rattle.fr_trace.specs.Stream.{take_bytes}
+use Rattle.fr_trace.specs.Stream.{Phase, magic, params, node, lines, body, finished, reading, fresh, take_bytes}
 use Rattle.fr_why.specs.declared.head.Head.{Head}
 use Rattle.fr_why.specs.declared.head.Head.TheVariants as head
 

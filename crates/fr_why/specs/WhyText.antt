@@ -1,7 +1,6 @@
 -- The text that is written about a text: it is accepted, or refused at a place and for a reason (project-defined).
 use Rattle.std.specs.Prelude.{ℕ, ◌+◌, ◌==◌, nat_le, not, Bool, ◌&&◌, List, [], ◌∷◌, ◌++◌, codes, take, Option, Some}
-use Rattle.std.specs.Prelude.{None}
-use Rattle.std.specs.Prelude.{if◌then◌else◌}
+use Rattle.std.specs.Prelude.{None, if◌then◌else◌}
 use Rattle.std.specs.Fmt.{decimal}
 use Rattle.std.specs.List.{flat_map}
 use Rattle.fr_interface.specs.ErrorNames.{host_error_name, slot_error_name}

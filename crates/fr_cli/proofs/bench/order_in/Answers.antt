@@ -2,8 +2,7 @@ use Rattle.std.proofs.Common.{rules, sym, codes, ◌≡◌, ◌∙◌, Some, Non
 use Rattle.clap.proofs.WalkLemmas.{first_value-rows}
 use Rattle.clap.specs.Words.{Text, first_of, first_value, found_of, rows_of, subcommand_rows_of}
 use Rattle.fr_cli.specs.BenchOrders.{file_in}
-use Rattle.fr_cli.proofs.BenchLemmas.{check_has_file, file_of_rows, none_has_none, plan_has_file}
-use Rattle.fr_cli.proofs.BenchLemmas.{run_has_all, run_told}
+use Rattle.fr_cli.proofs.BenchLemmas.{check_has_file, file_of_rows, none_has_none, plan_has_file, run_has_all, run_told}
 use Rattle.fr_cli.proofs.CommandLemmas.{has_run_alike, word_of_rows}
 use Rattle.fr_cli.proofs.bench.order_in.Goals as goal
 use Rattle.fr_cli.specs.Commands.{IsNamed, word_in}

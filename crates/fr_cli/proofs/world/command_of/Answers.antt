@@ -1,6 +1,6 @@
-use Rattle.std.proofs.Common.{rules, ap, sym, subst, map, true, ◌≡◌, ◌∙◌, [], List, option_map}
+use Rattle.std.proofs.Common.{rules, ap, sym, subst, map, ◌≡◌, ◌∙◌, [], List}
 use Rattle.clap.proofs.WalkLemmas.{first_value-rows}
-use Rattle.clap.specs.Words.{HasKind, Text, app_of, fault_of, first_of, first_value, found_of, is_simple}
+use Rattle.clap.specs.Words.{HasKind, Text, fault_of, first_of, first_value, found_of, is_simple}
 use Rattle.clap.specs.Words.{is_simple_and_free, matches_of, rows_of}
 use Rattle.fr_cli.proofs.WorldLemmas.{are_free, are_simple, given_alike, refused_for, taken_for}
 use Rattle.fr_cli.specs.WorldCommands.{IsAnswer, entered, given_in, the_command}

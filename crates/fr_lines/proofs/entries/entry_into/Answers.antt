@@ -1,8 +1,7 @@
 use Rattle.std.proofs.Common.{◌≡◌, true, List, ℕ, Option, Some, None, sym, ap, ◌∙◌}
 use Rattle.std.specs.Prelude.{IfSome, option_map}
 use Rattle.fr_lines.proofs.EntryLemmas.{entry_line_takes, entry_line_again, entry_fits, entry_told}
-use Rattle.fr_lines.specs.Bare.{with_bytes}
-use Rattle.fr_lines.specs.Bare.{BareEntry}
+use Rattle.fr_lines.specs.Bare.{with_bytes, BareEntry}
 use Rattle.fr_lines.specs.declared.bare.EntryBytes.{EntryBytes}
 use Rattle.fr_lines.specs.declared.versions.Version.{Version}
 use Rattle.fr_lines.specs.Reading.{entry_in}

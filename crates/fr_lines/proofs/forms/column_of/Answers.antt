@@ -1,5 +1,5 @@
-use Rattle.std.proofs.Common.{rules, ◌≡◌, ◌+◌, take, ℕ, ◌≤◌, length, arith, refl, Fits, w64, sym, ◌∙◌, drop}
-use Rattle.fr_text.specs.Spaces.{words_of, room_of}
+use Rattle.std.proofs.Common.{rules, ◌≡◌, ◌+◌, ℕ, ◌≤◌, length, arith, refl, sym, ◌∙◌}
+use Rattle.fr_text.specs.Spaces.{words_of}
 use Rattle.fr_lines.proofs.FormLemmas.{column_within, front_more, rest_more, front_over, rest_over}
 use Rattle.fr_lines.proofs.forms.column_of.Goals.{in-Some, in_default}
 use Rattle.fr_lines.proofs.forms.column_of.Goals as goal

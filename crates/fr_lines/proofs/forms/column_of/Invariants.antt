@@ -1,4 +1,4 @@
-use Rattle.std.proofs.Common.{◌≡◌, ◌+◌, ◌≤◌, take, drop, length}
+use Rattle.std.proofs.Common.{◌≡◌, ◌+◌, ◌≤◌, take, drop}
 use Rattle.fr_text.specs.Spaces.{words_of, room_of}
 use Rattle.fr_lines.proofs.forms.column_of.Given as goal
 

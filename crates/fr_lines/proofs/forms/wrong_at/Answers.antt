@@ -1,4 +1,4 @@
-use Rattle.std.proofs.Common.{◌≡◌, ℕ, ◌+◌, ◌≤◌, length, drop, option_map, Option, arith, ap, sym, ◌∙◌, List, [], ◌∷◌}
+use Rattle.std.proofs.Common.{◌≡◌, ℕ, ◌+◌, ◌≤◌, length, drop, option_map, arith, ap, sym, ◌∙◌, List, [], ◌∷◌}
 use Rattle.fr_lines.specs.declared.forms.WordForm.TheVariants as form
 use Rattle.fr_lines.specs.Forms.{wrong_at}
 use Rattle.fr_lines.proofs.FormLemmas.{add_none, right_more, wrong_here, missing_here, one_more, all_right}

@@ -1,5 +1,4 @@
-use Rattle.std.proofs.Common.{◌≡◌, false, length, take, ap, sym, ◌∙◌}
-use Rattle.std.specs.Str.{bytes_eq}
+use Rattle.std.proofs.Common.{◌≡◌, ◌∙◌}
 use Rattle.fr_scenario.proofs.TextLemmas.{not_first, not_there}
 use Rattle.fr_scenario.proofs.scenario.begun.Goals as goal
 

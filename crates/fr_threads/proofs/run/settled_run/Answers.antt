@@ -1,4 +1,4 @@
-use Rattle.std.proofs.Common.{◌≡◌, rules, subst, sym, true, ◌∙◌}
+use Rattle.std.proofs.Common.{◌≡◌, rules, subst, true, ◌∙◌}
 use Rattle.std.specs.Prelude.{IsTrue}
 use Rattle.fr_core.specs.Receivers.{Receivers}
 use Rattle.fr_runs.specs.Stepping.{AreStepped}

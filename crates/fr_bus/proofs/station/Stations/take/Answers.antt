@@ -3,7 +3,7 @@ use Rattle.std.proofs.lemmas.List.{set-get_or}
 use Rattle.fr_bus.specs.declared.station.Sides.{Sides}
 use Rattle.fr_bus.specs.States.{taking}
 use Rattle.fr_bus.proofs.StationLemmas.{write_station}
-use Rattle.fr_bus.specs.Stations.{Station, stations_of, silent_sides}
+use Rattle.fr_bus.specs.Stations.{stations_of, silent_sides}
 use Rattle.fr_bus.proofs.station.Stations.take.Goals as goal
 
 pub returns : goal.returns

@@ -1,4 +1,4 @@
-use Rattle.std.proofs.Common.{rules, arith, ◌≡◌, refl}
+use Rattle.std.proofs.Common.{rules, arith, ◌≡◌}
 use Rattle.std.proofs.lemmas.List.Elements.{All-push, All-take}
 use Rattle.fr_desks.proofs.PassLemmas.{numbered_push, numbered_found, all_last}
 use Rattle.fr_desks.proofs.desk.Desk.open.Goals as goal

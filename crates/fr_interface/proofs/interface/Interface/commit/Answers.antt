@@ -2,7 +2,6 @@ use Rattle.std.proofs.Common.{◌≡◌, ℕ, length, ap, sym, ◌∙◌}
 use Rattle.fr_interface.specs.InterfaceFields.{state_in}
 use Rattle.fr_interface.specs.Standing.{entries_before}
 use Rattle.fr_interface.specs.State.{State}
-use Rattle.fr_interface.specs.declared.interface.Receipt.{Receipt}
 use Rattle.fr_interface.proofs.InterfaceLemmas.{lawful-more}
 use Rattle.fr_interface.proofs.StandingLemmas.{entries-length}
 use Rattle.fr_journal.specs.declared.entry.Entry.TheVariants.{Commit}

@@ -1,6 +1,5 @@
 use Rattle.std.proofs.Common.{◌≡◌, Option, ap, sym, subst, ◌∙◌}
 use Rattle.fr_frame.specs.Fields.{Fields}
-use Rattle.fr_interface.specs.declared.offers.Outgoing.{Outgoing}
 use Rattle.fr_interface.specs.InterfaceFields.{state_in}
 use Rattle.fr_interface.specs.Sending.{outgoing_in, outgoing_on, frame_by}
 use Rattle.fr_interface.specs.State.{State}

@@ -1,4 +1,4 @@
-use Rattle.std.proofs.Common.{◌≡◌, List, [], ◌∷◌, ◌++◌, ap, sym, ◌∙◌}
+use Rattle.std.proofs.Common.{◌≡◌, [], ◌∷◌, ◌++◌, ap, sym, ◌∙◌}
 use Rattle.fr_interface.specs.declared.offers.Outgoing.{Outgoing}
 use Rattle.fr_interface.specs.InterfaceFields.{state_in}
 use Rattle.fr_interface.specs.Sending.{outgoing_in}
@@ -6,7 +6,6 @@ use Rattle.fr_interface.specs.State.{State, with_entry, fetch_entry}
 use Rattle.fr_interface.proofs.InterfaceLemmas.{lawful-more, state-more}
 use Rattle.fr_interface.proofs.SenderLemmas.{offered-place}
 use Rattle.fr_journal.specs.declared.entry.Entry.TheVariants.{Fetch}
-use Rattle.fr_journal.specs.Kept.{Kept}
 use Rattle.fr_journal.specs.Offers.{offered}
 use Rattle.fr_slots.specs.declared.channel.Channel.TheVariants.{A, B}
 use Rattle.fr_interface.proofs.interface.Interface.push_fetch.Goals as goal

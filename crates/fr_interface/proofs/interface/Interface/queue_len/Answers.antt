@@ -1,7 +1,7 @@
-use Rattle.std.proofs.Common.{◌≡◌, ℕ, ◌≤◌, Option, Some, None, ap, arith, sym, subst, ◌∙◌}
+use Rattle.std.proofs.Common.{◌≡◌, ℕ, ◌≤◌, Option, ap, sym, subst, ◌∙◌}
 use Rattle.std.specs.Prelude.{IfSome}
 use Rattle.fr_interface.specs.InterfaceFields.{state_in}
-use Rattle.fr_interface.specs.State.{State, length_of}
+use Rattle.fr_interface.specs.State.{length_of}
 use Rattle.fr_interface.proofs.StandingLemmas.{answer-length, length-within}
 use Rattle.fr_interface.proofs.interface.Interface.queue_len.Goals as goal
 

@@ -1,4 +1,4 @@
-use Rattle.std.proofs.Common.{◌≡◌, List, [], ◌∷◌, ◌++◌, Option, ap, ◌∙◌, option_map}
+use Rattle.std.proofs.Common.{◌≡◌, [], ◌∷◌, ◌++◌, Option, ap, ◌∙◌, option_map}
 use Rattle.fr_interface.specs.InterfaceFields.{state_in}
 use Rattle.fr_interface.specs.State.{read_entry, received_by}
 use Rattle.fr_interface.proofs.InterfaceLemmas.{lawful-more}

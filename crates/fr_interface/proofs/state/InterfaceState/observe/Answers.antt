@@ -1,4 +1,4 @@
-use Rattle.std.proofs.Common.{◌≡◌, ℕ, ◌+◌, List, Option, Some, None, arith, ap, sym, subst, ◌∙◌, rules}
+use Rattle.std.proofs.Common.{◌≡◌, ℕ, ◌+◌, arith, ap, sym, subst, ◌∙◌, rules}
 use Rattle.std.specs.Vec.{with_items}
 use Rattle.fr_interface.specs.StateFields.{standing_in}
 use Rattle.fr_interface.specs.Known.{stored_all, with_arrivals, with_seen}
@@ -11,7 +11,6 @@ use Rattle.fr_interface.proofs.StandingLemmas.{arrivals-limits}
 use Rattle.fr_journal.specs.declared.entry.Entry.TheVariants.{Observe}
 use Rattle.fr_journal.specs.Held.{data_frame_seen}
 use Rattle.fr_slots.specs.declared.channel.Channel.TheVariants.{A, B}
-use Rattle.fr_slots.specs.Windows.{Opportunity}
 use Rattle.fr_status.specs.Counting.{HasRoom}
 use Rattle.fr_status.specs.declared.counters.Counters.{Counters}
 use Rattle.fr_interface.proofs.state.InterfaceState.observe.Goals as goal

@@ -1,4 +1,4 @@
-use Rattle.std.proofs.Common.{◌≡◌, ℕ, Option, arith, ap, not, sym, subst, ◌∙◌, option_map}
+use Rattle.std.proofs.Common.{◌≡◌, ℕ, arith, ap, not, sym, subst, ◌∙◌, option_map}
 use Rattle.std.specs.Prelude.{is_some}
 use Rattle.fr_interface.specs.StateFields.{standing_in}
 use Rattle.fr_interface.specs.Standing.{Standing, IsHistory, after_pop}
@@ -6,7 +6,6 @@ use Rattle.fr_interface.specs.State.{with_entry, pop_entry, oldest_of}
 use Rattle.fr_interface.proofs.StandingLemmas.{history-pop, oldest-there}
 use Rattle.fr_journal.specs.Entries.{IsOrigin}
 use Rattle.fr_journal.specs.Held.{origin_of}
-use Rattle.fr_slots.specs.Plans.{Plan}
 use Rattle.fr_interface.proofs.state.InterfaceState.pop.Goals as goal
 
 pub invariant_of-self : goal.invariant_of-self

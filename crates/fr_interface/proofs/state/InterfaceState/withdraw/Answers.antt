@@ -10,7 +10,7 @@ use Rattle.fr_interface.specs.State.{with_entry, withdraw_entry}
 use Rattle.fr_interface.proofs.KeptLemmas.{written}
 use Rattle.fr_interface.proofs.StandingLemmas.{history-withdraw, pending-there}
 use Rattle.fr_journal.specs.Fate.{pending_commit}
-use Rattle.fr_slots.specs.Plans.{Plan, buffer_at}
+use Rattle.fr_slots.specs.Plans.{buffer_at}
 use Rattle.fr_interface.proofs.state.InterfaceState.withdraw.Goals as goal
 
 pub invariant_of-self : goal.invariant_of-self

@@ -1,6 +1,6 @@
-use Rattle.std.proofs.Common.{rules, ◌≡◌, ◌+◌, true, subst, sym, ap, ℕ}
+use Rattle.std.proofs.Common.{rules, ◌≡◌, ◌+◌, true, subst, sym, ℕ}
 use Rattle.fr_minislot.proofs.RowLemmas.{closed_stands}
-use Rattle.fr_minislot.specs.Lanes.{Standing, IsStanding}
+use Rattle.fr_minislot.specs.Lanes.{IsStanding}
 use Rattle.fr_minislot.specs.LaneFields.{standing_in}
 use Rattle.fr_minislot.specs.DynamicRows.{is_row}
 use Rattle.fr_minislot.proofs.lane.Lane.close.Goals as goal
