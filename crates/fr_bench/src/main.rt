@@ -34,7 +34,7 @@ use fr_commands::midpoint::midpoint_text;
 use fr_commands::plan::plan_text;
 use fr_orders::command::Order;
 use fr_orders::order::order;
-use fr_threads::outcome::run_cluster;
+use fr_threads::outcome::{RunOptions, run_cluster};
 use fr_threads::outcome_error::OutcomeError;
 use fr_words::given::{texts_of, words_given};
 use fr_words::waiting::{WaitingReader, WaitingWriter};
@@ -61,8 +61,7 @@ fn run_files<R: Files + Print + AllocGlobal + Threads + Wait + Clock + Sync>(
         alloc,
         &cluster,
         &mut file,
-        cycles,
-        free,
+        RunOptions { cycles, free },
         &mut WaitingWriter::new(rt, io::writer(rt)),
     )
 }

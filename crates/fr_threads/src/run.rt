@@ -16,7 +16,8 @@ use crate::failure::{Failure, least_of, told_with};
 use crate::mover::run_bus;
 use crate::node::{NodeDone, run_node};
 use crate::pace::Pace;
-use crate::shared::Shared;
+use crate::shared::{Common, Shared};
+use crate::workload::Workload;
 use fr_bus::bus::Bus;
 use fr_bus::error::Phase;
 use fr_bus::outcome::Sealed;
@@ -104,13 +105,8 @@ impl NodesDone {
 /// Starts the thread of each node. Where one can't be started those before it run.
 fn start_nodes<'s, E, R: Threads + Wait + Clock + Sync, G: Gate + Sync>(
     scope: &'s Scope<'s, E>,
-    rt: &'s R,
-    alloc: Global,
-    shared: &'s Shared,
-    cluster: &'s Cluster,
-    scripts: &'s [Script],
+    common: &'s Common<'s, R, G>,
     nodes: u8,
-    gate: &'s G,
     running: &mut Vec<JoinHandle<Result<NodeDone, Failure>>>,
 ) -> Result<(), Failure>
     requires { vec_len running.old + nodes ≤ vec_capacity running.old }
@@ -118,7 +114,7 @@ fn start_nodes<'s, E, R: Threads + Wait + Clock + Sync, G: Gate + Sync>(
     ensures all { OnOk result (vec_len running.new ≡ vec_len running.old + nodes) }
 {
     for number in 0..nodes {
-        match scope.spawn(move || run_node(rt, alloc, shared, cluster, scripts, number, gate)) {
+        match scope.spawn(move || run_node(common, number)) {
             Ok(handle) => running.push_reserved(handle),
             Err(_) => return Err(Failure::Thread),
         }
@@ -183,64 +179,40 @@ fn all_done(
     }
 }
 
-// The threads of the bus and the nodes take their arguments one by one, since a struct in the closure of a thread scope
-// fails to check.
 /// Runs the bus and the nodes, and joins them. Where one of them fails the run is stopped.
 fn serve<'s, E, R: Threads + Wait + Clock + Sync, G: Gate + Sync>(
     scope: &'s Scope<'s, E>,
-    rt: &'s R,
-    alloc: Global,
-    shared: &'s Shared,
-    cluster: &'s Cluster,
-    scripts: &'s [Script],
-    faults: &'s [FaultLine],
-    gate: &'s G,
+    common: &'s Common<'s, R, G>,
 ) -> Result<NodesDone, Failure>
     ensures { IfOk result (λ nodes. nodes.commits.items ≡ map commits_of nodes.interfaces.items) }
 {
-    let count = cluster.nodes();
+    let (alloc, count) = (common.alloc, common.cluster.nodes());
     let nodes = NodesDone::with_room(alloc, usize::from(count))?;
     let mut answers = Vec::with_capacity(alloc, usize::from(count))?;
     let mut running = Vec::with_capacity(alloc, usize::from(count))?;
-    let Ok(bus) = scope.spawn(move || run_bus(rt, alloc, shared, faults, gate)) else {
+    let Ok(bus) = scope.spawn(move || run_bus(common)) else {
         return Err(Failure::Thread);
     };
-    let started = start_nodes(
-        scope,
-        rt,
-        alloc,
-        shared,
-        cluster,
-        scripts,
-        count,
-        gate,
-        &mut running,
-    );
+    let started = start_nodes(scope, common, count, &mut running);
     if started.is_err() {
-        shared.stop(rt);
+        common.shared.stop(common.rt);
     }
-    join_nodes(rt, running, &mut answers);
-    all_done(answers, bus.join(rt), started, nodes)
+    join_nodes(common.rt, running, &mut answers);
+    all_done(answers, bus.join(common.rt), started, nodes)
 }
 
 /// Runs the bus and the nodes in a scope.
 fn run_in_scope<R: Threads + Wait + Clock + Sync, G: Gate + Sync>(
-    rt: &R,
-    alloc: Global,
-    shared: &Shared,
-    cluster: &Cluster,
-    scripts: &[Script],
-    faults: &[FaultLine],
-    gate: &G,
+    common: &Common<'_, R, G>,
 ) -> Result<NodesDone, Failure>
     ensures { IfOk result (λ nodes. nodes.commits.items ≡ map commits_of nodes.interfaces.items) }
 {
     thread::scope(
         thread::scope_env(),
-        rt,
+        common.rt,
         |scope| -> Result<NodesDone, Failure>
             ensures { IfOk result (λ nodes. nodes.commits.items ≡ map commits_of nodes.interfaces.items) }
-        { serve(scope, rt, alloc, shared, cluster, scripts, faults, gate) },
+        { serve(scope, common) },
     )
 }
 
@@ -276,17 +248,16 @@ fn settled_run<R: Threads + Sync>(
     rt: &R,
     alloc: Global,
     cluster: &Cluster,
-    given: &[Script],
-    faults: &[FaultLine],
-    cycles: u16,
-    stepped: bool,
+    workload: &Workload<'_>,
     nodes: NodesDone,
     bus: Bus,
 ) -> Result<Run, Failure>
     requires { nodes.commits.items ≡ map commits_of nodes.interfaces.items }
-    ensures { IfOk result (IsRunOf cluster.now given.now faults.now cycles stepped) }
+    ensures { IfOk result (IsRunOf cluster.now workload.now.scripts.now workload.now.faults.now workload.now.cycles
+        workload.now.stepped) }
 {
-    if !is_at_end(alloc, &bus, faults, cycles)? {
+    let given = workload.scripts;
+    if !is_at_end(alloc, &bus, workload.faults, workload.cycles)? {
         return Err(Failure::Thread);
     }
     let NodesDone {
@@ -304,7 +275,7 @@ fn settled_run<R: Threads + Sync>(
         scripts.as_slice(),
     );
     let settled = answer?;
-    if stepped && !are_stepped(interfaces.as_slice(), bus.record(), given) {
+    if workload.stepped && !are_stepped(interfaces.as_slice(), bus.record(), given) {
         return Err(Failure::Thread);
     }
     Ok(Run {
@@ -320,13 +291,12 @@ fn settled_run<R: Threads + Sync>(
 fn shared_by_all(
     alloc: Global,
     cluster: &Cluster,
-    scripts: &[Script],
-    cycles: u16,
-    stepped: bool,
+    workload: &Workload<'_>,
 ) -> Result<Shared, Failure> {
+    let cycles = workload.cycles;
     let bus = Bus::new(alloc, cluster, cycles)?;
-    let pace = if stepped {
-        Some(Pace::new(alloc, cluster.nodes(), cycles, scripts)?)
+    let pace = if workload.stepped {
+        Some(Pace::new(alloc, cluster.nodes(), cycles, workload.scripts)?)
     } else {
         None
     };
@@ -341,55 +311,57 @@ fn run_all<R: Threads + Wait + Clock + Sync, G: Gate + Sync>(
     rt: &R,
     alloc: Global,
     cluster: &Cluster,
-    scripts: &[Script],
-    faults: &[FaultLine],
-    cycles: u16,
-    stepped: bool,
+    workload: &Workload<'_>,
     gate: &G,
 ) -> Result<Run, Failure>
-    ensures { IfOk result (IsRunOf cluster.now scripts.now faults.now cycles stepped) }
+    ensures { IfOk result (IsRunOf cluster.now workload.now.scripts.now workload.now.faults.now workload.now.cycles
+        workload.now.stepped) }
 {
-    let shared = shared_by_all(alloc, cluster, scripts, cycles, stepped)?;
-    let ended = run_in_scope(rt, alloc, &shared, cluster, scripts, faults, gate);
+    let shared = shared_by_all(alloc, cluster, workload)?;
+    let ended = run_in_scope(&Common {
+        rt,
+        alloc,
+        shared: &shared,
+        cluster,
+        workload,
+        gate,
+    });
     let Shared { wire, pace: _ } = shared;
     let bus = wire.close();
     let nodes = ended?;
-    settled_run(
-        rt, alloc, cluster, scripts, faults, cycles, stepped, nodes, bus,
-    )
+    settled_run(rt, alloc, cluster, workload, nodes, bus)
 }
 
-/// Runs the cluster for so many cycles: a thread for each task does the lines of its script, one for each controller
-/// does all windows, and one for the bus injects the faults and moves the bus on (project-defined).
+/// Runs the cluster for the cycles of the workload: a thread for each task does the lines of its script, one for each
+/// controller does all windows, and one for the bus injects the faults and moves the bus on (project-defined).
 ///
 /// In a stepped run the lines of a cycle are done once all controllers have observed the whole of the cycle before, and
 /// before any of them fetches in the cycle. Else they are done at any moment, in the order of each script.
 ///
 /// Refused with `BadCycles`, `BadScript`, `BadFault` and `NoRoom`, in this order and as `check_run` refuses, before any
 /// thread starts. Of several failures that threads meet the first of these is reported: `Host`, `Slot`, `Bus`, `Thread`
-/// and
-/// `Memory`. Where they meet none, a bus that isn't at its end after so many cycles is `Thread`, and what doesn't agree
-/// by then is `Settle`. A record with other faults than those of the lines, or in a stepped run a line that wasn't done
-/// in its cycle, is `Thread` too. All threads are joined before it answers. Its cross-check walks the journals in
-/// threads where these can be had, and one after another where not, and refuses nothing for that.
+/// and `Memory`. Where they meet none, a bus that isn't at its end after so many cycles is `Thread`, and what doesn't
+/// agree by then is `Settle`. A record with other faults than those of the lines, or in a stepped run a line that
+/// wasn't done in its cycle, is `Thread` too. All threads are joined before it answers. Its cross-check walks the
+/// journals in threads where these can be had, and one after another where not, and refuses nothing for that.
 pub fn run_threads<R: Threads + Wait + Clock + Sync, G: Gate + Sync>(
     rt: &R,
     alloc: Global,
     cluster: &Cluster,
-    scripts: &[Script],
-    faults: &[FaultLine],
-    cycles: u16,
-    stepped: bool,
+    workload: &Workload<'_>,
     gate: &G,
 ) -> Result<Run, RunError>
-    ensures refused { RefusesRun cluster.now scripts.now faults.now cycles result }
+    ensures refused { RefusesRun cluster.now workload.now.scripts.now workload.now.faults.now workload.now.cycles
+        result }
     ensures memory { TellsMemory result }
-    ensures run { IfOk result (IsRunOf cluster.now scripts.now faults.now cycles stepped) }
+    ensures run { IfOk result (IsRunOf cluster.now workload.now.scripts.now workload.now.faults.now
+        workload.now.cycles workload.now.stepped) }
 {
-    if let Err(refusal) = check_run(cluster, scripts, faults, cycles) {
+    let (scripts, faults) = (workload.scripts, workload.faults);
+    if let Err(refusal) = check_run(cluster, scripts, faults, workload.cycles) {
         return Err(error_of_refusal(refusal));
     }
-    match run_all(rt, alloc, cluster, scripts, faults, cycles, stepped, gate) {
+    match run_all(rt, alloc, cluster, workload, gate) {
         Ok(run) => Ok(run),
         Err(failure) => Err(error_of_failure(failure)),
     }

@@ -2,9 +2,10 @@
 
 use crate::failure::Failure;
 use crate::pace::Pace;
-use fr_core::script::Script;
+use crate::workload::Workload;
 use fr_desks::wire::Wire;
 use fr_schedule::cluster::Cluster;
+use std::alloc::Global;
 use std::sync::Wait;
 
 /// What all threads of a run share: the bus, and in a stepped run its pace.
@@ -14,14 +15,14 @@ pub(crate) struct Shared {
     pub pace: Option<Pace>,
 }
 
-// It keeps the arguments of `start_tasks` in `node` at seven.
-/// What the threads of a node are given.
+/// What each thread of a run is given.
 #[derive(Drop)]
 pub(crate) struct Common<'a, R, G> {
     pub rt: &'a R,
+    pub alloc: Global,
     pub shared: &'a Shared,
     pub cluster: &'a Cluster,
-    pub scripts: &'a [Script],
+    pub workload: &'a Workload<'a>,
     pub gate: &'a G,
 }
 
