@@ -31,6 +31,28 @@ pub(crate) struct Taker {
     pub(crate) buffer: Option<usize>,
 }
 
+/// A transmission: a channel of a recorded window, by the parameters of the cluster.
+#[derive(Clone, Copy)]
+pub(crate) struct Transmission<'a> {
+    /// The parameters.
+    pub(crate) params: &'a Params,
+    /// The window.
+    pub(crate) sealed: &'a Sealed,
+    /// The channel.
+    pub(crate) channel: Channel,
+}
+
+/// What comes to a node on a channel of a window.
+#[derive(Clone, Copy)]
+struct Coming<'a> {
+    /// The window.
+    window: &'a Window,
+    /// Whether a data frame came on channels A and B.
+    came: Came,
+    /// The channel.
+    channel: Channel,
+}
+
 /// Returns whether this is a data frame.
 fn is_data(frame: Option<LentFrame<'_>>) -> bool
     ensures { result ≡ is_some (option_and_then with_data frame.entry) }
@@ -118,18 +140,18 @@ fn write_buffers<W: Write>(
     any: bool,
     node: NodeId,
     lines: &[Buffer],
-    window: &Window,
-    came: Came,
-    channel: Channel,
+    coming: &Coming<'_>,
 ) -> io::Result<bool>
     ensures text { Writes W.contents writer.old writer.new result
-        (after_commas any (buffers_by window.now came.a came.b channel node 0 lines.now)) }
+        (after_commas any (buffers_by coming.now.window.now coming.now.came.a coming.now.came.b coming.now.channel node
+        0 lines.now)) }
     ensures any { IfOk result (λ now. now
-        ≡ (any || is_any (buffers_by window.now came.a came.b channel node 0 lines.now))) }
+        ≡ (any || is_any (buffers_by coming.now.window.now coming.now.came.a coming.now.came.b coming.now.channel node
+        0 lines.now))) }
 {
     let mut any = any;
     for (number, line) in lines.iter().enumerate() {
-        let takes = takes(window, came, channel, line);
+        let takes = takes(coming.window, coming.came, coming.channel, line);
         any = write_if(writer, any, takes, node, Some(number))?;
     }
     Ok(any)
@@ -140,41 +162,45 @@ fn write_buffers<W: Write>(
 fn write_node<W: Write>(
     writer: &mut W,
     any: bool,
-    params: &Params,
     plan: &NodePlan,
-    sealed: &Sealed,
-    channel: Channel,
+    sent: &Transmission<'_>,
     node: NodeId,
 ) -> io::Result<bool>
     ensures text { Writes W.contents writer.old writer.new result
-        (after_commas any (takers_of params.now plan.now sealed.now channel node)) }
+        (after_commas any (takers_of sent.now.params.now plan.now sent.now.sealed.now sent.now.channel node)) }
     ensures any { IfOk result (λ now. now
-        ≡ (any || is_any (takers_of params.now plan.now sealed.now channel node))) }
+        ≡ (any || is_any (takers_of sent.now.params.now plan.now sent.now.sealed.now sent.now.channel node))) }
 {
-    let (window, came) = (window_of(sealed), came_to(params, sealed, node));
-    let any = write_buffers(writer, any, node, plan.buffers(), window, came, channel)?;
-    let takes = queue_takes(plan, window, came, channel);
+    let (window, came) = (
+        window_of(sent.sealed),
+        came_to(sent.params, sent.sealed, node),
+    );
+    let coming = Coming {
+        window,
+        came,
+        channel: sent.channel,
+    };
+    let any = write_buffers(writer, any, node, plan.buffers(), &coming)?;
+    let takes = queue_takes(plan, window, came, sent.channel);
     write_if(writer, any, takes, node, None)
 }
 
 /// Writes what took the transmission that came on the channel of the window, and says whether anything did.
 fn write_nodes<W: Write>(
     writer: &mut W,
-    params: &Params,
     interfaces: &[Interface],
-    sealed: &Sealed,
-    channel: Channel,
+    sent: &Transmission<'_>,
 ) -> io::Result<bool>
     requires { length interfaces.now ≤ 16 }
     ensures text { Writes W.contents writer.old writer.new result
-        (after_commas false (takers_from params.now sealed.now channel 0 interfaces.now)) }
+        (after_commas false (takers_from sent.now.params.now sent.now.sealed.now sent.now.channel 0 interfaces.now)) }
     ensures any { IfOk result (λ now. now
-        ≡ is_any (takers_from params.now sealed.now channel 0 interfaces.now)) }
+        ≡ is_any (takers_from sent.now.params.now sent.now.sealed.now sent.now.channel 0 interfaces.now)) }
 {
     let mut any = false;
     for (number, interface) in interfaces.iter().enumerate() {
         let node = NodeId::from_number(number as u8);
-        any = write_node(writer, any, params, interface.plan(), sealed, channel, node)?;
+        any = write_node(writer, any, interface.plan(), sent, node)?;
     }
     Ok(any)
 }
@@ -183,16 +209,14 @@ fn write_nodes<W: Write>(
 /// between them, or a dash.
 pub(crate) fn write_takers<W: Write>(
     writer: &mut W,
-    params: &Params,
     interfaces: &[Interface],
-    sealed: &Sealed,
-    channel: Channel,
+    sent: &Transmission<'_>,
 ) -> io::Result<()>
     requires { length interfaces.now ≤ 16 }
     ensures { Writes W.contents writer.old writer.new result
-        (takers_word (takers_from params.now sealed.now channel 0 interfaces.now)) }
+        (takers_word (takers_from sent.now.params.now sent.now.sealed.now sent.now.channel 0 interfaces.now)) }
 {
-    if write_nodes(writer, params, interfaces, sealed, channel)? {
+    if write_nodes(writer, interfaces, sent)? {
         Ok(())
     } else {
         write!(writer, "-")

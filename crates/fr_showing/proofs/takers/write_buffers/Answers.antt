@@ -13,21 +13,22 @@ use Rattle.fr_showing.proofs.takers.write_buffers.Goals as goal
 
 pub loop-number-preserved : goal.loop-number-preserved
 loop-number-preserved g c =
-    let w = c.args.window.now in
+    let coming = c.args.coming.now in
+    let w = coming.window.now in
     let n : ℕ = c.loop-number.number in
     let line = c.index-lines-number.result in
     let now = g.W.Write.contents c.loop-number.writer in
     let mid = g.W.Write.contents c.write_if.new.writer in
-    let all : List Taker = buffers_by w c.args.came.a c.args.came.b c.args.channel c.args.node 0 c.args.lines.now in
-    let left : List Taker = buffers_by w c.args.came.a c.args.came.b c.args.channel c.args.node n
+    let all : List Taker = buffers_by w coming.came.a coming.came.b coming.channel c.args.node 0 c.args.lines.now in
+    let left : List Taker = buffers_by w coming.came.a coming.came.b coming.channel c.args.node n
     (drop n c.args.lines.now) in
-    let rest : List Taker = buffers_by w c.args.came.a c.args.came.b c.args.channel c.args.node (n + 1)
+    let rest : List Taker = buffers_by w coming.came.a coming.came.b coming.channel c.args.node (n + 1)
     (drop (n + 1) c.args.lines.now) in
-    let part : List Taker = taker_if (takes_by w c.args.came.a c.args.came.b c.args.channel line) c.args.node
+    let part : List Taker = taker_if (takes_by w coming.came.a coming.came.b coming.channel line) c.args.node
     (Some n) in
     goes_on c.args.any all (g.W.Write.contents c.args.writer.now) now mid c.loop-number.any c.in_ok-any.any left part
     rest
-    (ap (λ (l : List Buffer). buffers_by w c.args.came.a c.args.came.b c.args.channel c.args.node n l)
+    (ap (λ (l : List Buffer). buffers_by w coming.came.a coming.came.b coming.channel c.args.node n l)
     (left_here c.args.lines.now n line c.loop-number-test.true c.index-lines-number.is))
     (subst (λ (t : Bool). Appends now mid (after_commas c.loop-number.any (taker_if t c.args.node (Some n))))
     c.takes-takes.ensures c.in_ok-any.ensures.text)
@@ -37,12 +38,13 @@ loop-number-preserved g c =
 
 pub returns-clause-text : goal.returns-clause-text
 returns-clause-text g c =
-    let w = c.args.window.now in
+    let coming = c.args.coming.now in
+    let w = coming.window.now in
     let n : ℕ = c.loop-number.number in
     let le : length c.args.lines.now ≤ n = omega (arith, c.loop-number-test.false) in
-    ends_text c.args.any (buffers_by w c.args.came.a c.args.came.b c.args.channel c.args.node 0 c.args.lines.now)
+    ends_text c.args.any (buffers_by w coming.came.a coming.came.b coming.channel c.args.node 0 c.args.lines.now)
     (g.W.Write.contents c.args.writer.now)
     (g.W.Write.contents c.loop-number.writer) c.loop-number.any
-    (buffers_by w c.args.came.a c.args.came.b c.args.channel c.args.node n (drop n c.args.lines.now))
-    (ap (λ (l : List Buffer). buffers_by w c.args.came.a c.args.came.b c.args.channel c.args.node n l)
+    (buffers_by w coming.came.a coming.came.b coming.channel c.args.node n (drop n c.args.lines.now))
+    (ap (λ (l : List Buffer). buffers_by w coming.came.a coming.came.b coming.channel c.args.node n l)
     (nothing_left c.args.lines.now n le)) c.loop-number.invariant
