@@ -360,51 +360,6 @@ fn sight_of_several(any_own: bool) -> Seen
     if any_own { Seen::Conflict } else { Seen::Noise }
 }
 
-/// Sees what a node sees on a channel of the window where this was sent, and this bit is flipped (project-defined).
-fn see_in(
-    params: &Params,
-    window: &Window,
-    corrupt: Option<u16>,
-    channel: Channel,
-    node: NodeId,
-    sent: &[Sent],
-    seen: &mut Seen,
-)
-    ensures { seen.new ≡ seen_of params.now window.now corrupt node (all_passed channel sent.now) }
-{
-    let Some((only, rest)) = next_passed(channel, sent) else {
-        return see_silence(seen);
-    };
-    if next_passed(channel, rest).is_some() {
-        *seen = sight_of_several(any_own(channel, node, sent));
-    } else if is_of(node, only) {
-        *seen = Seen::Own;
-    } else {
-        see_alone(params, window, corrupt, &only.bytes, seen);
-    }
-}
-
-/// Sees what a node sees that sends nothing, on a channel of the window where this was sent, and this bit is flipped.
-fn hear_in(
-    params: &Params,
-    window: &Window,
-    corrupt: Option<u16>,
-    channel: Channel,
-    sent: &[Sent],
-    seen: &mut Seen,
-)
-    ensures { seen.new ≡ heard_of params.now window.now corrupt (all_passed channel sent.now) }
-{
-    let Some((only, rest)) = next_passed(channel, sent) else {
-        return see_silence(seen);
-    };
-    if next_passed(channel, rest).is_some() {
-        *seen = Seen::Noise;
-    } else {
-        see_alone(params, window, corrupt, &only.bytes, seen);
-    }
-}
-
 /// Returns whether the other nodes see this of the only transmission that passed. Bytes are copied only to flip a bit
 /// of them.
 fn shows_alone(
@@ -432,36 +387,6 @@ fn are_turned(bytes: &Bytes, corrupt: Option<u16>, seen: &[u8]) -> bool
         bytes.as_slice() == seen
     } else {
         bytes_with_bit_turned(bytes, corrupt).as_slice() == seen
-    }
-}
-
-/// Returns whether a node sees this on a channel of the window where this was sent, and this bit is flipped.
-fn shows_in(
-    params: &Params,
-    window: &Window,
-    corrupt: Option<u16>,
-    channel: Channel,
-    node: NodeId,
-    sent: &[Sent],
-    seen: LentSeen<'_>,
-) -> bool
-    ensures { IsTrue result
-        ↔ (seen_of params.now window.now corrupt node (all_passed channel sent.now) ≡ whole_seen seen.entry) }
-{
-    let Some((only, rest)) = next_passed(channel, sent) else {
-        return matches!(seen, LentSeen::Silence);
-    };
-    if next_passed(channel, rest).is_some() {
-        return if any_own(channel, node, sent) {
-            matches!(seen, LentSeen::Conflict)
-        } else {
-            matches!(seen, LentSeen::Noise)
-        };
-    }
-    if is_of(node, only) {
-        matches!(seen, LentSeen::Own)
-    } else {
-        shows_alone(params, window, corrupt, &only.bytes, seen)
     }
 }
 
@@ -517,16 +442,18 @@ impl Sealed {
     pub fn see(&self, params: &Params, channel: Channel, node: NodeId, seen: &mut Seen)
         ensures { seen.new ≡ seen_by params.now self.now channel node }
     {
-        let corrupt = self.corrupt_on(channel);
-        see_in(
-            params,
-            &self.window,
-            corrupt,
-            channel,
-            node,
-            self.sent.as_slice(),
-            seen,
-        );
+        let sent = self.sent.as_slice();
+        let Some((only, rest)) = next_passed(channel, sent) else {
+            return see_silence(seen);
+        };
+        if next_passed(channel, rest).is_some() {
+            *seen = sight_of_several(any_own(channel, node, sent));
+        } else if is_of(node, only) {
+            *seen = Seen::Own;
+        } else {
+            let corrupt = self.corrupt_on(channel);
+            see_alone(params, &self.window, corrupt, &only.bytes, seen);
+        }
     }
 
     /// Returns what a node sees on the channel that sends nothing there: the bytes of what passed alone, with the bit
@@ -535,15 +462,14 @@ impl Sealed {
         ensures { result ≡ heard params.now self.now channel }
     {
         let mut seen = Seen::Silence;
-        let (window, sent) = (&self.window, self.sent.as_slice());
-        hear_in(
-            params,
-            window,
-            self.corrupt_on(channel),
-            channel,
-            sent,
-            &mut seen,
-        );
+        if let Some((only, rest)) = next_passed(channel, self.sent.as_slice()) {
+            if next_passed(channel, rest).is_some() {
+                seen = Seen::Noise;
+            } else {
+                let corrupt = self.corrupt_on(channel);
+                see_alone(params, &self.window, corrupt, &only.bytes, &mut seen);
+            }
+        }
         seen
     }
 
@@ -551,16 +477,23 @@ impl Sealed {
     pub fn shows(&self, params: &Params, channel: Channel, node: NodeId, seen: LentSeen<'_>) -> bool
         ensures { IsTrue result ↔ (seen_by params.now self.now channel node ≡ whole_seen seen.entry) }
     {
-        let corrupt = self.corrupt_on(channel);
-        shows_in(
-            params,
-            &self.window,
-            corrupt,
-            channel,
-            node,
-            self.sent.as_slice(),
-            seen,
-        )
+        let sent = self.sent.as_slice();
+        let Some((only, rest)) = next_passed(channel, sent) else {
+            return matches!(seen, LentSeen::Silence);
+        };
+        if next_passed(channel, rest).is_some() {
+            return if any_own(channel, node, sent) {
+                matches!(seen, LentSeen::Conflict)
+            } else {
+                matches!(seen, LentSeen::Noise)
+            };
+        }
+        if is_of(node, only) {
+            matches!(seen, LentSeen::Own)
+        } else {
+            let corrupt = self.corrupt_on(channel);
+            shows_alone(params, &self.window, corrupt, &only.bytes, seen)
+        }
     }
 
     /// Returns the bytes of the node's offer on the channel, whatever became of it. None where it offered nothing
