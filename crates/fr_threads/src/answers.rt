@@ -4,7 +4,7 @@ ghost use Rattle.std.specs.Prelude.{◌≡◌, IfOk, IsSome, map, option_map};
 ghost use Rattle.std.specs.List.{All};
 ghost use Rattle.fr_threads.specs.Running.{bare, bare_script, IsAnswered, AreAnswered, replies_at};
 
-use crate::failure::Failure;
+use crate::failure::RunFailure;
 use fr_core::event::Reply;
 use fr_core::script::{Action, Line, Script};
 use std::alloc::Global;
@@ -36,13 +36,13 @@ fn answered_line(line: &Line, reply: &Reply) -> Line
 }
 
 /// Returns the lines, with these answers, one for each.
-fn answered_lines(alloc: Global, lines: &[Line], replies: &[Reply]) -> Result<Vec<Line>, Failure>
+fn answered_lines(alloc: Global, lines: &[Line], replies: &[Reply]) -> Result<Vec<Line>, RunFailure>
     ensures given { IfOk result (λ list. map bare list.items ≡ map bare lines.now) }
     ensures answered { IfOk result (λ list. All IsAnswered list.items) }
 {
     // A task that was joined has answered each line, but what a thread hands back says nothing of how it came about.
     if lines.len() != replies.len() {
-        return Err(Failure::Thread);
+        return Err(RunFailure::Thread);
     }
     let mut list = Vec::with_capacity(alloc, lines.len())?;
     for place in 0..lines.len() {
@@ -65,13 +65,13 @@ fn answered_script(
     alloc: Global,
     script: &Script,
     answers: &[Vec<Vec<Reply>>],
-) -> Result<Script, Failure>
+) -> Result<Script, RunFailure>
     ensures given { IfOk result (λ s. bare_script s ≡ bare_script script.now) }
     ensures answered { IfOk result (λ s. All IsAnswered s.lines) }
 {
     // The script suits the cluster, and each node and task was joined; neither stands in a type.
     let Some(replies) = replies_to(script, answers) else {
-        return Err(Failure::Thread);
+        return Err(RunFailure::Thread);
     };
     let lines = answered_lines(alloc, script.lines.as_slice(), replies)?;
     Ok(Script {
@@ -86,7 +86,7 @@ pub(crate) fn with_answers(
     alloc: Global,
     scripts: &[Script],
     answers: &[Vec<Vec<Reply>>],
-) -> Result<Vec<Script>, Failure>
+) -> Result<Vec<Script>, RunFailure>
     ensures { IfOk result (λ list. AreAnswered scripts.now list.items) }
 {
     let mut list = Vec::with_capacity(alloc, scripts.len())?;

@@ -2,7 +2,7 @@
 
 ghost use Rattle.std.specs.Prelude.{◌≡◌, ◌<◌};
 
-use crate::failure::Failure;
+use crate::failure::RunFailure;
 use crate::shared::Common;
 use fr_bus::windows::opens_cycle;
 use fr_desks::gate::Gate;
@@ -30,7 +30,7 @@ fn inject_all<R: Wait + Clock>(
 }
 
 /// Moves the bus on from window to window, up to the end of the run.
-fn move_on<R: Wait + Clock, G: Gate>(common: &Common<'_, R, G>) -> Result<(), Failure> {
+fn move_on<R: Wait + Clock, G: Gate>(common: &Common<'_, R, G>) -> Result<(), RunFailure> {
     let (rt, wire) = (common.rt, &common.shared.wire);
     let mut begun = 0u16;
     let mut kept = Vec::new(common.alloc);
@@ -51,7 +51,9 @@ fn move_on<R: Wait + Clock, G: Gate>(common: &Common<'_, R, G>) -> Result<(), Fa
 }
 
 /// The thread of the bus. Where it fails the run is stopped.
-pub(crate) fn run_bus<R: Wait + Clock, G: Gate>(common: &Common<'_, R, G>) -> Result<(), Failure> {
+pub(crate) fn run_bus<R: Wait + Clock, G: Gate>(
+    common: &Common<'_, R, G>,
+) -> Result<(), RunFailure> {
     let ended = move_on(common);
     if ended.is_err() {
         common.shared.stop(common.rt);

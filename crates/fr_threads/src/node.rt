@@ -7,7 +7,7 @@ ghost use Rattle.fr_interface.specs.Commits.{commits_of};
 ghost use Rattle.fr_ledger.specs.Posts.{parts_for};
 ghost use Rattle.fr_threads.specs.Failures.{told_after, told_of_all};
 
-use crate::failure::{Failure, least_of, told_with};
+use crate::failure::{RunFailure, least_of, told_with};
 use crate::shared::Common;
 use crate::task::{TaskDone, run_task};
 use fr_bus::windows::opens_cycle;
@@ -48,7 +48,7 @@ struct TasksDone<L: Ledger> {
 #[derive(Drop)]
 struct TasksJoined<L: Ledger> {
     shares: Vec<Share<L>>,
-    answers: Vec<Result<Vec<Reply>, Failure>>,
+    answers: Vec<Result<Vec<Reply>, RunFailure>>,
 }
 
 impl<L: Ledger> TasksJoined<L> {
@@ -71,7 +71,7 @@ fn control<L: Ledger, R: Wait + Clock, G: Gate>(
     common: &Common<'_, R, G>,
     desk: &Desk<L>,
     node: NodeId,
-) -> Result<(), Failure> {
+) -> Result<(), RunFailure> {
     let (rt, shared, gate) = (common.rt, common.shared, common.gate);
     let mut begun = 0u16;
     let mut offer = Offer { a: None, b: None };
@@ -102,7 +102,7 @@ fn start_tasks<'s, E, L: Ledger + Send + Sync, R: Wait + Sync, G: Gate + Sync>(
     node: NodeId,
     passes: Vec<TaskPass<L>>,
     running: &mut Vec<JoinHandle<TaskDone<L>>>,
-) -> Result<(), Failure>
+) -> Result<(), RunFailure>
     requires { vec_len running.old + vec_len passes ≤ vec_capacity running.old }
     ensures few { vec_len running.new ≤ vec_len running.old + vec_len passes }
     ensures all { OnOk result (vec_len running.new ≡ vec_len running.old + vec_len passes) }
@@ -111,7 +111,7 @@ fn start_tasks<'s, E, L: Ledger + Send + Sync, R: Wait + Sync, G: Gate + Sync>(
         let lines = lines_given(common.workload.scripts, node, pass.task());
         match scope.spawn(move || run_task(common, desk, lines, pass)) {
             Ok(handle) => running.push_reserved(handle),
-            Err(_) => return Err(Failure::Thread),
+            Err(_) => return Err(RunFailure::Thread),
         }
     }
     Ok(())
@@ -138,9 +138,9 @@ fn join_tasks<L: Ledger, R: Threads>(
 /// Keeps the answers of those that didn't fail, and answers which failure of the others is to be told. There is room
 /// for all.
 fn keep_answers(
-    answers: Vec<Result<Vec<Reply>, Failure>>,
+    answers: Vec<Result<Vec<Reply>, RunFailure>>,
     kept: &mut Vec<Vec<Reply>>,
-) -> Option<Failure>
+) -> Option<RunFailure>
     requires { vec_len kept.old + vec_len answers ≤ vec_capacity kept.old }
     ensures { result ≡ told_of_all (map result_err answers.items) }
 {
@@ -158,9 +158,9 @@ fn keep_answers(
 /// There is room for their answers.
 fn all_answered<L: Ledger>(
     joined: TasksJoined<L>,
-    ended: Result<(), Failure>,
+    ended: Result<(), RunFailure>,
     mut kept: Vec<Vec<Reply>>,
-) -> Result<TasksDone<L>, Failure>
+) -> Result<TasksDone<L>, RunFailure>
     requires { vec_len kept + vec_len joined.answers ≤ vec_capacity kept }
     ensures told { result_err result
         ≡ told_after (told_of_all (map result_err joined.answers.items)) (result_err ended) }
@@ -183,7 +183,7 @@ fn serve<'s, E, L: Ledger + Send + Sync, R: Threads + Wait + Clock + Sync, G: Ga
     desk: &'s Desk<L>,
     node: NodeId,
     passes: Vec<TaskPass<L>>,
-) -> Result<TasksDone<L>, Failure>
+) -> Result<TasksDone<L>, RunFailure>
     ensures { IfOk result (λ done. vec_len done.shares ≡ vec_len passes) }
 {
     let alloc = common.alloc;
@@ -207,13 +207,13 @@ fn run_in_scope<L: Ledger + Send + Sync, R: Threads + Wait + Clock + Sync, G: Ga
     desk: &Desk<L>,
     node: NodeId,
     passes: Vec<TaskPass<L>>,
-) -> Result<TasksDone<L>, Failure>
+) -> Result<TasksDone<L>, RunFailure>
     ensures { IfOk result (λ done. vec_len done.shares ≡ vec_len passes) }
 {
     thread::scope(
         thread::scope_env(),
         common.rt,
-        |scope| -> Result<TasksDone<L>, Failure>
+        |scope| -> Result<TasksDone<L>, RunFailure>
             ensures { IfOk result (λ done. vec_len done.shares ≡ vec_len passes) }
         { serve(scope, common, desk, node, passes) },
     )
@@ -225,7 +225,7 @@ fn run_desk<L: Ledger + Send + Sync, R: Threads + Wait + Clock + Sync, G: Gate +
     blank: Blank,
     interface: Interface,
     node: NodeId,
-) -> Result<NodeDone, Failure>
+) -> Result<NodeDone, RunFailure>
     requires name { blank.name ≡ L.name }
     requires parts { blank.parts ≡ L.parts }
     requires one_each { blank.parts ≡ parts_for interface.plan.tasks }
@@ -247,13 +247,13 @@ fn run_desk<L: Ledger + Send + Sync, R: Threads + Wait + Clock + Sync, G: Gate +
 fn run_ledger<R: Threads + Wait + Clock + Sync, G: Gate + Sync>(
     common: &Common<'_, R, G>,
     number: u8,
-) -> Result<NodeDone, Failure> {
+) -> Result<NodeDone, RunFailure> {
     // A node that the cluster doesn't have has no thread, but neither its number nor its thread says so.
     let Some(node) = NodeId::new(number) else {
-        return Err(Failure::Thread);
+        return Err(RunFailure::Thread);
     };
     let Some(plan) = common.cluster.node(node) else {
-        return Err(Failure::Thread);
+        return Err(RunFailure::Thread);
     };
     let interface = Interface::new(common.alloc, common.cluster.params(), plan)?;
     let parts = u64::from(interface.plan().tasks()) + 1;
@@ -264,7 +264,7 @@ fn run_ledger<R: Threads + Wait + Clock + Sync, G: Gate + Sync>(
 pub(crate) fn run_node<R: Threads + Wait + Clock + Sync, G: Gate + Sync>(
     common: &Common<'_, R, G>,
     number: u8,
-) -> Result<NodeDone, Failure> {
+) -> Result<NodeDone, RunFailure> {
     let done = run_ledger(common, number);
     if done.is_err() {
         common.shared.stop(common.rt);

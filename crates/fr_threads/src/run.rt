@@ -12,7 +12,7 @@ ghost use Rattle.fr_threads.specs.Running.{IsRunOf, RefusesRun};
 
 use crate::answers::with_answers;
 use crate::error::{RunError, error_of_failure, error_of_refusal};
-use crate::failure::{Failure, least_of, told_with};
+use crate::failure::{RunFailure, least_of, told_with};
 use crate::mover::run_bus;
 use crate::node::{NodeDone, run_node};
 use crate::pace::Pace;
@@ -107,8 +107,8 @@ fn start_nodes<'s, E, R: Threads + Wait + Clock + Sync, G: Gate + Sync>(
     scope: &'s Scope<'s, E>,
     common: &'s Common<'s, R, G>,
     nodes: u8,
-    running: &mut Vec<JoinHandle<Result<NodeDone, Failure>>>,
-) -> Result<(), Failure>
+    running: &mut Vec<JoinHandle<Result<NodeDone, RunFailure>>>,
+) -> Result<(), RunFailure>
     requires { vec_len running.old + nodes ≤ vec_capacity running.old }
     ensures few { vec_len running.new ≤ vec_len running.old + nodes }
     ensures all { OnOk result (vec_len running.new ≡ vec_len running.old + nodes) }
@@ -116,7 +116,7 @@ fn start_nodes<'s, E, R: Threads + Wait + Clock + Sync, G: Gate + Sync>(
     for number in 0..nodes {
         match scope.spawn(move || run_node(common, number)) {
             Ok(handle) => running.push_reserved(handle),
-            Err(_) => return Err(Failure::Thread),
+            Err(_) => return Err(RunFailure::Thread),
         }
     }
     Ok(())
@@ -125,8 +125,8 @@ fn start_nodes<'s, E, R: Threads + Wait + Clock + Sync, G: Gate + Sync>(
 /// Joins the nodes, in their order. There is room for what they answer.
 fn join_nodes<R: Threads>(
     rt: &R,
-    running: Vec<JoinHandle<Result<NodeDone, Failure>>>,
-    answers: &mut Vec<Result<NodeDone, Failure>>,
+    running: Vec<JoinHandle<Result<NodeDone, RunFailure>>>,
+    answers: &mut Vec<Result<NodeDone, RunFailure>>,
 )
     requires { vec_len answers.old + vec_len running ≤ vec_capacity answers.old }
     ensures { vec_len answers.new ≡ vec_len answers.old + vec_len running }
@@ -138,7 +138,10 @@ fn join_nodes<R: Threads>(
 
 /// Adds what the nodes leave that didn't fail, and answers which failure of the others is to be told. There is room for
 /// what they leave.
-fn keep_nodes(answers: Vec<Result<NodeDone, Failure>>, nodes: &mut NodesDone) -> Option<Failure>
+fn keep_nodes(
+    answers: Vec<Result<NodeDone, RunFailure>>,
+    nodes: &mut NodesDone,
+) -> Option<RunFailure>
     requires interfaces { vec_len nodes.old.interfaces + vec_len answers ≤ vec_capacity nodes.old.interfaces }
     requires commits { vec_len nodes.old.commits + vec_len answers ≤ vec_capacity nodes.old.commits }
     requires answers { vec_len nodes.old.answers + vec_len answers ≤ vec_capacity nodes.old.answers }
@@ -159,11 +162,11 @@ fn keep_nodes(answers: Vec<Result<NodeDone, Failure>>, nodes: &mut NodesDone) ->
 /// Returns what the nodes leave, if none of them failed, nor the bus, and all were started, and else the failure that
 /// is to be told. There is room for what they leave.
 fn all_done(
-    answers: Vec<Result<NodeDone, Failure>>,
-    bus: Result<(), Failure>,
-    started: Result<(), Failure>,
+    answers: Vec<Result<NodeDone, RunFailure>>,
+    bus: Result<(), RunFailure>,
+    started: Result<(), RunFailure>,
     mut nodes: NodesDone,
-) -> Result<NodesDone, Failure>
+) -> Result<NodesDone, RunFailure>
     requires interfaces { vec_len nodes.interfaces + vec_len answers ≤ vec_capacity nodes.interfaces }
     requires commits { vec_len nodes.commits + vec_len answers ≤ vec_capacity nodes.commits }
     requires answers { vec_len nodes.answers + vec_len answers ≤ vec_capacity nodes.answers }
@@ -183,7 +186,7 @@ fn all_done(
 fn serve<'s, E, R: Threads + Wait + Clock + Sync, G: Gate + Sync>(
     scope: &'s Scope<'s, E>,
     common: &'s Common<'s, R, G>,
-) -> Result<NodesDone, Failure>
+) -> Result<NodesDone, RunFailure>
     ensures { IfOk result (λ nodes. nodes.commits.items ≡ map commits_of nodes.interfaces.items) }
 {
     let (alloc, count) = (common.alloc, common.cluster.nodes());
@@ -191,7 +194,7 @@ fn serve<'s, E, R: Threads + Wait + Clock + Sync, G: Gate + Sync>(
     let mut answers = Vec::with_capacity(alloc, usize::from(count))?;
     let mut running = Vec::with_capacity(alloc, usize::from(count))?;
     let Ok(bus) = scope.spawn(move || run_bus(common)) else {
-        return Err(Failure::Thread);
+        return Err(RunFailure::Thread);
     };
     let started = start_nodes(scope, common, count, &mut running);
     if started.is_err() {
@@ -204,13 +207,13 @@ fn serve<'s, E, R: Threads + Wait + Clock + Sync, G: Gate + Sync>(
 /// Runs the bus and the nodes in a scope.
 fn run_in_scope<R: Threads + Wait + Clock + Sync, G: Gate + Sync>(
     common: &Common<'_, R, G>,
-) -> Result<NodesDone, Failure>
+) -> Result<NodesDone, RunFailure>
     ensures { IfOk result (λ nodes. nodes.commits.items ≡ map commits_of nodes.interfaces.items) }
 {
     thread::scope(
         thread::scope_env(),
         common.rt,
-        |scope| -> Result<NodesDone, Failure>
+        |scope| -> Result<NodesDone, RunFailure>
             ensures { IfOk result (λ nodes. nodes.commits.items ≡ map commits_of nodes.interfaces.items) }
         { serve(scope, common) },
     )
@@ -231,7 +234,12 @@ fn count_cycles(recorded: &[Sealed]) -> usize
 
 /// Returns whether the bus came to its end after so many cycles, and each window had the faults of these lines and no
 /// others.
-fn is_at_end(alloc: Global, bus: &Bus, faults: &[FaultLine], cycles: u16) -> Result<bool, Failure>
+fn is_at_end(
+    alloc: Global,
+    bus: &Bus,
+    faults: &[FaultLine],
+    cycles: u16,
+) -> Result<bool, RunFailure>
     ensures finished { IfOk result (λ answer. IsTrue answer → bus.now.phase ≡ Finished) }
     ensures cycles { IfOk result (λ answer. IsTrue answer → cycles_begun bus.now.sealed ≡ cycles) }
     ensures faults { IfOk result (λ answer. IsTrue answer → HaveFaults faults.now bus.now.sealed) }
@@ -251,14 +259,14 @@ fn settled_run<R: Threads + Sync>(
     workload: &Workload<'_>,
     nodes: NodesDone,
     bus: Bus,
-) -> Result<Run, Failure>
+) -> Result<Run, RunFailure>
     requires { nodes.commits.items ≡ map commits_of nodes.interfaces.items }
     ensures { IfOk result (IsRunOf cluster.now workload.now.scripts.now workload.now.faults.now workload.now.cycles
         workload.now.stepped) }
 {
     let given = workload.scripts;
     if !is_at_end(alloc, &bus, workload.faults, workload.cycles)? {
-        return Err(Failure::Thread);
+        return Err(RunFailure::Thread);
     }
     let NodesDone {
         interfaces,
@@ -276,7 +284,7 @@ fn settled_run<R: Threads + Sync>(
     );
     let settled = answer?;
     if workload.stepped && !are_stepped(interfaces.as_slice(), bus.record(), given) {
-        return Err(Failure::Thread);
+        return Err(RunFailure::Thread);
     }
     Ok(Run {
         interfaces,
@@ -292,7 +300,7 @@ fn shared_by_all(
     alloc: Global,
     cluster: &Cluster,
     workload: &Workload<'_>,
-) -> Result<Shared, Failure> {
+) -> Result<Shared, RunFailure> {
     let cycles = workload.cycles;
     let bus = Bus::new(alloc, cluster, cycles)?;
     let pace = if workload.stepped {
@@ -313,7 +321,7 @@ fn run_all<R: Threads + Wait + Clock + Sync, G: Gate + Sync>(
     cluster: &Cluster,
     workload: &Workload<'_>,
     gate: &G,
-) -> Result<Run, Failure>
+) -> Result<Run, RunFailure>
     ensures { IfOk result (IsRunOf cluster.now workload.now.scripts.now workload.now.faults.now workload.now.cycles
         workload.now.stepped) }
 {

@@ -1,6 +1,6 @@
 //! What all threads of a run share.
 
-use crate::failure::Failure;
+use crate::failure::RunFailure;
 use crate::pace::Pace;
 use crate::workload::Workload;
 use fr_desks::wire::Wire;
@@ -28,12 +28,12 @@ pub(crate) struct Common<'a, R, G> {
 
 impl Shared {
     /// Waits, as a task that has lines in the cycle, until these are due.
-    pub(crate) fn wait_due<R: Wait>(&self, rt: &R, cycle: u16) -> Result<(), Failure> {
+    pub(crate) fn wait_due<R: Wait>(&self, rt: &R, cycle: u16) -> Result<(), RunFailure> {
         match &self.pace {
             Some(pace) => if pace.wait_due(rt, cycle) {
                 Ok(())
             } else {
-                Err(Failure::Stopped)
+                Err(RunFailure::Stopped)
             },
             None => Ok(()),
         }
@@ -47,12 +47,12 @@ impl Shared {
     }
 
     /// Waits, as a controller that is to begin the cycle, until all lines of the cycle are done.
-    pub(crate) fn wait_done<R: Wait>(&self, rt: &R, cycle: u16) -> Result<(), Failure> {
+    pub(crate) fn wait_done<R: Wait>(&self, rt: &R, cycle: u16) -> Result<(), RunFailure> {
         match &self.pace {
             Some(pace) => if pace.wait_done(rt, cycle) {
                 Ok(())
             } else {
-                Err(Failure::Stopped)
+                Err(RunFailure::Stopped)
             },
             None => Ok(()),
         }

@@ -1,6 +1,6 @@
 //! The thread of a task.
 
-use crate::failure::Failure;
+use crate::failure::RunFailure;
 use crate::shared::Common;
 use fr_core::event::Reply;
 use fr_core::script::{Action, Line};
@@ -15,7 +15,7 @@ use std::sync::ledger::Ledger;
 #[derive(Drop)]
 pub(crate) struct TaskDone<L: Ledger> {
     pub share: Share<L>,
-    pub answers: Result<Vec<Reply>, Failure>,
+    pub answers: Result<Vec<Reply>, RunFailure>,
 }
 
 /// Does one line.
@@ -52,7 +52,7 @@ fn do_lines<L: Ledger, R: Wait, G: Gate>(
     desk: &Desk<L>,
     lines: &[Line],
     me: &mut TaskPass<L>,
-) -> Result<Vec<Reply>, Failure> {
+) -> Result<Vec<Reply>, RunFailure> {
     let (rt, shared) = (common.rt, common.shared);
     let mut answers = Vec::with_capacity(common.alloc, lines.len())?;
     let mut begun = None;
