@@ -7,7 +7,7 @@ ghost use Rattle.fr_bus.specs.Outcome.{sent_from};
 ghost use Rattle.fr_bus.specs.Record.{Recorded};
 ghost use Rattle.fr_bus.specs.States.{has_number, phase_at};
 
-use crate::course::Course;
+use crate::course::RunCourse;
 use crate::error::{BusError, Phase};
 use crate::fault::Fault;
 use crate::outcome::{Sealed, all_sent};
@@ -39,7 +39,7 @@ pub struct Bus {
     /// The open window, up to the run's end.
     opened: Option<Window>,
     /// How far the run has come, with the windows of the record.
-    course: Course,
+    course: RunCourse,
     /// One for each node.
     stations: Stations,
     // Up to 16 stations of a kilobyte were read for that under the lock. The invariant says that both numbers count the
@@ -147,7 +147,7 @@ impl Bus {
         let Ok(stations) = Stations::idle(alloc, usize::from(cluster.nodes())) else {
             return Err(BusError::Memory);
         };
-        let course = Course::new(cluster.params(), cycles);
+        let course = RunCourse::new(cluster.params(), cycles);
         let opened = course.next();
         Ok(Bus {
             alloc,

@@ -39,7 +39,7 @@
 //! last two.
 //!
 //! The definition of the next window speaks of the whole record: the rows of a channel are those of this cycle's
-//! windows. The code keeps a `Course` beside the record, with numbers and a `Lane` (`fr_minislot`) for each channel.
+//! windows. The code keeps a `RunCourse` beside the record, with numbers and a `Lane` (`fr_minislot`) for each channel.
 //! Its type says that it leads where the record leads, so no call's time grows with the record.
 #![tactic(auto)]
 
