@@ -29,7 +29,7 @@ use std::marker::Model;
 
 /// What becomes of a transmission (project-defined).
 #[derive(Clone, Copy, PartialEq, Eq)]
-pub enum Fate {
+pub enum SentFate {
     /// It reaches the channel.
     Passed,
     /// The guardian of its node stops it.
@@ -50,7 +50,7 @@ pub struct Sent {
     /// What was sent, 1 to 262 bytes, before any of its bits is turned.
     pub bytes: Bytes,
     /// What became of it.
-    pub fate: Fate,
+    pub fate: SentFate,
 }
 
 impl Sent {
@@ -58,7 +58,7 @@ impl Sent {
     pub fn passed_on(&self, channel: Channel) -> bool
         ensures { result ≡ passed_on channel self.now }
     {
-        self.channel == channel && self.fate == Fate::Passed
+        self.channel == channel && self.fate == SentFate::Passed
     }
 
     /// Returns whether it is too long for the window: longer than a static slot's frame, or beyond the last minislot
@@ -94,15 +94,15 @@ impl Model for Sealed {
 }
 
 /// Returns what becomes of a transmission that a fault loses or not, and that the guardian lets pass or not.
-fn fate_of(muted: bool, let_pass: bool) -> Fate
+fn fate_of(muted: bool, let_pass: bool) -> SentFate
     ensures { result ≡ fate_of muted let_pass }
 {
     if muted {
-        Fate::Muted
+        SentFate::Muted
     } else if let_pass {
-        Fate::Passed
+        SentFate::Passed
     } else {
-        Fate::Blocked
+        SentFate::Blocked
     }
 }
 
@@ -112,7 +112,7 @@ fn add(
     node: NodeId,
     channel: Channel,
     babble: bool,
-    fate: Fate,
+    fate: SentFate,
     bytes: &Option<Bytes>,
 ) -> Result<(), AllocError>
     ensures { OnOk result (list.new.items ≡ list.old.items ++ transmission node channel babble fate bytes.now) }

@@ -9,7 +9,7 @@ ghost use Rattle.fr_matrix.specs.Cells.{marks_letters, sender_class, sender_numb
 ghost use Rattle.fr_matrix.specs.Cells.{turned_text};
 
 use crate::look::{Look, Marks, look_word, sign};
-use fr_bus::outcome::{Fate, Sent};
+use fr_bus::outcome::{Sent, SentFate};
 use fr_slots::channel::Channel;
 use fr_slots::numbers::{NodeId, SlotId};
 use fr_text::hexes::write_hex;
@@ -112,13 +112,13 @@ fn write_title<W: Write>(writer: &mut W, cell: &Cell) -> io::Result<()>
 }
 
 /// Returns the words of what became of a transmission.
-fn fate_text(fate: Fate) -> &'static str
+fn fate_text(fate: SentFate) -> &'static str
     ensures { result.now ≡ fate_text fate }
 {
     match fate {
-        Fate::Passed => "",
-        Fate::Blocked => ", blocked",
-        Fate::Muted => ", lost",
+        SentFate::Passed => "",
+        SentFate::Blocked => ", blocked",
+        SentFate::Muted => ", lost",
     }
 }
 

@@ -154,12 +154,7 @@ fn is_in_turn(
 }
 
 /// Goes past the entry at this place.
-fn pass(
-    place: &EntryPlace<'_>,
-    recorded: &[Sealed],
-    entry: &LentEntry<'_>,
-    progress: &mut Progress,
-)
+fn pass(place: &EntryPlace<'_>, recorded: &[Sealed], entry: &LentEntry<'_>, progress: &mut Progress)
     requires here { slice_get place.now.interface.now.entries place.now.number ≡ Some (whole entry.now) }
     requires few { place.now.number < most_entries }
     requires so_far { IsProgress recorded.now (take place.now.number place.now.interface.now.entries) progress.old }

@@ -2,7 +2,7 @@
 ghost use Rattle.std.specs.Prelude.{◌≡◌};
 ghost use Rattle.fr_session.specs.RecordWords.{fate_word, kind_word};
 
-use fr_bus::outcome::Fate;
+use fr_bus::outcome::SentFate;
 
 /// Returns the word of whether a transmission is a babble (project-defined).
 pub fn kind_word(babble: bool) -> &'static str
@@ -12,12 +12,12 @@ pub fn kind_word(babble: bool) -> &'static str
 }
 
 /// Returns the word of what became of a transmission (project-defined).
-pub fn fate_word(fate: Fate) -> &'static str
+pub fn fate_word(fate: SentFate) -> &'static str
     ensures { result.now ≡ fate_word fate }
 {
     match fate {
-        Fate::Passed => "passed",
-        Fate::Blocked => "blocked",
-        Fate::Muted => "muted",
+        SentFate::Passed => "passed",
+        SentFate::Blocked => "blocked",
+        SentFate::Muted => "muted",
     }
 }
