@@ -26,7 +26,7 @@ mod audit;
 mod failure;
 
 use failure::BenchFailure;
-use fr_cli::bench::{BenchOrder, order};
+use fr_cli::bench::{Order, order};
 use fr_cli::waiting::{WaitingReader, WaitingWriter};
 use fr_cli::words::{texts_of, words_given};
 use fr_commands::check::check_text;
@@ -34,7 +34,7 @@ use fr_commands::midpoint::midpoint_text;
 use fr_commands::plan::plan_text;
 use fr_files::cluster_file::cluster_of;
 use fr_files::named::file_named;
-use fr_threads::outcome::run_cluster;
+use fr_threads::outcome::{RunOptions, run_cluster};
 use fr_threads::outcome_error::OutcomeError;
 use std::io;
 use std::process::ExitCode;
@@ -59,8 +59,7 @@ fn run_files<R: Files + Print + AllocGlobal + Threads + Wait + Clock + Sync>(
         alloc,
         &cluster,
         &mut file,
-        cycles,
-        free,
+        RunOptions { cycles, free },
         &mut WaitingWriter::new(rt, io::writer(rt)),
     )
 }
@@ -68,30 +67,30 @@ fn run_files<R: Files + Print + AllocGlobal + Threads + Wait + Clock + Sync>(
 /// Executes the command.
 fn carry_out<R: Files + Input + Print + AllocGlobal + Threads + Wait + Clock + Sync>(
     rt: &R,
-    order: BenchOrder<'_>,
+    order: Order<'_>,
 ) -> Result<(), BenchFailure> {
     let alloc = rt.alloc();
     let mut output = WaitingWriter::new(rt, io::writer(rt));
     match order {
-        BenchOrder::Audit => Ok(audit::audit(
+        Order::Audit => Ok(audit::audit(
             alloc,
             &mut WaitingReader::new(rt, rt.reader()),
             &mut output,
         )?),
-        BenchOrder::Check(path) => {
+        Order::Check(path) => {
             let mut file = file_named(rt, path)?;
             Ok(check_text(alloc, &mut file, &mut output)?)
         }
-        BenchOrder::Plan(path) => {
+        Order::Plan(path) => {
             let mut file = file_named(rt, path)?;
             Ok(plan_text(alloc, &mut file, &mut output)?)
         }
-        BenchOrder::Midpoint => Ok(midpoint_text(
+        Order::Midpoint => Ok(midpoint_text(
             alloc,
             &mut WaitingReader::new(rt, rt.reader()),
             &mut output,
         )?),
-        BenchOrder::Run {
+        Order::Run {
             cluster,
             scenario,
             cycles,

@@ -5,7 +5,7 @@ use Rattle.std.proofs.lemmas.Bool.{eq-eqb, ne_eqb}
 use Rattle.std.specs.Prelude.{◌&&◌, ◌==◌, not, slice_index_or}
 use Rattle.std.specs.Option.{option_or}
 use Rattle.arrayvec.specs.ArrayVec.{ArrayVec}
-use Rattle.fr_bus.specs.declared.outcome.Fate.{Fate}
+use Rattle.fr_bus.specs.declared.outcome.SentFate.{SentFate}
 use Rattle.fr_bus.specs.declared.outcome.Sent.{Sent}
 use Rattle.fr_bus.specs.declared.station.Side.{Side}
 use Rattle.fr_bus.specs.Stations.{Station}
@@ -46,7 +46,7 @@ one_case : (channel : Channel) (n : ℕ) (t : Sent) (none : Bool)
 one_case channel n t true = sym (neither (is_offer_of channel n t))
 one_case channel n t false = refl
 
-one_offer : (channel c : Channel) (n node : ℕ) (babble : Bool) (fate : Fate) (bytes : Bytes)
+one_offer : (channel c : Channel) (n node : ℕ) (babble : Bool) (fate : SentFate) (bytes : Bytes)
     → offer_in channel n (transmission node c babble fate bytes) ≡ cond
     (node == n && is_channel c channel && not babble) (if_bytes bytes) None
 one_offer channel c n node babble fate None = sym (neither (node == n && is_channel c channel && not babble))

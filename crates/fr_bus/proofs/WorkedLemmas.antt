@@ -1,8 +1,8 @@
 -- A window with a babbling node, and the windows of a dynamic segment, worked out.
 use Rattle.std.proofs.Common.{◌≡◌, ℕ, true, false, List, [], ◌∷◌, ◌++◌, map, Option, Some, None, refl}
 use Rattle.arrayvec.specs.ArrayVec.{ArrayVec}
-use Rattle.fr_bus.specs.declared.outcome.Fate.{Fate}
-use Rattle.fr_bus.specs.declared.outcome.Fate.TheVariants.{Passed, Blocked, Muted}
+use Rattle.fr_bus.specs.declared.outcome.SentFate.{SentFate}
+use Rattle.fr_bus.specs.declared.outcome.SentFate.TheVariants.{Passed, Blocked, Muted}
 use Rattle.fr_bus.specs.declared.outcome.Sent.{Sent}
 use Rattle.fr_bus.specs.declared.station.Side.{Side}
 use Rattle.fr_bus.specs.Stations.{Station}
@@ -84,7 +84,7 @@ babbler = record { put = true; taken = false; a = babbling; b = babbling }
 abbrev sent_with : Side → List Sent
 sent_with a = sent_from three_nodes second_slot 0 (idle_node ∷ sender a ∷ babbler ∷ [])
 
-abbrev listed : Fate → List Sent
+abbrev listed : SentFate → List Sent
 listed on_a =
     record { node = 1; channel = A; babble = false; bytes = sample; fate = on_a }
     ∷ record { node = 1; channel = B; babble = false; bytes = sample; fate = Passed }
@@ -125,7 +125,7 @@ two_owners = record {
 }
 
 -- the outcomes of both nodes' offers: of node 0's on A and on B, and of node 1's
-abbrev fates_in : ℕ → List Fate
+abbrev fates_in : ℕ → List SentFate
 fates_in cycle = map (λ (t : Sent). t.fate) (sent_from two_owners (static_window 1 cycle 3) 0
     (sender offering ∷ sender offering ∷ []))
 

@@ -5,8 +5,8 @@ use Rattle.std.specs.Prelude.{map, Option, Some, None, if◌then◌else◌}
 use Rattle.std.specs.List.{list_any, filter, fold}
 use Rattle.arrayvec.specs.ArrayVec.{ArrayVec}
 use Rattle.fr_bus.specs.Corruption.{corrupted}
-use Rattle.fr_bus.specs.declared.outcome.Fate.{Fate}
-use Rattle.fr_bus.specs.declared.outcome.Fate.TheVariants.{Passed, Blocked, Muted}
+use Rattle.fr_bus.specs.declared.outcome.SentFate.{SentFate}
+use Rattle.fr_bus.specs.declared.outcome.SentFate.TheVariants.{Passed, Blocked, Muted}
 use Rattle.fr_bus.specs.declared.outcome.Sent.{Sent}
 use Rattle.fr_bus.specs.declared.station.Side.{Side}
 use Rattle.fr_bus.specs.Stations.{Station}
@@ -24,11 +24,11 @@ use Rattle.fr_status.specs.declared.seen.Seen.TheVariants.{Silence, Own, Conflic
 -- ---- transmissions
 
 -- a muted offer is lost before the guardian; every other transmission passes if the guardian lets it pass
-abbrev pub fate_of : Bool → Bool → Fate
+abbrev pub fate_of : Bool → Bool → SentFate
 fate_of muted let_pass = if muted then Muted else if let_pass then Passed else Blocked
 
 -- a transmission has bytes
-abbrev pub transmission : ℕ → Channel → Bool → Fate → Option (ArrayVec ℕ) → List Sent
+abbrev pub transmission : ℕ → Channel → Bool → SentFate → Option (ArrayVec ℕ) → List Sent
 transmission node channel babble fate None = []
 transmission node channel babble fate (Some bytes) =
     if length bytes.items == 0 then []
@@ -56,7 +56,7 @@ sent_from d w node (s ∷ ss) = sent_of d w node s ++ sent_from d w (node + 1) s
 
 -- ---- transmissions that passed
 
-abbrev pub is_passed : Fate → Bool
+abbrev pub is_passed : SentFate → Bool
 is_passed Passed = true
 is_passed Blocked = false
 is_passed Muted = false

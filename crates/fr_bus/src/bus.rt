@@ -7,7 +7,7 @@ ghost use Rattle.fr_bus.specs.Outcome.{sent_from};
 ghost use Rattle.fr_bus.specs.Record.{Recorded};
 ghost use Rattle.fr_bus.specs.States.{has_number, phase_at};
 
-use crate::course::Course;
+use crate::course::RunCourse;
 use crate::error::{BusError, Phase};
 use crate::fault::Fault;
 use crate::outcome::{Sealed, all_sent};
@@ -38,7 +38,7 @@ pub struct Bus {
     /// The open window, until the end of the run.
     opened: Option<Window>,
     /// The progress of the run, with the windows of the record.
-    course: Course,
+    course: RunCourse,
     /// The stations, one for each node.
     stations: Stations,
     // Without the counts, up to 16 stations of a kilobyte were read under the lock for each test. The invariant says
@@ -146,7 +146,7 @@ impl Bus {
         let Ok(stations) = Stations::idle(alloc, usize::from(cluster.nodes())) else {
             return Err(BusError::Memory);
         };
-        let course = Course::new(cluster.params(), cycles);
+        let course = RunCourse::new(cluster.params(), cycles);
         let opened = course.next();
         Ok(Bus {
             alloc,

@@ -19,7 +19,7 @@ use std::marker::Model;
 
 /// The progress of a run (chapter 5; windows are project-defined).
 #[derive(Drop)]
-pub(crate) struct Course {
+pub(crate) struct RunCourse {
     params: Params,
     /// The cycles of the run.
     cycles: u16,
@@ -35,7 +35,7 @@ pub(crate) struct Course {
     b: Lane,
 }
 
-impl Model for Course {
+impl Model for RunCourse {
     ghost use Rattle.fr_bus.specs.Courses.{Standpoint};
 
     ghost Value = { Standpoint };
@@ -105,18 +105,18 @@ fn lane_after(channel: Channel, lane: &Lane, window: &Window, bytes: u16) -> Lan
     lane
 }
 
-impl Course {
+impl RunCourse {
     ghost use Rattle.std.specs.Prelude.{◌≡◌, ◌≤◌, [], Some};
     ghost use Rattle.fr_bus.specs.Courses.{IsCourse, course_of, passed, first_next, inner_next, dynamic_next, next_of};
 
     /// Returns the course of a run of so many cycles, at its start.
-    pub(crate) fn new(params: &Params, cycles: u16) -> Course
+    pub(crate) fn new(params: &Params, cycles: u16) -> RunCourse
         requires { cycles ≤ 1024 }
         ensures { result ≡ course_of params.now cycles [] }
     {
         // For the prover: a copy field by field, since reading a field states the properties of parameters.
         let params = Params { ..*params };
-        Course {
+        RunCourse {
             params,
             cycles,
             windows: 0,
@@ -206,7 +206,7 @@ impl Course {
         ensures { self.new ≡ passed self.old window.now a b }
     {
         if opens_cycle(window) {
-            *self = Course {
+            *self = RunCourse {
                 params: self.params,
                 cycles: self.cycles,
                 windows: self.windows + 1,
@@ -216,7 +216,7 @@ impl Course {
                 b: Lane::new(&self.params),
             };
         } else {
-            *self = Course {
+            *self = RunCourse {
                 params: self.params,
                 cycles: self.cycles,
                 windows: self.windows + 1,

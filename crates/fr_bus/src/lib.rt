@@ -39,8 +39,8 @@
 //! last two.
 //!
 //! The definition of the next window speaks of the whole record: the rows of a channel are those of this cycle's
-//! windows. The code keeps a `Course` beside the record, with numbers and a `Lane` (`fr_minislot`) for each channel.
-//! Its type says that the course and the record have the same next window, so no call's time grows with the record.
+//! windows. The code keeps a `RunCourse` beside the record, with numbers and a `Lane` (`fr_minislot`) for each channel.
+//! Its type says that it leads where the record leads, so no call's time grows with the record.
 #![tactic(auto)]
 
 pub mod bus;

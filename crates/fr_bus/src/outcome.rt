@@ -28,7 +28,7 @@ use std::marker::Model;
 
 /// The outcome of a transmission (project-defined).
 #[derive(Clone, Copy, PartialEq, Eq)]
-pub enum Fate {
+pub enum SentFate {
     /// A transmission that reaches the channel.
     Passed,
     /// A transmission that its node's guardian stops.
@@ -49,7 +49,7 @@ pub struct Sent {
     /// The bytes, 1 to 262, before any bit is flipped.
     pub bytes: Bytes,
     /// The outcome.
-    pub fate: Fate,
+    pub fate: SentFate,
 }
 
 impl Sent {
@@ -57,7 +57,7 @@ impl Sent {
     pub fn passed_on(&self, channel: Channel) -> bool
         ensures { result ≡ passed_on channel self.now }
     {
-        self.channel == channel && self.fate == Fate::Passed
+        self.channel == channel && self.fate == SentFate::Passed
     }
 
     /// Returns whether the transmission is too long for the window (project-defined). It is longer than a static slot's
@@ -93,15 +93,15 @@ impl Model for Sealed {
 }
 
 /// Returns the outcome of a transmission, by its mute and by its guardian.
-fn fate_of(muted: bool, let_pass: bool) -> Fate
+fn fate_of(muted: bool, let_pass: bool) -> SentFate
     ensures { result ≡ fate_of muted let_pass }
 {
     if muted {
-        Fate::Muted
+        SentFate::Muted
     } else if let_pass {
-        Fate::Passed
+        SentFate::Passed
     } else {
-        Fate::Blocked
+        SentFate::Blocked
     }
 }
 
@@ -111,7 +111,7 @@ fn add(
     node: NodeId,
     channel: Channel,
     babble: bool,
-    fate: Fate,
+    fate: SentFate,
     bytes: &Option<Bytes>,
 ) -> Result<(), AllocError>
     ensures { OnOk result (list.new.items ≡ list.old.items ++ transmission node channel babble fate bytes.now) }
@@ -359,52 +359,8 @@ fn sight_of_several(any_own: bool) -> Seen
     if any_own { Seen::Conflict } else { Seen::Noise }
 }
 
-/// Writes the node's observation on the channel, given the transmissions and the bit to flip.
-fn see_in(
-    params: &Params,
-    window: &Window,
-    corrupt: Option<u16>,
-    channel: Channel,
-    node: NodeId,
-    sent: &[Sent],
-    seen: &mut Seen,
-)
-    ensures { seen.new ≡ seen_of params.now window.now corrupt node (all_passed channel sent.now) }
-{
-    let Some((only, rest)) = next_passed(channel, sent) else {
-        return see_silence(seen);
-    };
-    if next_passed(channel, rest).is_some() {
-        *seen = sight_of_several(any_own(channel, node, sent));
-    } else if is_of(node, only) {
-        *seen = Seen::Own;
-    } else {
-        see_alone(params, window, corrupt, &only.bytes, seen);
-    }
-}
-
-/// Writes the observation of a node that sends nothing, from these transmissions and this bit.
-fn hear_in(
-    params: &Params,
-    window: &Window,
-    corrupt: Option<u16>,
-    channel: Channel,
-    sent: &[Sent],
-    seen: &mut Seen,
-)
-    ensures { seen.new ≡ heard_of params.now window.now corrupt (all_passed channel sent.now) }
-{
-    let Some((only, rest)) = next_passed(channel, sent) else {
-        return see_silence(seen);
-    };
-    if next_passed(channel, rest).is_some() {
-        *seen = Seen::Noise;
-    } else {
-        see_alone(params, window, corrupt, &only.bytes, seen);
-    }
-}
-
-/// Returns whether other nodes observe this if only these bytes passed. Bytes are copied only to flip a bit of them.
+/// Returns whether the other nodes see this of the only transmission that passed. Bytes are copied only to flip a bit
+/// of them.
 fn shows_alone(
     params: &Params,
     window: &Window,
@@ -433,35 +389,6 @@ fn are_turned(bytes: &Bytes, corrupt: Option<u16>, seen: &[u8]) -> bool
     }
 }
 
-/// Returns whether the node observes this on the channel, from these transmissions and this bit.
-fn shows_in(
-    params: &Params,
-    window: &Window,
-    corrupt: Option<u16>,
-    channel: Channel,
-    node: NodeId,
-    sent: &[Sent],
-    seen: LentSeen<'_>,
-) -> bool
-    ensures { IsTrue result
-        ↔ (seen_of params.now window.now corrupt node (all_passed channel sent.now) ≡ whole_seen seen.entry) }
-{
-    let Some((only, rest)) = next_passed(channel, sent) else {
-        return matches!(seen, LentSeen::Silence);
-    };
-    if next_passed(channel, rest).is_some() {
-        return if any_own(channel, node, sent) {
-            matches!(seen, LentSeen::Conflict)
-        } else {
-            matches!(seen, LentSeen::Noise)
-        };
-    }
-    if is_of(node, only) {
-        matches!(seen, LentSeen::Own)
-    } else {
-        shows_alone(params, window, corrupt, &only.bytes, seen)
-    }
-}
 
 /// Returns whether it is the node's offer on the channel.
 fn is_offer_of(channel: Channel, node: NodeId, sent: &Sent) -> bool
@@ -515,16 +442,18 @@ impl Sealed {
     pub fn see(&self, params: &Params, channel: Channel, node: NodeId, seen: &mut Seen)
         ensures { seen.new ≡ seen_by params.now self.now channel node }
     {
-        let corrupt = self.corrupt_on(channel);
-        see_in(
-            params,
-            &self.window,
-            corrupt,
-            channel,
-            node,
-            self.sent.as_slice(),
-            seen,
-        );
+        let sent = self.sent.as_slice();
+        let Some((only, rest)) = next_passed(channel, sent) else {
+            return see_silence(seen);
+        };
+        if next_passed(channel, rest).is_some() {
+            *seen = sight_of_several(any_own(channel, node, sent));
+        } else if is_of(node, only) {
+            *seen = Seen::Own;
+        } else {
+            let corrupt = self.corrupt_on(channel);
+            see_alone(params, &self.window, corrupt, &only.bytes, seen);
+        }
     }
 
     /// Returns the observation on the channel of a node that sends nothing there (project-defined). If one transmission
@@ -533,15 +462,14 @@ impl Sealed {
         ensures { result ≡ heard params.now self.now channel }
     {
         let mut seen = Seen::Silence;
-        let (window, sent) = (&self.window, self.sent.as_slice());
-        hear_in(
-            params,
-            window,
-            self.corrupt_on(channel),
-            channel,
-            sent,
-            &mut seen,
-        );
+        if let Some((only, rest)) = next_passed(channel, self.sent.as_slice()) {
+            if next_passed(channel, rest).is_some() {
+                seen = Seen::Noise;
+            } else {
+                let corrupt = self.corrupt_on(channel);
+                see_alone(params, &self.window, corrupt, &only.bytes, &mut seen);
+            }
+        }
         seen
     }
 
@@ -549,16 +477,23 @@ impl Sealed {
     pub fn shows(&self, params: &Params, channel: Channel, node: NodeId, seen: LentSeen<'_>) -> bool
         ensures { IsTrue result ↔ (seen_by params.now self.now channel node ≡ whole_seen seen.entry) }
     {
-        let corrupt = self.corrupt_on(channel);
-        shows_in(
-            params,
-            &self.window,
-            corrupt,
-            channel,
-            node,
-            self.sent.as_slice(),
-            seen,
-        )
+        let sent = self.sent.as_slice();
+        let Some((only, rest)) = next_passed(channel, sent) else {
+            return matches!(seen, LentSeen::Silence);
+        };
+        if next_passed(channel, rest).is_some() {
+            return if any_own(channel, node, sent) {
+                matches!(seen, LentSeen::Conflict)
+            } else {
+                matches!(seen, LentSeen::Noise)
+            };
+        }
+        if is_of(node, only) {
+            matches!(seen, LentSeen::Own)
+        } else {
+            let corrupt = self.corrupt_on(channel);
+            shows_alone(params, &self.window, corrupt, &only.bytes, seen)
+        }
     }
 
     /// Returns the bytes of the node's offer on the channel, with any outcome, or none without an offer.

@@ -29,7 +29,7 @@ use std::io::Write;
 
 /// The words of an observation on a channel of a window.
 #[derive(Drop)]
-struct Told<'a> {
+struct ChannelReport<'a> {
     channel: Channel,
     seen: &'a Seen,
     /// The word for the observation.
@@ -85,7 +85,12 @@ fn word_of(
 }
 
 /// Returns the words of an observation on a channel.
-fn told_of<'a>(params: &Params, window: &Window, channel: Channel, seen: &'a Seen) -> Told<'a>
+fn told_of<'a>(
+    params: &Params,
+    window: &Window,
+    channel: Channel,
+    seen: &'a Seen,
+) -> ChannelReport<'a>
     ensures channel { result.channel ≡ channel }
     ensures seen { result.seen.now ≡ seen.now }
     ensures word { result.word.now
@@ -94,7 +99,7 @@ fn told_of<'a>(params: &Params, window: &Window, channel: Channel, seen: &'a See
         (λ s. frame_in params.now window.now.cycle s channel seen.now) (slot_of window.now channel) }
 {
     let (status, frame) = status_told(params, window, channel, seen);
-    Told {
+    ChannelReport {
         channel,
         seen,
         word: word_of(params, window, channel, seen, status),
@@ -144,7 +149,7 @@ fn write_told<W: Write>(
     interface: &Interface,
     entry: u32,
     takers: &Takers<'_>,
-    told: &Told<'_>,
+    told: &ChannelReport<'_>,
 ) -> io::Result<()>
     ensures { Writes W.contents writer.old writer.new result
         (seen_by told.now.channel takers.now told.now.seen.now
@@ -171,7 +176,7 @@ fn write_line<'a, W: Write>(
     interface: &'a Interface,
     moment: &'a Moment,
     came: Came,
-    told: &Told<'_>,
+    told: &ChannelReport<'_>,
 ) -> io::Result<()>
     requires { moment.now.rounds ≤ 1000000 }
     ensures { Writes W.contents writer.old writer.new result

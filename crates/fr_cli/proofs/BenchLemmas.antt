@@ -9,11 +9,11 @@ use Rattle.clap.specs.Words.{HasKind, IsAmong, Kinds, Row, Text, fault_of, first
 use Rattle.clap.specs.Words.{subcommand_of}
 use Rattle.clap.specs.declared.error.Error.{Error}
 use Rattle.clap.proofs.OnLiterals.{clap_on_literals}
-use Rattle.fr_cli.specs.declared.bench.BenchOrder.{BenchOrder}
+use Rattle.fr_cli.specs.declared.bench.Order.{Order}
 use Rattle.fr_cli.specs.declared.error.OrderError.{OrderError}
 use Rattle.fr_cli.specs.declared.error.OrderError.TheVariants as refusal
 use Rattle.fr_cli.specs.BenchOrders.{HasFile, IsAnswer, IsOrder, IsRunBy, IsWhole, file_in, the_commands}
-use Rattle.fr_cli.specs.declared.bench.BenchOrder.TheVariants as the_order
+use Rattle.fr_cli.specs.declared.bench.Order.TheVariants as the_order
 use Rattle.fr_cli.proofs.BenchWholeLemmas.{whole}
 use Rattle.fr_cli.specs.Commands.{IsNamed, cycles_in, has_run_by, is_true, name_in, order_error_of, word_in}
 
@@ -74,7 +74,7 @@ run_has_all entered named (inr (inl (inr e, h))) = let bad : 114 ≡ 112 =
 run_has_all entered named (inr (inr h)) = h.1
 
 -- two ways to the same words give the same run
-pub run_by_alike : (f g : Text → Option Text) → ((id : Text) → f id ≡ g id) → (o : BenchOrder) → IsRunBy f o
+pub run_by_alike : (f g : Text → Option Text) → ((id : Text) → f id ≡ g id) → (o : Order) → IsRunBy f o
     → IsRunBy g o
 run_by_alike f g same the_order.Audit is = is
 run_by_alike f g same (the_order.Check file) is = is
@@ -87,13 +87,13 @@ run_by_alike f g same (the_order.Run cluster scenario cycles free) is = (
   is.3 ∙ ap is_true (same (codes "free")),
 )
 
-pub run_told : (entered : Option (Text × List Row)) (look : Text → Option Text) (found : Option BenchOrder)
+pub run_told : (entered : Option (Text × List Row)) (look : Text → Option Text) (found : Option Order)
     → IsNamed (codes "run") entered
     → ((id : Text) → look id ≡ word_in entered id) → IfSome found (IsRunBy look) → IfSome found (IsOrder entered)
 run_told entered look None named same told = tt
 run_told entered look (Some o) named same told = by o (run_by_alike look (word_in entered) same o told)
   where
-    by : (o : BenchOrder) → IsRunBy (word_in entered) o → IsOrder entered o
+    by : (o : Order) → IsRunBy (word_in entered) o → IsOrder entered o
     by the_order.Audit is = absurd is
     by (the_order.Check file) is = absurd is
     by (the_order.Plan file) is = absurd is
@@ -116,7 +116,7 @@ refused_for words e (inr among) = by (order_error_of (kind_of e)) (fault_of the_
     by refusal.Usage (k ∷ ks) are among = inl (rw are (omega arith))
 
 -- without a fault, the order that was found is the answer
-pub taken_for : (words : List Text) (found : Option BenchOrder) → fault_of the_commands words ≡ []
+pub taken_for : (words : List Text) (found : Option Order) → fault_of the_commands words ≡ []
     → IfSome found (IsOrder (subcommand_of the_commands words))
     → (IsWhole (subcommand_of the_commands words) → IsSome found)
     → IsAnswer words (ok_or found refusal.Usage)

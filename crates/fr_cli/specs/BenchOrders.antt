@@ -4,8 +4,8 @@ use Rattle.std.specs.Prelude.{option_and_then, false, ◌&&◌}
 use Rattle.clap.specs.declared.builder.action.ArgAction.TheVariants.{SetTrue}
 use Rattle.clap.specs.Words.{App, Row, Rule, Text, fault_of, first_of, new_rule, subcommand_of}
 use Rattle.clap.specs.Words.{with_rule, with_subcommand}
-use Rattle.fr_cli.specs.declared.bench.BenchOrder.{BenchOrder}
-use Rattle.fr_cli.specs.declared.bench.BenchOrder.TheVariants as the_order
+use Rattle.fr_cli.specs.declared.bench.Order.{Order}
+use Rattle.fr_cli.specs.declared.bench.Order.TheVariants as the_order
 use Rattle.fr_cli.specs.declared.error.OrderError.{OrderError}
 use Rattle.fr_cli.specs.declared.error.OrderError.TheVariants as refusal
 use Rattle.fr_cli.specs.Commands.{IsNamed, bare, cycles_in, has_run_by, is_true, named, the_cycles, the_scenario}
@@ -43,7 +43,7 @@ file_in = option_and_then (λ entered. first_of (codes "FILE") entered.1)
 -- ---- a run
 
 -- the run has the files, the number of cycles and the flag of these arguments
-abbrev pub IsRunBy : (Text → Option Text) → BenchOrder → Type 0
+abbrev pub IsRunBy : (Text → Option Text) → Order → Type 0
 IsRunBy first_word the_order.Audit = ⊥
 IsRunBy first_word (the_order.Check file) = ⊥
 IsRunBy first_word (the_order.Plan file) = ⊥
@@ -69,7 +69,7 @@ abbrev pub LacksRun : Option (Text × List Row) → Type 0
 LacksRun entered = IsNamed (codes "run") entered × (has_run_by (word_in entered) ≡ false)
 
 -- the order is that of the entered command, with its arguments
-abbrev pub IsOrder : Option (Text × List Row) → BenchOrder → Type 0
+abbrev pub IsOrder : Option (Text × List Row) → Order → Type 0
 IsOrder entered the_order.Audit = IsNamed (codes "audit") entered
 IsOrder entered (the_order.Check file) = IsNamed (codes "check") entered × (file_in entered ≡ Some file.now)
 IsOrder entered (the_order.Plan file) = IsNamed (codes "plan") entered × (file_in entered ≡ Some file.now)
@@ -79,7 +79,7 @@ IsOrder entered (the_order.Run cluster scenario cycles free) =
 
 -- An order is that of the words, and `clap` finds no fault with these. Words are refused as no command only if it finds
 -- a fault, or if they enter a run that lacks something. `Memory` may come for any words.
-abbrev pub IsAnswer : List Text → Result BenchOrder OrderError → Type 0
+abbrev pub IsAnswer : List Text → Result Order OrderError → Type 0
 IsAnswer words (Ok order) = (fault_of the_commands words ≡ []) × IsOrder (subcommand_of the_commands words) order
 IsAnswer words (Err refusal.Usage) =
     (0 < length (fault_of the_commands words)) ⊎ LacksRun (subcommand_of the_commands words)

@@ -12,7 +12,7 @@ use std::alloc::{AllocError, Global};
 
 /// A command of `fr_bench` (project-defined).
 #[derive(Clone, Copy, PartialEq, Eq)]
-pub enum BenchOrder<'a> {
+pub enum Order<'a> {
     /// Read the trace of one controller on standard input and print its audited report.
     Audit,
     /// Read the cluster file of this name and print the line of its parameters.
@@ -60,11 +60,11 @@ fn commands<'a>(alloc: Global) -> Result<Command<'a>, AllocError>
 }
 
 /// Returns the run of these arguments, if they have both files and a number of cycles.
-fn run_in<'a>(arguments: &ArgMatches<'a>) -> Option<BenchOrder<'a>>
+fn run_in<'a>(arguments: &ArgMatches<'a>) -> Option<Order<'a>>
     ensures told { IfSome result (IsRunBy (first_value (found_of arguments.now))) }
     ensures whole { has_run_by (first_value (found_of arguments.now)) ≡ true → IsSome result }
 {
-    Some(BenchOrder::Run {
+    Some(Order::Run {
         cluster: arguments.get_str("FILE")?,
         scenario: arguments.get_str("SCENARIO")?,
         cycles: cycles_of(arguments.get_str("cycles")?)?,
@@ -73,16 +73,16 @@ fn run_in<'a>(arguments: &ArgMatches<'a>) -> Option<BenchOrder<'a>>
 }
 
 /// Returns the order of the command's name and arguments.
-fn order_in<'a>(matches: &ArgMatches<'a>) -> Option<BenchOrder<'a>>
+fn order_in<'a>(matches: &ArgMatches<'a>) -> Option<Order<'a>>
     ensures told { IfSome result (λ o. IsOrder (subcommand_rows_of matches.now) o) }
     ensures whole { IsWhole (subcommand_rows_of matches.now) → IsSome result }
 {
     let (name, arguments) = matches.subcommand()?;
     match name {
-        "audit" => Some(BenchOrder::Audit),
-        "check" => Some(BenchOrder::Check(arguments.get_str("FILE")?)),
-        "plan" => Some(BenchOrder::Plan(arguments.get_str("FILE")?)),
-        "midpoint" => Some(BenchOrder::Midpoint),
+        "audit" => Some(Order::Audit),
+        "check" => Some(Order::Check(arguments.get_str("FILE")?)),
+        "plan" => Some(Order::Plan(arguments.get_str("FILE")?)),
+        "midpoint" => Some(Order::Midpoint),
         "run" => run_in(arguments),
         _ => None,
     }
@@ -92,7 +92,7 @@ fn order_in<'a>(matches: &ArgMatches<'a>) -> Option<BenchOrder<'a>>
 ///
 /// Refused with `Memory` if an allocation fails, otherwise with `Usage` for all words that are no command. A call for
 /// help is no command. A run is none if its number of cycles isn't 1 to 1024, or has a leading zero.
-pub fn order<'a>(alloc: Global, words: &'a [&'a str]) -> Result<BenchOrder<'a>, OrderError>
+pub fn order<'a>(alloc: Global, words: &'a [&'a str]) -> Result<Order<'a>, OrderError>
     ensures { IsAnswer (map (λ word. word.now) words.now) result }
 {
     let matches = commands(alloc)?.try_get_matches_from(words)?;

@@ -4,7 +4,7 @@
 //! ```text
 //! let words = words_given(&rt)?;
 //! let texts = texts_of(rt.alloc(), &words)?;
-//! bench::order(alloc, &["plan", "cluster.toml"])?; // BenchOrder::Plan("cluster.toml")
+//! bench::order(alloc, &["plan", "cluster.toml"])?; // Order::Plan("cluster.toml")
 //! bench::order(alloc, &["audit", "trace"]); // Err(OrderError::Usage)
 //! view::order(alloc, &["frames", "--until-fault"])?; // ViewOrder::Frames
 //! world::command_of(alloc, &["cluster.toml", "--cycles", "4"])?; // WorldCommand

@@ -8,15 +8,15 @@ use Rattle.fr_bus.specs.States.{IsRecorded}
 use Rattle.fr_core.proofs.SentLemmas.{of_all}
 use Rattle.fr_slots.proofs.PlaceLemmas.{AllAfter-at}
 use Rattle.fr_slots.specs.History.{AllAfter}
-use Rattle.fr_bus.specs.declared.outcome.Fate.{Fate}
-use Rattle.fr_bus.specs.declared.outcome.Fate.TheVariants.{Passed, Blocked, Muted}
+use Rattle.fr_bus.specs.declared.outcome.SentFate.{SentFate}
+use Rattle.fr_bus.specs.declared.outcome.SentFate.TheVariants.{Passed, Blocked, Muted}
 use Rattle.std.specs.Prelude.{not, slice_get, take}
 use Rattle.fr_guardian.specs.Guarding.{passes}
 use Rattle.fr_schedule.specs.Descriptions.{Description}
 use Rattle.fr_slots.specs.Windows.{Opportunity}
 
 -- the fate is the guardian's, or a mute
-abbrev pub is_judged : Fate → Bool → Bool
+abbrev pub is_judged : SentFate → Bool → Bool
 is_judged Passed let_pass = let_pass
 is_judged Blocked let_pass = not let_pass
 is_judged Muted let_pass = true

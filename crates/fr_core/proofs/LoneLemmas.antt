@@ -4,8 +4,8 @@ use Rattle.std.proofs.Common.{None, refl, sym, ap, ◌∙◌}
 use Rattle.std.specs.List.{list_all, list_any}
 use Rattle.std.proofs.lemmas.Bool.{eq-eqb, ne_eqb}
 use Rattle.arrayvec.specs.ArrayVec.{ArrayVec}
-use Rattle.fr_bus.specs.declared.outcome.Fate.{Fate}
-use Rattle.fr_bus.specs.declared.outcome.Fate.TheVariants.{Passed, Blocked, Muted}
+use Rattle.fr_bus.specs.declared.outcome.SentFate.{SentFate}
+use Rattle.fr_bus.specs.declared.outcome.SentFate.TheVariants.{Passed, Blocked, Muted}
 use Rattle.fr_bus.specs.declared.outcome.Sent.{Sent}
 use Rattle.fr_slots.specs.Admission.{is_channel}
 use Rattle.fr_bus.specs.Outcome.{is_passed, all_passed, overruns, is_of, seen_of}
@@ -84,7 +84,7 @@ no_offer_elsewhere true true babble e = differ refl e
 
 module _ (d : Description) (w : Opportunity) (channel : Channel) (owner : ℕ) (passing : passes d owner w channel ≡ true)
     (alone : (other : ℕ) → passes d other w channel ≡ true → other ≡ owner) where
-  lone_step : (u : Sent) (us : List Sent) (t : Sent) (on : Bool) (f : Fate) → is_channel u.channel channel ≡ on
+  lone_step : (u : Sent) (us : List Sent) (t : Sent) (on : Bool) (f : SentFate) → is_channel u.channel channel ≡ on
       → u.fate ≡ f → is_judged_in d w u ≡ true → is_clean channel owner u ≡ true
       → (all_passed channel us ≡ t ∷ [] → offer_in channel owner us ≡ Some t.bytes)
       → cond (on && is_passed f) (u ∷ all_passed channel us) (all_passed channel us) ≡ t ∷ []
@@ -96,7 +96,7 @@ module _ (d : Description) (w : Opportunity) (channel : Channel) (owner : ℕ) (
       let there : u.channel ≡ channel = same_channel u.channel channel on_is in
       let passed : passes d u.node w channel ≡ true =
       ap (λ (c : Channel). passes d u.node w c) (sym there) ∙ ap
-      (λ (f : Fate). is_judged f (passes d u.node w u.channel)) (sym is) ∙ judged in
+      (λ (f : SentFate). is_judged f (passes d u.node w u.channel)) (sym is) ∙ judged in
       let own : is_of owner u ≡ true = eq-eqb u.node owner (alone u.node passed) in
       rw (offer_if_clean (is_of owner u) (is_channel u.channel channel) u.babble (is_muted u.fate) own on_is clean)
       (ap (λ (x : Sent). Some x.bytes) same)
@@ -104,7 +104,7 @@ module _ (d : Description) (w : Opportunity) (channel : Channel) (owner : ℕ) (
       let there : u.channel ≡ channel = same_channel u.channel channel on_is in
       let blocked : not (passes d u.node w channel) ≡ true =
       ap (λ (c : Channel). not (passes d u.node w c)) (sym there) ∙ ap
-      (λ (f : Fate). is_judged f (passes d u.node w u.channel)) (sym is) ∙ judged in
+      (λ (f : SentFate). is_judged f (passes d u.node w u.channel)) (sym is) ∙ judged in
       let other : is_of owner u ≡ false =
       ne_eqb u.node owner (λ same. let h : not true ≡ true =
       ap not (sym passing ∙ ap (λ (n : ℕ). passes d n w channel) (sym same)) ∙ blocked in let none : ⊥ = cc in none)
@@ -112,7 +112,7 @@ module _ (d : Description) (w : Opportunity) (channel : Channel) (owner : ℕ) (
       rw (no_offer_of_other (is_of owner u) (is_channel u.channel channel) u.babble other) (rest e)
   lone_step u us t true Muted on_is is judged clean rest e =
       let muted : not ((is_of owner u && is_channel u.channel channel) && (u.babble || true)) ≡ true =
-      ap (λ (f : Fate). not ((is_of owner u && is_channel u.channel channel) && (u.babble || is_muted f))) (sym is)
+      ap (λ (f : SentFate). not ((is_of owner u && is_channel u.channel channel) && (u.babble || is_muted f))) (sym is)
       ∙ clean in
       rw (no_offer_of_other (is_of owner u) (is_channel u.channel channel) u.babble
       (other_if_muted (is_of owner u) (is_channel u.channel channel) u.babble on_is muted)) (rest e)

@@ -7,8 +7,8 @@ use Rattle.std.proofs.lemmas.Bool.{eq-eqb, ne_eqb}
 use Rattle.std.proofs.lemmas.List.{append-nil}
 use Rattle.std.proofs.lemmas.List.Elements.{filter-append}
 use Rattle.arrayvec.specs.ArrayVec.{ArrayVec}
-use Rattle.fr_bus.specs.declared.outcome.Fate.{Fate}
-use Rattle.fr_bus.specs.declared.outcome.Fate.TheVariants.{Passed, Blocked, Muted}
+use Rattle.fr_bus.specs.declared.outcome.SentFate.{SentFate}
+use Rattle.fr_bus.specs.declared.outcome.SentFate.TheVariants.{Passed, Blocked, Muted}
 use Rattle.fr_bus.specs.declared.outcome.Sent.{Sent}
 use Rattle.fr_bus.specs.declared.station.Side.{Side}
 use Rattle.fr_bus.specs.Stations.{Station}
@@ -37,7 +37,7 @@ is_own channel node t = is_of node t && is_channel t.channel channel
 module _ (d : Description) (w : Opportunity) (channel : Channel) (owner : ℕ)
     (alone : (other : ℕ) → passes d other w channel ≡ true → other ≡ owner) where
   -- a transmission that passed on the channel is the owner's
-  passed_is_own : (u : Sent) (on : Bool) (f : Fate) → is_channel u.channel channel ≡ on → u.fate ≡ f
+  passed_is_own : (u : Sent) (on : Bool) (f : SentFate) → is_channel u.channel channel ≡ on → u.fate ≡ f
       → is_judged_in d w u ≡ true → is_own channel owner u ≡ false → (on && is_passed f) ≡ false
   passed_is_own u false f on_is is judged other = refl
   passed_is_own u true Blocked on_is is judged other = refl
@@ -45,7 +45,7 @@ module _ (d : Description) (w : Opportunity) (channel : Channel) (owner : ℕ)
   passed_is_own u true Passed on_is is judged other =
       let passed : passes d u.node w channel ≡ true =
       ap (λ (c : Channel). passes d u.node w c) (sym (same_channel u.channel channel on_is)) ∙ ap
-      (λ (f : Fate). is_judged f (passes d u.node w u.channel)) (sym is) ∙ judged in
+      (λ (f : SentFate). is_judged f (passes d u.node w u.channel)) (sym is) ∙ judged in
       let mine : is_of owner u ≡ true = eq-eqb u.node owner (alone u.node passed) in
       differ (ap (λ (b : Bool). b && is_channel u.channel channel) mine ∙ on_is) other
 
@@ -77,7 +77,7 @@ seen_alone d p r channel owner alone judged n = ap (seen_of p r.window (corrupt_
 
 -- ---- without an owner nothing passes
 
-none_step : (d : Description) (w : Opportunity) (channel : Channel) (u : Sent) (on : Bool) (f : Fate)
+none_step : (d : Description) (w : Opportunity) (channel : Channel) (u : Sent) (on : Bool) (f : SentFate)
     → ((node : ℕ) → passes d node w channel ≡ false) → is_channel u.channel channel ≡ on
     → u.fate ≡ f → is_judged_in d w u ≡ true → (on && is_passed f) ≡ false
 none_step d w channel u false f nobody on_is is judged = refl
@@ -85,7 +85,7 @@ none_step d w channel u true Blocked nobody on_is is judged = refl
 none_step d w channel u true Muted nobody on_is is judged = refl
 none_step d w channel u true Passed nobody on_is is judged =
     differ (ap (λ (c : Channel). passes d u.node w c) (sym (same_channel u.channel channel on_is)) ∙ ap
-    (λ (f : Fate). is_judged f (passes d u.node w u.channel)) (sym is) ∙ judged) (nobody u.node)
+    (λ (f : SentFate). is_judged f (passes d u.node w u.channel)) (sym is) ∙ judged) (nobody u.node)
 
 none_passed : (d : Description) (w : Opportunity) (channel : Channel) (sent : List Sent)
     → ((node : ℕ) → passes d node w channel ≡ false) → list_all (is_judged_in d w) sent ≡ true
@@ -114,7 +114,7 @@ one_case : (channel : Channel) (n : ℕ) (t : Sent) (none : Bool)
 one_case channel n t true = sym (neither (is_own channel n t))
 one_case channel n t false = refl
 
-own_one : (channel c : Channel) (n node : ℕ) (babble : Bool) (fate : Fate) (bytes : Option (ArrayVec ℕ))
+own_one : (channel c : Channel) (n node : ℕ) (babble : Bool) (fate : SentFate) (bytes : Option (ArrayVec ℕ))
     → own channel n (transmission node c babble fate bytes) ≡ cond (node == n && is_channel c channel)
     (transmission node c babble fate bytes) []
 own_one channel c n node babble fate None = sym (neither (node == n && is_channel c channel))
@@ -203,7 +203,7 @@ own_from d w channel n start (suc k) (s ∷ ss) e within =
 -- ---- the owner's transmissions, with the recorded offer
 
 -- an offer without bytes is no offer
-same_transmission : (node : ℕ) (c : Channel) (babble : Bool) (fate : Fate) (o : Option (ArrayVec ℕ))
+same_transmission : (node : ℕ) (c : Channel) (babble : Bool) (fate : SentFate) (o : Option (ArrayVec ℕ))
     → transmission node c babble fate (if_bytes o) ≡ transmission node c babble fate o
 same_transmission node c babble fate None = refl
 same_transmission node c babble fate (Some bytes) = by_length (length bytes.items == 0) refl

@@ -8,8 +8,8 @@ use Rattle.std.proofs.lemmas.Bool.{eq-eqb, ltb-true}
 use Rattle.std.proofs.lemmas.List.Elements.{All-nil, All-cons}
 use Rattle.std.proofs.lemmas.Option.{slice_get-get_or}
 use Rattle.fr_bus.proofs.SenderLemmas.{IsLetPass, passed_sends, channel_case}
-use Rattle.fr_bus.specs.declared.outcome.Fate.{Fate}
-use Rattle.fr_bus.specs.declared.outcome.Fate.TheVariants.{Passed, Blocked, Muted}
+use Rattle.fr_bus.specs.declared.outcome.SentFate.{SentFate}
+use Rattle.fr_bus.specs.declared.outcome.SentFate.TheVariants.{Passed, Blocked, Muted}
 use Rattle.fr_bus.specs.declared.outcome.Sent.{Sent}
 use Rattle.fr_bus.specs.Outcome.{is_passed}
 use Rattle.fr_bus.specs.Record.{Recorded, IsOutcome}
@@ -51,7 +51,7 @@ numbered d r cluster o =
 
 -- ---- fates that are right for each node are those of the guardians
 
-due_judged : (f : Fate) (let_pass : Bool) → is_due f let_pass ≡ true → is_judged f let_pass ≡ true
+due_judged : (f : SentFate) (let_pass : Bool) → is_due f let_pass ≡ true → is_judged f let_pass ≡ true
 due_judged Passed let_pass e = e
 due_judged Blocked let_pass e = e
 due_judged Muted let_pass e = e
@@ -89,7 +89,7 @@ agreed_judged d is b given run a k r at =
 
 -- ---- senders
 
-passed_is : (f : Fate) (let_pass : Bool) → is_passed f ≡ true → is_judged f let_pass ≡ true → let_pass ≡ true
+passed_is : (f : SentFate) (let_pass : Bool) → is_passed f ≡ true → is_judged f let_pass ≡ true → let_pass ≡ true
 passed_is Passed let_pass p e = e
 passed_is Blocked let_pass p e = absurd (let none : ⊥ = cc in none)
 passed_is Muted let_pass p e = absurd (let none : ⊥ = cc in none)

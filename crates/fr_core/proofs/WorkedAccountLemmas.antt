@@ -2,7 +2,7 @@
 use Rattle.std.proofs.Common.{◌≡◌, ℕ, Bool, true, false, cond, List, [], ◌∷◌, ◌++◌, Option, Some, None, refl}
 use Rattle.std.specs.List.{list_all}
 use Rattle.arrayvec.specs.ArrayVec.{ArrayVec}
-use Rattle.fr_bus.specs.declared.outcome.Fate.TheVariants.{Blocked, Muted}
+use Rattle.fr_bus.specs.declared.outcome.SentFate.TheVariants.{Blocked, Muted}
 use Rattle.fr_bus.specs.declared.outcome.Sent.{Sent}
 use Rattle.fr_bus.specs.Outcome.{all_passed, seen_of}
 use Rattle.fr_core.specs.Accounts.{Kept, commits, withdraws, turns, account, frame_by_account, turn_of, own, of_owner}

@@ -1,8 +1,8 @@
 -- Frames that receivers hold from a fault-free slot are commits of its owner (project-defined).
 use Rattle.std.specs.Prelude.{◌≡◌, ◌<◌, ℕ, not, Bool, true, false, ◌&&◌, ◌||◌, ◌⊎◌, List, take, slice_get, Some, None}
 use Rattle.std.specs.List.{list_all}
-use Rattle.fr_bus.specs.declared.outcome.Fate.{Fate}
-use Rattle.fr_bus.specs.declared.outcome.Fate.TheVariants.{Passed, Blocked, Muted}
+use Rattle.fr_bus.specs.declared.outcome.SentFate.{SentFate}
+use Rattle.fr_bus.specs.declared.outcome.SentFate.TheVariants.{Passed, Blocked, Muted}
 use Rattle.fr_bus.specs.declared.outcome.Sent.{Sent}
 use Rattle.fr_bus.specs.Outcome.{is_of}
 use Rattle.fr_bus.specs.Record.{Recorded, corrupt_on}
@@ -33,7 +33,7 @@ pub record IsOwner (d : Description) (cycle slot : ℕ) (channel : Channel) (nod
 
 -- ---- fault-free slots
 
-abbrev pub is_muted : Fate → Bool
+abbrev pub is_muted : SentFate → Bool
 is_muted Passed = false
 is_muted Blocked = false
 is_muted Muted = true

@@ -2,8 +2,8 @@
 use Rattle.std.specs.Prelude.{◌≡◌, ℕ, ◌<◌, ◌≤◌, nat_lt, Bool, true, not, ◌&&◌, ◌||◌, List, [], length, map}
 use Rattle.std.specs.Prelude.{slice_get, Option, Some, None, option_to_list, Result, Ok, Err}
 use Rattle.std.specs.List.{list_all}
-use Rattle.fr_bus.specs.declared.outcome.Fate.{Fate}
-use Rattle.fr_bus.specs.declared.outcome.Fate.TheVariants.{Passed, Blocked, Muted}
+use Rattle.fr_bus.specs.declared.outcome.SentFate.{SentFate}
+use Rattle.fr_bus.specs.declared.outcome.SentFate.TheVariants.{Passed, Blocked, Muted}
 use Rattle.fr_bus.specs.declared.outcome.Sent.{Sent}
 use Rattle.fr_bus.specs.Outcome.{is_of}
 use Rattle.fr_bus.specs.Record.{Recorded}
@@ -107,7 +107,7 @@ WindowsAgree is rs n = IfThere (slice_get is n) (HasWindows rs)
 -- ---- offers and fates
 
 -- the fate is the guardian's, or a mute
-abbrev pub is_due : Fate → Bool → Bool
+abbrev pub is_due : SentFate → Bool → Bool
 is_due Passed let_pass = let_pass
 is_due Blocked let_pass = not let_pass
 is_due Muted let_pass = true

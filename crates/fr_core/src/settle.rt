@@ -14,7 +14,7 @@ use crate::legal;
 use crate::script::Script;
 use crate::walk::{Findings, entries_of, find_in_threads, found_at, interface_at};
 use fr_bus::bus::Bus;
-use fr_bus::outcome::{Fate, Sealed, Sent};
+use fr_bus::outcome::{Sealed, Sent, SentFate};
 use fr_guardian::guardian::Guardian;
 use fr_interface::interface::Interface;
 use fr_schedule::cluster::Cluster;
@@ -109,13 +109,13 @@ fn other_plan(cluster: &Cluster, interfaces: &[Interface]) -> Option<usize>
 }
 
 /// Returns whether the fate is the guardian's, or a mute.
-fn is_due(fate: Fate, let_pass: bool) -> bool
+fn is_due(fate: SentFate, let_pass: bool) -> bool
     ensures { result ≡ is_due fate let_pass }
 {
     match fate {
-        Fate::Passed => let_pass,
-        Fate::Blocked => !let_pass,
-        Fate::Muted => true,
+        SentFate::Passed => let_pass,
+        SentFate::Blocked => !let_pass,
+        SentFate::Muted => true,
     }
 }
 

@@ -189,22 +189,21 @@ fn is_handed(
         && is_handed_on(interface, number, entry, Channel::B, on_b)
 }
 
-/// Returns whether the record has these offers at this place.
+/// The same where the record has a window there. False where it has none.
 fn is_handed_at(
     interface: &Interface,
     number: u32,
     entry: &LentEntry<'_>,
     window: &Window,
     node: NodeId,
-    recorded: &[Sealed],
-    place: usize,
+    sealed: Option<&Sealed>,
 ) -> bool
     requires { slice_get interface.now.entries number ≡ Some (whole entry.now) }
     ensures { IsTrue result
-        ↔ (option_map (offers_of node) (slice_get recorded.now place)
+        ↔ (option_map (offers_of node) (option_map (λ sealed. sealed.now) sealed.entry)
         ≡ Some (handed_by interface.now number window.now)) }
 {
-    match sealed_at(recorded, place) {
+    match sealed {
         Some(sealed) => is_handed(interface, number, entry, window, node, sealed),
         None => false,
     }
@@ -228,7 +227,8 @@ fn fetches_past(
     };
     let place = so_far.count;
     let is_window = is_window_at(recorded, place, window);
-    let is_offer = is_handed_at(interface, number, entry, window, node, recorded, place);
+    let sealed = sealed_at(recorded, place);
+    let is_offer = is_handed_at(interface, number, entry, window, node, sealed);
     Fetches {
         count: place + 1,
         window: next_found(so_far.window, place, is_window),
@@ -258,21 +258,20 @@ fn is_shown(
     sealed.shows(params, Channel::A, node, a) && sealed.shows(params, Channel::B, node, b)
 }
 
-/// Returns whether the record gives the node this observation at this place.
+/// Returns whether the record, where it has a window there, lets the node see this. False where it has none.
 fn is_shown_at(
     params: &Params,
     node: NodeId,
-    recorded: &[Sealed],
-    place: usize,
+    sealed: Option<&Sealed>,
     window: &Window,
     a: LentSeen<'_>,
     b: LentSeen<'_>,
 ) -> bool
     ensures { IsTrue result
-        ↔ (option_map (sights_of params.now node) (slice_get recorded.now place)
+        ↔ (option_map (sights_of params.now node) (option_map (λ sealed. sealed.now) sealed.entry)
         ≡ Some (sight_of (whole_seen a.entry) (whole_seen b.entry) window.now)) }
 {
-    match sealed_at(recorded, place) {
+    match sealed {
         Some(sealed) => is_of_window(sealed, window) && is_shown(params, node, sealed, a, b),
         None => false,
     }
@@ -293,7 +292,8 @@ fn observes_past(
         (LentEntry::Observe { a, b, .. }, Some(window)) => {
             let place = so_far.count;
             let is_window = is_window_at(recorded, place, &window);
-            let is_sight = is_shown_at(params, node, recorded, place, &window, *a, *b);
+            let sealed = sealed_at(recorded, place);
+            let is_sight = is_shown_at(params, node, sealed, &window, *a, *b);
             Observes {
                 count: place + 1,
                 opened: None,

@@ -3,7 +3,7 @@
 use crate::steps::{Harm, THREE_NODES, bus_at, offer_of, put_with};
 use fr_bus::bus::Bus;
 use fr_bus::error::{BusError, Phase};
-use fr_bus::outcome::{Fate, Sent};
+use fr_bus::outcome::{Sent, SentFate};
 use fr_slots::channel::Channel;
 use fr_testing::{DATA_ON_A, DATA_ON_B, frame_bytes, node};
 use std::test::Fail;
@@ -20,7 +20,7 @@ fn transmission(
     channel: Channel,
     list: &[u8],
     babble: bool,
-    fate: Fate,
+    fate: SentFate,
 ) -> Result<Sent, Fail> {
     Ok(Sent {
         node: node(number)?,
@@ -34,10 +34,10 @@ fn transmission(
 /// Returns whether the record of the babbled window is as expected.
 fn is_recorded(bus: &Bus) -> Result<bool, Fail> {
     let wanted = [
-        transmission(1, Channel::A, &DATA_ON_A, false, Fate::Passed)?,
-        transmission(1, Channel::B, &DATA_ON_B, false, Fate::Passed)?,
-        transmission(2, Channel::A, &[0], true, Fate::Blocked)?,
-        transmission(2, Channel::B, &[0], true, Fate::Passed)?,
+        transmission(1, Channel::A, &DATA_ON_A, false, SentFate::Passed)?,
+        transmission(1, Channel::B, &DATA_ON_B, false, SentFate::Passed)?,
+        transmission(2, Channel::A, &[0], true, SentFate::Blocked)?,
+        transmission(2, Channel::B, &[0], true, SentFate::Passed)?,
     ];
     Ok(sent_in(bus, 1)? == wanted.as_slice())
 }

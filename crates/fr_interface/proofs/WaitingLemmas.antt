@@ -9,6 +9,7 @@ use Rattle.fr_journal.specs.Entries.{is_slot}
 use Rattle.fr_journal.proofs.OpenWindowLemmas.{open_window-snoc}
 use Rattle.fr_slots.specs.History.{last_after, each_after}
 use Rattle.fr_buffers.specs.Waiting.{Waiting, with_frame, without_oldest}
+use Rattle.fr_frame.specs.Fields.{Fields}
 use Rattle.fr_interface.specs.Known.{waiting_of, queued_on, with_arrival}
 use Rattle.fr_journal.specs.Arrivals.{Move, arrives, pops, arrive_all, moves_at, moves, arrived, length_after}
 use Rattle.fr_journal.specs.Arrivals.{queue_length, queue_content, queue_lost, oldest, is_answered_pop, is_for_queue}
@@ -307,3 +308,17 @@ module _ (params : Parameters) (plan : Plan) (q : Queue) where
       let one : open_one xs ≡ 1 = ap (λ (o : Option Opportunity). cond {A = ℕ} (is_some o) 1 0) opened in
       let none : open_one [] ≡ 0 = ap (λ (o : Option Opportunity). cond {A = ℕ} (is_some o) 1 0) start_closed in
       omega (arith, few_from [] xs, one, none)
+
+-- ---- what the code gives the queue
+
+-- the arrival of the frame that the queue takes, if it takes it
+pub queued_is : (plan : Plan) (q : Queue) (number : ℕ) (window : Opportunity) (channel : Channel)
+    (frame taken : Option Fields) → taken ≡ cond (is_for_queue plan q window channel) frame None
+    → option_map (arrival_of number channel) taken ≡ queued_on plan q number window channel frame
+queued_is plan q number window channel frame taken is =
+    ap (option_map (arrival_of number channel)) is ∙ by_test (is_for_queue plan q window channel) frame
+  where
+    by_test : (t : Bool) (o : Option Fields) → option_map (arrival_of number channel) (cond t o None)
+        ≡ cond t (option_map (arrival_of number channel) o) None
+    by_test true o = refl
+    by_test false o = refl

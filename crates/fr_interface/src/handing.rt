@@ -16,15 +16,24 @@ use fr_slots::numbers::SlotId;
 use fr_slots::params::Params;
 use fr_slots::window::Window;
 
-/// Returns the payload of the commit of this number among the first entries, or an empty one.
+/// The first entries of a journal.
+#[derive(Clone, Copy)]
+pub(crate) struct FirstEntries<'a> {
+    /// The journal.
+    pub journal: &'a Journal,
+    /// How many they are.
+    pub count: u32,
+}
+
+/// Returns the payload of the commit of this number among the first entries, or none where it isn't one of these.
 #[tactic(auto, using(crate::proofs::HandingLemmas::get_take, crate::proofs::HandingLemmas::get_past_take))]
-fn payload_of(journal: &Journal, entries: u32, commit: u32) -> Payload
-    ensures { result ≡ payload_of (take entries journal.now.entries) commit }
+fn payload_of(first: &FirstEntries<'_>, commit: u32) -> Payload
+    ensures { result ≡ payload_of (take first.now.count first.now.journal.now.entries) commit }
 {
-    if commit >= entries {
+    if commit >= first.count {
         return Payload::default();
     }
-    match journal.get(commit) {
+    match first.journal.get(commit) {
         Some(Entry::Commit { payload, .. }) => payload,
         _ => Payload::default(),
     }
@@ -33,17 +42,17 @@ fn payload_of(journal: &Journal, entries: u32, commit: u32) -> Payload
 /// Returns the data frame with the payload of the commit of this number among the first entries.
 fn data_frame_of(
     plan: &IndexedPlan,
-    journal: &Journal,
-    entries: u32,
+    first: &FirstEntries<'_>,
     window: &Window,
     channel: Channel,
     slot: SlotId,
     commit: u32,
 ) -> Frame
-    ensures { result ≡ data_frame_of plan.now (take entries journal.now.entries) window.now channel slot commit }
+    ensures { result ≡ data_frame_of plan.now
+        (take first.now.count first.now.journal.now.entries) window.now channel slot commit }
 {
     let own = line_of(plan, window, channel, slot);
-    let payload = payload_of(journal, entries, commit);
+    let payload = payload_of(first, commit);
     data_frame_with(plan, window, channel, slot, &own, payload)
 }
 
@@ -51,13 +60,13 @@ fn data_frame_of(
 fn frame_with(
     params: &Params,
     plan: &IndexedPlan,
-    journal: &Journal,
-    entries: u32,
+    first: &FirstEntries<'_>,
     window: &Window,
     channel: Channel,
     offered: Offered,
 ) -> Option<Frame>
-    ensures { result ≡ frame_with params.now plan.now (take entries journal.now.entries) window.now channel offered }
+    ensures { result ≡ frame_with params.now plan.now
+        (take first.now.count first.now.journal.now.entries) window.now channel offered }
 {
     let slot = window.slot(channel)?;
     match offered {
@@ -66,9 +75,7 @@ fn frame_with(
             let own = line_of(plan, window, channel, slot);
             Some(null_frame_with(params, window, slot, &own))
         }
-        Offered::Data(commit) => {
-            Some(data_frame_of(plan, journal, entries, window, channel, slot, commit))
-        }
+        Offered::Data(commit) => { Some(data_frame_of(plan, first, window, channel, slot, commit)) }
     }
 }
 
@@ -82,21 +89,21 @@ fn offered_on(channel: Channel, a: Offered, b: Offered) -> Offered
     }
 }
 
-/// Returns the bytes that the entry of this number handed to the bus on the channel.
+/// Returns the bytes that the entry after the first ones handed to the bus on the channel.
 pub(crate) fn bytes_in_entry(
     params: &Params,
     plan: &IndexedPlan,
-    journal: &Journal,
-    entries: u32,
+    first: &FirstEntries<'_>,
     channel: Channel,
     entry: &Entry,
 ) -> Option<Bytes>
-    ensures { result ≡ bytes_in_entry params.now plan.now (take entries journal.now.entries) channel entry.now }
+    ensures { result ≡ bytes_in_entry params.now plan.now
+        (take first.now.count first.now.journal.now.entries) channel entry.now }
 {
     let Entry::Fetch { window, a, b } = entry else {
         return None;
     };
     let offered = offered_on(channel, *a, *b);
-    let frame = frame_with(params, plan, journal, entries, window, channel, offered)?;
+    let frame = frame_with(params, plan, first, window, channel, offered)?;
     Some(encode(&frame, channel))
 }

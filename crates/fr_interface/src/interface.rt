@@ -9,7 +9,7 @@ ghost use Rattle.fr_slots.specs.Windows.{IsInRange, IsSlotOrNone};
 
 use crate::call::{Answer, Call};
 use crate::errors::{HostError, InterfaceError, SlotError};
-use crate::handing::bytes_in_entry;
+use crate::handing::{FirstEntries, bytes_in_entry};
 use crate::naming::frame_named;
 use crate::offers::Outgoing;
 use crate::source::Source;
@@ -409,11 +409,14 @@ impl Interface {
         ensures { result ≡ bytes_handed self.now entry channel }
     {
         let told = self.journal.get(entry)?;
+        let first = FirstEntries {
+            journal: &self.journal,
+            count: entry,
+        };
         bytes_in_entry(
             self.state.params(),
             self.state.plan(),
-            &self.journal,
-            entry,
+            &first,
             channel,
             &told,
         )

@@ -1,14 +1,14 @@
 //! The effects of an observed window on the receive buffers, the receive FIFO and the counters.
 
-ghost use Rattle.std.specs.Prelude.{◌≡◌, ◌+◌, ◌<◌, ◌^◌, length, is_some};
+ghost use Rattle.std.specs.Prelude.{◌≡◌, ◌+◌, ◌<◌, ◌^◌, length, is_some, None, if◌then◌else◌, option_map};
 ghost use Rattle.std.specs.List.{list_any};
-ghost use Rattle.std.specs.Option.{option_and_then, option_or, ForSome};
-ghost use Rattle.fr_interface.specs.Known.{frame_on, taken_by, stored_all, queued_on, with_arrival, with_arrivals};
+ghost use Rattle.std.specs.Option.{option_and_then, option_copied, option_or, ForSome};
+ghost use Rattle.fr_interface.specs.Known.{frame_on, taken_by, stored_all, with_arrival, with_arrivals};
 ghost use Rattle.fr_interface.specs.Known.{with_seen};
 ghost use Rattle.fr_interface.specs.Ranges.{IsTakingRange};
 ghost use Rattle.fr_interface.specs.Seeing.{status_seen};
 ghost use Rattle.fr_journal.specs.Arrivals.{takes_window, is_for_queue};
-ghost use Rattle.fr_journal.specs.Held.{data_frame_seen, with_data};
+ghost use Rattle.fr_journal.specs.Held.{arrival_of, data_frame_seen, with_data};
 ghost use Rattle.fr_status.specs.Counting.{HasRoom};
 
 use crate::index::{IndexedPlan, LineRange};
@@ -168,24 +168,31 @@ fn is_for_queue(plan: &IndexedPlan, queue: &Queue, window: &Window, channel: Cha
     queue.admits(window.cycle, slot, channel) && !is_taken(buffers, window, channel)
 }
 
-/// Appends the data frame of the channel to the receive FIFO, if there is one and it is admitted.
-pub(crate) fn arrive(
-    waiting: &mut ReceiveQueue,
+/// Returns the data frame of the channel, if one came and the queue takes it.
+fn frame_for_queue<'a, 'b>(
     plan: &IndexedPlan,
     queue: &Queue,
-    number: u32,
     window: &Window,
     channel: Channel,
-    frame: &Option<LentFrame<'_>>,
-)
+    frame: &'a Option<LentFrame<'b>>,
+) -> Option<&'a LentFrame<'b>>
+    ensures { option_copied result
+        ≡ (if is_for_queue plan.now queue.now window.now channel then frame.now else None) }
+{
+    match frame {
+        Some(frame) if is_for_queue(plan, queue, window, channel) => Some(frame),
+        _ => None,
+    }
+}
+
+/// Appends the data frame of the channel to the queue, if it takes one.
+fn arrive(waiting: &mut ReceiveQueue, number: u32, channel: Channel, frame: Option<&LentFrame<'_>>)
     requires { waiting.old.lost + 1 < 2 ^ 32 }
     ensures { waiting.new ≡ with_arrival waiting.old
-        (queued_on plan.now queue.now number window.now channel frame.now) }
+        (option_map (arrival_of number channel) (option_copied frame.entry)) }
 {
     if let Some(frame) = frame {
-        if is_for_queue(plan, queue, window, channel) {
-            waiting.arrive(number, channel, Frame::from_lent(frame));
-        }
+        waiting.arrive(number, channel, Frame::from_lent(frame));
     }
 }
 
@@ -204,8 +211,10 @@ pub(crate) fn arrive_all(
 {
     if let Some(line) = plan.queue() {
         if let Some(waiting) = queue {
-            arrive(waiting, plan, &line, number, window, Channel::A, a);
-            arrive(waiting, plan, &line, number, window, Channel::B, b);
+            let a = frame_for_queue(plan, &line, window, Channel::A, a);
+            let b = frame_for_queue(plan, &line, window, Channel::B, b);
+            arrive(waiting, number, Channel::A, a);
+            arrive(waiting, number, Channel::B, b);
         }
     }
 }

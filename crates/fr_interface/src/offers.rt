@@ -5,7 +5,7 @@ ghost use Rattle.std.specs.List.{position};
 ghost use Rattle.fr_journal.specs.Entries.{IsOffered};
 ghost use Rattle.fr_slots.specs.Faults.{claims};
 ghost use Rattle.fr_interface.specs.Sending.{owner_on, outgoing_on, offered_by, null_frame_with, data_frame_with};
-ghost use Rattle.fr_interface.specs.Sending.{data_frame_by, frame_by};
+ghost use Rattle.fr_interface.specs.Sending.{frame_by};
 ghost use Rattle.fr_journal.specs.Offers.{is_admitting, transmitter, may_begin, ownership, line_of, sync_of};
 ghost use Rattle.fr_journal.specs.Offers.{startup_of, preamble_in, IsHandedOut, bytes_of};
 
@@ -223,23 +223,7 @@ pub(crate) fn data_frame_with(
     }
 }
 
-/// Returns the data frame of the commit that this sender offers.
-fn data_frame_by(
-    plan: &IndexedPlan,
-    buffers: &[TxBuffer],
-    window: &Window,
-    channel: Channel,
-    slot: SlotId,
-    own: &Option<Own>,
-    sender: Sender,
-) -> Frame
-    ensures { result ≡ data_frame_by plan.now buffers.now window.now channel slot own.now sender }
-{
-    let payload = payload_at(buffers, sender.buffer);
-    data_frame_with(plan, window, channel, slot, own, payload)
-}
-
-/// Returns the frame of the offer in the window on the channel.
+/// Returns the frame that goes out in the window on the channel.
 fn frame_by(
     params: &Params,
     plan: &IndexedPlan,
@@ -253,7 +237,10 @@ fn frame_by(
     let slot = window.slot(channel)?;
     let own = &outgoing.own;
     match outgoing.sender {
-        Some(sender) => { Some(data_frame_by(plan, buffers, window, channel, slot, own, sender)) }
+        Some(sender) => {
+            let payload = payload_at(buffers, sender.buffer);
+            Some(data_frame_with(plan, window, channel, slot, own, payload))
+        }
         None if own.is_some() => Some(null_frame_with(params, window, slot, own)),
         None => None,
     }

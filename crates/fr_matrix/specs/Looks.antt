@@ -3,8 +3,8 @@
 use Rattle.std.specs.Prelude.{ℕ, ◌/◌, nat_lt, length, Bool, true, false, ◌&&◌, List, Option, Some, None, is_some}
 use Rattle.std.specs.Prelude.{codes, option_map, if◌then◌else◌}
 use Rattle.std.specs.List.{find, list_any}
-use Rattle.fr_bus.specs.declared.outcome.Fate.{Fate}
-use Rattle.fr_bus.specs.declared.outcome.Fate.TheVariants.{Passed, Blocked, Muted}
+use Rattle.fr_bus.specs.declared.outcome.SentFate.{SentFate}
+use Rattle.fr_bus.specs.declared.outcome.SentFate.TheVariants.{Passed, Blocked, Muted}
 use Rattle.fr_bus.specs.declared.outcome.Sent.{Sent}
 use Rattle.fr_bus.specs.Outcome.{passed_on}
 use Rattle.fr_bus.specs.Record.{Recorded, corrupt_on, heard, seen_by}
@@ -48,12 +48,12 @@ sender_in channel sent = option_map (λ (t : Sent). t.node) (find (passed_on cha
 
 -- ---- the results of the other transmissions
 
-abbrev pub was_blocked : Fate → Bool
+abbrev pub was_blocked : SentFate → Bool
 was_blocked Passed = false
 was_blocked Blocked = true
 was_blocked Muted = false
 
-abbrev pub was_lost : Fate → Bool
+abbrev pub was_lost : SentFate → Bool
 was_lost Passed = false
 was_lost Blocked = false
 was_lost Muted = true

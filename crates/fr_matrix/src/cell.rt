@@ -8,7 +8,7 @@ ghost use Rattle.fr_matrix.specs.Cells.{marks_class, marks_letters, sender_class
 ghost use Rattle.fr_matrix.specs.Cells.{title_text, title_end, turned_text};
 
 use crate::look::{Look, Marks, look_word, sign};
-use fr_bus::outcome::{Fate, Sent};
+use fr_bus::outcome::{Sent, SentFate};
 use fr_slots::channel::Channel;
 use fr_slots::numbers::{NodeId, SlotId};
 use fr_svg::elements::{close_group, close_text, open_text, write_rect};
@@ -112,13 +112,13 @@ fn write_title<W: Write>(writer: &mut W, cell: &Cell) -> io::Result<()>
 }
 
 /// Returns the words for the result of a transmission.
-fn fate_text(fate: Fate) -> &'static str
+fn fate_text(fate: SentFate) -> &'static str
     ensures { result.now ≡ fate_text fate }
 {
     match fate {
-        Fate::Passed => "",
-        Fate::Blocked => ", blocked",
-        Fate::Muted => ", lost",
+        SentFate::Passed => "",
+        SentFate::Blocked => ", blocked",
+        SentFate::Muted => ", lost",
     }
 }
 

@@ -8,7 +8,7 @@ ghost use Rattle.fr_matrix.specs.Looks.{look_in, look_of, look_read, look_word, 
 ghost use Rattle.fr_matrix.specs.Looks.{is_blocked, is_lost, turned_bit};
 
 use crate::view::View;
-use fr_bus::outcome::{Fate, Sealed, Sent};
+use fr_bus::outcome::{Sealed, Sent, SentFate};
 use fr_frame::decode::decode_lent;
 use fr_slots::channel::Channel;
 use fr_slots::numbers::NodeId;
@@ -100,14 +100,14 @@ pub fn sender_in(channel: Channel, sent: &[Sent]) -> Option<NodeId>
 fn is_blocked(channel: Channel, sent: &Sent) -> bool
     ensures { result ≡ is_blocked channel sent.now }
 {
-    sent.channel == channel && sent.fate == Fate::Blocked
+    sent.channel == channel && sent.fate == SentFate::Blocked
 }
 
 /// Returns whether the transmission was on the channel, and a fault muted it.
 fn is_lost(channel: Channel, sent: &Sent) -> bool
     ensures { result ≡ is_lost channel sent.now }
 {
-    sent.channel == channel && sent.fate == Fate::Muted
+    sent.channel == channel && sent.fate == SentFate::Muted
 }
 
 /// Returns whether a guardian blocked any of the transmissions on the channel.

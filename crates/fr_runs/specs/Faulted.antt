@@ -6,8 +6,8 @@ use Rattle.std.specs.Option.{option_or}
 use Rattle.arrayvec.specs.ArrayVec.{ArrayVec}
 use Rattle.fr_bus.specs.declared.fault.Fault.{Fault}
 use Rattle.fr_bus.specs.declared.fault.Fault.TheVariants.{Babble, Mute, Corrupt}
-use Rattle.fr_bus.specs.declared.outcome.Fate.{Fate}
-use Rattle.fr_bus.specs.declared.outcome.Fate.TheVariants.{Passed, Blocked, Muted}
+use Rattle.fr_bus.specs.declared.outcome.SentFate.{SentFate}
+use Rattle.fr_bus.specs.declared.outcome.SentFate.TheVariants.{Passed, Blocked, Muted}
 use Rattle.fr_bus.specs.declared.outcome.Sent.{Sent}
 use Rattle.fr_bus.specs.Outcome.{is_of}
 use Rattle.fr_bus.specs.Record.{Recorded, corrupt_on, recordable}
@@ -67,7 +67,7 @@ lines_of_cycle cycle lines = filter (λ (line : FaultLine). names_cycle line.cyc
 
 -- ---- the record of a babble
 
-abbrev pub is_muted : Fate → Bool
+abbrev pub is_muted : SentFate → Bool
 is_muted Passed = false
 is_muted Blocked = false
 is_muted Muted = true

@@ -10,7 +10,7 @@ ghost use Rattle.fr_slots.specs.Windows.{slot_of};
 
 use crate::fault_line::{FaultLine, keep_lines_of};
 use fr_bus::fault::Fault;
-use fr_bus::outcome::{Fate, Sealed, Sent};
+use fr_bus::outcome::{Sealed, Sent, SentFate};
 use fr_bus::windows::opens_cycle;
 use fr_frame::frame::Bytes;
 use fr_slots::channel::Channel;
@@ -141,12 +141,12 @@ fn is_loss_due(
 }
 
 /// Returns whether the fate is a mute.
-fn is_muted(fate: Fate) -> bool
+fn is_muted(fate: SentFate) -> bool
     ensures { result ≡ is_muted fate }
 {
     match fate {
-        Fate::Muted => true,
-        Fate::Passed | Fate::Blocked => false,
+        SentFate::Muted => true,
+        SentFate::Passed | SentFate::Blocked => false,
     }
 }
 

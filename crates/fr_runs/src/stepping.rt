@@ -33,7 +33,16 @@ pub(crate) struct Progress {
     pub calls: [usize; COUNT],
 }
 
-/// Returns the lines of the first script for the task, or no lines.
+/// A place in the journal of a node.
+#[derive(Clone, Copy)]
+struct EntryPlace<'a> {
+    /// The node's interface.
+    interface: &'a Interface,
+    /// The number of the entry.
+    number: u32,
+}
+
+/// Returns the lines of the task's script, which is the first that is for it, or none.
 pub fn lines_given(scripts: &[Script], node: NodeId, task: TaskId) -> &[Line]
     ensures { result.now ≡ lines_given scripts.now node task }
 {
@@ -73,11 +82,11 @@ fn entries_of(interface: &Interface) -> u32
     interface.journal().len()
 }
 
-/// Returns the entry of this number.
-fn entry_at(interface: &Interface, number: u32) -> Option<LentEntry<'_>>
-    ensures { option_map whole result ≡ slice_get interface.now.entries number }
+/// Returns the entry at this place.
+fn entry_at<'a>(place: &EntryPlace<'a>) -> Option<LentEntry<'a>>
+    ensures { option_map whole result ≡ slice_get place.now.interface.now.entries place.now.number }
 {
-    interface.journal().lent(number)
+    place.interface.journal().lent(place.number)
 }
 
 /// Returns the sealed window at this place of the record.
@@ -123,39 +132,33 @@ fn stands_for(recorded: &[Sealed], lines: &[Line], place: usize, progress: &Prog
     }
 }
 
-/// Returns whether a task's call is in step with the cycle of the task's next line.
+/// Returns whether the entry at this place, if it is a task's, comes in step with the cycle of the task's next line.
 fn is_in_turn(
-    interface: &Interface,
+    place: &EntryPlace<'_>,
     recorded: &[Sealed],
     scripts: &[Script],
     node: NodeId,
-    number: u32,
     entry: &LentEntry<'_>,
     progress: &Progress,
 ) -> bool
-    requires { IsProgress recorded.now (take number interface.now.entries) progress.now }
+    requires { IsProgress recorded.now (take place.now.number place.now.interface.now.entries) progress.now }
     ensures { IsTrue result
-        ↔ IsInTurn recorded.now scripts.now node (take number interface.now.entries) (whole entry.now) }
+        ↔ IsInTurn recorded.now scripts.now node (take place.now.number place.now.interface.now.entries)
+        (whole entry.now) }
 {
     let Some(task) = task_of(entry) else {
         return true;
     };
-    let place = progress.calls[usize::from(task.number())];
-    stands_for(recorded, lines_given(scripts, node, task), place, progress)
+    let calls = progress.calls[usize::from(task.number())];
+    stands_for(recorded, lines_given(scripts, node, task), calls, progress)
 }
 
-/// Advances the progress by the entry of this number.
-fn pass(
-    interface: &Interface,
-    recorded: &[Sealed],
-    number: u32,
-    entry: &LentEntry<'_>,
-    progress: &mut Progress,
-)
-    requires here { slice_get interface.now.entries number ≡ Some (whole entry.now) }
-    requires few { number < most_entries }
-    requires so_far { IsProgress recorded.now (take number interface.now.entries) progress.old }
-    ensures { IsProgress recorded.now (take (number + 1) interface.now.entries) progress.new }
+/// Goes past the entry at this place.
+fn pass(place: &EntryPlace<'_>, recorded: &[Sealed], entry: &LentEntry<'_>, progress: &mut Progress)
+    requires here { slice_get place.now.interface.now.entries place.now.number ≡ Some (whole entry.now) }
+    requires few { place.now.number < most_entries }
+    requires so_far { IsProgress recorded.now (take place.now.number place.now.interface.now.entries) progress.old }
+    ensures { IsProgress recorded.now (take (place.now.number + 1) place.now.interface.now.entries) progress.new }
 {
     if let Some(task) = task_of(entry) {
         progress.calls[usize::from(task.number())] += 1;
@@ -180,15 +183,14 @@ fn is_stepped(interface: &Interface, recorded: &[Sealed], scripts: &[Script], no
         calls: [0; COUNT],
     };
     for number in 0..entries_of(interface) {
-        let Some(entry) = entry_at(interface, number) else {
+        let place = EntryPlace { interface, number };
+        let Some(entry) = entry_at(&place) else {
             unreachable!();
         };
-        if !is_in_turn(
-            interface, recorded, scripts, node, number, &entry, &progress,
-        ) {
+        if !is_in_turn(&place, recorded, scripts, node, &entry, &progress) {
             return false;
         }
-        pass(interface, recorded, number, &entry, &mut progress);
+        pass(&place, recorded, &entry, &mut progress);
     }
     true
 }

@@ -29,6 +29,8 @@ use std::io::{BufRead, Write};
 /// The terms of a session.
 #[derive(Clone, Copy)]
 struct Terms<'a> {
+    /// The memory that reports, traces and windows of the record take.
+    alloc: Global,
     /// All events that can be due in a window.
     events: &'a [Event],
     /// The cluster that fault lines have to suit.
@@ -40,14 +42,12 @@ struct Terms<'a> {
 /// The state that a session keeps from line to line: the fault lines, and room for a line.
 #[derive(Drop)]
 struct Session {
-    alloc: Global,
     faults: KeptLines,
     line: Line,
 }
 
 /// Executes the request, and writes the reply.
 fn do_request<W: Write>(
-    alloc: Global,
     terms: &Terms<'_>,
     faults: &mut KeptLines,
     world: &mut World,
@@ -76,16 +76,15 @@ fn do_request<W: Write>(
             write_moved(writer, world.bus(), hindered)
         }
         Request::Now => write_now(writer, world.bus()),
-        Request::Report(node) => write_node_report(alloc, writer, world, node),
-        Request::Trace(node) => write_node_trace(alloc, writer, world, node),
+        Request::Report(node) => write_node_report(terms.alloc, writer, world, node),
+        Request::Trace(node) => write_node_trace(terms.alloc, writer, world, node),
         Request::Origin(node) => write_node_origin(writer, world, node),
-        Request::Record(window) => write_recorded(alloc, writer, world.bus(), window),
+        Request::Record(window) => write_recorded(terms.alloc, writer, world.bus(), window),
     }
 }
 
 /// Executes the request of the line of this number, and writes the reply.
 fn answer_line<W: Write>(
-    alloc: Global,
     terms: &Terms<'_>,
     faults: &mut KeptLines,
     world: &mut World,
@@ -98,7 +97,7 @@ fn answer_line<W: Write>(
         (state_of world.new faults.new)) }
 {
     match request_of(line) {
-        Some(request) => do_request(alloc, terms, faults, world, request, writer),
+        Some(request) => do_request(terms, faults, world, request, writer),
         None => write_bad_line(writer, number),
     }
 }
@@ -132,15 +131,7 @@ impl Session {
             (state_of world.new self.new.faults)) }
     {
         let line = self.line.as_slice();
-        answer_line(
-            self.alloc,
-            terms,
-            &mut self.faults,
-            world,
-            line,
-            number,
-            writer,
-        )?;
+        answer_line(terms, &mut self.faults, world, line, number, writer)?;
         writer.flush()
     }
 
@@ -243,12 +234,12 @@ pub fn serve<R: BufRead, W: Write>(
     };
     // A world has its cluster and cycles, but doesn't return them, so they are given.
     let terms = Terms {
+        alloc,
         events: events.as_slice(),
         cluster,
         cycles,
     };
     let mut session = Session {
-        alloc,
         faults: KeptLines::new(alloc),
         line: Line::new(),
     };

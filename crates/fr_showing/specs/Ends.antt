@@ -2,8 +2,8 @@
 use Rattle.std.specs.Prelude.{ℕ, ◌/◌, nat_lt, Bool, false, List, codes, length, count_by, Option, Some, None}
 use Rattle.std.specs.Prelude.{option_map, if◌then◌else◌}
 use Rattle.std.specs.List.{find}
-use Rattle.fr_bus.specs.declared.outcome.Fate.{Fate}
-use Rattle.fr_bus.specs.declared.outcome.Fate.TheVariants as fate
+use Rattle.fr_bus.specs.declared.outcome.SentFate.{SentFate}
+use Rattle.fr_bus.specs.declared.outcome.SentFate.TheVariants as fate
 use Rattle.fr_bus.specs.declared.outcome.Sent.{Sent}
 use Rattle.fr_bus.specs.Outcome.{overruns, passed_on}
 use Rattle.fr_bus.specs.Record.{Recorded, corrupt_on, is_offer_of}
@@ -29,7 +29,7 @@ end_alone p r t =
 abbrev pub end_passed : Parameters → Recorded → Sent → End
 end_passed p r t = if nat_lt 1 (count_by (passed_on t.channel) r.sent) then Collided else end_alone p r t
 
-abbrev pub end_by : Fate → Parameters → Recorded → Sent → End
+abbrev pub end_by : SentFate → Parameters → Recorded → Sent → End
 end_by fate.Passed p r t = end_passed p r t
 end_by fate.Blocked p r t = Blocked
 end_by fate.Muted p r t = Muted

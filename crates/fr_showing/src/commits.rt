@@ -15,7 +15,7 @@ ghost use Rattle.fr_text.specs.Writing.{Writes};
 use crate::ends::{End, ended_word, offer_end, sealed_at};
 use crate::fates::{Became, Sending, became_of, begun_with, is_commit_on, is_data_of};
 use crate::parts::{interfaces_of, params_of};
-use crate::takers::write_takers;
+use crate::takers::{Transmission, write_takers};
 use fr_core::world::World;
 use fr_interface::interface::Interface;
 use fr_journal::entry::Offered;
@@ -44,7 +44,18 @@ struct Commitment<'a> {
     payload: &'a [u8],
 }
 
-/// Returns the end of the node's offer in the window of a sending.
+/// A place in the journal of a node.
+#[derive(Clone, Copy)]
+struct JournalPlace {
+    /// The node.
+    node: usize,
+    /// The number of the entry.
+    entry: u32,
+    /// How many cycles began before it.
+    begun: u32,
+}
+
+/// Returns how the node's offer ended where it was sent.
 fn end_in(world: &World, node: usize, sending: &Sending) -> Option<End>
     ensures { result ≡ end_in world.now node sending.now }
 {
@@ -67,8 +78,12 @@ fn write_takers_of<W: Write>(writer: &mut W, world: &World, sending: &Sending) -
 {
     match sealed_at(world.bus().record(), sending.window.number as usize) {
         Some(sealed) => {
-            let (params, interfaces) = (params_of(world), interfaces_of(world));
-            write_takers(writer, params, interfaces, sealed, sending.channel)
+            let sent = Transmission {
+                params: params_of(world),
+                sealed,
+                channel: sending.channel,
+            };
+            write_takers(writer, interfaces_of(world), &sent)
         }
         None => write!(writer, "-"),
     }
@@ -161,59 +176,53 @@ fn write_handed<W: Write>(
     }
 }
 
-/// Writes the windows in which the commit on the buffer was sent.
-///
-/// The number of cycles that began before it is given. After the next commit on its buffer, a legal journal no longer
-/// sends it.
+/// Writes where the commit was sent. After the next commit on its buffer a legal journal sends it no more.
 fn write_sendings<W: Write>(
     writer: &mut W,
     world: &World,
-    node: usize,
     interface: &Interface,
-    buffer: u8,
-    commit: u32,
-    begun: u32,
+    commit: &Commitment<'_>,
 ) -> io::Result<()>
-    requires there { IsSomeAnd (slice_get interface.now.entries commit) (λ e. is_commit_on buffer e ≡ true) }
-    requires cycle { begun ≡ cycles_of (take commit interface.now.entries) }
+    requires there { IsSomeAnd (slice_get interface.now.entries commit.now.entry)
+        (λ e. is_commit_on commit.now.buffer e ≡ true) }
+    requires cycle { commit.now.cycle ≡ cycles_of (take commit.now.entry interface.now.entries) }
     ensures { Writes W.contents writer.old writer.new result
-        (sendings_text world.now node interface.now.entries commit) }
+        (sendings_text world.now commit.now.node interface.now.entries commit.now.entry) }
 {
     let journal = interface.journal();
     let end = journal.len();
-    let mut begun = begun;
-    for number in commit + 1..end {
+    let mut begun = commit.cycle;
+    for number in commit.entry + 1..end {
         let Some(entry) = journal.lent(number) else {
             return Ok(());
         };
-        if is_commit_on(buffer, &entry) {
+        if is_commit_on(commit.buffer, &entry) {
             return Ok(());
         }
         begun = begun_with(begun, &entry);
-        write_handed(writer, world, node, commit, begun, &entry)?;
+        write_handed(writer, world, commit.node, commit.entry, begun, &entry)?;
     }
     Ok(())
 }
 
-/// Writes the fate of the commit on the buffer, given the number of cycles that began before it.
+/// Writes what became of the commit.
 fn write_became<W: Write>(
     writer: &mut W,
     world: &World,
-    node: usize,
     interface: &Interface,
-    buffer: u8,
-    commit: u32,
-    begun: u32,
+    commit: &Commitment<'_>,
 ) -> io::Result<()>
-    requires there { IsSomeAnd (slice_get interface.now.entries commit) (λ e. is_commit_on buffer e ≡ true) }
-    requires cycle { begun ≡ cycles_of (take commit interface.now.entries) }
+    requires there { IsSomeAnd (slice_get interface.now.entries commit.now.entry)
+        (λ e. is_commit_on commit.now.buffer e ≡ true) }
+    requires cycle { commit.now.cycle ≡ cycles_of (take commit.now.entry interface.now.entries) }
     ensures { Writes W.contents writer.old writer.new result
-        (became_text world.now node interface.now.entries commit (became buffer interface.now.entries commit)) }
+        (became_text world.now commit.now.node interface.now.entries commit.now.entry
+        (became commit.now.buffer interface.now.entries commit.now.entry)) }
 {
-    match became_of(interface, buffer, commit, begun) {
+    match became_of(interface, commit.buffer, commit.entry, commit.cycle) {
         Became::Sent => {
             write!(writer, "sent")?;
-            write_sendings(writer, world, node, interface, buffer, commit, begun)
+            write_sendings(writer, world, interface, commit)
         }
         Became::Withdrawn { cycle, entry } => write!(writer, "withdrawn {cycle} {entry}"),
         Became::Overwritten { cycle, entry } => write!(writer, "overwritten {cycle} {entry}"),
@@ -249,34 +258,23 @@ fn write_commit<W: Write>(
 {
     write_made(writer, commit)?;
     write!(writer, " = ")?;
-    let (node, buffer) = (commit.node, commit.buffer);
-    write_became(
-        writer,
-        world,
-        node,
-        interface,
-        buffer,
-        commit.entry,
-        commit.cycle,
-    )?;
+    write_became(writer, world, interface, commit)?;
     writeln!(writer)
 }
 
-/// Writes the line of the entry, if it is a commit, given the number of cycles that began before it.
+/// Writes the line of the entry at this place, if it is a commit.
 fn write_entry<W: Write>(
     writer: &mut W,
     world: &World,
-    node: usize,
     interface: &Interface,
-    begun: u32,
-    number: u32,
+    place: JournalPlace,
     entry: &LentEntry<'_>,
 ) -> io::Result<()>
     requires payload { HasPayload entry.now }
-    requires there { slice_get interface.now.entries number ≡ Some (whole entry.now) }
-    requires cycle { begun ≡ cycles_of (take number interface.now.entries) }
+    requires there { slice_get interface.now.entries place.entry ≡ Some (whole entry.now) }
+    requires cycle { place.begun ≡ cycles_of (take place.entry interface.now.entries) }
     ensures { Writes W.contents writer.old writer.new result
-        (entry_text world.now node interface.now.entries begun number (whole entry.now)) }
+        (entry_text world.now place.node interface.now.entries place.begun place.entry (whole entry.now)) }
 {
     match entry {
         LentEntry::Commit {
@@ -285,11 +283,11 @@ fn write_entry<W: Write>(
             payload,
         } => {
             let commit = Commitment {
-                node,
+                node: place.node,
                 buffer: *buffer,
                 task: *task,
-                cycle: begun,
-                entry: number,
+                cycle: place.begun,
+                entry: place.entry,
                 payload: *payload,
             };
             write_commit(writer, world, interface, &commit)
@@ -313,7 +311,12 @@ fn write_node<W: Write>(
         let Some(entry) = journal.lent(number) else {
             return Ok(());
         };
-        write_entry(writer, world, node, interface, begun, number, &entry)?;
+        let place = JournalPlace {
+            node,
+            entry: number,
+            begun,
+        };
+        write_entry(writer, world, interface, place, &entry)?;
         begun = begun_with(begun, &entry);
     }
     Ok(())

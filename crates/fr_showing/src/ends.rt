@@ -5,7 +5,7 @@ ghost use Rattle.fr_bus.specs.Outcome.{passed_on};
 ghost use Rattle.fr_bus.specs.Record.{is_offer_of};
 ghost use Rattle.fr_showing.specs.Ends.{end_alone, end_of, end_passed, end_word, ended_word, is_turned, offer_end};
 
-use fr_bus::outcome::{Fate, Sealed, Sent};
+use fr_bus::outcome::{Sealed, Sent, SentFate};
 use fr_slots::channel::Channel;
 use fr_slots::params::Params;
 use fr_slots::window::Window;
@@ -73,9 +73,9 @@ pub fn end_of(params: &Params, sealed: &Sealed, sent: &Sent) -> End
     ensures { result ≡ end_of params.now sealed.now sent.now }
 {
     match sent.fate {
-        Fate::Passed => end_passed(params, sealed, sent),
-        Fate::Blocked => End::Blocked,
-        Fate::Muted => End::Muted,
+        SentFate::Passed => end_passed(params, sealed, sent),
+        SentFate::Blocked => End::Blocked,
+        SentFate::Muted => End::Muted,
     }
 }
 

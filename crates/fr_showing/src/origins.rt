@@ -5,7 +5,7 @@ ghost use Rattle.fr_showing.specs.Origins.{brings, has_brought, has_turned, is_s
 ghost use Rattle.fr_showing.specs.Origins.{turns};
 
 use fr_bus::fault::Fault;
-use fr_bus::outcome::{Fate, Sent};
+use fr_bus::outcome::{Sent, SentFate};
 use fr_runs::fault_line::{FaultCycles, FaultLine};
 use fr_scenario::scenario::Scenario;
 use fr_slots::channel::Channel;
@@ -39,7 +39,7 @@ pub(crate) fn brings(sent: &Sent, fault: &Fault) -> bool
     match fault {
         Fault::Babble { node, channel, .. } => sent.babble && is_sent_by(*node, *channel, sent),
         Fault::Mute { node, channel } => {
-            sent.fate == Fate::Muted && is_sent_by(*node, *channel, sent)
+            sent.fate == SentFate::Muted && is_sent_by(*node, *channel, sent)
         }
         Fault::Corrupt { .. } => false,
     }

@@ -24,6 +24,17 @@ use fr_status::status::lent_status_of;
 use std::io;
 use std::io::Write;
 
+/// A transmission: a channel of a recorded window, by the parameters of the cluster.
+#[derive(Clone, Copy)]
+pub(crate) struct Transmission<'a> {
+    /// The parameters.
+    pub(crate) params: &'a Params,
+    /// The window.
+    pub(crate) sealed: &'a Sealed,
+    /// The channel.
+    pub(crate) channel: Channel,
+}
+
 /// Returns whether this is a data frame.
 fn is_data(frame: Option<LentFrame<'_>>) -> bool
     ensures { result ≡ is_some (option_and_then with_data frame.entry) }
@@ -74,19 +85,13 @@ fn came_to(params: &Params, sealed: &Sealed, node: NodeId) -> Came
 }
 
 /// Returns the receivers of the transmission at the node.
-fn takers_at<'a>(
-    params: &Params,
-    plan: &'a NodePlan,
-    sealed: &'a Sealed,
-    channel: Channel,
-    node: NodeId,
-) -> Takers<'a>
-    ensures { result ≡ takers_at params.now plan.now sealed.now channel node }
+fn takers_at<'a>(plan: &'a NodePlan, sent: &Transmission<'a>, node: NodeId) -> Takers<'a>
+    ensures { result ≡ takers_at sent.now.params.now plan.now sent.now.sealed.now sent.now.channel node }
 {
     let observed = Observed {
-        window: window_of(sealed),
-        came: came_to(params, sealed, node),
-        channel,
+        window: window_of(sent.sealed),
+        came: came_to(sent.params, sent.sealed, node),
+        channel: sent.channel,
         node: Some(node),
     };
     Takers { plan, observed }
@@ -97,21 +102,19 @@ fn takers_at<'a>(
 /// It was on the channel of the window.
 fn write_nodes<W: Write>(
     writer: &mut W,
-    params: &Params,
     interfaces: &[Interface],
-    sealed: &Sealed,
-    channel: Channel,
+    sent: &Transmission<'_>,
 ) -> io::Result<bool>
     requires { length interfaces.now ≤ 16 }
     ensures text { Writes W.contents writer.old writer.new result
-        (after_commas false (takers_from params.now sealed.now channel 0 interfaces.now)) }
+        (after_commas false (takers_from sent.now.params.now sent.now.sealed.now sent.now.channel 0 interfaces.now)) }
     ensures any { IfOk result (λ now. now
-        ≡ is_any (takers_from params.now sealed.now channel 0 interfaces.now)) }
+        ≡ is_any (takers_from sent.now.params.now sent.now.sealed.now sent.now.channel 0 interfaces.now)) }
 {
     let mut any = false;
     for (number, interface) in interfaces.iter().enumerate() {
         let node = NodeId::from_number(number as u8);
-        let takers = takers_at(params, interface.plan(), sealed, channel, node);
+        let takers = takers_at(interface.plan(), sent, node);
         any = write_more(writer, any, &takers)?;
     }
     Ok(any)
@@ -122,16 +125,14 @@ fn write_nodes<W: Write>(
 /// They are the buffers and receive FIFOs that stored it on the channel of the window.
 pub(crate) fn write_takers<W: Write>(
     writer: &mut W,
-    params: &Params,
     interfaces: &[Interface],
-    sealed: &Sealed,
-    channel: Channel,
+    sent: &Transmission<'_>,
 ) -> io::Result<()>
     requires { length interfaces.now ≤ 16 }
     ensures { Writes W.contents writer.old writer.new result
-        (takers_word (takers_from params.now sealed.now channel 0 interfaces.now)) }
+        (takers_word (takers_from sent.now.params.now sent.now.sealed.now sent.now.channel 0 interfaces.now)) }
 {
-    if write_nodes(writer, params, interfaces, sealed, channel)? {
+    if write_nodes(writer, interfaces, sent)? {
         Ok(())
     } else {
         write!(writer, "-")

@@ -9,13 +9,13 @@ use Rattle.fr_desks.specs.declared.wire.WireError.{WireError}
 use Rattle.fr_desks.specs.declared.wire.WireError.TheVariants as wire
 use Rattle.fr_threads.specs.declared.error.RunError.{RunError}
 use Rattle.fr_threads.specs.declared.error.RunError.TheVariants as told
-use Rattle.fr_threads.specs.declared.failure.Failure.{Failure}
-use Rattle.fr_threads.specs.declared.failure.Failure.TheVariants.{Host, Slot, Bus, Thread, Settle, Memory, Stopped}
+use Rattle.fr_threads.specs.declared.failure.RunFailure.{RunFailure}
+use Rattle.fr_threads.specs.declared.failure.RunFailure.TheVariants.{Host, Slot, Bus, Thread, Settle, Memory, Stopped}
 use Rattle.fr_threads.specs.declared.run.Run.{Run}
 
 -- ---- one of several failures
 
-abbrev pub rank : Failure → ℕ
+abbrev pub rank : RunFailure → ℕ
 rank (Host e) = 0
 rank (Slot e) = 1
 rank (Bus e) = 2
@@ -25,30 +25,30 @@ rank Memory = 5
 rank Stopped = 6
 
 -- the failure of the lesser rank; of two failures of one rank, the earlier
-abbrev pub least_of : Option Failure → Failure → Failure
+abbrev pub least_of : Option RunFailure → RunFailure → RunFailure
 least_of None failure = failure
 least_of (Some earlier) failure = if nat_lt (rank failure) (rank earlier) then failure else earlier
 
-abbrev pub told_after : Option Failure → Option Failure → Option Failure
+abbrev pub told_after : Option RunFailure → Option RunFailure → Option RunFailure
 told_after earlier None = earlier
 told_after earlier (Some failure) = Some (least_of earlier failure)
 
 -- the first failure of the least rank
-abbrev pub told_of_all : List (Option Failure) → Option Failure
+abbrev pub told_of_all : List (Option RunFailure) → Option RunFailure
 told_of_all failures = fold told_after None failures
 
 -- ---- the error of a failure
 
 -- a failed allocation is one failure, wherever it occurred
-abbrev pub failure_of_bus : BusError → Failure
+abbrev pub failure_of_bus : BusError → RunFailure
 failure_of_bus bus.Memory = Memory
 failure_of_bus e = Bus e
 
-abbrev pub failure_of_wire : WireError → Failure
+abbrev pub failure_of_wire : WireError → RunFailure
 failure_of_wire (wire.Bus e) = failure_of_bus e
 failure_of_wire wire.Stopped = Stopped
 
-abbrev pub failure_of_settling : SettleError → Failure
+abbrev pub failure_of_settling : SettleError → RunFailure
 failure_of_settling settle.Memory = Memory
 failure_of_settling e = Settle e
 
@@ -61,7 +61,7 @@ error_of_settling settle.Memory = told.Memory
 error_of_settling e = told.Settle e
 
 -- a run in which every thread was stopped has no failed thread, and didn't come to its end
-abbrev pub error_of : Failure → RunError
+abbrev pub error_of : RunFailure → RunError
 error_of (Host e) = told.Host e
 error_of (Slot e) = told.Slot e
 error_of (Bus e) = error_of_bus e

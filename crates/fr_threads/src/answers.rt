@@ -5,7 +5,7 @@ ghost use Rattle.std.specs.List.{All};
 ghost use Rattle.fr_core.specs.Answers.{without_answer, without_answers, IsAnswered, AreAnswered};
 ghost use Rattle.fr_threads.specs.Running.{replies_at};
 
-use crate::failure::Failure;
+use crate::failure::RunFailure;
 use fr_core::event::Reply;
 use fr_core::script::{Line, Script};
 use std::alloc::Global;
@@ -37,13 +37,13 @@ fn answered_line(line: &Line, reply: &Reply) -> Line
 }
 
 /// Returns the lines, with these answers, one for each.
-fn answered_lines(alloc: Global, lines: &[Line], replies: &[Reply]) -> Result<Vec<Line>, Failure>
+fn answered_lines(alloc: Global, lines: &[Line], replies: &[Reply]) -> Result<Vec<Line>, RunFailure>
     ensures given { IfOk result (λ list. map without_answer list.items ≡ map without_answer lines.now) }
     ensures answered { IfOk result (λ list. All IsAnswered list.items) }
 {
     // A task that was joined has answered each line, but the type of a thread's result doesn't show this.
     if lines.len() != replies.len() {
-        return Err(Failure::Thread);
+        return Err(RunFailure::Thread);
     }
     let mut list = Vec::with_capacity(alloc, lines.len())?;
     for place in 0..lines.len() {
@@ -66,13 +66,13 @@ fn answered_script(
     alloc: Global,
     script: &Script,
     answers: &[Vec<Vec<Reply>>],
-) -> Result<Script, Failure>
+) -> Result<Script, RunFailure>
     ensures given { IfOk result (λ s. without_answers s ≡ without_answers script.now) }
     ensures answered { IfOk result (λ s. All IsAnswered s.lines) }
 {
     // The script suits the cluster, and each node and task was joined. Neither fact stands in a type.
     let Some(replies) = replies_to(script, answers) else {
-        return Err(Failure::Thread);
+        return Err(RunFailure::Thread);
     };
     let lines = answered_lines(alloc, script.lines.as_slice(), replies)?;
     Ok(Script {
@@ -87,7 +87,7 @@ pub(crate) fn with_answers(
     alloc: Global,
     scripts: &[Script],
     answers: &[Vec<Vec<Reply>>],
-) -> Result<Vec<Script>, Failure>
+) -> Result<Vec<Script>, RunFailure>
     ensures { IfOk result (λ list. AreAnswered scripts.now list.items) }
 {
     let mut list = Vec::with_capacity(alloc, scripts.len())?;

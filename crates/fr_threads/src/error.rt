@@ -4,7 +4,7 @@ ghost use Rattle.std.specs.Prelude.{◌≡◌, Some, None};
 ghost use Rattle.fr_threads.specs.Failures.{error_of, IsMemoryTold};
 ghost use Rattle.fr_threads.specs.Running.{refusal_of};
 
-use crate::failure::Failure;
+use crate::failure::RunFailure;
 use fr_bus::error::BusError;
 use fr_core::settle::SettleError;
 use fr_interface::errors::{HostError, SlotError};
@@ -64,19 +64,19 @@ pub(crate) fn error_of_refusal(refusal: RunRefusal) -> RunError
 /// Returns the failure as an error.
 ///
 /// A run in which every thread was stopped has no failed thread, and didn't come to its end.
-pub(crate) fn error_of_failure(failure: Failure) -> RunError
+pub(crate) fn error_of_failure(failure: RunFailure) -> RunError
     ensures error { result ≡ error_of failure }
     ensures no_refusal { refusal_of result ≡ None }
     ensures memory { IsMemoryTold result }
 {
     match failure {
-        Failure::Host(error) => RunError::Host(error),
-        Failure::Slot(error) => RunError::Slot(error),
-        Failure::Bus(BusError::Memory) => RunError::Memory,
-        Failure::Bus(error) => RunError::Bus(error),
-        Failure::Thread | Failure::Stopped => RunError::Thread,
-        Failure::Settle(SettleError::Memory) => RunError::Memory,
-        Failure::Settle(error) => RunError::Settle(error),
-        Failure::Memory => RunError::Memory,
+        RunFailure::Host(error) => RunError::Host(error),
+        RunFailure::Slot(error) => RunError::Slot(error),
+        RunFailure::Bus(BusError::Memory) => RunError::Memory,
+        RunFailure::Bus(error) => RunError::Bus(error),
+        RunFailure::Thread | RunFailure::Stopped => RunError::Thread,
+        RunFailure::Settle(SettleError::Memory) => RunError::Memory,
+        RunFailure::Settle(error) => RunError::Settle(error),
+        RunFailure::Memory => RunError::Memory,
     }
 }

@@ -2,7 +2,7 @@
 
 ghost use Rattle.std.specs.Prelude.{◌≡◌, IfNone, IsOk};
 ghost use Rattle.std.specs.Result.{result_err};
-ghost use Rattle.fr_threads.specs.declared.failure.Failure.TheVariants as failure;
+ghost use Rattle.fr_threads.specs.declared.failure.RunFailure.TheVariants as failure;
 ghost use Rattle.fr_threads.specs.Failures.{rank, least_of, told_after, failure_of_bus, failure_of_wire};
 ghost use Rattle.fr_threads.specs.Failures.{failure_of_settling};
 
@@ -14,7 +14,7 @@ use std::alloc::AllocError;
 
 /// Reasons why a thread of a run, or the run, ends before it is over.
 #[derive(Clone, Copy, PartialEq, Eq)]
-pub(crate) enum Failure {
+pub(crate) enum RunFailure {
     /// An interface refused the call of a task.
     Host(HostError),
     /// An interface refused the call of its controller.
@@ -32,22 +32,22 @@ pub(crate) enum Failure {
 }
 
 /// Returns the rank of a failure: of several failures, the one of the least rank is reported.
-fn rank(failure: &Failure) -> u8
+fn rank(failure: &RunFailure) -> u8
     ensures { result ≡ rank failure.now }
 {
     match failure {
-        Failure::Host(_) => 0,
-        Failure::Slot(_) => 1,
-        Failure::Bus(_) => 2,
-        Failure::Thread => 3,
-        Failure::Settle(_) => 4,
-        Failure::Memory => 5,
-        Failure::Stopped => 6,
+        RunFailure::Host(_) => 0,
+        RunFailure::Slot(_) => 1,
+        RunFailure::Bus(_) => 2,
+        RunFailure::Thread => 3,
+        RunFailure::Settle(_) => 4,
+        RunFailure::Memory => 5,
+        RunFailure::Stopped => 6,
     }
 }
 
 /// Returns the one of two failures that is reported.
-pub(crate) fn least_of(earlier: Option<Failure>, failure: Failure) -> Failure
+pub(crate) fn least_of(earlier: Option<RunFailure>, failure: RunFailure) -> RunFailure
     ensures { result ≡ least_of earlier failure }
 {
     match earlier {
@@ -63,7 +63,10 @@ pub(crate) fn least_of(earlier: Option<Failure>, failure: Failure) -> Failure
 }
 
 /// Returns the failure that is reported, of a thread's result and a failure before it.
-pub(crate) fn told_with(earlier: Option<Failure>, answer: Result<(), Failure>) -> Option<Failure>
+pub(crate) fn told_with(
+    earlier: Option<RunFailure>,
+    answer: Result<(), RunFailure>,
+) -> Option<RunFailure>
     ensures told { result ≡ told_after earlier (result_err answer) }
     ensures none { IfNone result (IsOk answer) }
 {
@@ -74,75 +77,75 @@ pub(crate) fn told_with(earlier: Option<Failure>, answer: Result<(), Failure>) -
 }
 
 /// Returns the failure for a refusal of the bus.
-fn failure_of_bus(error: BusError) -> Failure
+fn failure_of_bus(error: BusError) -> RunFailure
     ensures { result ≡ failure_of_bus error }
 {
     match error {
-        BusError::Memory => Failure::Memory,
-        error => Failure::Bus(error),
+        BusError::Memory => RunFailure::Memory,
+        error => RunFailure::Bus(error),
     }
 }
 
-impl From<AllocError> for Failure {
+impl From<AllocError> for RunFailure {
     ghost from_gives = { λ _ given. given ≡ failure.Memory };
 
-    fn from(_error: AllocError) -> Failure {
-        Failure::Memory
+    fn from(_error: AllocError) -> RunFailure {
+        RunFailure::Memory
     }
 }
 
-impl From<InterfaceError> for Failure {
+impl From<InterfaceError> for RunFailure {
     ghost from_gives = { λ _ given. given ≡ failure.Memory };
 
-    fn from(error: InterfaceError) -> Failure {
+    fn from(error: InterfaceError) -> RunFailure {
         match error {
-            InterfaceError::Memory => Failure::Memory,
+            InterfaceError::Memory => RunFailure::Memory,
         }
     }
 }
 
-impl From<HostError> for Failure {
+impl From<HostError> for RunFailure {
     ghost from_gives = { λ error given. given ≡ failure.Host error };
 
-    fn from(error: HostError) -> Failure {
-        Failure::Host(error)
+    fn from(error: HostError) -> RunFailure {
+        RunFailure::Host(error)
     }
 }
 
-impl From<SlotError> for Failure {
+impl From<SlotError> for RunFailure {
     ghost from_gives = { λ error given. given ≡ failure.Slot error };
 
-    fn from(error: SlotError) -> Failure {
-        Failure::Slot(error)
+    fn from(error: SlotError) -> RunFailure {
+        RunFailure::Slot(error)
     }
 }
 
-impl From<BusError> for Failure {
+impl From<BusError> for RunFailure {
     ghost from_gives = { λ error given. given ≡ failure_of_bus error };
 
-    fn from(error: BusError) -> Failure {
+    fn from(error: BusError) -> RunFailure {
         failure_of_bus(error)
     }
 }
 
-impl From<WireError> for Failure {
+impl From<WireError> for RunFailure {
     ghost from_gives = { λ error given. given ≡ failure_of_wire error };
 
-    fn from(error: WireError) -> Failure {
+    fn from(error: WireError) -> RunFailure {
         match error {
             WireError::Bus(error) => failure_of_bus(error),
-            WireError::Stopped => Failure::Stopped,
+            WireError::Stopped => RunFailure::Stopped,
         }
     }
 }
 
-impl From<SettleError> for Failure {
+impl From<SettleError> for RunFailure {
     ghost from_gives = { λ error given. given ≡ failure_of_settling error };
 
-    fn from(error: SettleError) -> Failure {
+    fn from(error: SettleError) -> RunFailure {
         match error {
-            SettleError::Memory => Failure::Memory,
-            error => Failure::Settle(error),
+            SettleError::Memory => RunFailure::Memory,
+            error => RunFailure::Settle(error),
         }
     }
 }

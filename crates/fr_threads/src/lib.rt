@@ -2,11 +2,11 @@
 //! text.
 //!
 //! ```text
-//! let run = run_threads(rt, alloc, &cluster, &scripts, &faults, cycles, stepped, &gate)?;
-//! run.interfaces; // the interface of each node, with its journal
-//! run.bus.record(); // the record of each window
+//! let run = run_threads(rt, alloc, &cluster, &Workload { scripts, faults, cycles, stepped }, &gate)?;
+//! run.interfaces; // what each node's journal has by then
+//! run.bus.record(); // what each window had
 //! run.scripts; // the scripts, with the answers that the tasks got
-//! run_text(rt, alloc, &mut file, &mut scenario, cycles, free, &mut output)?; // node 0, its report, node 1 and so on
+//! run_text(rt, alloc, &mut file, &mut scenario, options, &mut output)?; // node 0, its report, node 1 and so on
 //! ```
 //!
 //! A chapter in parentheses is one of the FlexRay Protocol Specification 2.1, revision A.
@@ -47,3 +47,4 @@ mod pace;
 pub mod run;
 mod shared;
 mod task;
+pub mod workload;

@@ -2,15 +2,14 @@
 
 ghost use Rattle.std.specs.Prelude.{◌≡◌, ◌<◌};
 
-use crate::failure::Failure;
-use crate::shared::Shared;
+use crate::failure::RunFailure;
+use crate::shared::Common;
 use fr_bus::windows::opens_cycle;
 use fr_desks::gate::Gate;
 use fr_desks::wire::{Wire, WireError};
 use fr_runs::fault_line::{FaultLine, keep_lines_of};
 use fr_slots::numbers::NodeId;
 use fr_slots::window::Window;
-use std::alloc::Global;
 use std::sync::Wait;
 use std::time::Clock;
 
@@ -31,26 +30,21 @@ fn inject_all<R: Wait + Clock>(
 }
 
 /// Moves the bus on from window to window, up to the end of the run.
-fn move_on<R: Wait + Clock, G: Gate>(
-    rt: &R,
-    alloc: Global,
-    wire: &Wire,
-    faults: &[FaultLine],
-    gate: &G,
-) -> Result<(), Failure> {
+fn move_on<R: Wait + Clock, G: Gate>(common: &Common<'_, R, G>) -> Result<(), RunFailure> {
+    let (rt, wire) = (common.rt, &common.shared.wire);
     let mut begun = 0u16;
-    let mut kept = Vec::new(alloc);
+    let mut kept = Vec::new(common.alloc);
     for _ in rt.forever() {
         // `next` changes nothing, and each node gets the same window.
         let Some(window) = wire.next(rt, NodeId::from_number(0))? else {
             return Ok(());
         };
         if opens_cycle(&window) {
-            keep_lines_of(faults, begun, &mut kept)?;
+            keep_lines_of(common.workload.faults, begun, &mut kept)?;
             begun = begun.saturating_add(1);
         }
         inject_all(rt, wire, kept.as_slice(), begun.saturating_sub(1), &window)?;
-        wire.seal(rt, gate)?;
+        wire.seal(rt, common.gate)?;
         wire.advance(rt)?;
     }
     unreachable!()
@@ -58,15 +52,11 @@ fn move_on<R: Wait + Clock, G: Gate>(
 
 /// Runs the thread of the bus. If it fails, the run is stopped.
 pub(crate) fn run_bus<R: Wait + Clock, G: Gate>(
-    rt: &R,
-    alloc: Global,
-    shared: &Shared,
-    faults: &[FaultLine],
-    gate: &G,
-) -> Result<(), Failure> {
-    let ended = move_on(rt, alloc, &shared.wire, faults, gate);
+    common: &Common<'_, R, G>,
+) -> Result<(), RunFailure> {
+    let ended = move_on(common);
     if ended.is_err() {
-        shared.stop(rt);
+        common.shared.stop(common.rt);
     }
     ended
 }

@@ -7,18 +7,16 @@ ghost use Rattle.fr_interface.specs.Commits.{commits_of};
 ghost use Rattle.fr_ledger.specs.Posts.{parts_for};
 ghost use Rattle.fr_threads.specs.Failures.{told_after, told_of_all};
 
-use crate::failure::{Failure, least_of, told_with};
-use crate::shared::{Common, Shared};
+use crate::failure::{RunFailure, least_of, told_with};
+use crate::shared::Common;
 use crate::task::{TaskDone, run_task};
 use fr_bus::windows::opens_cycle;
 use fr_core::event::Reply;
-use fr_core::script::Script;
 use fr_desks::desk::{Desk, TaskPass};
 use fr_desks::gate::Gate;
 use fr_interface::interface::{Interface, Offer};
 use fr_ledger::books::{Share, gather};
 use fr_runs::stepping::lines_given;
-use fr_schedule::cluster::Cluster;
 use fr_slots::numbers::NodeId;
 use fr_status::seen::Seen;
 use std::alloc::{AllocError, Global};
@@ -51,7 +49,7 @@ struct TasksDone<L: Ledger> {
 #[derive(Drop)]
 struct TasksJoined<L: Ledger> {
     shares: Vec<Share<L>>,
-    answers: Vec<Result<Vec<Reply>, Failure>>,
+    answers: Vec<Result<Vec<Reply>, RunFailure>>,
 }
 
 impl<L: Ledger> TasksJoined<L> {
@@ -71,12 +69,11 @@ impl<L: Ledger> TasksJoined<L> {
 
 /// Executes all steps of the controller in the run.
 fn control<L: Ledger, R: Wait + Clock, G: Gate>(
-    rt: &R,
+    common: &Common<'_, R, G>,
     desk: &Desk<L>,
-    shared: &Shared,
     node: NodeId,
-    gate: &G,
-) -> Result<(), Failure> {
+) -> Result<(), RunFailure> {
+    let (rt, shared, gate) = (common.rt, common.shared, common.gate);
     let mut begun = 0u16;
     let mut offer = Offer { a: None, b: None };
     let mut a = Seen::Silence;
@@ -101,30 +98,21 @@ fn control<L: Ledger, R: Wait + Clock, G: Gate>(
 /// Starts the thread of each task. If one can't be started, those before it run.
 fn start_tasks<'s, E, L: Ledger + Send + Sync, R: Wait + Sync, G: Gate + Sync>(
     scope: &'s Scope<'s, E>,
-    alloc: Global,
     common: &'s Common<'s, R, G>,
     desk: &'s Desk<L>,
     node: NodeId,
     passes: Vec<TaskPass<L>>,
     running: &mut Vec<JoinHandle<TaskDone<L>>>,
-) -> Result<(), Failure>
+) -> Result<(), RunFailure>
     requires { vec_len running.old + vec_len passes ≤ vec_capacity running.old }
     ensures few { vec_len running.new ≤ vec_len running.old + vec_len passes }
     ensures all { OnOk result (vec_len running.new ≡ vec_len running.old + vec_len passes) }
 {
     for pass in passes {
-        let lines = lines_given(common.scripts, node, pass.task());
-        match scope.spawn(move || run_task(
-            common.rt,
-            alloc,
-            desk,
-            common.shared,
-            lines,
-            common.gate,
-            pass,
-        )) {
+        let lines = lines_given(common.workload.scripts, node, pass.task());
+        match scope.spawn(move || run_task(common, desk, lines, pass)) {
             Ok(handle) => running.push_reserved(handle),
-            Err(_) => return Err(Failure::Thread),
+            Err(_) => return Err(RunFailure::Thread),
         }
     }
     Ok(())
@@ -152,9 +140,9 @@ fn join_tasks<L: Ledger, R: Threads>(
 ///
 /// There is room for all answers.
 fn keep_answers(
-    answers: Vec<Result<Vec<Reply>, Failure>>,
+    answers: Vec<Result<Vec<Reply>, RunFailure>>,
     kept: &mut Vec<Vec<Reply>>,
-) -> Option<Failure>
+) -> Option<RunFailure>
     requires { vec_len kept.old + vec_len answers ≤ vec_capacity kept.old }
     ensures { result ≡ told_of_all (map result_err answers.items) }
 {
@@ -173,9 +161,9 @@ fn keep_answers(
 /// It is reported if one of the tasks or their controller failed. There is room for their answers.
 fn all_answered<L: Ledger>(
     joined: TasksJoined<L>,
-    ended: Result<(), Failure>,
+    ended: Result<(), RunFailure>,
     mut kept: Vec<Vec<Reply>>,
-) -> Result<TasksDone<L>, Failure>
+) -> Result<TasksDone<L>, RunFailure>
     requires { vec_len kept + vec_len joined.answers ≤ vec_capacity kept }
     ensures told { result_err result
         ≡ told_after (told_of_all (map result_err joined.answers.items)) (result_err ended) }
@@ -194,19 +182,19 @@ fn all_answered<L: Ledger>(
 /// Runs the node's tasks and its controller, and joins them. If one of them fails, the run is stopped.
 fn serve<'s, E, L: Ledger + Send + Sync, R: Threads + Wait + Clock + Sync, G: Gate + Sync>(
     scope: &'s Scope<'s, E>,
-    alloc: Global,
     common: &'s Common<'s, R, G>,
     desk: &'s Desk<L>,
     node: NodeId,
     passes: Vec<TaskPass<L>>,
-) -> Result<TasksDone<L>, Failure>
+) -> Result<TasksDone<L>, RunFailure>
     ensures { IfOk result (λ done. vec_len done.shares ≡ vec_len passes) }
 {
+    let alloc = common.alloc;
     let mut joined = TasksJoined::with_room(alloc, passes.len())?;
     let kept = Vec::with_capacity(alloc, passes.len())?;
     let mut running = Vec::with_capacity(alloc, passes.len())?;
-    let ended = match start_tasks(scope, alloc, common, desk, node, passes, &mut running) {
-        Ok(()) => control(common.rt, desk, common.shared, node, common.gate),
+    let ended = match start_tasks(scope, common, desk, node, passes, &mut running) {
+        Ok(()) => control(common, desk, node),
         Err(failure) => Err(failure),
     };
     if ended.is_err() {
@@ -218,38 +206,36 @@ fn serve<'s, E, L: Ledger + Send + Sync, R: Threads + Wait + Clock + Sync, G: Ga
 
 /// Runs the node's tasks and its controller in a scope.
 fn run_in_scope<L: Ledger + Send + Sync, R: Threads + Wait + Clock + Sync, G: Gate + Sync>(
-    alloc: Global,
     common: &Common<'_, R, G>,
     desk: &Desk<L>,
     node: NodeId,
     passes: Vec<TaskPass<L>>,
-) -> Result<TasksDone<L>, Failure>
+) -> Result<TasksDone<L>, RunFailure>
     ensures { IfOk result (λ done. vec_len done.shares ≡ vec_len passes) }
 {
     thread::scope(
         thread::scope_env(),
         common.rt,
-        |scope| -> Result<TasksDone<L>, Failure>
+        |scope| -> Result<TasksDone<L>, RunFailure>
             ensures { IfOk result (λ done. vec_len done.shares ≡ vec_len passes) }
-        { serve(scope, alloc, common, desk, node, passes) },
+        { serve(scope, common, desk, node, passes) },
     )
 }
 
 /// Opens the node's `Desk`, runs its tasks and its controller, and gathers the shares.
 fn run_desk<L: Ledger + Send + Sync, R: Threads + Wait + Clock + Sync, G: Gate + Sync>(
-    alloc: Global,
     common: &Common<'_, R, G>,
     blank: Blank,
     interface: Interface,
     node: NodeId,
-) -> Result<NodeDone, Failure>
+) -> Result<NodeDone, RunFailure>
     requires name { blank.name ≡ L.name }
     requires parts { blank.parts ≡ L.parts }
     requires one_each { blank.parts ≡ parts_for interface.plan.tasks }
     requires fresh { interface.entries ≡ [] }
 {
-    let (desk, passes) = Desk::<L>::open(alloc, blank, node, interface)?;
-    let ended = run_in_scope(alloc, common, &desk, node, passes);
+    let (desk, passes) = Desk::<L>::open(common.alloc, blank, node, interface)?;
+    let ended = run_in_scope(common, &desk, node, passes);
     let (interface, mut book, own) = desk.close();
     let TasksDone { shares, answers } = ended?;
     let commits = gather(&mut book, own, shares);
@@ -262,42 +248,29 @@ fn run_desk<L: Ledger + Send + Sync, R: Threads + Wait + Clock + Sync, G: Gate +
 
 /// Makes the interface of the node of this number, and runs the node with a ledger of its own.
 fn run_ledger<R: Threads + Wait + Clock + Sync, G: Gate + Sync>(
-    alloc: Global,
     common: &Common<'_, R, G>,
     number: u8,
-) -> Result<NodeDone, Failure> {
+) -> Result<NodeDone, RunFailure> {
     // A node that the cluster doesn't have has no thread, but the type of a number doesn't show this.
     let Some(node) = NodeId::new(number) else {
-        return Err(Failure::Thread);
+        return Err(RunFailure::Thread);
     };
     let Some(plan) = common.cluster.node(node) else {
-        return Err(Failure::Thread);
+        return Err(RunFailure::Thread);
     };
-    let interface = Interface::new(alloc, common.cluster.params(), plan)?;
+    let interface = Interface::new(common.alloc, common.cluster.params(), plan)?;
     let parts = u64::from(interface.plan().tasks()) + 1;
-    run_desk::<Brand, R, G>(alloc, common, Blank::new(parts), interface, node)
+    run_desk::<Brand, R, G>(common, Blank::new(parts), interface, node)
 }
 
 /// Runs the thread of the node of this number. If it fails, the run is stopped.
 pub(crate) fn run_node<R: Threads + Wait + Clock + Sync, G: Gate + Sync>(
-    rt: &R,
-    alloc: Global,
-    shared: &Shared,
-    cluster: &Cluster,
-    scripts: &[Script],
+    common: &Common<'_, R, G>,
     number: u8,
-    gate: &G,
-) -> Result<NodeDone, Failure> {
-    let common = Common {
-        rt,
-        shared,
-        cluster,
-        scripts,
-        gate,
-    };
-    let done = run_ledger(alloc, &common, number);
+) -> Result<NodeDone, RunFailure> {
+    let done = run_ledger(common, number);
     if done.is_err() {
-        shared.stop(rt);
+        common.shared.stop(common.rt);
     }
     done
 }

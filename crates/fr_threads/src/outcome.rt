@@ -4,6 +4,7 @@ ghost use Rattle.fr_threads.specs.Outcomes.{Prints, Answers, IsFileRefused, IsFi
 
 use crate::outcome_error::OutcomeError;
 use crate::run::run_threads;
+use crate::workload::Workload;
 use fr_desks::gate::OpenGate;
 use fr_files::cluster_file::cluster_of;
 use fr_files::error::BenchError;
@@ -17,7 +18,17 @@ use std::sync::Wait;
 use std::thread::Threads;
 use std::time::Clock;
 
-/// Runs the cluster with the scenario of a file, and writes the outcome (project-defined).
+/// How long a run lasts, and when tasks do their lines (project-defined).
+#[derive(Clone, Copy)]
+pub struct RunOptions {
+    /// The number of cycles.
+    pub cycles: u16,
+    /// Whether a task does its lines at any moment, and not each in its cycle.
+    pub free: bool,
+}
+
+/// Reads a scenario file to its end, runs the cluster with it, and writes each node's report, the number of windows and
+/// that all agrees (project-defined).
 ///
 /// The scenario file is read to its end.
 ///
@@ -31,26 +42,27 @@ pub fn run_cluster<T: Threads + Wait + Clock + Sync, R: Read, W: Write>(
     alloc: Global,
     cluster: &Cluster,
     reader: &mut R,
-    cycles: u16,
-    free: bool,
+    options: RunOptions,
     writer: &mut W,
 ) -> Result<(), OutcomeError>
     ensures written { Prints
         cluster.now
-        cycles
-        free
+        options.cycles
+        options.free
         (R.remaining reader.old)
         (W.contents writer.old)
         (W.contents writer.new)
         result }
-    ensures refused { IfSome (R.remaining reader.old) (λ text. Answers cluster.now cycles text result) }
+    ensures refused { IfSome (R.remaining reader.old) (λ text. Answers cluster.now options.cycles text result) }
 {
     let scenario = scenario_of(alloc, reader)?;
-    let scripts = scenario.scripts();
-    let faults = scenario.faults();
-    let run = run_threads(
-        rt, alloc, cluster, scripts, faults, cycles, !free, &OpenGate,
-    )?;
+    let workload = Workload {
+        scripts: scenario.scripts(),
+        faults: scenario.faults(),
+        cycles: options.cycles,
+        stepped: !options.free,
+    };
+    let run = run_threads(rt, alloc, cluster, &workload, &OpenGate)?;
     let mut text = Vec::new(alloc);
     let windows = run.settled.windows as usize;
     match write_outcome(&mut text, run.interfaces.as_slice(), windows) {
@@ -68,8 +80,7 @@ pub fn run_text<T: Threads + Wait + Clock + Sync, F: Read, R: Read, W: Write>(
     alloc: Global,
     file: &mut F,
     reader: &mut R,
-    cycles: u16,
-    free: bool,
+    options: RunOptions,
     writer: &mut W,
 ) -> Result<(), OutcomeError>
     ensures { IsFileRefused
@@ -81,13 +92,13 @@ pub fn run_text<T: Threads + Wait + Clock + Sync, F: Read, R: Read, W: Write>(
         result
         ⊎ IsFileRun
         (F.remaining file.old)
-        cycles
-        free
+        options.cycles
+        options.free
         (R.remaining reader.old)
         (W.contents writer.old)
         (W.contents writer.new)
         result }
 {
     let cluster = cluster_of(alloc, file)?;
-    run_cluster(rt, alloc, &cluster, reader, cycles, free, writer)
+    run_cluster(rt, alloc, &cluster, reader, options, writer)
 }

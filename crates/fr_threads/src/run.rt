@@ -12,11 +12,12 @@ ghost use Rattle.fr_threads.specs.Running.{IsRunOf, RefusesRun};
 
 use crate::answers::with_answers;
 use crate::error::{RunError, error_of_failure, error_of_refusal};
-use crate::failure::{Failure, least_of, told_with};
+use crate::failure::{RunFailure, least_of, told_with};
 use crate::mover::run_bus;
 use crate::node::{NodeDone, run_node};
 use crate::pace::Pace;
-use crate::shared::Shared;
+use crate::shared::{Common, Shared};
+use crate::workload::Workload;
 use fr_bus::bus::Bus;
 use fr_bus::error::Phase;
 use fr_bus::outcome::Sealed;
@@ -104,23 +105,18 @@ impl NodesDone {
 /// Starts the thread of each node. If one can't be started, those before it run.
 fn start_nodes<'s, E, R: Threads + Wait + Clock + Sync, G: Gate + Sync>(
     scope: &'s Scope<'s, E>,
-    rt: &'s R,
-    alloc: Global,
-    shared: &'s Shared,
-    cluster: &'s Cluster,
-    scripts: &'s [Script],
+    common: &'s Common<'s, R, G>,
     nodes: u8,
-    gate: &'s G,
-    running: &mut Vec<JoinHandle<Result<NodeDone, Failure>>>,
-) -> Result<(), Failure>
+    running: &mut Vec<JoinHandle<Result<NodeDone, RunFailure>>>,
+) -> Result<(), RunFailure>
     requires { vec_len running.old + nodes ≤ vec_capacity running.old }
     ensures few { vec_len running.new ≤ vec_len running.old + nodes }
     ensures all { OnOk result (vec_len running.new ≡ vec_len running.old + nodes) }
 {
     for number in 0..nodes {
-        match scope.spawn(move || run_node(rt, alloc, shared, cluster, scripts, number, gate)) {
+        match scope.spawn(move || run_node(common, number)) {
             Ok(handle) => running.push_reserved(handle),
-            Err(_) => return Err(Failure::Thread),
+            Err(_) => return Err(RunFailure::Thread),
         }
     }
     Ok(())
@@ -129,8 +125,8 @@ fn start_nodes<'s, E, R: Threads + Wait + Clock + Sync, G: Gate + Sync>(
 /// Joins the nodes, in their order. There is room for their results.
 fn join_nodes<R: Threads>(
     rt: &R,
-    running: Vec<JoinHandle<Result<NodeDone, Failure>>>,
-    answers: &mut Vec<Result<NodeDone, Failure>>,
+    running: Vec<JoinHandle<Result<NodeDone, RunFailure>>>,
+    answers: &mut Vec<Result<NodeDone, RunFailure>>,
 )
     requires { vec_len answers.old + vec_len running ≤ vec_capacity answers.old }
     ensures { vec_len answers.new ≡ vec_len answers.old + vec_len running }
@@ -143,7 +139,10 @@ fn join_nodes<R: Threads>(
 /// Adds the results of nodes that didn't fail, and returns the failure that is reported.
 ///
 /// There is room for the results.
-fn keep_nodes(answers: Vec<Result<NodeDone, Failure>>, nodes: &mut NodesDone) -> Option<Failure>
+fn keep_nodes(
+    answers: Vec<Result<NodeDone, RunFailure>>,
+    nodes: &mut NodesDone,
+) -> Option<RunFailure>
     requires interfaces { vec_len nodes.old.interfaces + vec_len answers ≤ vec_capacity nodes.old.interfaces }
     requires commits { vec_len nodes.old.commits + vec_len answers ≤ vec_capacity nodes.old.commits }
     requires answers { vec_len nodes.old.answers + vec_len answers ≤ vec_capacity nodes.old.answers }
@@ -165,11 +164,11 @@ fn keep_nodes(answers: Vec<Result<NodeDone, Failure>>, nodes: &mut NodesDone) ->
 ///
 /// They are returned if no node failed, nor the bus, and all threads were started. There is room for the results.
 fn all_done(
-    answers: Vec<Result<NodeDone, Failure>>,
-    bus: Result<(), Failure>,
-    started: Result<(), Failure>,
+    answers: Vec<Result<NodeDone, RunFailure>>,
+    bus: Result<(), RunFailure>,
+    started: Result<(), RunFailure>,
     mut nodes: NodesDone,
-) -> Result<NodesDone, Failure>
+) -> Result<NodesDone, RunFailure>
     requires interfaces { vec_len nodes.interfaces + vec_len answers ≤ vec_capacity nodes.interfaces }
     requires commits { vec_len nodes.commits + vec_len answers ≤ vec_capacity nodes.commits }
     requires answers { vec_len nodes.answers + vec_len answers ≤ vec_capacity nodes.answers }
@@ -185,64 +184,40 @@ fn all_done(
     }
 }
 
-// The threads of the bus and the nodes take their arguments one by one, since a struct in the closure of a thread scope
-// fails to check.
-/// Runs the bus and the nodes, and joins them. If one of them fails, the run is stopped.
+/// Runs the bus and the nodes, and joins them. Where one of them fails the run is stopped.
 fn serve<'s, E, R: Threads + Wait + Clock + Sync, G: Gate + Sync>(
     scope: &'s Scope<'s, E>,
-    rt: &'s R,
-    alloc: Global,
-    shared: &'s Shared,
-    cluster: &'s Cluster,
-    scripts: &'s [Script],
-    faults: &'s [FaultLine],
-    gate: &'s G,
-) -> Result<NodesDone, Failure>
+    common: &'s Common<'s, R, G>,
+) -> Result<NodesDone, RunFailure>
     ensures { IfOk result (λ nodes. nodes.commits.items ≡ map commits_of nodes.interfaces.items) }
 {
-    let count = cluster.nodes();
+    let (alloc, count) = (common.alloc, common.cluster.nodes());
     let nodes = NodesDone::with_room(alloc, usize::from(count))?;
     let mut answers = Vec::with_capacity(alloc, usize::from(count))?;
     let mut running = Vec::with_capacity(alloc, usize::from(count))?;
-    let Ok(bus) = scope.spawn(move || run_bus(rt, alloc, shared, faults, gate)) else {
-        return Err(Failure::Thread);
+    let Ok(bus) = scope.spawn(move || run_bus(common)) else {
+        return Err(RunFailure::Thread);
     };
-    let started = start_nodes(
-        scope,
-        rt,
-        alloc,
-        shared,
-        cluster,
-        scripts,
-        count,
-        gate,
-        &mut running,
-    );
+    let started = start_nodes(scope, common, count, &mut running);
     if started.is_err() {
-        shared.stop(rt);
+        common.shared.stop(common.rt);
     }
-    join_nodes(rt, running, &mut answers);
-    all_done(answers, bus.join(rt), started, nodes)
+    join_nodes(common.rt, running, &mut answers);
+    all_done(answers, bus.join(common.rt), started, nodes)
 }
 
 /// Runs the bus and the nodes in a scope.
 fn run_in_scope<R: Threads + Wait + Clock + Sync, G: Gate + Sync>(
-    rt: &R,
-    alloc: Global,
-    shared: &Shared,
-    cluster: &Cluster,
-    scripts: &[Script],
-    faults: &[FaultLine],
-    gate: &G,
-) -> Result<NodesDone, Failure>
+    common: &Common<'_, R, G>,
+) -> Result<NodesDone, RunFailure>
     ensures { IfOk result (λ nodes. nodes.commits.items ≡ map commits_of nodes.interfaces.items) }
 {
     thread::scope(
         thread::scope_env(),
-        rt,
-        |scope| -> Result<NodesDone, Failure>
+        common.rt,
+        |scope| -> Result<NodesDone, RunFailure>
             ensures { IfOk result (λ nodes. nodes.commits.items ≡ map commits_of nodes.interfaces.items) }
-        { serve(scope, rt, alloc, shared, cluster, scripts, faults, gate) },
+        { serve(scope, common) },
     )
 }
 
@@ -262,7 +237,12 @@ fn count_cycles(recorded: &[Sealed]) -> usize
 /// Returns whether the bus came to its end after this number of cycles, with these faults.
 ///
 /// The faults of its windows are exactly those of the lines.
-fn is_at_end(alloc: Global, bus: &Bus, faults: &[FaultLine], cycles: u16) -> Result<bool, Failure>
+fn is_at_end(
+    alloc: Global,
+    bus: &Bus,
+    faults: &[FaultLine],
+    cycles: u16,
+) -> Result<bool, RunFailure>
     ensures finished { IfOk result (λ answer. IsTrue answer → bus.now.phase ≡ Finished) }
     ensures cycles { IfOk result (λ answer. IsTrue answer → cycles_begun bus.now.sealed ≡ cycles) }
     ensures faults { IfOk result (λ answer. IsTrue answer → HaveFaults faults.now bus.now.sealed) }
@@ -281,18 +261,17 @@ fn settled_run<R: Threads + Sync>(
     rt: &R,
     alloc: Global,
     cluster: &Cluster,
-    given: &[Script],
-    faults: &[FaultLine],
-    cycles: u16,
-    stepped: bool,
+    workload: &Workload<'_>,
     nodes: NodesDone,
     bus: Bus,
-) -> Result<Run, Failure>
+) -> Result<Run, RunFailure>
     requires { nodes.commits.items ≡ map commits_of nodes.interfaces.items }
-    ensures { IfOk result (IsRunOf cluster.now given.now faults.now cycles stepped) }
+    ensures { IfOk result (IsRunOf cluster.now workload.now.scripts.now workload.now.faults.now workload.now.cycles
+        workload.now.stepped) }
 {
-    if !is_at_end(alloc, &bus, faults, cycles)? {
-        return Err(Failure::Thread);
+    let given = workload.scripts;
+    if !is_at_end(alloc, &bus, workload.faults, workload.cycles)? {
+        return Err(RunFailure::Thread);
     }
     let NodesDone {
         interfaces,
@@ -309,8 +288,8 @@ fn settled_run<R: Threads + Sync>(
         scripts.as_slice(),
     );
     let settled = answer?;
-    if stepped && !are_stepped(interfaces.as_slice(), bus.record(), given) {
-        return Err(Failure::Thread);
+    if workload.stepped && !are_stepped(interfaces.as_slice(), bus.record(), given) {
+        return Err(RunFailure::Thread);
     }
     Ok(Run {
         interfaces,
@@ -325,13 +304,12 @@ fn settled_run<R: Threads + Sync>(
 fn shared_by_all(
     alloc: Global,
     cluster: &Cluster,
-    scripts: &[Script],
-    cycles: u16,
-    stepped: bool,
-) -> Result<Shared, Failure> {
+    workload: &Workload<'_>,
+) -> Result<Shared, RunFailure> {
+    let cycles = workload.cycles;
     let bus = Bus::new(alloc, cluster, cycles)?;
-    let pace = if stepped {
-        Some(Pace::new(alloc, cluster.nodes(), cycles, scripts)?)
+    let pace = if workload.stepped {
+        Some(Pace::new(alloc, cluster.nodes(), cycles, workload.scripts)?)
     } else {
         None
     };
@@ -346,61 +324,58 @@ fn run_all<R: Threads + Wait + Clock + Sync, G: Gate + Sync>(
     rt: &R,
     alloc: Global,
     cluster: &Cluster,
-    scripts: &[Script],
-    faults: &[FaultLine],
-    cycles: u16,
-    stepped: bool,
+    workload: &Workload<'_>,
     gate: &G,
-) -> Result<Run, Failure>
-    ensures { IfOk result (IsRunOf cluster.now scripts.now faults.now cycles stepped) }
+) -> Result<Run, RunFailure>
+    ensures { IfOk result (IsRunOf cluster.now workload.now.scripts.now workload.now.faults.now workload.now.cycles
+        workload.now.stepped) }
 {
-    let shared = shared_by_all(alloc, cluster, scripts, cycles, stepped)?;
-    let ended = run_in_scope(rt, alloc, &shared, cluster, scripts, faults, gate);
+    let shared = shared_by_all(alloc, cluster, workload)?;
+    let ended = run_in_scope(&Common {
+        rt,
+        alloc,
+        shared: &shared,
+        cluster,
+        workload,
+        gate,
+    });
     let Shared { wire, pace: _ } = shared;
     let bus = wire.close();
     let nodes = ended?;
-    settled_run(
-        rt, alloc, cluster, scripts, faults, cycles, stepped, nodes, bus,
-    )
+    settled_run(rt, alloc, cluster, workload, nodes, bus)
 }
 
-/// Runs the cluster for this number of cycles, in threads (project-defined).
-///
-/// A thread for each task executes the lines of its script, one for each controller executes all windows, and one for
-/// the bus injects the faults and moves the bus on.
-///
-/// In a lockstep run, the lines of a cycle are executed once all controllers have observed the whole of the cycle
-/// before, and before any of them fetches in the cycle. Otherwise they are executed at any moment, in the order of each
-/// script.
-///
-/// Returns `BadCycles`, `BadScript`, `BadFault` or `NoRoom`, in this order and as `check_run` does, before any thread
-/// starts. Of several failures that threads meet, the first of these is reported: `Host`, `Slot`, `Bus`, `Thread` and
-/// `Memory`.
+/// Runs the cluster for the cycles of the workload: a thread for each task does the lines of its script, one for each
+/// controller does all windows, and one for the bus injects the faults and moves the bus on (project-defined).
 ///
 /// If the threads meet no failure, a bus that isn't at its end after this number of cycles gives `Thread`, and results
 /// that don't agree give `Settle`. A record with faults other than those of the lines also gives `Thread`, and so does
 /// a line of a lockstep run that wasn't executed in its cycle.
 ///
-/// All threads are joined before it returns. Its cross-check walks the journals in threads if these can be started,
-/// otherwise one after another. A thread that can't be started there is no failure.
+/// Refused with `BadCycles`, `BadScript`, `BadFault` and `NoRoom`, in this order and as `check_run` refuses, before any
+/// thread starts. Of several failures that threads meet the first of these is reported: `Host`, `Slot`, `Bus`, `Thread`
+/// and `Memory`. Where they meet none, a bus that isn't at its end after so many cycles is `Thread`, and what doesn't
+/// agree by then is `Settle`. A record with other faults than those of the lines, or in a stepped run a line that
+/// wasn't done in its cycle, is `Thread` too. All threads are joined before it answers. Its cross-check walks the
+/// journals in threads where these can be had, and one after another where not, and refuses nothing for that.
 pub fn run_threads<R: Threads + Wait + Clock + Sync, G: Gate + Sync>(
     rt: &R,
     alloc: Global,
     cluster: &Cluster,
-    scripts: &[Script],
-    faults: &[FaultLine],
-    cycles: u16,
-    stepped: bool,
+    workload: &Workload<'_>,
     gate: &G,
 ) -> Result<Run, RunError>
-    ensures refused { RefusesRun cluster.now scripts.now faults.now cycles result }
+    ensures refused { RefusesRun cluster.now workload.now.scripts.now workload.now.faults.now workload.now.cycles
+        result }
     ensures memory { TellsMemory result }
-    ensures run { IfOk result (IsRunOf cluster.now scripts.now faults.now cycles stepped) }
+    ensures run { IfOk result (IsRunOf cluster.now workload.now.scripts.now workload.now.faults.now
+        workload.now.cycles workload.now.stepped) }
 {
-    if let Err(refusal) = check_run(cluster, scripts, faults, cycles) {
+    let (scripts, faults) = (workload.scripts, workload.faults);
+    if let Err(refusal) = check_run(cluster, scripts, faults, workload.cycles) {
         return Err(error_of_refusal(refusal));
     }
-    match run_all(rt, alloc, cluster, scripts, faults, cycles, stepped, gate) {
+    match run_all(rt, alloc, cluster, workload, gate) {
         Ok(run) => Ok(run),
         Err(failure) => Err(error_of_failure(failure)),
     }

@@ -1,10 +1,11 @@
 //! The state that all threads of a run share.
 
-use crate::failure::Failure;
+use crate::failure::RunFailure;
 use crate::pace::Pace;
-use fr_core::script::Script;
+use crate::workload::Workload;
 use fr_desks::wire::Wire;
 use fr_schedule::cluster::Cluster;
+use std::alloc::Global;
 use std::sync::Wait;
 
 /// The state that all threads of a run share: the bus, and in a lockstep run its cycle barrier.
@@ -14,25 +15,25 @@ pub(crate) struct Shared {
     pub pace: Option<Pace>,
 }
 
-// A struct keeps the arguments of `start_tasks` in `node` at seven.
-/// The arguments of a node's threads.
+/// What each thread of a run is given.
 #[derive(Drop)]
 pub(crate) struct Common<'a, R, G> {
     pub rt: &'a R,
+    pub alloc: Global,
     pub shared: &'a Shared,
     pub cluster: &'a Cluster,
-    pub scripts: &'a [Script],
+    pub workload: &'a Workload<'a>,
     pub gate: &'a G,
 }
 
 impl Shared {
     /// Waits, as a task that has lines in the cycle, until these are due.
-    pub(crate) fn wait_due<R: Wait>(&self, rt: &R, cycle: u16) -> Result<(), Failure> {
+    pub(crate) fn wait_due<R: Wait>(&self, rt: &R, cycle: u16) -> Result<(), RunFailure> {
         match &self.pace {
             Some(pace) => if pace.wait_due(rt, cycle) {
                 Ok(())
             } else {
-                Err(Failure::Stopped)
+                Err(RunFailure::Stopped)
             },
             None => Ok(()),
         }
@@ -46,12 +47,12 @@ impl Shared {
     }
 
     /// Waits, as a controller that is to begin the cycle, until all lines of the cycle are executed.
-    pub(crate) fn wait_done<R: Wait>(&self, rt: &R, cycle: u16) -> Result<(), Failure> {
+    pub(crate) fn wait_done<R: Wait>(&self, rt: &R, cycle: u16) -> Result<(), RunFailure> {
         match &self.pace {
             Some(pace) => if pace.wait_done(rt, cycle) {
                 Ok(())
             } else {
-                Err(Failure::Stopped)
+                Err(RunFailure::Stopped)
             },
             None => Ok(()),
         }

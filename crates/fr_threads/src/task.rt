@@ -1,7 +1,7 @@
 //! The thread of a task.
 
-use crate::failure::Failure;
-use crate::shared::Shared;
+use crate::failure::RunFailure;
+use crate::shared::Common;
 use fr_core::event::Reply;
 use fr_core::script::Line;
 use fr_desks::desk::{Desk, TaskPass};
@@ -9,7 +9,6 @@ use fr_desks::gate::Gate;
 use fr_interface::call::Call;
 use fr_interface::errors::HostError;
 use fr_ledger::books::Share;
-use std::alloc::Global;
 use std::sync::Wait;
 use std::sync::ledger::Ledger;
 
@@ -19,7 +18,7 @@ use std::sync::ledger::Ledger;
 #[derive(Drop)]
 pub(crate) struct TaskDone<L: Ledger> {
     pub share: Share<L>,
-    pub answers: Result<Vec<Reply>, Failure>,
+    pub answers: Result<Vec<Reply>, RunFailure>,
 }
 
 /// Executes one line.
@@ -52,15 +51,13 @@ fn do_line<L: Ledger, R: Wait, G: Gate>(
 
 /// Executes the lines, those of a cycle once they are due.
 fn do_lines<L: Ledger, R: Wait, G: Gate>(
-    rt: &R,
-    alloc: Global,
+    common: &Common<'_, R, G>,
     desk: &Desk<L>,
-    shared: &Shared,
     lines: &[Line],
-    gate: &G,
     me: &mut TaskPass<L>,
-) -> Result<Vec<Reply>, Failure> {
-    let mut answers = Vec::with_capacity(alloc, lines.len())?;
+) -> Result<Vec<Reply>, RunFailure> {
+    let (rt, shared) = (common.rt, common.shared);
+    let mut answers = Vec::with_capacity(common.alloc, lines.len())?;
     let mut begun = None;
     for line in lines {
         if begun != Some(line.cycle) {
@@ -70,7 +67,7 @@ fn do_lines<L: Ledger, R: Wait, G: Gate>(
             shared.wait_due(rt, line.cycle)?;
             begun = Some(line.cycle);
         }
-        answers.push_reserved(do_line(rt, desk, gate, me, &line.action)?);
+        answers.push_reserved(do_line(rt, desk, common.gate, me, &line.action)?);
     }
     if begun.is_some() {
         shared.tell_done(rt);
@@ -80,18 +77,15 @@ fn do_lines<L: Ledger, R: Wait, G: Gate>(
 
 /// Runs the thread of a task. If it fails, the run is stopped.
 pub(crate) fn run_task<L: Ledger, R: Wait, G: Gate>(
-    rt: &R,
-    alloc: Global,
+    common: &Common<'_, R, G>,
     desk: &Desk<L>,
-    shared: &Shared,
     lines: &[Line],
-    gate: &G,
     pass: TaskPass<L>,
 ) -> TaskDone<L> {
     let mut me = pass;
-    let answers = do_lines(rt, alloc, desk, shared, lines, gate, &mut me);
+    let answers = do_lines(common, desk, lines, &mut me);
     if answers.is_err() {
-        shared.stop(rt);
+        common.shared.stop(common.rt);
     }
     let share = me.into_share();
     TaskDone { share, answers }

@@ -1,6 +1,6 @@
 //! The outcome of a run, from the text of a cluster file and that of a scenario.
 
-use fr_threads::outcome::run_text;
+use fr_threads::outcome::{RunOptions, run_text};
 use std::test::Fail;
 
 /// A cluster of two static slots, whose one node owns the first.
@@ -39,8 +39,10 @@ fn an_outcome_from_two_texts(rt: HostRuntime) -> Result<(), Fail> {
         rt.alloc(),
         &mut cluster,
         &mut scenario,
-        1,
-        false,
+        RunOptions {
+            cycles: 1,
+            free: false,
+        },
         &mut written,
     );
     assert_eq!(rt; answer, Ok(()));

@@ -7,6 +7,7 @@ use fr_desks::gate::{Actor, Side};
 use fr_schedule::cluster::Cluster;
 use fr_testing::node;
 use fr_threads::run::run_threads;
+use fr_threads::workload::Workload;
 use std::alloc::Global;
 use std::sync::Wait;
 use std::test::Fail;
@@ -23,16 +24,13 @@ fn overlaps<R: Threads + Wait + Clock + Sync>(
     let cluster = three_nodes(alloc)?;
     let scripts = scripts(alloc)?;
     let faults = babbles()?;
-    let run = run_threads(
-        rt,
-        alloc,
-        &cluster,
-        scripts.as_slice(),
-        &faults,
-        4,
+    let workload = Workload {
+        scripts: scripts.as_slice(),
+        faults: &faults,
+        cycles: 4,
         stepped,
-        gate,
-    )?;
+    };
+    let run = run_threads(rt, alloc, &cluster, &workload, gate)?;
     Ok(gate.was_kept() && run.settled.windows == 28)
 }
 
@@ -102,7 +100,13 @@ fn lone_controller_waits<R: Threads + Wait + Clock + Sync>(
     let cluster = Cluster::from_text(alloc, ONE_NODE)?;
     let scripts = [commits(alloc, 0, 0, &[(0, [0x0a, 0x0b])])?];
     let gate = Late::new(task_point(0, 0, Side::Before)?, Actor::Controller(node(0)?));
-    let run = run_threads(rt, alloc, &cluster, &scripts, &[], 1, true, &gate)?;
+    let workload = Workload {
+        scripts: &scripts,
+        faults: &[],
+        cycles: 1,
+        stepped: true,
+    };
+    let run = run_threads(rt, alloc, &cluster, &workload, &gate)?;
     Ok(gate.was_awaited() && run.settled.windows == 2)
 }
 

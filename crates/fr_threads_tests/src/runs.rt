@@ -7,6 +7,7 @@ use fr_runs::fault_line::FaultLine;
 use fr_testing::node;
 use fr_threads::error::RunError;
 use fr_threads::run::{Run, run_threads};
+use fr_threads::workload::Workload;
 use std::alloc::Global;
 use std::sync::Wait;
 use std::test::Fail;
@@ -23,9 +24,13 @@ fn answer<R: Threads + Wait + Clock + Sync>(
     stepped: bool,
 ) -> Result<Result<Run, RunError>, Fail> {
     let cluster = three_nodes(alloc)?;
-    Ok(run_threads(
-        rt, alloc, &cluster, scripts, faults, cycles, stepped, &OpenGate,
-    ))
+    let workload = Workload {
+        scripts,
+        faults,
+        cycles,
+        stepped,
+    };
+    Ok(run_threads(rt, alloc, &cluster, &workload, &OpenGate))
 }
 
 /// Returns the numbers of commits and of windows in four cycles, while node 2 babbles.

@@ -14,8 +14,8 @@ use Rattle.fr_trace.specs.declared.error.TraceError.TheVariants.{BadLine}
 use Rattle.fr_interface.specs.State.{State}
 use Rattle.fr_lines.specs.declared.versions.Version.{Version}
 use Rattle.fr_trace.specs.Auditor.{phase_of, progress_in}
-use Rattle.fr_trace.specs.declared.auditor.Phase.{Phase as Given}
-use Rattle.fr_trace.specs.declared.auditor.Phase.TheVariants.{Finished}
+use Rattle.fr_trace.specs.declared.auditor.TextPhase.{TextPhase as Given}
+use Rattle.fr_trace.specs.declared.auditor.TextPhase.TheVariants.{Finished}
 use Rattle.std.specs.Prelude.{Option, Some, None, is_some}
 use Rattle.fr_trace.proofs.FeedLemmas.{reads_more, feed_read, phase_open}
 use Rattle.fr_trace.proofs.LineLemmas.{fill}

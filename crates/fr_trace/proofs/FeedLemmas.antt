@@ -5,8 +5,8 @@ use Rattle.std.proofs.lemmas.List.Folds.{fold_stays}
 use Rattle.fr_interface.specs.State.{State}
 use Rattle.fr_lines.specs.declared.versions.Version.{Version}
 use Rattle.fr_trace.specs.Auditor.{phase_of}
-use Rattle.fr_trace.specs.declared.auditor.Phase.{Phase as Given}
-use Rattle.fr_trace.specs.declared.auditor.Phase.TheVariants.{Magic, Parameters, Node, Lines, Body, Finished}
+use Rattle.fr_trace.specs.declared.auditor.TextPhase.{TextPhase as Given}
+use Rattle.fr_trace.specs.declared.auditor.TextPhase.TheVariants.{Magic, Parameters, Node, Lines, Body, Finished}
 use Rattle.fr_trace.specs.Stream.{Phase, Progress, reading, failed, take_byte, take_bytes}
 use Rattle.fr_trace.specs.Feeds.{IsAtBegin, Begins, Reads, EndsLine}
 use Rattle.fr_trace.specs.declared.error.TraceError.TheVariants.{Memory}

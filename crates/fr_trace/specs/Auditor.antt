@@ -1,11 +1,11 @@
 -- The meaning of the phases of an auditor.
 use Rattle.std.specs.Prelude.{ℕ, List, Option, Some, None}
 use Rattle.fr_trace.specs.Stream.{Phase as View, Progress, magic, params, node, lines, body, finished, reading, failed}
-use Rattle.fr_trace.specs.declared.auditor.Phase.{Phase}
-use Rattle.fr_trace.specs.declared.auditor.Phase.TheVariants.{Magic, Parameters, Node, Lines, Body, Finished}
+use Rattle.fr_trace.specs.declared.auditor.TextPhase.{TextPhase}
+use Rattle.fr_trace.specs.declared.auditor.TextPhase.TheVariants.{Magic, Parameters, Node, Lines, Body, Finished}
 use Rattle.fr_trace.specs.declared.error.TraceError.{TraceError}
 
-abbrev pub phase_of : Phase → View
+abbrev pub phase_of : TextPhase → View
 phase_of Magic = magic
 phase_of (Parameters v) = params v
 phase_of (Node v p) = node v p

@@ -33,7 +33,7 @@ pub const LINE: usize = 1200;
 
 /// The kinds of line that may come next, in a text of the version that its first line names.
 #[derive(Drop)]
-enum Phase {
+enum TextPhase {
     Magic,
     Parameters(Version),
     Node(Version, Params),
@@ -60,48 +60,48 @@ pub(crate) fn lines_of(interface: &Interface) -> u32
 }
 
 /// Returns the number of the line that comes next.
-fn line_number(phase: &Phase) -> u32
+fn line_number(phase: &TextPhase) -> u32
     ensures { result ≡ line_number (phase_of phase.now) }
 {
     match phase {
-        Phase::Magic => 1,
-        Phase::Parameters(_) => 2,
-        Phase::Node(_, _) => 3,
-        Phase::Lines(_, _, plan) => line_count(plan) + 4,
-        Phase::Body(_, interface) => lines_of(interface) + 5,
-        Phase::Finished(_, interface) => lines_of(interface) + 6,
+        TextPhase::Magic => 1,
+        TextPhase::Parameters(_) => 2,
+        TextPhase::Node(_, _) => 3,
+        TextPhase::Lines(_, _, plan) => line_count(plan) + 4,
+        TextPhase::Body(_, interface) => lines_of(interface) + 5,
+        TextPhase::Finished(_, interface) => lines_of(interface) + 6,
     }
 }
 
 /// Reads the first line, which names the version.
-fn first_line(line: &[u8]) -> Result<Phase, TraceError>
+fn first_line(line: &[u8]) -> Result<TextPhase, TraceError>
     ensures { GivesPhase phase_of result (take_line magic line.now) }
 {
     match version_of(line) {
-        Some(version) => Ok(Phase::Parameters(version)),
+        Some(version) => Ok(TextPhase::Parameters(version)),
         None => Err(TraceError::BadMagic),
     }
 }
 
 /// Reads the line of the parameters.
-fn parameters_line(version: Version, line: &[u8]) -> Result<Phase, TraceError>
+fn parameters_line(version: Version, line: &[u8]) -> Result<TextPhase, TraceError>
     ensures { GivesPhase phase_of result (take_line (params version) line.now) }
 {
     let Some(numbers) = params_of(line) else {
         return Err(TraceError::BadLine(2));
     };
     match Params::new(numbers) {
-        Ok(params) => Ok(Phase::Node(version, params)),
+        Ok(params) => Ok(TextPhase::Node(version, params)),
         Err(_) => Err(TraceError::Refused(2)),
     }
 }
 
 /// Reads the line of the plan's numbers.
-fn node_line(version: Version, params: Params, line: &[u8]) -> Result<Phase, TraceError>
+fn node_line(version: Version, params: Params, line: &[u8]) -> Result<TextPhase, TraceError>
     ensures { GivesPhase phase_of result (take_line (node version params) line.now) }
 {
     match node_of(line) {
-        Some(plan) => Ok(Phase::Lines(version, params, plan)),
+        Some(plan) => Ok(TextPhase::Lines(version, params, plan)),
         None => Err(TraceError::BadLine(3)),
     }
 }
@@ -113,7 +113,7 @@ fn begin(
     params: Params,
     plan: NodePlan,
     number: u32,
-) -> Result<Phase, TraceError>
+) -> Result<TextPhase, TraceError>
     requires { number ≡ line_number (lines version params plan) }
     ensures { GivesUnless (plan_fault params plan ≡ None) phase_of result (after_begin version params plan) }
 {
@@ -121,7 +121,7 @@ fn begin(
         return Err(TraceError::Refused(number));
     }
     match Interface::new(alloc, &params, &plan) {
-        Ok(interface) => Ok(Phase::Body(version, interface)),
+        Ok(interface) => Ok(TextPhase::Body(version, interface)),
         Err(_) => Err(TraceError::Memory),
     }
 }
@@ -140,7 +140,7 @@ fn own_line(
     mut plan: NodePlan,
     own: Own,
     number: u32,
-) -> Result<Phase, TraceError>
+) -> Result<TextPhase, TraceError>
     requires { number ≡ line_number (lines version params plan) }
     ensures { GivesPhase phase_of result (after_own version params plan own) }
 {
@@ -148,7 +148,7 @@ fn own_line(
         return Err(TraceError::BadLine(number));
     }
     match plan.add_own(own) {
-        Ok(()) => Ok(Phase::Lines(version, params, plan)),
+        Ok(()) => Ok(TextPhase::Lines(version, params, plan)),
         Err(_) => Err(TraceError::BadLine(number)),
     }
 }
@@ -160,7 +160,7 @@ fn buffer_line(
     mut plan: NodePlan,
     buffer: Buffer,
     number: u32,
-) -> Result<Phase, TraceError>
+) -> Result<TextPhase, TraceError>
     requires { number ≡ line_number (lines version params plan) }
     ensures { GivesPhase phase_of result (after_buffer version params plan buffer) }
 {
@@ -168,7 +168,7 @@ fn buffer_line(
         return Err(TraceError::BadLine(number));
     }
     match plan.add_buffer(buffer) {
-        Ok(()) => Ok(Phase::Lines(version, params, plan)),
+        Ok(()) => Ok(TextPhase::Lines(version, params, plan)),
         Err(_) => Err(TraceError::BadLine(number)),
     }
 }
@@ -180,12 +180,12 @@ fn queue_line(
     mut plan: NodePlan,
     queue: Queue,
     number: u32,
-) -> Result<Phase, TraceError>
+) -> Result<TextPhase, TraceError>
     requires { number ≡ line_number (lines version params plan) }
     ensures { GivesPhase phase_of result (after_queue version params plan queue) }
 {
     match plan.set_queue(queue) {
-        Ok(()) => Ok(Phase::Lines(version, params, plan)),
+        Ok(()) => Ok(TextPhase::Lines(version, params, plan)),
         Err(_) => Err(TraceError::BadLine(number)),
     }
 }
@@ -198,7 +198,7 @@ fn plan_line(
     plan: NodePlan,
     number: u32,
     line: &[u8],
-) -> Result<Phase, TraceError>
+) -> Result<TextPhase, TraceError>
     requires { number ≡ line_number (lines version params plan) }
     ensures { GivesUnless (IsBegin (lines version params plan) line.now) phase_of result
         (take_line (lines version params plan) line.now) }
@@ -232,20 +232,20 @@ fn entry_line(
 }
 
 /// Returns the phase after a whole line of this number that is no line of the journal.
-fn after(alloc: Global, phase: Phase, number: u32, line: &[u8]) -> Result<Phase, TraceError>
+fn after(alloc: Global, phase: TextPhase, number: u32, line: &[u8]) -> Result<TextPhase, TraceError>
     requires number { number ≡ line_number (phase_of phase) }
     requires ending { IsNoEntry (phase_of phase) line.now }
     ensures { GivesUnless (IsBegin (phase_of phase) line.now) phase_of result (take_line (phase_of phase) line.now) }
 {
     match phase {
-        Phase::Magic => first_line(line),
-        Phase::Parameters(version) => parameters_line(version, line),
-        Phase::Node(version, params) => node_line(version, params, line),
-        Phase::Lines(version, params, plan) => plan_line(
+        TextPhase::Magic => first_line(line),
+        TextPhase::Parameters(version) => parameters_line(version, line),
+        TextPhase::Node(version, params) => node_line(version, params, line),
+        TextPhase::Lines(version, params, plan) => plan_line(
             alloc, version, params, plan, number, line,
         ),
-        Phase::Body(version, interface) => Ok(Phase::Finished(version, interface)),
-        Phase::Finished(_, _) => Err(TraceError::BadLine(number)),
+        TextPhase::Body(version, interface) => Ok(TextPhase::Finished(version, interface)),
+        TextPhase::Finished(_, _) => Err(TraceError::BadLine(number)),
     }
 }
 
@@ -253,13 +253,13 @@ fn after(alloc: Global, phase: Phase, number: u32, line: &[u8]) -> Result<Phase,
 ///
 /// It isn't inlined, so that a line of the journal doesn't pay for the plans and interfaces that are moved here.
 #[inline(never)]
-fn move_on(alloc: Global, phase: &mut Phase, line: &[u8]) -> Result<(), TraceError>
+fn move_on(alloc: Global, phase: &mut TextPhase, line: &[u8]) -> Result<(), TraceError>
     requires { IsNoEntry (phase_of phase.old) line.now }
     ensures { GivesUnless (IsBegin (phase_of phase.old) line.now) (λ done. phase_of phase.new) result
         (take_line (phase_of phase.old) line.now) }
 {
     let number = line_number(phase);
-    let before = mem::replace(phase, Phase::Magic);
+    let before = mem::replace(phase, TextPhase::Magic);
     match after(alloc, before, number, line) {
         Ok(next) => {
             *phase = next;
@@ -272,7 +272,7 @@ fn move_on(alloc: Global, phase: &mut Phase, line: &[u8]) -> Result<(), TraceErr
 /// Takes a whole line. If it is refused, the phase before it is lost.
 fn pass_line(
     alloc: Global,
-    phase: &mut Phase,
+    phase: &mut TextPhase,
     bytes: &mut EntryBytes,
     line: &[u8],
 ) -> Result<(), TraceError>
@@ -280,7 +280,7 @@ fn pass_line(
         (take_line (phase_of phase.old) line.now) }
 {
     if line != b"end".as_slice() {
-        if let Phase::Body(version, interface) = phase {
+        if let TextPhase::Body(version, interface) = phase {
             return entry_line(*version, interface, bytes, line);
         }
     }
@@ -288,11 +288,11 @@ fn pass_line(
 }
 
 /// Returns the error of a line that is too long.
-fn too_long(phase: &Phase) -> TraceError
+fn too_long(phase: &TextPhase) -> TraceError
     ensures { result ≡ too_long (phase_of phase.now) }
 {
     match phase {
-        Phase::Magic => TraceError::BadMagic,
+        TextPhase::Magic => TraceError::BadMagic,
         _ => TraceError::LineTooLong(line_number(phase)),
     }
 }
@@ -301,7 +301,7 @@ fn too_long(phase: &Phase) -> TraceError
 #[derive(Drop)]
 pub struct Auditor {
     alloc: Global,
-    phase: Phase,
+    phase: TextPhase,
     line: ArrayVec<u8, LINE>,
     /// The bytes of the entry that was read last. They are kept here, so that none is passed by value.
     bytes: EntryBytes,
@@ -331,7 +331,7 @@ impl Auditor {
     {
         Auditor {
             alloc,
-            phase: Phase::Magic,
+            phase: TextPhase::Magic,
             line: ArrayVec::new(),
             bytes: EntryBytes::new(),
             fault: None,
@@ -357,7 +357,7 @@ impl Auditor {
         if self.fault.is_some() || bytes.is_empty() {
             return;
         }
-        if let Phase::Finished(_, _) = &self.phase {
+        if let TextPhase::Finished(_, _) = &self.phase {
             self.fault = Some(TraceError::BadLine(line_number(&self.phase)));
         } else if bytes.len() > LINE - self.line.as_slice().len() {
             self.fault = Some(too_long(&self.phase));
@@ -432,8 +432,8 @@ impl Auditor {
             return Err(fault);
         }
         match self.phase {
-            Phase::Finished(_, interface) => Ok(interface),
-            Phase::Magic => Err(TraceError::BadMagic),
+            TextPhase::Finished(_, interface) => Ok(interface),
+            TextPhase::Magic => Err(TraceError::BadMagic),
             _ => Err(TraceError::Truncated),
         }
     }

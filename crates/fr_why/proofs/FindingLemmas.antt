@@ -21,7 +21,7 @@ use Rattle.fr_trace.specs.Stream.{queue_count}
 use Rattle.fr_trace.proofs.CutLemmas.{stays_failed, no_feed, no_feed_before}
 use Rattle.memchr.specs.Find.{IsFirstByte, is_byte}
 use Rattle.fr_trace.proofs.RefusalLemmas.{answer_named, outcome_named}
-use Rattle.fr_why.specs.declared.finding.Fault.{Fault}
+use Rattle.fr_why.specs.declared.finding.FaultyLine.{FaultyLine}
 use Rattle.fr_why.specs.declared.head.Head.{Head}
 use Rattle.fr_why.specs.Faults.{IsAtFault, ShowsIn}
 use Rattle.fr_why.specs.Finding.{between, IsFaultIn, IsFound, found_of, StandsAt}
@@ -268,7 +268,7 @@ few_lines s plan few = let one = queue_few s.plan.queue in omega (arith, one, pl
 
 -- ---- the result of the search
 
-pub found_holds : (text : List ℕ) (e : TraceError) (f : Fault) → (IsOfText e → IsFaultIn text f)
+pub found_holds : (text : List ℕ) (e : TraceError) (f : FaultyLine) → (IsOfText e → IsFaultIn text f)
     → IfOk (found_of e f) (IsFound text)
 found_holds text refusal.BadMagic f h = h tt
 found_holds text (refusal.BadLine n) f h = h tt
@@ -280,7 +280,7 @@ found_holds text refusal.Read f h = tt
 found_holds text refusal.Write f h = tt
 found_holds text refusal.Memory f h = tt
 
-pub found_not : (e : TraceError) (f : Fault) → IfErr (found_of e f) (λ x. IsOfText x → ⊥)
+pub found_not : (e : TraceError) (f : FaultyLine) → IfErr (found_of e f) (λ x. IsOfText x → ⊥)
 found_not refusal.BadMagic f = tt
 found_not (refusal.BadLine n) f = tt
 found_not (refusal.LineTooLong n) f = tt

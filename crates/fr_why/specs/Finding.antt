@@ -6,7 +6,7 @@ use Rattle.fr_trace.specs.declared.error.TraceError.{TraceError}
 use Rattle.fr_trace.specs.declared.error.TraceError.TheVariants.{Read, Write, Memory}
 use Rattle.fr_trace.specs.Refusals.{feed_count, longest_text}
 use Rattle.fr_trace.specs.Stream.{Progress, reading, Phase, fresh, take_bytes, outcome_of}
-use Rattle.fr_why.specs.declared.finding.Fault.{Fault}
+use Rattle.fr_why.specs.declared.finding.FaultyLine.{FaultyLine}
 use Rattle.fr_why.specs.declared.finding.Found.{Found}
 use Rattle.fr_why.specs.declared.finding.Found.TheVariants.{Accepted, Refused}
 use Rattle.fr_why.specs.declared.head.Head.{Head}
@@ -18,7 +18,7 @@ abbrev pub between : ℕ → ℕ → List ℕ → List ℕ
 between start end text = take (end - start) (drop start text)
 
 -- the text is refused at this line, and the lines before lead to this state
-pub record IsFaultIn (text : List ℕ) (f : Fault) : Type 0 where
+pub record IsFaultIn (text : List ℕ) (f : FaultyLine) : Type 0 where
   pub of_text : IsOfText f.error
   pub starts : f.start ≤ f.end
   pub ends : f.end ≤ length text
@@ -34,7 +34,7 @@ IsFound text (Accepted s lines) = (outcome_of (take_bytes fresh text) ≡ Ok s) 
 IsFound text (Refused f) = IsFaultIn text f
 
 -- an error that doesn't come from the text is returned at once
-abbrev pub found_of : TraceError → Fault → Result Found TraceError
+abbrev pub found_of : TraceError → FaultyLine → Result Found TraceError
 found_of Read f = Err Read
 found_of Write f = Err Write
 found_of Memory f = Err Memory

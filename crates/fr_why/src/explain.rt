@@ -9,7 +9,7 @@ ghost use Rattle.fr_why.specs.Reasons.{reason_for, IsReasonOf};
 ghost use Rattle.fr_why.specs.WhyText.{accepted_text, refused_text};
 
 use crate::before::interface_after;
-use crate::finding::{Fault, Found, find};
+use crate::finding::{FaultyLine, Found, find};
 use crate::kept::kept_of;
 use crate::reasons::reason_of;
 use crate::verdict::Verdict;
@@ -57,7 +57,7 @@ fn windows_of(interface: &Option<Interface>) -> u32
 }
 
 /// Returns the explanation of the line at fault of the text.
-fn fault_words(alloc: Global, text: &[u8], fault: &Fault) -> Result<Vec<u8>, TraceError>
+fn fault_words(alloc: Global, text: &[u8], fault: &FaultyLine) -> Result<Vec<u8>, TraceError>
     requires { IsFaultIn text.now fault.now }
     ensures told { IfOk result (λ words. words.items
         ≡ refused_text fault.now.error (take fault.now.start text.now)

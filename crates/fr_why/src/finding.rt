@@ -14,7 +14,7 @@ use std::alloc::Global;
 
 /// The line at which a text is refused (project-defined).
 #[derive(Drop)]
-pub struct Fault {
+pub struct FaultyLine {
     /// The error that the audit returns.
     pub error: TraceError,
     /// The start of the line. Before it are whole lines, none of which is refused.
@@ -33,11 +33,11 @@ pub enum Found {
     /// The audit accepts it as this interface, with this number of lines.
     Accepted(Interface, usize),
     /// The audit refuses it at this line.
-    Refused(Fault),
+    Refused(FaultyLine),
 }
 
 /// Returns the result for an error that an audit returns at the line.
-fn refused(fault: Fault) -> Result<Found, TraceError>
+fn refused(fault: FaultyLine) -> Result<Found, TraceError>
     ensures { result ≡ found_of fault.error fault }
 {
     match fault.error {
@@ -73,7 +73,7 @@ pub(crate) fn find(alloc: Global, text: &[u8]) -> Result<Found, TraceError>
     while let Some(at) = memchr(b'\n', &text[start..]) {
         let end = start + at;
         if let Err(error) = auditor.feed(&text[start..end + 1]) {
-            return refused(Fault {
+            return refused(FaultyLine {
                 error,
                 start,
                 end,
@@ -88,7 +88,7 @@ pub(crate) fn find(alloc: Global, text: &[u8]) -> Result<Found, TraceError>
     let _ = auditor.feed(&text[start..]);
     match auditor.finish() {
         Ok(interface) => Ok(accepted(interface, before)),
-        Err(error) => refused(Fault {
+        Err(error) => refused(FaultyLine {
             error,
             start,
             end: text.len(),

@@ -4,7 +4,7 @@ ghost use Rattle.fr_why.specs.Explains.{kept, ShowsUntil};
 ghost use Rattle.fr_why.specs.Finding.{IsFaultIn};
 
 use crate::before::interface_after;
-use crate::finding::{Fault, Found, find};
+use crate::finding::{FaultyLine, Found, find};
 use crate::kept::kept_of;
 use fr_capture::form::Form;
 use fr_capture::show::write_form;
@@ -17,7 +17,7 @@ fn show_before<W: Write>(
     alloc: Global,
     form: Form,
     text: &[u8],
-    fault: &Fault,
+    fault: &FaultyLine,
     writer: &mut W,
 ) -> Result<(), TraceError>
     requires { IsFaultIn text.now fault.now }

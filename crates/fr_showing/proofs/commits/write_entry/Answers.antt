@@ -9,5 +9,6 @@ pub returns-in-Commit : goal.returns-in-Commit
 returns-in-Commit g c =
     subst (λ (e : LentEntry). Writes g.W.Write.contents c.args.writer.now c.write_commit.new.writer
     c.write_commit.result
-    (entry_text c.args.world.now c.args.node c.args.interface.now.entries c.args.begun c.args.number (whole e)))
+    (entry_text c.args.world.now c.args.place.node c.args.interface.now.entries c.args.place.begun c.args.place.entry
+    (whole e)))
     (sym c.in-Commit.is) c.write_commit.ensures

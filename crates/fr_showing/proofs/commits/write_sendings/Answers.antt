@@ -14,8 +14,9 @@ use Rattle.fr_showing.proofs.commits.write_sendings.Goals as goal
 
 pub overflow_step-number : goal.overflow_step-number
 overflow_step-number g c =
-    let within : c.args.commit < length c.args.interface.now.entries =
-    commit_within c.args.interface.now.entries c.args.buffer c.args.commit c.requires.there in
+    let commit = c.args.commit.now in
+    let within : commit.entry < length c.args.interface.now.entries =
+    commit_within c.args.interface.now.entries commit.buffer commit.entry c.requires.there in
     omega (
       arith,
       within,
@@ -25,13 +26,15 @@ overflow_step-number g c =
     )
 
 pub loop-number-init : goal.loop-number-init
-loop-number-init g c = record {
-  cycle = c.requires.cycle ∙ cycles_with c.args.interface.now.entries c.args.buffer c.args.commit c.requires.there;
-  written =
-      starts (sendings_by c.args.commit) (sending_text c.args.world.now c.args.node) c.args.interface.now.entries
-      (sendings_text c.args.world.now c.args.node c.args.interface.now.entries c.args.commit)
-      (g.W.Write.contents c.args.writer.now) (c.args.commit + 1) refl;
-}
+loop-number-init g c =
+    let commit = c.args.commit.now in
+    record {
+      cycle = c.requires.cycle ∙ cycles_with c.args.interface.now.entries commit.buffer commit.entry c.requires.there;
+      written =
+          starts (sendings_by commit.entry) (sending_text c.args.world.now commit.node) c.args.interface.now.entries
+          (sendings_text c.args.world.now commit.node c.args.interface.now.entries commit.entry)
+          (g.W.Write.contents c.args.writer.now) (commit.entry + 1) refl;
+    }
 
 pub returns-in_default : goal.returns-in_default
 returns-in_default g c =
@@ -41,26 +44,28 @@ returns-in_default g c =
 
 pub returns-then-is_commit_on : goal.returns-then-is_commit_on
 returns-then-is_commit_on g c =
+    let commit = c.args.commit.now in
     let es = c.args.interface.now.entries in
     let n : ℕ = c.loop-number.number in
     let e = whole c.in-Some.entry in
     let there : slice_get es n ≡ Some e = lent_there es c.journal-journal.result.now.entries n c.lent.result
     c.in-Some.entry c.journal-journal.ensures.entries c.lent.ensures.entry c.in-Some.is in
-    let later : c.args.commit < n = omega (arith, c.loop-number.auto.number) in
-    ends (sendings_by c.args.commit) (sending_text c.args.world.now c.args.node) es
-    (sendings_text c.args.world.now c.args.node es c.args.commit) (g.W.Write.contents c.args.writer.now)
+    let later : commit.entry < n = omega (arith, c.loop-number.auto.number) in
+    ends (sendings_by commit.entry) (sending_text c.args.world.now commit.node) es
+    (sendings_text c.args.world.now commit.node es commit.entry) (g.W.Write.contents c.args.writer.now)
     (g.W.Write.contents c.loop-number.writer) n
-    (ap (flat_map (sending_text c.args.world.now c.args.node))
-    (unsent_here c.args.interface.now c.args.buffer c.args.commit c.journal-journal.ensures.legal c.requires.there n e
+    (ap (flat_map (sending_text c.args.world.now commit.node))
+    (unsent_here c.args.interface.now commit.buffer commit.entry c.journal-journal.ensures.legal c.requires.there n e
     later there (sym c.is_commit_on.ensures ∙ c.if-is_commit_on.true)))
     c.loop-number.invariant.written
 
 pub loop-number-preserved : goal.loop-number-preserved
 loop-number-preserved g c =
+    let commit = c.args.commit.now in
     let es = c.args.interface.now.entries in
     let n : ℕ = c.loop-number.number in
     let e = whole c.in-Some.entry in
-    let k : ℕ = c.args.commit in
+    let k : ℕ = commit.entry in
     let now = g.W.Write.contents c.loop-number.writer in
     let mid = g.W.Write.contents c.write_handed.new.writer in
     let there : slice_get es n ≡ Some e = lent_there es c.journal-journal.result.now.entries n c.lent.result
@@ -73,15 +78,16 @@ loop-number-preserved g c =
     record {
       cycle = begun;
       written =
-          goes_on (sendings_by k) (sending_text c.args.world.now c.args.node) es
-          (sendings_text c.args.world.now c.args.node es k)
+          goes_on (sendings_by k) (sending_text c.args.world.now commit.node) es
+          (sendings_text c.args.world.now commit.node es k)
           (g.W.Write.contents c.args.writer.now) now mid n e there c.loop-number.invariant.written
-          (subst (λ (t : List ℕ). Appends now mid t) (handed_is c.args.world.now c.args.node k
+          (subst (λ (t : List ℕ). Appends now mid t) (handed_is c.args.world.now commit.node k
           (c.begun_with-begun.result - 1) (take n es) e cycle) c.in_ok-write_handed.ensures);
     }
 
 pub returns : goal.returns
 returns g c =
+    let commit = c.args.commit.now in
     let es = c.args.interface.now.entries in
     let n : ℕ = c.loop-number.number in
     let le : length es ≤ n = omega (
@@ -90,7 +96,7 @@ returns g c =
       c.len-end.ensures.value,
       ap (length {A = _}) c.journal-journal.ensures.entries,
     ) in
-    ends_behind (sendings_by c.args.commit) (sending_text c.args.world.now c.args.node) es
-    (sendings_text c.args.world.now c.args.node es c.args.commit) (g.W.Write.contents c.args.writer.now)
+    ends_behind (sendings_by commit.entry) (sending_text c.args.world.now commit.node) es
+    (sendings_text c.args.world.now commit.node es commit.entry) (g.W.Write.contents c.args.writer.now)
     (g.W.Write.contents c.loop-number.writer) n le
     c.loop-number.invariant.written

@@ -8,7 +8,7 @@ use Rattle.fr_showing.proofs.commits.write_sendings.Given as goal
 abbrev pub invariant-loop-number : goal.invariant-loop-number
 invariant-loop-number g l = record {
   cycle : l.begun ≡ cycles_of (take l.number l.interface.entries);
-  written : IsWritten (sendings_by l.commit) (sending_text l.world l.node) l.interface.entries
-      (sendings_text l.world l.node l.interface.entries l.commit)
+  written : IsWritten (sendings_by l.commit.entry) (sending_text l.world l.commit.node) l.interface.entries
+      (sendings_text l.world l.commit.node l.interface.entries l.commit.entry)
       (g.W.Write.contents l.fn.writer) (g.W.Write.contents l.writer) l.number;
 }

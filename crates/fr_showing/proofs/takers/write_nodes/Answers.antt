@@ -11,21 +11,22 @@ use Rattle.fr_showing.proofs.takers.write_nodes.Goals as goal
 
 pub loop-number-preserved : goal.loop-number-preserved
 loop-number-preserved g c =
-    let p = c.args.params.now in
-    let r = c.args.sealed.now in
+    let sent = c.args.sent.now in
+    let p = sent.params.now in
+    let r = sent.sealed.now in
     let n : ℕ = c.loop-number.number in
     let s = c.index-interfaces-number.result in
     let now = g.W.Write.contents c.loop-number.writer in
     let mid = g.W.Write.contents c.write_more.new.writer in
-    let part : List Taker = takers_at p s.plan r c.args.channel n in
+    let part : List Taker = takers_at p s.plan r sent.channel n in
     let same : c.takers_at-takers.result ≡ part =
     c.takers_at-takers.ensures
-    ∙ (λ i. takers_at p (c.plan.ensures.value i) r c.args.channel (c.from_number-node.ensures i)) in
-    goes_on false (takers_from p r c.args.channel 0 c.args.interfaces.now)
+    ∙ (λ i. takers_at p (c.plan.ensures.value i) r sent.channel (c.from_number-node.ensures i)) in
+    goes_on false (takers_from p r sent.channel 0 c.args.interfaces.now)
     (g.W.Write.contents c.args.writer.now) now mid c.loop-number.any c.in_ok-any.any
-    (takers_from p r c.args.channel n (drop n c.args.interfaces.now)) part
-    (takers_from p r c.args.channel (n + 1) (drop (n + 1) c.args.interfaces.now))
-    (ap (λ (l : List State). takers_from p r c.args.channel n l)
+    (takers_from p r sent.channel n (drop n c.args.interfaces.now)) part
+    (takers_from p r sent.channel (n + 1) (drop (n + 1) c.args.interfaces.now))
+    (ap (λ (l : List State). takers_from p r sent.channel n l)
     (left_here c.args.interfaces.now n s c.loop-number-test.true c.index-interfaces-number.is))
     (subst (λ (ts : List Taker). Appends now mid (after_commas c.loop-number.any ts)) same c.in_ok-any.ensures.text)
     (c.in_ok-any.ensures.any ∙ ap (λ (ts : List Taker). c.loop-number.any || is_any ts) same)
@@ -33,12 +34,13 @@ loop-number-preserved g c =
 
 pub returns-clause-text : goal.returns-clause-text
 returns-clause-text g c =
-    let p = c.args.params.now in
-    let r = c.args.sealed.now in
+    let sent = c.args.sent.now in
+    let p = sent.params.now in
+    let r = sent.sealed.now in
     let n : ℕ = c.loop-number.number in
     let le : length c.args.interfaces.now ≤ n = omega (arith, c.loop-number-test.false) in
-    ends_text false (takers_from p r c.args.channel 0 c.args.interfaces.now) (g.W.Write.contents c.args.writer.now)
+    ends_text false (takers_from p r sent.channel 0 c.args.interfaces.now) (g.W.Write.contents c.args.writer.now)
     (g.W.Write.contents c.loop-number.writer)
-    c.loop-number.any (takers_from p r c.args.channel n (drop n c.args.interfaces.now))
-    (ap (λ (l : List State). takers_from p r c.args.channel n l) (nothing_left c.args.interfaces.now n le))
+    c.loop-number.any (takers_from p r sent.channel n (drop n c.args.interfaces.now))
+    (ap (λ (l : List State). takers_from p r sent.channel n l) (nothing_left c.args.interfaces.now n le))
     c.loop-number.invariant

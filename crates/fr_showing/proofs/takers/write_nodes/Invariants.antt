@@ -6,6 +6,6 @@ use Rattle.fr_showing.proofs.takers.write_nodes.Given as goal
 -- those that are left are still to be written
 abbrev pub invariant-loop-number : goal.invariant-loop-number
 invariant-loop-number g l =
-    IsGoing false (takers_from l.params l.sealed l.channel 0 l.interfaces) (g.W.Write.contents l.fn.writer)
-    (g.W.Write.contents l.writer) l.any
-    (takers_from l.params l.sealed l.channel l.number (drop l.number l.interfaces))
+    IsGoing false (takers_from l.sent.params.now l.sent.sealed.now l.sent.channel 0 l.interfaces)
+    (g.W.Write.contents l.fn.writer) (g.W.Write.contents l.writer) l.any
+    (takers_from l.sent.params.now l.sent.sealed.now l.sent.channel l.number (drop l.number l.interfaces))

@@ -10,7 +10,8 @@ use Rattle.fr_showing.proofs.takers.write_takers.Goals as goal
 
 pub returns-else-branch : goal.returns-else-branch
 returns-else-branch g c =
-    let ts : List Taker = takers_from c.args.params.now c.args.sealed.now c.args.channel 0 c.args.interfaces.now in
+    let sent = c.args.sent.now in
+    let ts : List Taker = takers_from sent.params.now sent.sealed.now sent.channel 0 c.args.interfaces.now in
     let old = g.W.Write.contents c.args.writer.now in
     let mid = g.W.Write.contents c.write_nodes.new.writer in
     let new = g.W.Write.contents c.write.new.self in

@@ -9,7 +9,7 @@ returns-in-Ok-clause-written g c =
     let run = c.in_ok-run.run' in
     let written : Appends (g.W.Write.contents c.args.writer.now) (g.W.Write.contents c.write_whole.new.writer)
     (outcome_text run.interfaces.items run.settled.windows) = search rules in
-    printed c.args.cluster.now c.args.cycles c.args.free (g.R.Read.remaining c.args.reader.now)
+    printed c.args.cluster.now c.args.options.cycles c.args.options.free (g.R.Read.remaining c.args.reader.now)
     (g.W.Write.contents c.args.writer.now)
     (g.W.Write.contents c.write_whole.new.writer)
     (record {
@@ -22,7 +22,7 @@ returns-in-Ok-clause-written g c =
 
 pub returns-in-Ok-clause-refused : goal.returns-in-Ok-clause-refused
 returns-in-Ok-clause-refused g c =
-    run_refused c.args.cluster.now c.args.cycles (g.R.Read.remaining c.args.reader.now)
+    run_refused c.args.cluster.now c.args.options.cycles (g.R.Read.remaining c.args.reader.now)
     (record {
       scripts = c.in_ok-scenario.scenario.scripts;
       faults = c.in_ok-scenario.scenario.faults;

@@ -13,14 +13,14 @@ returns g c =
     let settled = settles_same _ _ _ _ _ _ _ same_interfaces c.as_slice-3.ensures.value c.in_ok-settled.ensures.answer
     in
     let at_end : IsTrue c.in_ok-is_at_end.field-0 = search rules in
-    let stepped : c.args.stepped ≡ true → AreStepped c.args.bus.sealed c.args.given.now c.args.nodes.interfaces.items =
+    let stepped : c.args.workload.now.stepped ≡ true → AreStepped c.args.bus.sealed c.args.workload.now.scripts.now c.args.nodes.interfaces.items =
     elim c.else-stepped.branch [
       | else-stepped-via-then-stepped+else-not-are_stepped w ↦
           λ yes.
           let are : IsTrue w.are_stepped.result = search rules in
           let found = w.are_stepped.ensures.0 are in
-          subst (λ rs. AreStepped rs c.args.given.now c.args.nodes.interfaces.items) w.record.ensures.value
-          (subst (λ is. AreStepped w.record.result.now c.args.given.now is) w.as_slice-then-stepped.ensures.value found)
+          subst (λ rs. AreStepped rs c.args.workload.now.scripts.now c.args.nodes.interfaces.items) w.record.ensures.value
+          (subst (λ is. AreStepped w.record.result.now c.args.workload.now.scripts.now is) w.as_slice-then-stepped.ensures.value found)
       | else-stepped-via-else-stepped w ↦ λ yes. cc (w.if-stepped.false, yes)
     ] in
     record {
