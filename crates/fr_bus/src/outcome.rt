@@ -389,7 +389,6 @@ fn are_turned(bytes: &Bytes, corrupt: Option<u16>, seen: &[u8]) -> bool
     }
 }
 
-
 /// Returns whether it is the node's offer on the channel.
 fn is_offer_of(channel: Channel, node: NodeId, sent: &Sent) -> bool
     ensures { result ≡ is_offer_of channel node sent.now }

@@ -189,7 +189,7 @@ fn is_handed(
         && is_handed_on(interface, number, entry, Channel::B, on_b)
 }
 
-/// The same where the record has a window there. False where it has none.
+/// The same if the record has a window there, and otherwise false.
 fn is_handed_at(
     interface: &Interface,
     number: u32,
@@ -258,7 +258,7 @@ fn is_shown(
     sealed.shows(params, Channel::A, node, a) && sealed.shows(params, Channel::B, node, b)
 }
 
-/// Returns whether the record, where it has a window there, lets the node see this. False where it has none.
+/// Returns whether the record shows the node this observation. False if the record has no window there.
 fn is_shown_at(
     params: &Params,
     node: NodeId,

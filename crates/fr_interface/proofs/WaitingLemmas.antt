@@ -309,9 +309,9 @@ module _ (params : Parameters) (plan : Plan) (q : Queue) where
       let none : open_one [] ≡ 0 = ap (λ (o : Option Opportunity). cond {A = ℕ} (is_some o) 1 0) start_closed in
       omega (arith, few_from [] xs, one, none)
 
--- ---- what the code gives the queue
+-- ---- the frames that the code stores in the receive FIFO
 
--- the arrival of the frame that the queue takes, if it takes it
+-- the arrival of the frame that the receive FIFO stores, if it stores it
 pub queued_is : (plan : Plan) (q : Queue) (number : ℕ) (window : Opportunity) (channel : Channel)
     (frame taken : Option Fields) → taken ≡ cond (is_for_queue plan q window channel) frame None
     → option_map (arrival_of number channel) taken ≡ queued_on plan q number window channel frame

@@ -21,11 +21,11 @@ use fr_slots::window::Window;
 pub(crate) struct FirstEntries<'a> {
     /// The journal.
     pub journal: &'a Journal,
-    /// How many they are.
+    /// The number of entries.
     pub count: u32,
 }
 
-/// Returns the payload of the commit of this number among the first entries, or none where it isn't one of these.
+/// Returns the payload of the commit of this number among the first entries, or none if it isn't one of these.
 #[tactic(auto, using(crate::proofs::HandingLemmas::get_take, crate::proofs::HandingLemmas::get_past_take))]
 fn payload_of(first: &FirstEntries<'_>, commit: u32) -> Payload
     ensures { result ≡ payload_of (take first.now.count first.now.journal.now.entries) commit }

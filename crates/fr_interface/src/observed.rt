@@ -168,7 +168,7 @@ fn is_for_queue(plan: &IndexedPlan, queue: &Queue, window: &Window, channel: Cha
     queue.admits(window.cycle, slot, channel) && !is_taken(buffers, window, channel)
 }
 
-/// Returns the data frame of the channel, if one came and the queue takes it.
+/// Returns the data frame of the channel, if one came and the receive FIFO stores it.
 fn frame_for_queue<'a, 'b>(
     plan: &IndexedPlan,
     queue: &Queue,
@@ -185,7 +185,7 @@ fn frame_for_queue<'a, 'b>(
     }
 }
 
-/// Appends the data frame of the channel to the queue, if it takes one.
+/// Appends the data frame of the channel to the receive FIFO, if the FIFO stores it.
 fn arrive(waiting: &mut ReceiveQueue, number: u32, channel: Channel, frame: Option<&LentFrame<'_>>)
     requires { waiting.old.lost + 1 < 2 ^ 32 }
     ensures { waiting.new ≡ with_arrival waiting.old

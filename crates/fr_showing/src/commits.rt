@@ -51,11 +51,11 @@ struct JournalPlace {
     node: usize,
     /// The number of the entry.
     entry: u32,
-    /// How many cycles began before it.
+    /// The number of cycles that began before it.
     begun: u32,
 }
 
-/// Returns how the node's offer ended where it was sent.
+/// Returns the end of the node's offer in the window of a sending.
 fn end_in(world: &World, node: usize, sending: &Sending) -> Option<End>
     ensures { result ≡ end_in world.now node sending.now }
 {
@@ -176,7 +176,7 @@ fn write_handed<W: Write>(
     }
 }
 
-/// Writes where the commit was sent. After the next commit on its buffer a legal journal sends it no more.
+/// Writes the sendings of the commit. After the next commit on its buffer a legal journal sends it no more.
 fn write_sendings<W: Write>(
     writer: &mut W,
     world: &World,
@@ -205,7 +205,7 @@ fn write_sendings<W: Write>(
     Ok(())
 }
 
-/// Writes what became of the commit.
+/// Writes the fate of the commit.
 fn write_became<W: Write>(
     writer: &mut W,
     world: &World,

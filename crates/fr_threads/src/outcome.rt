@@ -18,17 +18,16 @@ use std::sync::Wait;
 use std::thread::Threads;
 use std::time::Clock;
 
-/// How long a run lasts, and when tasks do their lines (project-defined).
+/// The length of a run, and its mode (project-defined).
 #[derive(Clone, Copy)]
 pub struct RunOptions {
     /// The number of cycles.
     pub cycles: u16,
-    /// Whether a task does its lines at any moment, and not each in its cycle.
+    /// True for a free-running run, in which a task executes its lines at any moment.
     pub free: bool,
 }
 
-/// Reads a scenario file to its end, runs the cluster with it, and writes each node's report, the number of windows and
-/// that all agrees (project-defined).
+/// Runs the cluster with the scenario of a file, and writes the outcome (project-defined).
 ///
 /// The scenario file is read to its end.
 ///

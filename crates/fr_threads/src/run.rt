@@ -184,7 +184,7 @@ fn all_done(
     }
 }
 
-/// Runs the bus and the nodes, and joins them. Where one of them fails the run is stopped.
+/// Runs the bus and the nodes, and joins them. If one of them fails, the run is stopped.
 fn serve<'s, E, R: Threads + Wait + Clock + Sync, G: Gate + Sync>(
     scope: &'s Scope<'s, E>,
     common: &'s Common<'s, R, G>,
@@ -345,19 +345,25 @@ fn run_all<R: Threads + Wait + Clock + Sync, G: Gate + Sync>(
     settled_run(rt, alloc, cluster, workload, nodes, bus)
 }
 
-/// Runs the cluster for the cycles of the workload: a thread for each task does the lines of its script, one for each
-/// controller does all windows, and one for the bus injects the faults and moves the bus on (project-defined).
+/// Runs the cluster with the workload, in threads (project-defined).
+///
+/// A thread for each task executes the lines of its script, one for each controller executes all windows, and one for
+/// the bus injects the faults and moves the bus on.
+///
+/// In a lockstep run, the lines of a cycle are executed once all controllers have observed the whole of the cycle
+/// before, and before any of them fetches in the cycle. Otherwise they are executed at any moment, in the order of each
+/// script.
+///
+/// Returns `BadCycles`, `BadScript`, `BadFault` or `NoRoom`, in this order and as `check_run` does, before any thread
+/// starts. Of several failures that threads meet, the first of these is reported: `Host`, `Slot`, `Bus`, `Thread` and
+/// `Memory`.
 ///
 /// If the threads meet no failure, a bus that isn't at its end after this number of cycles gives `Thread`, and results
 /// that don't agree give `Settle`. A record with faults other than those of the lines also gives `Thread`, and so does
 /// a line of a lockstep run that wasn't executed in its cycle.
 ///
-/// Refused with `BadCycles`, `BadScript`, `BadFault` and `NoRoom`, in this order and as `check_run` refuses, before any
-/// thread starts. Of several failures that threads meet the first of these is reported: `Host`, `Slot`, `Bus`, `Thread`
-/// and `Memory`. Where they meet none, a bus that isn't at its end after so many cycles is `Thread`, and what doesn't
-/// agree by then is `Settle`. A record with other faults than those of the lines, or in a stepped run a line that
-/// wasn't done in its cycle, is `Thread` too. All threads are joined before it answers. Its cross-check walks the
-/// journals in threads where these can be had, and one after another where not, and refuses nothing for that.
+/// All threads are joined before it returns. Its cross-check walks the journals in threads if these can be started,
+/// otherwise one after another. A thread that can't be started there is no failure.
 pub fn run_threads<R: Threads + Wait + Clock + Sync, G: Gate + Sync>(
     rt: &R,
     alloc: Global,

@@ -15,7 +15,7 @@ pub(crate) struct Shared {
     pub pace: Option<Pace>,
 }
 
-/// What each thread of a run is given.
+/// The inputs of each thread of a run.
 #[derive(Drop)]
 pub(crate) struct Common<'a, R, G> {
     pub rt: &'a R,

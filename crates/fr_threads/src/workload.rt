@@ -1,17 +1,17 @@
-//! What a run is to do.
+//! The workload of a run.
 
 use fr_core::script::Script;
 use fr_runs::fault_line::FaultLine;
 
-/// What a run is to do (project-defined).
+/// The scripts and faults of a run, its length and its mode (project-defined).
 #[derive(Clone, Copy)]
 pub struct Workload<'a> {
     /// The scripts, at most one for each task.
     pub scripts: &'a [Script],
-    /// The faults, and the windows in which they come.
+    /// The fault lines.
     pub faults: &'a [FaultLine],
     /// The number of cycles.
     pub cycles: u16,
-    /// Whether each line of a script is done in its cycle, as in a lockstep run.
+    /// True for a lockstep run, in which each line of a script is executed in its cycle.
     pub stepped: bool,
 }
