@@ -26,7 +26,8 @@ mod audit;
 mod failure;
 
 use failure::BenchFailure;
-use fr_cli::bench::{Order, order};
+use fr_cli::bench::order;
+use fr_cli::command::Order;
 use fr_cli::waiting::{WaitingReader, WaitingWriter};
 use fr_cli::words::{texts_of, words_given};
 use fr_commands::check::check_text;

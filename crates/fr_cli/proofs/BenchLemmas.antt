@@ -9,11 +9,11 @@ use Rattle.clap.specs.Words.{HasKind, IsAmong, Kinds, Row, Text, fault_of, first
 use Rattle.clap.specs.Words.{subcommand_of}
 use Rattle.clap.specs.declared.error.Error.{Error}
 use Rattle.clap.proofs.OnLiterals.{clap_on_literals}
-use Rattle.fr_cli.specs.declared.bench.Order.{Order}
+use Rattle.fr_cli.specs.declared.command.Order.{Order}
 use Rattle.fr_cli.specs.declared.error.OrderError.{OrderError}
 use Rattle.fr_cli.specs.declared.error.OrderError.TheVariants as refusal
 use Rattle.fr_cli.specs.BenchOrders.{HasFile, IsAnswer, IsOrder, IsRunBy, IsWhole, file_in, the_commands}
-use Rattle.fr_cli.specs.declared.bench.Order.TheVariants as the_order
+use Rattle.fr_cli.specs.declared.command.Order.TheVariants as the_order
 use Rattle.fr_cli.proofs.BenchWholeLemmas.{whole}
 use Rattle.fr_cli.specs.Commands.{IsNamed, cycles_in, has_run_by, is_true, name_in, order_error_of, word_in}
 

@@ -4,8 +4,8 @@ use Rattle.std.specs.Prelude.{option_and_then, false, ◌&&◌}
 use Rattle.clap.specs.declared.builder.action.ArgAction.TheVariants.{SetTrue}
 use Rattle.clap.specs.Words.{App, Row, Rule, Text, fault_of, first_of, new_rule, subcommand_of}
 use Rattle.clap.specs.Words.{with_rule, with_subcommand}
-use Rattle.fr_cli.specs.declared.bench.Order.{Order}
-use Rattle.fr_cli.specs.declared.bench.Order.TheVariants as the_order
+use Rattle.fr_cli.specs.declared.command.Order.{Order}
+use Rattle.fr_cli.specs.declared.command.Order.TheVariants as the_order
 use Rattle.fr_cli.specs.declared.error.OrderError.{OrderError}
 use Rattle.fr_cli.specs.declared.error.OrderError.TheVariants as refusal
 use Rattle.fr_cli.specs.Commands.{IsNamed, bare, cycles_in, has_run_by, is_true, named, the_cycles, the_scenario}

@@ -5,34 +5,11 @@ ghost use Rattle.clap.specs.declared.builder.command.Command.TheViews.{out-Comma
 ghost use Rattle.fr_cli.specs.BenchOrders.{IsAnswer, IsOrder, IsRunBy, IsWhole, run_command, the_commands};
 ghost use Rattle.fr_cli.specs.Commands.{has_run_by};
 
+use crate::command::Order;
 use crate::commands::{cycles_of, of_file, program};
 use crate::error::OrderError;
 use clap::{Arg, ArgAction, ArgMatches, Command};
 use std::alloc::{AllocError, Global};
-
-/// A command of `fr_bench` (project-defined).
-#[derive(Clone, Copy, PartialEq, Eq)]
-pub enum Order<'a> {
-    /// Read the trace of one controller on standard input and print its audited report.
-    Audit,
-    /// Read the cluster file of this name and print the line of its parameters.
-    Check(&'a str),
-    /// Read the cluster file of this name and print the senders and the guardians' open windows.
-    Plan(&'a str),
-    /// Read numbers on standard input and print their fault-tolerant midpoint.
-    Midpoint,
-    /// Run the cluster with a scenario, and print each node's report.
-    Run {
-        /// The name of the cluster file.
-        cluster: &'a str,
-        /// The name of the scenario file.
-        scenario: &'a str,
-        /// The number of cycles, 1 to 1024.
-        cycles: u16,
-        /// A free-running run: host calls come at any moment, and not each in its cycle.
-        free: bool,
-    },
-}
 
 /// Returns the command `run`, with its two files, the number of cycles and the flag.
 fn run_command<'a>(alloc: Global) -> Result<Command<'a>, AllocError>

@@ -4,7 +4,7 @@
 //! ```text
 //! let words = words_given(&rt)?;
 //! let texts = texts_of(rt.alloc(), &words)?;
-//! bench::order(alloc, &["plan", "cluster.toml"])?; // Order::Plan("cluster.toml")
+//! bench::order(alloc, &["plan", "cluster.toml"])?; // command::Order::Plan("cluster.toml")
 //! bench::order(alloc, &["audit", "trace"]); // Err(OrderError::Usage)
 //! view::order(alloc, &["frames", "--until-fault"])?; // ViewOrder::Frames
 //! world::command_of(alloc, &["cluster.toml", "--cycles", "4"])?; // WorldCommand
@@ -26,6 +26,7 @@
 #![tactic(auto)]
 
 pub mod bench;
+pub mod command;
 mod commands;
 pub mod error;
 pub mod view;
