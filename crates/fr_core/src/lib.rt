@@ -80,5 +80,5 @@ pub mod run;
 pub mod script;
 pub mod settle;
 mod tasks;
-mod walk;
+pub mod walk;
 pub mod world;
