@@ -81,5 +81,5 @@ pub mod run;
 pub mod script;
 pub mod settle;
 mod tasks;
-mod walk;
+pub mod walk;
 pub mod world;

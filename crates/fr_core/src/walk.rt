@@ -66,8 +66,8 @@ pub(crate) struct Observes {
     pub sight: Option<usize>,
 }
 
-/// Returns the number of entries.
-pub(crate) fn entries_of(interface: &Interface) -> u32
+/// Returns the number of entries of an interface's journal (project-defined).
+pub fn entries_of(interface: &Interface) -> u32
     ensures value { result ≡ length interface.now.entries }
     ensures few { result ≤ most_entries }
 {
@@ -82,15 +82,15 @@ fn entry_at(interface: &Interface, number: u32) -> Option<LentEntry<'_>>
     interface.journal().lent(number)
 }
 
-/// Returns the interface at this place.
-pub(crate) fn interface_at(interfaces: &[Interface], place: usize) -> Option<&Interface>
+/// Returns the interface at this place (project-defined).
+pub fn interface_at(interfaces: &[Interface], place: usize) -> Option<&Interface>
     ensures { option_map (λ interface. interface.now) result ≡ slice_get interfaces.now place }
 {
     interfaces.get(place)
 }
 
-/// Returns the sealed window at this place of the record.
-fn sealed_at(recorded: &[Sealed], place: usize) -> Option<&Sealed>
+/// Returns the window at this place of the record (project-defined).
+pub fn sealed_at(recorded: &[Sealed], place: usize) -> Option<&Sealed>
     ensures { option_map (λ sealed. sealed.now) result ≡ slice_get recorded.now place }
 {
     recorded.get(place)

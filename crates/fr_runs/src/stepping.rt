@@ -2,7 +2,7 @@
 //!
 //! This walk is separate, so that a cross-check of a world doesn't need it.
 
-ghost use Rattle.std.specs.Prelude.{◌≡◌, ◌<◌, ◌≤◌, ◌+◌, ◌↔◌, IsTrue, Some, IfSome, length, take, slice_get, option_map};
+ghost use Rattle.std.specs.Prelude.{◌≡◌, ◌<◌, ◌+◌, ◌↔◌, IsTrue, Some, IfSome, take, slice_get, option_map};
 ghost use Rattle.std.specs.Prelude.{ℕ};
 ghost use Rattle.fr_journal.specs.Lent.{whole};
 ghost use Rattle.fr_runs.specs.Steps.{IsProgress, Stands, StandsFor};
@@ -13,6 +13,7 @@ ghost use Rattle.fr_slots.specs.Numbers.{most_entries};
 use fr_bus::outcome::Sealed;
 use fr_bus::windows::opens_cycle;
 use fr_core::script::{Line, Script};
+use fr_core::walk::{entries_of, interface_at, sealed_at};
 use fr_interface::interface::Interface;
 use fr_journal::lent::LentEntry;
 use fr_slots::numbers::{NODES, NodeId, TASKS, TaskId};
@@ -74,26 +75,11 @@ fn task_of(entry: &LentEntry<'_>) -> Option<TaskId>
     }
 }
 
-/// Returns the number of entries.
-fn entries_of(interface: &Interface) -> u32
-    ensures value { result ≡ length interface.now.entries }
-    ensures few { result ≤ most_entries }
-{
-    interface.journal().len()
-}
-
 /// Returns the entry at this place.
 fn entry_at<'a>(place: &EntryPlace<'a>) -> Option<LentEntry<'a>>
     ensures { option_map whole result ≡ slice_get place.now.interface.now.entries place.now.number }
 {
     place.interface.journal().lent(place.number)
-}
-
-/// Returns the sealed window at this place of the record.
-fn sealed_at(recorded: &[Sealed], place: usize) -> Option<&Sealed>
-    ensures { option_map (λ sealed. sealed.now) result ≡ slice_get recorded.now place }
-{
-    recorded.get(place)
 }
 
 /// Returns the line at this place.
@@ -193,13 +179,6 @@ fn is_stepped(interface: &Interface, recorded: &[Sealed], scripts: &[Script], no
         pass(&place, recorded, &entry, &mut progress);
     }
     true
-}
-
-/// Returns the interface at this place.
-fn interface_at(interfaces: &[Interface], place: usize) -> Option<&Interface>
-    ensures { option_map (λ interface. interface.now) result ≡ slice_get interfaces.now place }
-{
-    interfaces.get(place)
 }
 
 /// Returns the same for the node, if its interface exists.

@@ -12,10 +12,11 @@ ghost use Rattle.fr_capture.specs.Takers.{takers_word};
 ghost use Rattle.fr_showing.specs.Takers.{takers_in};
 ghost use Rattle.fr_text.specs.Writing.{Writes};
 
-use crate::ends::{End, ended_word, offer_end, sealed_at};
+use crate::ends::{End, ended_word, offer_end};
 use crate::fates::{Became, Sending, became_of, begun_with, is_commit_on, is_data_of};
 use crate::parts::{interfaces_of, params_of};
 use crate::takers::{Transmission, write_takers};
+use fr_core::walk::sealed_at;
 use fr_core::world::World;
 use fr_interface::interface::Interface;
 use fr_journal::entry::Offered;

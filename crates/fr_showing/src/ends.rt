@@ -6,6 +6,7 @@ ghost use Rattle.fr_bus.specs.Record.{is_offer_of};
 ghost use Rattle.fr_showing.specs.Ends.{end_alone, end_of, end_passed, end_word, ended_word, is_turned, offer_end};
 
 use fr_bus::outcome::{Sealed, Sent, SentFate};
+use fr_core::walk::sealed_at;
 use fr_slots::channel::Channel;
 use fr_slots::params::Params;
 use fr_slots::window::Window;
@@ -98,11 +99,11 @@ fn offer_of(channel: Channel, node: usize, sent: &[Sent]) -> Option<&Sent>
     None
 }
 
-/// Returns the window at this place of the record.
-pub(crate) fn sealed_at(record: &[Sealed], place: usize) -> Option<&Sealed>
-    ensures { option_map (λ sealed. sealed.now) result ≡ slice_get record.now place }
+/// Returns the window of a sealed one.
+pub(crate) fn window_of(sealed: &Sealed) -> &Window
+    ensures { result.now ≡ sealed.now.window }
 {
-    record.get(place)
+    &sealed.window
 }
 
 /// Returns the transmissions of the window.

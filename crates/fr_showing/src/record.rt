@@ -8,7 +8,7 @@ ghost use Rattle.fr_showing.specs.RecordText.{bit_lines, bytes_line, fate_text, 
 ghost use Rattle.fr_showing.specs.RecordText.{record_text, sent_line, turned_line, window_text};
 ghost use Rattle.fr_text.specs.Writing.{Writes};
 
-use crate::ends::{end_of, end_word};
+use crate::ends::{end_of, end_word, window_of};
 use crate::origins::{origin_of_bit, origin_of_sent};
 use fr_bus::bus::Bus;
 use fr_bus::outcome::{Sealed, Sent};
@@ -81,13 +81,6 @@ fn write_fate<W: Write>(
     let (node, kind) = (sent.node.number(), kind_word(sent.babble));
     let (fate, end) = (fate_word(sent.fate), end_word(end_of(params, sealed, sent)));
     write!(writer, "{node} {kind} {fate} {end}")
-}
-
-/// Returns the window of a sealed one.
-fn window_of(sealed: &Sealed) -> &Window
-    ensures { result.now ≡ sealed.now.window }
-{
-    &sealed.window
 }
 
 /// Writes a space, and the number of a line of the scenario, or a dash for none.

@@ -9,6 +9,7 @@ ghost use Rattle.fr_showing.specs.Takers.{takers_from, takers_at};
 ghost use Rattle.fr_slots.specs.declared.channel.Channel.TheVariants as on;
 ghost use Rattle.fr_text.specs.Writing.{Writes};
 
+use crate::ends::window_of;
 use fr_bus::outcome::Sealed;
 use fr_capture::takers::{Observed, Takers, write_more};
 use fr_capture::taking::Came;
@@ -53,13 +54,6 @@ fn has_frame(params: &Params, window: &Window, channel: Channel, seen: &Seen) ->
         Some(slot) => is_data(lent_status_of(params, window.cycle, slot, channel, seen).1),
         None => false,
     }
-}
-
-/// Returns the window of a sealed one.
-fn window_of(sealed: &Sealed) -> &Window
-    ensures { result.now ≡ sealed.now.window }
-{
-    &sealed.window
 }
 
 /// Returns whether a valid data frame came to the node on the channel.

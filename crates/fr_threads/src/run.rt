@@ -102,6 +102,13 @@ impl NodesDone {
     }
 }
 
+/// The results of the nodes, each of which has counted the commits of its interface.
+#[derive(Drop)]
+struct NodesCounted {
+    nodes: NodesDone,
+    ghost counted: { nodes.commits.items ≡ map commits_of nodes.interfaces.items },
+}
+
 /// Starts the thread of each node. If one can't be started, those before it run.
 fn start_nodes<'s, E, R: Threads + Wait + Clock + Sync, G: Gate + Sync>(
     scope: &'s Scope<'s, E>,
@@ -188,9 +195,7 @@ fn all_done(
 fn serve<'s, E, R: Threads + Wait + Clock + Sync, G: Gate + Sync>(
     scope: &'s Scope<'s, E>,
     common: &'s Common<'s, R, G>,
-) -> Result<NodesDone, RunFailure>
-    ensures { IfOk result (λ nodes. nodes.commits.items ≡ map commits_of nodes.interfaces.items) }
-{
+) -> Result<NodesCounted, RunFailure> {
     let (alloc, count) = (common.alloc, common.cluster.nodes());
     let nodes = NodesDone::with_room(alloc, usize::from(count))?;
     let mut answers = Vec::with_capacity(alloc, usize::from(count))?;
@@ -203,22 +208,16 @@ fn serve<'s, E, R: Threads + Wait + Clock + Sync, G: Gate + Sync>(
         common.shared.stop(common.rt);
     }
     join_nodes(common.rt, running, &mut answers);
-    all_done(answers, bus.join(common.rt), started, nodes)
+    let nodes = all_done(answers, bus.join(common.rt), started, nodes)?;
+    Ok(NodesCounted { nodes })
 }
 
+// The type has the fact about the nodes, since a contract of a closure that is given a struct fails to check.
 /// Runs the bus and the nodes in a scope.
 fn run_in_scope<R: Threads + Wait + Clock + Sync, G: Gate + Sync>(
     common: &Common<'_, R, G>,
-) -> Result<NodesDone, RunFailure>
-    ensures { IfOk result (λ nodes. nodes.commits.items ≡ map commits_of nodes.interfaces.items) }
-{
-    thread::scope(
-        thread::scope_env(),
-        common.rt,
-        |scope| -> Result<NodesDone, RunFailure>
-            ensures { IfOk result (λ nodes. nodes.commits.items ≡ map commits_of nodes.interfaces.items) }
-        { serve(scope, common) },
-    )
+) -> Result<NodesCounted, RunFailure> {
+    thread::scope(thread::scope_env(), common.rt, |scope| serve(scope, common))
 }
 
 /// Returns the number of cycles that began in these windows.
@@ -320,11 +319,11 @@ fn shared_by_all(
 }
 
 /// Runs the threads, and cross-checks their results.
-fn run_all<R: Threads + Wait + Clock + Sync, G: Gate + Sync>(
+fn run_all<'w, R: Threads + Wait + Clock + Sync, G: Gate + Sync>(
     rt: &R,
     alloc: Global,
     cluster: &Cluster,
-    workload: &Workload<'_>,
+    workload: &'w Workload<'w>,
     gate: &G,
 ) -> Result<Run, RunFailure>
     ensures { IfOk result (IsRunOf cluster.now workload.now.scripts.now workload.now.faults.now workload.now.cycles
@@ -341,7 +340,7 @@ fn run_all<R: Threads + Wait + Clock + Sync, G: Gate + Sync>(
     });
     let Shared { wire, pace: _ } = shared;
     let bus = wire.close();
-    let nodes = ended?;
+    let NodesCounted { nodes } = ended?;
     settled_run(rt, alloc, cluster, workload, nodes, bus)
 }
 

@@ -3,8 +3,8 @@ use Rattle.std.specs.Prelude.{IsTrue}
 use Rattle.fr_core.specs.Receivers.{Receivers}
 use Rattle.fr_runs.specs.Stepping.{AreStepped}
 use Rattle.fr_threads.proofs.RunLemmas.{settles_same}
-use Rattle.fr_threads.proofs.run.settled_run.Goals.{else-stepped-via-then-stepped+else-not-are_stepped}
-use Rattle.fr_threads.proofs.run.settled_run.Goals.{else-stepped-via-else-stepped}
+use Rattle.fr_threads.proofs.run.settled_run.Goals.{else-workload-via-then-workload+else-not-are_stepped}
+use Rattle.fr_threads.proofs.run.settled_run.Goals.{else-workload-via-else-workload}
 use Rattle.fr_threads.proofs.run.settled_run.Goals as goal
 
 pub returns : goal.returns
@@ -14,14 +14,14 @@ returns g c =
     in
     let at_end : IsTrue c.in_ok-is_at_end.field-0 = search rules in
     let stepped : c.args.workload.now.stepped ≡ true → AreStepped c.args.bus.sealed c.args.workload.now.scripts.now c.args.nodes.interfaces.items =
-    elim c.else-stepped.branch [
-      | else-stepped-via-then-stepped+else-not-are_stepped w ↦
+    elim c.else-workload.branch [
+      | else-workload-via-then-workload+else-not-are_stepped w ↦
           λ yes.
           let are : IsTrue w.are_stepped.result = search rules in
           let found = w.are_stepped.ensures.0 are in
           subst (λ rs. AreStepped rs c.args.workload.now.scripts.now c.args.nodes.interfaces.items) w.record.ensures.value
-          (subst (λ is. AreStepped w.record.result.now c.args.workload.now.scripts.now is) w.as_slice-then-stepped.ensures.value found)
-      | else-stepped-via-else-stepped w ↦ λ yes. cc (w.if-stepped.false, yes)
+          (subst (λ is. AreStepped w.record.result.now c.args.workload.now.scripts.now is) w.as_slice-then-workload.ensures.value found)
+      | else-workload-via-else-workload w ↦ λ yes. cc (w.if-workload.false, yes)
     ] in
     record {
       agrees = settled.0;
