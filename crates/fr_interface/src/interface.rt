@@ -160,6 +160,7 @@ impl Interface {
     pub fn read_arrival(&mut self, task: TaskId, buffer: u8) -> Result<Option<Arrival>, HostError>
         ensures refusal { result_err result ≡ read_refusal self.old task buffer }
         ensures answer { IfOk result (λ a. a ≡ received_by self.old buffer) }
+        ensures frames { IfOk result (λ a. IfSome (option_map frame_of a) IsReceivable) }
         ensures accepted { OnOk result (self.new ≡ with_entry self.old (read_entry self.old task buffer)) }
         ensures refused { OnErr result (self.new ≡ self.old) }
     {
@@ -189,6 +190,7 @@ impl Interface {
     pub fn pop_arrival(&mut self, task: TaskId) -> Result<Option<Arrival>, HostError>
         ensures refusal { result_err result ≡ pop_refusal self.old task }
         ensures answer { IfOk result (λ a. a ≡ oldest_of self.old) }
+        ensures frames { IfOk result (λ a. IfSome (option_map frame_of a) IsReceivable) }
         ensures accepted { OnOk result (self.new ≡ with_entry self.old (pop_entry self.old task)) }
         ensures refused { OnErr result (self.new ≡ self.old) }
     {

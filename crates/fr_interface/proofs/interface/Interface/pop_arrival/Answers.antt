@@ -1,12 +1,15 @@
-use Rattle.std.proofs.Common.{◌≡◌, [], ◌∷◌, ◌++◌, Option, ap, ◌∙◌, option_map}
+use Rattle.std.proofs.Common.{◌≡◌, [], ◌∷◌, ◌++◌, Option, ap, sym, subst, ◌∙◌, option_map}
+use Rattle.std.specs.Prelude.{IfSome}
 use Rattle.fr_interface.specs.InterfaceFields.{state_in}
 use Rattle.fr_interface.specs.State.{pop_entry, oldest_of}
 use Rattle.fr_interface.proofs.InterfaceLemmas.{lawful-more}
+use Rattle.fr_interface.proofs.KeptLemmas.{front_receivable}
 use Rattle.fr_interface.proofs.StandingLemmas.{oldest-there}
 use Rattle.fr_journal.specs.declared.entry.Entry.TheVariants.{Pop}
+use Rattle.fr_journal.specs.declared.entry.Arrival.{Arrival}
 use Rattle.fr_journal.specs.declared.entry.Origin.{Origin}
 use Rattle.fr_journal.specs.Kept.{Kept}
-use Rattle.fr_journal.specs.Held.{origin_of}
+use Rattle.fr_journal.specs.Held.{frame_of, origin_of, IsReceivable}
 use Rattle.fr_interface.proofs.interface.Interface.pop_arrival.Goals as goal
 
 pub invariant_of-self-2 : goal.invariant_of-self-2
@@ -20,3 +23,10 @@ invariant_of-self-2 c =
     lawful-more c.self.inside c.pop.new.self c.push_host.new.self (pop_entry s c.args.task) c.self.invariant
     (c.push_host.ensures ∙ ap pushed from_is) c.in_ok-oldest.ensures.terms
     (c.in_ok-oldest.ensures.history s c.self.invariant.history)
+
+pub returns-clause-frames : goal.returns-clause-frames
+returns-clause-frames c =
+    let s = state_in c.self.inside in
+    subst (λ (a : Option Arrival). IfSome (option_map frame_of a) IsReceivable) (sym
+    (c.in_ok-oldest.ensures.answer ∙ oldest-there c.self.inside.state s c.self.invariant.history))
+    (front_receivable s.params s.plan s.entries c.self.invariant.history.legal.entries_are s.plan.queue)
