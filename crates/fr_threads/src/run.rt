@@ -220,6 +220,26 @@ fn run_in_scope<R: Threads + Wait + Clock + Sync, G: Gate + Sync>(
     thread::scope(thread::scope_env(), common.rt, |scope| serve(scope, common))
 }
 
+// The borrow checker covers the record only where its references are used nowhere else, so it is made here.
+/// Runs the bus and the nodes with this workload.
+fn run_workload<'w, R: Threads + Wait + Clock + Sync, G: Gate + Sync>(
+    rt: &R,
+    alloc: Global,
+    shared: &Shared,
+    cluster: &Cluster,
+    workload: &'w Workload<'w>,
+    gate: &G,
+) -> Result<NodesCounted, RunFailure> {
+    run_in_scope(&Common {
+        rt,
+        alloc,
+        shared,
+        cluster,
+        workload,
+        gate,
+    })
+}
+
 /// Returns the number of cycles that began in these windows.
 fn count_cycles(recorded: &[Sealed]) -> usize
     ensures { result ≡ cycles_begun recorded.now }
@@ -319,25 +339,18 @@ fn shared_by_all(
 }
 
 /// Runs the threads, and cross-checks their results.
-fn run_all<'w, R: Threads + Wait + Clock + Sync, G: Gate + Sync>(
+fn run_all<R: Threads + Wait + Clock + Sync, G: Gate + Sync>(
     rt: &R,
     alloc: Global,
     cluster: &Cluster,
-    workload: &'w Workload<'w>,
+    workload: &Workload<'_>,
     gate: &G,
 ) -> Result<Run, RunFailure>
     ensures { IfOk result (IsRunOf cluster.now workload.now.scripts.now workload.now.faults.now workload.now.cycles
         workload.now.stepped) }
 {
     let shared = shared_by_all(alloc, cluster, workload)?;
-    let ended = run_in_scope(&Common {
-        rt,
-        alloc,
-        shared: &shared,
-        cluster,
-        workload,
-        gate,
-    });
+    let ended = run_workload(rt, alloc, &shared, cluster, workload, gate);
     let Shared { wire, pace: _ } = shared;
     let bus = wire.close();
     let NodesCounted { nodes } = ended?;
