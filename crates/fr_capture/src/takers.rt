@@ -89,20 +89,24 @@ fn write_if<W: Write>(writer: &mut W, any: bool, takes: bool, taker: Taker) -> i
 fn write_buffers<W: Write>(
     writer: &mut W,
     any: bool,
-    observed: Observed<'_>,
+    observed: &Observed<'_>,
     lines: &[Buffer],
 ) -> io::Result<bool>
     ensures text { Writes W.contents writer.old writer.new result (after_commas any (buffers_by
-        observed.window.now observed.came.a observed.came.b observed.channel observed.node 0 lines.now)) }
+        observed.now.window.now observed.now.came.a observed.now.came.b observed.now.channel observed.now.node
+        0 lines.now)) }
     ensures any { IfOk result (λ now. now ≡ (any || is_any (buffers_by
-        observed.window.now observed.came.a observed.came.b observed.channel observed.node 0 lines.now))) }
+        observed.now.window.now observed.now.came.a observed.now.came.b observed.now.channel observed.now.node
+        0 lines.now))) }
 {
-    let node = observed.node;
     let mut any = any;
     for (number, line) in lines.iter().enumerate() {
         let takes = takes(observed.window, observed.came, observed.channel, line);
-        let buffer = Some(number);
-        any = write_if(writer, any, takes, Taker { node, buffer })?;
+        let taker = Taker {
+            node: observed.node,
+            buffer: Some(number),
+        };
+        any = write_if(writer, any, takes, taker)?;
     }
     Ok(any)
 }
@@ -113,17 +117,20 @@ fn write_any<W: Write>(
     writer: &mut W,
     any: bool,
     plan: &NodePlan,
-    observed: Observed<'_>,
+    observed: &Observed<'_>,
 ) -> io::Result<bool>
     ensures text { Writes W.contents writer.old writer.new result (after_commas any (takers_by plan.now
-        observed.window.now observed.came.a observed.came.b observed.channel observed.node)) }
+        observed.now.window.now observed.now.came.a observed.now.came.b observed.now.channel observed.now.node)) }
     ensures any { IfOk result (λ now. now ≡ (any || is_any (takers_by plan.now
-        observed.window.now observed.came.a observed.came.b observed.channel observed.node))) }
+        observed.now.window.now observed.now.came.a observed.now.came.b observed.now.channel observed.now.node))) }
 {
     let any = write_buffers(writer, any, observed, plan.buffers())?;
     let takes = queue_takes(plan, observed.window, observed.came, observed.channel);
-    let node = observed.node;
-    write_if(writer, any, takes, Taker { node, buffer: None })
+    let taker = Taker {
+        node: observed.node,
+        buffer: None,
+    };
+    write_if(writer, any, takes, taker)
 }
 
 /// Writes the receivers of the frame, each after a comma if one was written before. Returns whether any was written by
@@ -134,7 +141,7 @@ pub fn write_more<W: Write>(writer: &mut W, any: bool, takers: &Takers<'_>) -> i
     ensures text { Writes W.contents writer.old writer.new result (after_commas any takers.now) }
     ensures any { IfOk result (λ now. now ≡ (any || is_any takers.now)) }
 {
-    write_any(writer, any, takers.plan, takers.observed)
+    write_any(writer, any, takers.plan, &takers.observed)
 }
 
 /// Writes the receivers of the frame with commas between them, or a dash.

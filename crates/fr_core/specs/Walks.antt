@@ -151,10 +151,10 @@ sight_told opened (Observe number a b) = option_map (sight_of a b) opened
 -- the task and the executed call of the entry of this number
 abbrev pub done_by : State → ℕ → Entry → Option (ℕ × Executed)
 done_by s number (Commit t buffer payload) =
-    Some (t, host_call.Commit buffer payload, Committed (record { task = t; entry = number }))
-done_by s number (Withdraw t buffer of) = Some (t, host_call.Withdraw buffer, Withdrawn of)
-done_by s number (Read t buffer from) = Some (t, host_call.Read buffer, frame_reply s from)
-done_by s number (Pop t from) = Some (t, host_call.Pop, frame_reply s from)
+    Some (t, (host_call.Commit buffer payload, Committed (record { task = t; entry = number })))
+done_by s number (Withdraw t buffer of) = Some (t, (host_call.Withdraw buffer, Withdrawn of))
+done_by s number (Read t buffer from) = Some (t, (host_call.Read buffer, frame_reply s from))
+done_by s number (Pop t from) = Some (t, (host_call.Pop, frame_reply s from))
 done_by s number (Fetch window a b) = None
 done_by s number (Observe window a b) = None
 

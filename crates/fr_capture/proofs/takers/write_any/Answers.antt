@@ -9,7 +9,7 @@ use Rattle.fr_capture.proofs.takers.write_any.Goals as goal
 
 pub returns-clause-text : goal.returns-clause-text
 returns-clause-text g c =
-    let o = c.args.observed in
+    let o = c.args.observed.now in
     let w = o.window.now in
     let old = g.W.Write.contents c.args.writer.now in
     let new = g.W.Write.contents c.write_if.new.writer in
@@ -25,7 +25,7 @@ returns-clause-text g c =
 
 pub returns-clause-any : goal.returns-clause-any
 returns-clause-any g c =
-    let o = c.args.observed in
+    let o = c.args.observed.now in
     let w = o.window.now in
     let xs : List Taker = buffers_by w o.came.a o.came.b o.channel o.node 0 c.buffers.result.now in
     let ys : List Taker = taker_if c.queue_takes-takes.result o.node None in

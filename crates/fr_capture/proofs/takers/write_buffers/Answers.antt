@@ -11,7 +11,7 @@ use Rattle.fr_capture.proofs.takers.write_buffers.Goals as goal
 
 pub loop-number-preserved : goal.loop-number-preserved
 loop-number-preserved g c =
-    let o = c.args.observed in
+    let o = c.args.observed.now in
     let w = o.window.now in
     let n : ℕ = c.loop-number.number in
     let line = c.index-lines-number.result in
@@ -34,7 +34,7 @@ loop-number-preserved g c =
 
 pub returns-clause-text : goal.returns-clause-text
 returns-clause-text g c =
-    let o = c.args.observed in
+    let o = c.args.observed.now in
     let w = o.window.now in
     let n : ℕ = c.loop-number.number in
     let le : length c.args.lines.now ≤ n = omega (arith, c.loop-number-test.false) in
