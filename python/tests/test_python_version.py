@@ -37,7 +37,7 @@ class TestOldPython(unittest.TestCase):
     def test_the_package(self) -> None:
         status, lines = self.ran("import musmyrtle\n")
         self.assertEqual((status, lines[-1]), (1, f"ImportError: {NEEDS}"))
-        self.assertEqual(self.ran("try:\n    import musmyrtle.lint\nexcept ImportError as error:\n"
+        self.assertEqual(self.ran("try:\n    import musmyrtle.lint.lint\nexcept ImportError as error:\n"
                                   "    sys.exit(str(error))\n"), (1, [NEEDS]))
 
     def test_an_older_python_can_read_that_far(self) -> None:
