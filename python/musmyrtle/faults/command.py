@@ -121,7 +121,7 @@ def measured(given: argparse.Namespace, folder: Path) -> Results | None:
     selection = Selection(given.kinds, given.nodes, given.slots, given.in_cycle)
     missing = selection.missing(inputs.cluster)
     if missing:
-        arguments().error(f"the cluster has no {missing}")
+        arguments(given.command).error(f"the cluster has no {missing}")
     means, files = means_of(given), Folder(folder, *inputs.data, given.cycles, children)
     try:
         campaign = Campaign(inputs.cluster, inputs.scenario, files, means)
@@ -193,12 +193,13 @@ def ran(given: argparse.Namespace) -> int:
         raise Stop(signal.status, f"broken off{how}") from None
 
 
-def main(words: list[str] | None = None) -> int:
+def main(words: list[str] | None = None, name: str = "fr_faults") -> int:
+    """Does the command. NAME is what its messages begin with."""
     try:
         with breaking_off():
-            return ran(parsed(words))
+            return ran(parsed(words, name))
     except Stop as stop:
-        return stop.tell("fr_faults")
+        return stop.tell(name)
     except BrokenOff as signal:
         return signal.status
     except BrokenPipeError:

@@ -69,8 +69,8 @@ def cores_of(word: str) -> int:
     return int(word)
 
 
-def arguments() -> argparse.ArgumentParser:
-    parser = Parser(prog="fr_faults", description=ABOUT, epilog=STATUSES, allow_abbrev=False,
+def arguments(name: str = "fr_faults") -> argparse.ArgumentParser:
+    parser = Parser(prog=name, description=ABOUT, epilog=STATUSES, allow_abbrev=False,
                     formatter_class=argparse.RawDescriptionHelpFormatter)
     add = parser.add_argument
     add("cluster", metavar="CLUSTER", help="a cluster file")
@@ -100,9 +100,10 @@ def arguments() -> argparse.ArgumentParser:
     return parser
 
 
-def parsed(words: list[str] | None) -> argparse.Namespace:
-    parser = arguments()
+def parsed(words: list[str] | None, name: str) -> argparse.Namespace:
+    parser = arguments(name)
     given = parser.parse_args(words)
+    given.command = name
     if given.in_cycle is not None and given.in_cycle >= given.cycles:
         parser.error(f"the run has no cycle {given.in_cycle}: it has {counted(given.cycles, 'cycle')}")
     if given.resume and given.joblog is None:

@@ -75,8 +75,8 @@ def allowed_name(word: str) -> str:
     return word
 
 
-def parsed(words: list[str] | None) -> argparse.Namespace:
-    parser = Parser(prog="fr_lint", description=ABOUT, epilog=f"{STATUSES}\n\n{SILENCED}{listed_names()}",
+def arguments(name: str = "fr_lint") -> Parser:
+    parser = Parser(prog=name, description=ABOUT, epilog=f"{STATUSES}\n\n{SILENCED}{listed_names()}",
                     allow_abbrev=False, formatter_class=argparse.RawDescriptionHelpFormatter)
     parser.add_argument("cluster", metavar="CLUSTER",
                         help="a cluster file, or a refused trace, which fr_view explains")
@@ -87,6 +87,11 @@ def parsed(words: list[str] | None) -> argparse.Namespace:
                         help="print no warning of this name; it may be given several times")
     parser.add_argument("--program", metavar="FILE",
                         help="the fr_bench to ask, or for a trace the fr_view, instead of the one beside fr_lint")
+    return parser
+
+
+def parsed(words: list[str] | None, name: str) -> argparse.Namespace:
+    parser = arguments(name)
     given = parser.parse_args(words)
     if given.scenario is not None and given.cycles is None:
         parser.error("a scenario wants --cycles N")
@@ -233,11 +238,12 @@ def linted(given: argparse.Namespace) -> int:
     return WARNED if given.strict and found.warnings else FINE
 
 
-def main(words: list[str] | None = None) -> int:
+def main(words: list[str] | None = None, name: str = "fr_lint") -> int:
+    """Does the command. NAME is what its messages begin with."""
     try:
-        return linted(parsed(words))
+        return linted(parsed(words, name))
     except Stop as stop:
-        return stop.tell("fr_lint")
+        return stop.tell(name)
     except BrokenPipeError:
         return FINE
     except KeyboardInterrupt:
