@@ -91,19 +91,18 @@ class Commits(Shows):
                 self.assertEqual(self.values("commit", keys, "commits", *run, *words), expected)
 
     def test_what_came_of_a_commit_at_a_node(self) -> None:
-        self.assertEqual(self.printed("commits", *self.run_of(), "--node", "pedal", "--in-cycles", "0", "--slot", "1"),
-                         "node       buffer        cycle  bytes  sent in  slot  channel  begin [us]  latency [us]  end  "
-                         "     receivers\n"
-                         "pedal (0)  position (0)      0  x0001        0     1  A                 0             0  "
-                         "arrived   brake (1) position (1)\n"
-                         "pedal (0)  position (0)      0  x0001        0     1  B                 0             0  "
-                         "collided  -\n")
+        found = self.printed("commits", *self.run_of(), "--node", "pedal", "--in-cycles", "0", "--slot", "1")
+        self.assertEqual([line.split() for line in found.splitlines()], [
+            "node buffer cycle bytes sent in slot channel begin [us] latency [us] end receivers".split(),
+            "pedal (0) position (0) 0 x0001 0 1 A 0 0 arrived brake (1) position (1)".split(),
+            "pedal (0) position (0) 0 x0001 0 1 B 0 0 collided -".split()])
 
 
 class Reads(Shows):
     def test_calls(self) -> None:
         """Both frames are of cycle 0. The calls of cycle 1 come at its start, at 200 us."""
-        keys = "node_name cycle call buffer data frame_cycle slot channel sender_name sender_buffer_name age_us latency_us"
+        keys = ("node_name cycle call buffer data frame_cycle slot channel sender_name sender_buffer_name age_us "
+                "latency_us")
         self.assertEqual(self.values("call", keys, "reads", *self.run_of()), [
             ("brake", 1, "read", 1, "x0001", 0, 1, "A", "pedal", "position", 200, 200),
             ("brake", 1, "pop", None, FIRST, 0, 3, "A", "pedal", "log", 120, 200)])

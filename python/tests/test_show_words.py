@@ -22,8 +22,9 @@ from tests.test_visible_output import IN_TOML, SPELLED
 TOP = Path(__file__).resolve().parents[2]
 PEDAL, BRAKE = Name(0, "pedal", "node"), Name(1, None, "node")
 SECTION = Section("row", "Rows", (
-    Column("node", "node", "name"), Column("at", "at [us]", "time"), Column("what", "what", words={"turned": "flipped"}),
-    Column("receivers", "receivers"), Column("inner", ""), Column("empty", "empty")), [
+    Column("node", "node", "name"), Column("at", "at [us]", "time"),
+    Column("what", "what", words={"turned": "flipped"}), Column("receivers", "receivers"), Column("inner", ""),
+    Column("empty", "empty")), [
     Row({"node": PEDAL, "at": Time(4, 2.5), "what": "turned", "inner": True, "receivers": Receivers((
         Receiver(BRAKE, Name(2, "speed, fast", "buffer")), Receiver(PEDAL, None)))}),
     Row({"node": BRAKE, "at": Time(40, None), "what": None, "receivers": Receivers(()), "inner": None}, True)])
@@ -109,7 +110,8 @@ class Statuses(Shows):
             (("comits",), "musmyrtle: there is no command comits; did you mean commits?"),
             (("log", *run, "--in-cycles", "0-2"), "musmyrtle log: error: the run has no cycle 2: it has 2 cycles"),
             (("log", *run[:2]), "musmyrtle log: error: the following arguments are required: --cycles"),
-            (("log", *run, "--json", "--csv"), "musmyrtle log: error: argument --csv: not allowed with argument --json"),
+            (("log", *run, "--json", "--csv"),
+             "musmyrtle log: error: argument --csv: not allowed with argument --json"),
             (("log", *run, "--node", "2"), "musmyrtle: the cluster has 2 nodes, and none is 2; names: pedal, brake"),
             (("lint",), "musmyrtle lint: error: the following arguments are required: CLUSTER"),
             (("faults", *run, "--nodes", "9"), "musmyrtle faults: error: the cluster has no node 9: its nodes are 0 to 1"),

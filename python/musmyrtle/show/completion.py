@@ -7,7 +7,8 @@ from musmyrtle.show.engines import COMMAND
 
 BASH_FRONT = f"""# Completion of {COMMAND} for bash: eval "$({COMMAND} completion bash)"
 _{COMMAND}() {{
-    local word=${{COMP_WORDS[COMP_CWORD]}} before=${{COMP_WORDS[COMP_CWORD-1]}} command=${{COMP_WORDS[1]}} words= values=
+    local word=${{COMP_WORDS[COMP_CWORD]}} before=${{COMP_WORDS[COMP_CWORD-1]}} command=${{COMP_WORDS[1]}}
+    local words= values=
     COMPREPLY=()
     if [ "$COMP_CWORD" -eq 1 ]; then
         COMPREPLY=($(compgen -W "@COMMANDS@" -- "$word"))
