@@ -114,7 +114,8 @@ class Statuses(Shows):
              "musmyrtle log: error: argument --csv: not allowed with argument --json"),
             (("log", *run, "--node", "2"), "musmyrtle: the cluster has 2 nodes, and none is 2; names: pedal, brake"),
             (("lint",), "musmyrtle lint: error: the following arguments are required: CLUSTER"),
-            (("faults", *run, "--nodes", "9"), "musmyrtle faults: error: the cluster has no node 9: its nodes are 0 to 1"),
+            (("faults", *run, "--nodes", "9"),
+             "musmyrtle faults: error: the cluster has no node 9: its nodes are 0 to 1"),
         ):
             with self.subTest(words[0]):
                 status, output, error = self.asked(*words)
