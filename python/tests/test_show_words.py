@@ -3,6 +3,7 @@ import csv
 import io
 import json
 import os
+import re
 import shutil
 import subprocess
 import sys
@@ -16,7 +17,7 @@ from musmyrtle.show.main import EVERY
 from musmyrtle.show.manual import manual
 from musmyrtle.show.tables import Column, Name, Receiver, Receivers, Row, Section, Time, as_csv, as_json, as_text
 from musmyrtle.version import version
-from tests.shows import NETWORK, SCENE, THREE, Shows
+from tests.shows import NETWORK, POP, SCENE, THREE, Shows
 from tests.test_visible_output import IN_TOML, SPELLED
 
 TOP = Path(__file__).resolve().parents[2]
@@ -62,6 +63,24 @@ class Forms(unittest.TestCase):
     def test_a_table_without_rows(self) -> None:
         self.assertEqual("".join(as_text([Section("a", "A", (), [], "Nothing."), Section("b", "B", (), [])])),
                          "Nothing.\n")
+
+
+class Keys(Shows):
+    def test_the_table_of_the_document(self) -> None:
+        """Each kind of row has the keys of python/README.md, in their order."""
+        page = (TOP / "python/README.md").read_text().partition("## Tables")[2]
+        rows = [line.split("|")[1:4] for line in page.splitlines() if line.startswith("| `")]
+        expected = {tuple(it.strip(" `") for it in row[:2]): re.findall(r"`([a-z_]+)`", row[2]) for row in rows}
+        run = self.run_of(scene=SCENE.replace(POP, ""))
+        found: dict[tuple[str, ...], list[str]] = {}
+        guarded = self.written("guarded.toml", NETWORK.replace('"none"', '"AB"'))
+        for command in ("check", "plan", "run", "log", "commits", "reads"):
+            words = (guarded,) if command in ("check", "plan") else run
+            for line in self.printed(command, *words, "--json").splitlines():
+                row = json.loads(line)
+                kind = row.pop("kind")
+                found[command, kind] = list(row)
+        self.assertEqual(found, expected)
 
 
 class Escapes(Shows):
