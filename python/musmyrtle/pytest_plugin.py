@@ -8,7 +8,7 @@
 
 pytest loads this module by its entry point. Nothing else imports it, so the package works without pytest.
 """
-from collections.abc import Iterator
+from collections.abc import Generator, Iterator
 from typing import Any
 
 import pytest
@@ -40,7 +40,7 @@ def world(request: pytest.FixtureRequest) -> Iterator[World]:
 
 
 @pytest.hookimpl(hookwrapper=True)
-def pytest_runtest_makereport(item: Any) -> Iterator[None]:
+def pytest_runtest_makereport(item: Any) -> Generator[None, Any, None]:
     """Adds the transcript of the world to the report of a test that fails."""
     outcome: Any = yield
     report = outcome.get_result()

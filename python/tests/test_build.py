@@ -90,7 +90,7 @@ class Build(unittest.TestCase):
         name = self.backend.build_sdist(str(self.folder))
         self.assertEqual(name, f"{NAME}.tar.gz")
         with tarfile.open(self.folder / name) as archive:
-            archive.extractall(self.folder, filter="data")
+            archive.extractall(self.folder)
         text = "import sys; sys.path.insert(0, 'backend'); import musmyrtle_build as it; print(it.build_wheel('.'))"
         ran = subprocess.run([sys.executable, "-B", "-c", text], cwd=self.folder / NAME, capture_output=True, text=True)
         self.assertEqual((ran.stdout, ran.stderr), (f"{NAME}-py3-none-any.whl\n", ""))

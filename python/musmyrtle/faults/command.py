@@ -150,8 +150,13 @@ def with_host(given: argparse.Namespace, folder: Path) -> tuple[HostCampaign, In
 
 def measured(given: argparse.Namespace, folder: Path) -> Results | None:
     """Returns all faults with their costs, or nothing if they were only to be listed."""
-    campaign, inputs, selection = (with_host if given.host else with_scenario)(given, folder)
-    program = itself(given.world or usual_world()) if given.host else itself(given.program)
+    campaign: Campaign | HostCampaign
+    if given.host:
+        campaign, inputs, selection = with_host(given, folder)
+        program = itself(given.world or usual_world())
+    else:
+        campaign, inputs, selection = with_scenario(given, folder)
+        program = itself(given.program)
     listing = campaign.listing(selection)
     faults = listing.faults()
     if given.list:

@@ -44,8 +44,8 @@ def listener(first: list[str], second: list[str] | None, own: OwnBytes) -> str:
     """Returns the trace of a node that only listens, from the traces of two nodes, or of the only one."""
     parameters = next(line for line in first if line.startswith("params "))
     lines = []
-    others = zip_longest(windows(first), [] if second is None else windows(second))
-    for window, other in others:
+    others: Iterator[tuple[str, list[str]]] = iter(()) if second is None else windows(second)
+    for window, other in zip_longest(windows(first), others):
         if window is None or second is not None and other is None:
             # One of the two nodes hasn't observed the last window yet.
             break
