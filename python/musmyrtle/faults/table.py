@@ -70,6 +70,7 @@ DIFFERENCE = (*FAULT, Column("receiver", "receiver"), Column("thing", "thing"), 
 
 
 def fault_values(fault: SingleFault) -> dict[str, Value]:
+    """Returns the five words of a fault as values."""
     return {"fault": fault.kind, "node": fault.node, "channels": fault.channels, "cycles": fault.cycles,
             "place": fault.place}
 

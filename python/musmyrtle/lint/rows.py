@@ -20,10 +20,12 @@ def sections(program: str, refusal: str | None, found: Lint) -> list[Section]:
 
 
 def rows_of(findings: Iterable[Finding]) -> list[Row]:
+    """Returns a row for each finding."""
     return [row_of(it) for it in findings]
 
 
 def row_of(finding: Finding, refusal: str | None = None) -> Row:
+    """Returns the row of a finding, with the words of its refusal if it is one."""
     place = finding.place
     related = "; ".join(f"{it.place}: {it.text}" if it.place else it.text for it in finding.notes)
     return Row({

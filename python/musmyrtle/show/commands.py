@@ -40,6 +40,7 @@ class Command:
 
 
 def selection_of(given: argparse.Namespace, inputs: Inputs) -> Selection:
+    """Returns the rows that the words select."""
     channels = None if given.channel is None else frozenset(given.channel)
     return Selection(numbers_of_nodes(given.node, inputs.network), given.slot, channels, given.in_cycles, given.errors)
 
@@ -69,6 +70,7 @@ def table(name: str, purpose: str, words: Words, examples: tuple[str, ...],
 
 
 def of_cluster(make: Callable[[Inputs], list[Section]]) -> Callable[[Inputs, argparse.Namespace], list[Section]]:
+    """Returns the tables of a command that takes a cluster file alone."""
     return lambda inputs, _: make(inputs)
 
 
@@ -86,10 +88,12 @@ def selected(make: Callable[[Facts, Selection], list[Section]]
 
 
 def lint_main(words: list[str]) -> int:
+    """Does the command `lint`, and returns the status."""
     return musmyrtle.lint.command.main(words, f"{COMMAND} lint")
 
 
 def faults_main(words: list[str]) -> int:
+    """Does the command `faults`, and returns the status."""
     return musmyrtle.faults.command.main(words, f"{COMMAND} faults")
 
 

@@ -37,6 +37,7 @@ def arguments(name: str, purpose: str, words: Words, examples: tuple[str, ...]) 
 
 
 def add_selection(parser: argparse.ArgumentParser) -> None:
+    """Adds the options that select rows."""
     add = parser.add_argument
     add("--node", metavar="NODE", action="append", default=[],
         help="only rows of this node, by its name or number; it may be given several times")
