@@ -13,20 +13,20 @@ if sys.version_info < (3, 11):
     # This stands before all imports, some of which fail in older versions, and in words that older versions know.
     raise ImportError("musmyrtle needs Python 3.11, and this is Python {}.{}.{}".format(*sys.version_info[:3]))
 
-from musmyrtle.builder import NotInAScenario, Scenario, ScenarioText
-from musmyrtle.faults import Babble, Corrupt, Fault, Mute
 from musmyrtle.names import Names, UnknownName
-from musmyrtle.node import Buffer, Node
-from musmyrtle.refusals import (
+from musmyrtle.world.builder import NotInAScenario, Scenario, ScenarioText
+from musmyrtle.world.faults import Babble, Corrupt, Fault, Mute
+from musmyrtle.world.node import Buffer, Node
+from musmyrtle.world.refusals import (
     AlreadyPut, AlreadyTaken, BadCycles, BadFault, BadLine, BadName, BadWindow, BusMemory, BusRefused, BusUnknownNode,
     ClusterRefused, HostFull, HostRefused, Memory, NoQueue, NotAllPut, NotAllTaken, NotCollecting, NotFetched,
     NotObserved, NotReceive, NotSealed, NotStarted, NotTransmit, NoWindow, Refused, SessionOver, SlotFull, SlotRefused,
     TimedOut, TooManyFaults, UnknownBuffer, UnknownNode, UnknownTask, WindowOrder, WrongLength, WrongTurn, WrongWindow,
 )
-from musmyrtle.replies import (
+from musmyrtle.world.replies import (
     Channel, Counters, Frame, Queue, ReceiveBuffer, Record, Report, Sent, TransmitBuffer, Window,
 )
-from musmyrtle.world import World
+from musmyrtle.world.world import World
 
 __all__ = [
     "AlreadyPut", "AlreadyTaken", "Babble", "BadCycles", "BadFault", "BadLine", "BadName", "BadWindow", "Buffer",

@@ -3,7 +3,7 @@ import re
 from dataclasses import dataclass
 
 from musmyrtle.cluster import Buffer, Cluster, Node
-from musmyrtle.replies import Counters, Queue, ReceiveBuffer, TransmitBuffer
+from musmyrtle.world.replies import Counters, Queue, ReceiveBuffer, TransmitBuffer
 
 NUMBER = r"(0|[1-9][0-9]*)"
 HELD = re.compile(rf"(?:- -|{NUMBER}:([AB]) x((?:[0-9a-f]{{4}})*))")

@@ -15,6 +15,8 @@ from typing import IO, Any
 from musmyrtle.output import pass_on
 
 CHECKOUT = Path(__file__).resolve().parents[2]
+VARIABLES = {"fr_bench": "MUSMYRTLE_BENCH", "fr_view": "MUSMYRTLE_VIEW", "fr_world": "MUSMYRTLE_WORLD"}
+"""The variables that name the programs."""
 REFUSED_LINE = re.compile(r"refused [A-Z][A-Za-z]*( .*)?")
 MOST_TOLD, LONGEST_TOLD, MOST_SAID = 20, 4096, 300
 """The number of lines and of characters in a line that are kept of a program's messages, and of characters repeated."""
@@ -43,12 +45,34 @@ class Answer:
 
 
 def usual_program(name: str = "fr_bench") -> str | None:
-    """Returns the launcher of this checkout, otherwise its program, otherwise the one on the path of commands."""
-    is_checkout = (CHECKOUT / "python/musmyrtle/program.py").is_file()
-    for file in (CHECKOUT / name, CHECKOUT / "dist" / name):
-        if is_checkout and file.is_file():
+    """Returns the program that the variable of `VARIABLES` names, otherwise the launcher of this checkout, otherwise
+    its program, otherwise the one on the path of commands."""
+    named = os.environ.get(VARIABLES[name])
+    if named:
+        return named
+    for file in in_checkout(name):
+        if is_checkout() and file.is_file():
             return str(file)
     return shutil.which(name)
+
+
+def is_checkout() -> bool:
+    """Returns whether this package is in a checkout, and not installed."""
+    return (CHECKOUT / "python/musmyrtle/program.py").is_file()
+
+
+def in_checkout(name: str) -> tuple[Path, Path]:
+    """Returns the files of the checkout that may be the program, in their order."""
+    return CHECKOUT / name, CHECKOUT / "dist" / name
+
+
+def places(name: str) -> str:
+    """Returns the places where the program is looked for, in their order, with what is found there."""
+    variable = VARIABLES[name]
+    found = [f"the variable {variable} ({os.environ.get(variable) or 'not set'})"]
+    if is_checkout():
+        found += [f"{file} ({'there' if file.is_file() else 'not there'})" for file in in_checkout(name)]
+    return "; ".join([*found, f"{name} on PATH ({shutil.which(name) or 'not there'})"])
 
 
 def itself(program: str) -> str:

@@ -6,16 +6,16 @@ from tempfile import TemporaryDirectory
 
 from musmyrtle.cluster import Cluster
 from musmyrtle.cluster import Reading as ClusterReading
-from musmyrtle.fault_campaign import Campaign, Means
-from musmyrtle.fault_costs import Difference
-from musmyrtle.fault_list import Selection
-from musmyrtle.fault_log import Log
-from musmyrtle.fault_runs import OUTCOME, Folder
+from musmyrtle.faults.campaign import Campaign, Means
+from musmyrtle.faults.costs import Difference
+from musmyrtle.faults.listing import Selection
+from musmyrtle.faults.log import Log
+from musmyrtle.faults.runs import OUTCOME, Folder
 from musmyrtle.program import usual_program
 from musmyrtle.scenario import Reading as ScenarioReading
 from musmyrtle.scenario import Scenario
 from musmyrtle.texts import read_text
-from musmyrtle.world_program import usual_world
+from musmyrtle.world.world_program import usual_world
 
 PROGRAM = os.environ.get(OUTCOME[0].upper()) or usual_program(OUTCOME[0]) or OUTCOME[0]
 

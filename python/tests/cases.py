@@ -7,9 +7,9 @@ import tempfile
 import unittest
 from pathlib import Path
 
-from musmyrtle import command
-from musmyrtle.command import told, words_for
-from musmyrtle.lint import Lint, Task, lint
+from musmyrtle.lint import command
+from musmyrtle.lint.command import told, words_for
+from musmyrtle.lint.lint import Lint, Task, lint
 from musmyrtle.program import Answer, ask
 
 

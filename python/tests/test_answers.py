@@ -1,10 +1,10 @@
 """Tests of what counts as the answer of a run: an outcome, or a refusal of the run itself."""
 import unittest
 
-from musmyrtle.answers import UNANSWERED, Answer
-from musmyrtle.fault_inputs import is_of_inputs
+from musmyrtle.faults.answers import UNANSWERED, Answer
+from musmyrtle.faults.inputs import is_of_inputs
 from musmyrtle.findings import Finding
-from musmyrtle.lint import Lint
+from musmyrtle.lint.lint import Lint
 from musmyrtle.program import Answer as Asked
 
 

@@ -6,7 +6,7 @@ import unittest
 from unittest.mock import patch
 
 from musmyrtle.breaking import BrokenOff, breaking_off, deferred
-from musmyrtle.children import Children
+from musmyrtle.faults.children import Children
 
 SLEEP = ["sleep", "60"]
 POPEN = subprocess.Popen
@@ -22,7 +22,7 @@ class TestChildren(unittest.TestCase):
             os.kill(os.getpid(), signal.SIGTERM)
             return begun[0]
 
-        starting = patch("musmyrtle.children.subprocess.Popen", start)
+        starting = patch("musmyrtle.faults.children.subprocess.Popen", start)
         with self.assertRaises(BrokenOff) as broken, breaking_off(), starting, Children().started(SLEEP):
             self.fail("the block is entered")
         self.assertEqual(broken.exception.status, 128 + signal.SIGTERM)

@@ -9,7 +9,7 @@ from pathlib import Path
 from typing import Any
 from unittest import mock
 
-from musmyrtle import command
+from musmyrtle.lint import command
 from tests.cases import CLUSTER, SCENARIO, Cases
 
 FR_LINT = Path(__file__).resolve().parents[2] / "fr_lint"

@@ -12,9 +12,10 @@ import unittest
 from pathlib import Path
 from unittest.mock import patch
 
-from musmyrtle import played, program
-from musmyrtle.fault_command import main
-from musmyrtle.world_program import usual_world
+from musmyrtle import program
+from musmyrtle.faults import played
+from musmyrtle.faults.command import main
+from musmyrtle.world.world_program import usual_world
 from tests.campaigns import PROGRAM
 from tests.two_nodes import SCENE, TWO_NODES
 

@@ -1,9 +1,9 @@
 """Tests of the costs of a fault: outcomes are read strictly, and one is compared with another."""
 import unittest
 
-from musmyrtle.fault_costs import COSTS, EFFECTS, FAILED, HARMLESS, IDLE, Calendar, Ended, differences
-from musmyrtle.fault_list import Selection
-from musmyrtle.fault_table import verdict
+from musmyrtle.faults.costs import COSTS, EFFECTS, FAILED, HARMLESS, IDLE, Calendar, Ended, differences
+from musmyrtle.faults.listing import Selection
+from musmyrtle.faults.table import verdict
 from musmyrtle.outcomes import BadOutcome, read_outcome
 from tests.campaigns import PROGRAM, CampaignCases, cluster_of, scenario_of
 from tests.cases import CLUSTER, SCENARIO

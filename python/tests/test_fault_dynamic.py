@@ -1,10 +1,10 @@
 """Tests of faults in the dynamic segment: the frames that a lost node would send, and the slot of a forged frame."""
 from unittest.mock import patch
 
-from musmyrtle.fault_campaign import NoReference
-from musmyrtle.fault_list import Selection, SingleFault
-from musmyrtle.frames import data_frame
-from musmyrtle.refusals import Memory, SessionOver
+from musmyrtle.faults.campaign import NoReference
+from musmyrtle.faults.frames import data_frame
+from musmyrtle.faults.listing import Selection, SingleFault
+from musmyrtle.world.refusals import Memory, SessionOver
 from tests.campaigns import CampaignCases
 from tests.two_nodes import PARAMETERS
 
@@ -95,7 +95,7 @@ class TestForged(CampaignCases):
         """A refusal and the end of the program each end the list with one line."""
         campaign = self.campaign_of()
         for error in (Memory(("Memory",), "trace 0"), SessionOver("refused Memory")):
-            with patch("musmyrtle.played.Play.run", side_effect=error), self.assertRaises(NoReference) as raised:
+            with patch("musmyrtle.faults.played.Play.run", side_effect=error), self.assertRaises(NoReference) as raised:
                 self.at(campaign, "all", "lost")
             self.assertNotIn("\n", str(raised.exception))
 

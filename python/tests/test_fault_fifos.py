@@ -2,11 +2,11 @@
 """
 import unittest
 
-from musmyrtle.fault_campaign import Campaign
-from musmyrtle.fault_list import Selection
-from musmyrtle.fault_table import Results, has_effect, summary, verdict
-from musmyrtle.fifo_costs import fifo_effects
-from musmyrtle.fifos import Fifo, StoredFrame
+from musmyrtle.faults.campaign import Campaign
+from musmyrtle.faults.fifo_costs import fifo_effects
+from musmyrtle.faults.fifos import Fifo, StoredFrame
+from musmyrtle.faults.listing import Selection
+from musmyrtle.faults.table import Results, has_effect, summary, verdict
 from tests.campaigns import PROGRAM, CampaignCases
 from tests.two_nodes import PARAMETERS
 

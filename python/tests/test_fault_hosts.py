@@ -12,12 +12,12 @@ import unittest
 from pathlib import Path
 from unittest.mock import patch
 
-from musmyrtle.fault_campaign import Campaign, Means
-from musmyrtle.fault_hosts import SSH_OPTIONS, Hosts, surroundings
-from musmyrtle.fault_list import Selection
-from musmyrtle.fault_log import Log
-from musmyrtle.fault_runs import Folder
-from musmyrtle.world_program import usual_world
+from musmyrtle.faults.campaign import Campaign, Means
+from musmyrtle.faults.hosts import SSH_OPTIONS, Hosts, surroundings
+from musmyrtle.faults.listing import Selection
+from musmyrtle.faults.log import Log
+from musmyrtle.faults.runs import Folder
+from musmyrtle.world.world_program import usual_world
 from tests.campaigns import PROGRAM, cluster_of, scenario_of
 from tests.test_fault_costs import BY_HAND
 from tests.two_nodes import SCENE, TWO_NODES

@@ -6,10 +6,10 @@ import tempfile
 import unittest
 from pathlib import Path
 
-from musmyrtle.answers import Answer
-from musmyrtle.fault_job import SENT, Sent, prepare, read_answers
-from musmyrtle.fault_list import SingleFault
-from musmyrtle.fault_runs import Folder
+from musmyrtle.faults.answers import Answer
+from musmyrtle.faults.job import SENT, Sent, prepare, read_answers
+from musmyrtle.faults.listing import SingleFault
+from musmyrtle.faults.runs import Folder
 from tests.two_nodes import TWO_NODES
 
 PAYLOADS = "".join(f"commit 0 0 {cycle} 0 x0a0b\n" for cycle in range(30))

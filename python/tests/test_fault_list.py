@@ -2,11 +2,11 @@
 import unittest
 from argparse import ArgumentTypeError
 
-from musmyrtle.fault_list import LeftOut, Listing, Selection, SingleFault, is_stopped
-from musmyrtle.fault_options import numbers_of, places_of
-from musmyrtle.fault_table import listed
-from musmyrtle.frames import data_frame
-from musmyrtle.played import Begun, forged_babble
+from musmyrtle.faults.frames import data_frame
+from musmyrtle.faults.listing import LeftOut, Listing, Selection, SingleFault, is_stopped
+from musmyrtle.faults.options import numbers_of, places_of
+from musmyrtle.faults.played import Begun, forged_babble
+from musmyrtle.faults.table import listed
 from musmyrtle.scenario import Reading as ScenarioReading
 from tests.campaigns import cluster_of
 from tests.cases import CLUSTER

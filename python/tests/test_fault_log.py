@@ -4,10 +4,10 @@ import tempfile
 import unittest
 from pathlib import Path
 
-from musmyrtle.fault_costs import Difference
-from musmyrtle.fault_list import SingleFault
-from musmyrtle.fault_log import Log
-from musmyrtle.whole_files import Unusable
+from musmyrtle.faults.costs import Difference
+from musmyrtle.faults.listing import SingleFault
+from musmyrtle.faults.log import Log
+from musmyrtle.faults.whole_files import Unusable
 
 INPUTS = (b"cluster", b"scenario")
 LOST = Difference(1, "rx 1", "lost", 1, "0:A x1111", "-")

@@ -2,12 +2,12 @@
 import re
 import unittest
 
-from musmyrtle.fault_campaign import failed
-from musmyrtle.fault_costs import IDLE, Difference
-from musmyrtle.fault_labels import Labels, grouped, ranges
-from musmyrtle.fault_list import BOTH, LeftOut, SingleFault
-from musmyrtle.fault_page import Subject, page
-from musmyrtle.fault_table import BadTable, Done, Results, not_compared, read_ranks, summary, table, worse
+from musmyrtle.faults.campaign import failed
+from musmyrtle.faults.costs import IDLE, Difference
+from musmyrtle.faults.labels import Labels, grouped, ranges
+from musmyrtle.faults.listing import BOTH, LeftOut, SingleFault
+from musmyrtle.faults.page import Subject, page
+from musmyrtle.faults.table import BadTable, Done, Results, not_compared, read_ranks, summary, table, worse
 from musmyrtle.visible import visible
 from tests.campaigns import cluster_of
 from tests.two_nodes import TWO_NODES

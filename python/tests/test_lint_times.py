@@ -1,8 +1,8 @@
 """Tests of the slowest files of up to 1 MiB: each takes at most two seconds of the processor, and little is printed."""
 import time
 
-from musmyrtle.command import told
-from musmyrtle.lint import Task, lint
+from musmyrtle.lint.command import told
+from musmyrtle.lint.lint import Task, lint
 from musmyrtle.program import Answer
 from musmyrtle.texts import FILE_LIMIT
 from tests.cases import CLUSTER, Cases

@@ -1,5 +1,5 @@
 """Slips of a first day: 36 in cluster files, 20 in scenarios and 8 in traces, each with the text that mends it."""
-from musmyrtle.trace_why import TraceFile, Why, fault_of
+from musmyrtle.lint.trace_why import TraceFile, Why, fault_of
 from tests.cases import CLUSTER, SCENARIO, Cases
 from tests.test_standard import PHYSICAL
 from tests.test_traces import BUFFER, COMMITS, WITHDRAWN

@@ -12,9 +12,9 @@ from pathlib import Path
 from tempfile import TemporaryDirectory
 from unittest.mock import patch
 
-from musmyrtle import (
-    BadCycles, ClusterRefused, NotStarted, Scenario, SessionOver, World, WrongLength, fault_command, world_program,
-)
+from musmyrtle import BadCycles, ClusterRefused, NotStarted, Scenario, SessionOver, World, WrongLength
+from musmyrtle.faults import command
+from musmyrtle.world import world_program
 from tests import fakes
 from tests.campaigns import PROGRAM
 from tests.cases import CLUSTER, SCENARIO
@@ -87,7 +87,8 @@ class TestNoProgram(Folders):
 
     def test_a_failure_that_another_place_would_not_mend(self) -> None:
         failure = OSError(errno.EMFILE, "Too many open files")
-        with patch("musmyrtle.child.subprocess.Popen", side_effect=failure), self.assertRaises(NotStarted) as raised:
+        failing = patch("musmyrtle.world.child.subprocess.Popen", side_effect=failure)
+        with failing, self.assertRaises(NotStarted) as raised:
             World(THREE_NODES, 4, program=self.folder / "w")
         self.assertEqual(str(raised.exception), f"{self.folder}/w can't be started: Too many open files")
         self.assertEqual(raised.exception.errno, errno.EMFILE)
@@ -101,7 +102,7 @@ class TestNoProgram(Folders):
         cases: tuple[tuple[list[str], str], ...] = (["--world", str(none)], told), ([], other)
         for more, line in cases:
             with redirect_stderr(io.StringIO()) as error, redirect_stdout(io.StringIO()) as output:
-                self.assertEqual(fault_command.main(words + more), 2)
+                self.assertEqual(command.main(words + more), 2)
             self.assertEqual((error.getvalue(), output.getvalue()), (line, ""))
 
     def test_fr_faults_has_no_answer_of_a_session_that_cannot_be_started(self) -> None:
@@ -111,7 +112,7 @@ class TestNoProgram(Folders):
         words = [str(self.written(CLUSTER)), str(self.written(SCENARIO, "scenario")), "--cycles", "4", "--program",
                  PROGRAM, "--world", str(gone), "--kinds", "noise", "--nodes", "0"]
         with redirect_stderr(io.StringIO()), redirect_stdout(io.StringIO()) as output:
-            self.assertEqual(fault_command.main(words), 4)
+            self.assertEqual(command.main(words), 4)
         told = f"killed\t1\t-\tfr_world: {gone} can't be started: No such file or directory"
         rows = [row for row in output.getvalue().splitlines() if "\tm1\t" in row]
         self.assertEqual([told in row for row in rows], [True] * 3)

@@ -97,9 +97,7 @@ class Version(unittest.TestCase):
         file = Path(program.__file__).with_name("VERSION")
         settings = tomllib.loads((program.CHECKOUT / "python/pyproject.toml").read_text())
         self.assertEqual(settings["project"]["dynamic"], ["version"])
-        named = program.CHECKOUT / "python" / settings["tool"]["setuptools"]["dynamic"]["version"]["file"]
-        self.assertEqual((named, version()), (file, file.read_text().strip()))
-        self.assertIn(file.name, settings["tool"]["setuptools"]["package-data"]["musmyrtle"])
+        self.assertEqual(version(), file.read_text().strip())
 
 
 if __name__ == "__main__":

@@ -33,17 +33,19 @@ class TestOldPython(unittest.TestCase):
         for name in ("fr_lint", "fr_faults"):
             text = f"import runpy\nsys.argv = ['{name}', '--help']\nrunpy.run_path('{name}', run_name='__main__')\n"
             self.assertEqual(self.ran(text), (2, [f"{name}: {NEEDS}"]))
+        text = "import runpy\nsys.argv = ['musmyrtle']\nrunpy.run_path('musmyrtle', run_name='__main__')\n"
+        self.assertEqual(self.ran(text), (2, [NEEDS]))
 
     def test_the_package(self) -> None:
         status, lines = self.ran("import musmyrtle\n")
         self.assertEqual((status, lines[-1]), (1, f"ImportError: {NEEDS}"))
-        self.assertEqual(self.ran("try:\n    import musmyrtle.lint\nexcept ImportError as error:\n"
+        self.assertEqual(self.ran("try:\n    import musmyrtle.lint.lint\nexcept ImportError as error:\n"
                                   "    sys.exit(str(error))\n"), (1, [NEEDS]))
 
     def test_an_older_python_can_read_that_far(self) -> None:
         """A whole file is read before its first line is executed, so these files may have no form of a later version.
         """
-        for name in ("fr_lint", "fr_faults", "python/musmyrtle/__init__.py"):
+        for name in ("musmyrtle", "fr_lint", "fr_faults", "python/musmyrtle/__init__.py"):
             ast.parse((TOP / name).read_text(), name, feature_version=(3, 7))
 
 

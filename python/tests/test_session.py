@@ -15,8 +15,8 @@ from pathlib import Path
 from tempfile import TemporaryDirectory
 
 from musmyrtle import Mute, SessionOver, TimedOut, World, WrongLength
-from musmyrtle import refusals
-from musmyrtle.refusals import Refused, refusal
+from musmyrtle.world import refusals
+from musmyrtle.world.refusals import Refused, refusal
 from tests import fakes
 
 TOP = Path(__file__).resolve().parents[2]

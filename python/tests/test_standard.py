@@ -1,8 +1,8 @@
 """The rules of FlexRay 2.1 Rev A: each that a cluster file breaks is a warning with the parameter and its range."""
-from musmyrtle.allows import NAMES
-from musmyrtle.lint import OF_CLUSTER, Task, lint
-from musmyrtle.overwriting import Overwritten
-from musmyrtle.standard import RULES
+from musmyrtle.lint.allows import NAMES
+from musmyrtle.lint.lint import OF_CLUSTER, Task, lint
+from musmyrtle.lint.overwriting import Overwritten
+from musmyrtle.lint.standard import RULES
 from tests.cases import CLUSTER, EXAMPLES, SCENARIO, Cases
 
 FORMATS = EXAMPLES.parent / "docs/formats"

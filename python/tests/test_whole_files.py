@@ -4,7 +4,7 @@ import tempfile
 import unittest
 from pathlib import Path
 
-from musmyrtle.whole_files import Unusable, replace_file, spare_inputs
+from musmyrtle.faults.whole_files import Unusable, replace_file, spare_inputs
 
 
 class TestWholeFiles(unittest.TestCase):

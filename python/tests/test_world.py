@@ -15,8 +15,8 @@ from musmyrtle import (
     NotInAScenario, NotReceive, NotSealed, NoWindow, Refused, Scenario, SessionOver, TooManyFaults, UnknownBuffer,
     UnknownName, UnknownNode, UnknownTask, Window, World, WrongLength, WrongTurn,
 )
-from musmyrtle.node import Buffer, Node
-from musmyrtle.world_program import usual_world
+from musmyrtle.world.node import Buffer, Node
+from musmyrtle.world.world_program import usual_world
 
 TOP = Path(__file__).resolve().parents[2]
 THREE_NODES = TOP / "examples/three-nodes/cluster.toml"
@@ -413,7 +413,8 @@ class TestScenario(unittest.TestCase):
 class TestDocstrings(unittest.TestCase):
     def test_all_that_is_public_has_one(self):
         named = [getattr(musmyrtle, name) for name in musmyrtle.__all__]
-        kinds = [it for it in named if inspect.isclass(it)] + [musmyrtle.session.Session, musmyrtle.builder.Task]
+        kinds = [*(it for it in named if inspect.isclass(it)), musmyrtle.world.session.Session,
+                 musmyrtle.world.builder.Task]
         self.assertIn(Node, kinds)
         without = [f"{kind.__name__}.{name}" for kind in kinds for name, value in vars(kind).items()
                    if not name.startswith("_") and (inspect.isfunction(value) or isinstance(value, property))

@@ -1,0 +1,239 @@
+"""The command `fr_faults`."""
+import argparse
+import os
+import sys
+import tempfile
+import time
+from pathlib import Path
+
+from musmyrtle.breaking import BrokenOff, breaking_off, temporary_folder
+from musmyrtle.cluster import Cluster
+from musmyrtle.faults.campaign import Campaign, Means, NoReference
+from musmyrtle.faults.children import Children
+from musmyrtle.faults.costs import FAILED, Difference
+from musmyrtle.faults.hosts import Hosts, NoParallel
+from musmyrtle.faults.host_campaign import HostCampaign
+from musmyrtle.faults.host_runs import HostJob
+from musmyrtle.faults.inputs import Inputs, accepted, accepted_host
+from musmyrtle.faults.labels import Labels, fault_label
+from musmyrtle.faults.listing import Selection, SingleFault
+from musmyrtle.faults.log import Log, already, is_begun
+from musmyrtle.faults.options import arguments, parsed
+from musmyrtle.faults.page import Subject, page
+from musmyrtle.faults.runs import CLUSTER_FILE, Folder
+from musmyrtle.faults.table import (
+    BadTable, Ranks, Results, has_effect, list_rows, listed, not_compared, read_ranks, summary, table, table_rows,
+)
+from musmyrtle.faults.table import told as told_difference
+from musmyrtle.faults.table import worse
+from musmyrtle.faults.whole_files import Unusable, replace_file, spare_inputs
+from musmyrtle.findings import counted
+from musmyrtle.lint.command import FINE, USAGE, formed
+from musmyrtle.output import Stop, write
+from musmyrtle.program import is_launcher, itself
+from musmyrtle.visible import visible
+from musmyrtle.world.refusals import NotStarted, SessionOver
+from musmyrtle.world.world_program import usual_world
+
+FOUND, UNDONE = 3, 4
+MOST_WORSE = 20
+
+
+def say(text: str) -> None:
+    write(sys.stderr, [text])
+
+
+def ranks_before(file: str | None) -> Ranks | None:
+    if file is None:
+        return None
+    try:
+        return read_ranks(Path(file).read_text(encoding="utf-8"))
+    except OSError as error:
+        raise Stop(USAGE, f"--against {file}: {error.strerror}") from None
+    except ValueError as error:
+        why = error if isinstance(error, BadTable) else "isn't a table of fr_faults: it is no UTF-8"
+        raise Stop(USAGE, f"--against {file}: {why}") from None
+
+
+def try_outputs(given: argparse.Namespace) -> None:
+    """Stops if an output can't be written or would overwrite an input.
+
+    It does so before the runs, which may take long.
+    """
+    outputs = {"--joblog": given.joblog, "--html": given.html}
+    inputs = [("the cluster file", given.cluster), ("the scenario", given.scenario),
+              ("the table of --against", given.against), ("the program", given.program),
+              ("the program", itself(given.program)), ("the program of --world", given.world or itself(usual_world())),
+              *(("the file of --sshloginfile", it) for it in given.sshloginfile)]
+    spare_inputs({option: file for option, file in outputs.items() if file is not None},
+                 [(what, file) for what, file in inputs if file is not None])
+    if given.joblog is not None and not given.resume and is_begun(given.joblog):
+        raise already(given.joblog)
+    if given.html:
+        try_page(given.html)
+
+
+def try_page(file: str) -> None:
+    """Stops if the page can't be written. The trial leaves no file."""
+    path = Path(file)
+    try:
+        if not path.exists():
+            tempfile.TemporaryFile(dir=path.parent).close()
+        elif path.is_file() or path.is_dir():
+            # A pipe isn't opened here, since its reader would take that for the whole page.
+            open(path, "ab").close()
+    except OSError as error:
+        raise Stop(USAGE, f"--html {file}: {error.strerror}") from None
+
+
+class Progress:
+    """A line on a terminal that shows the progress of the runs."""
+
+    def __init__(self) -> None:
+        self.is_shown = sys.stderr is not None and sys.stderr.isatty()
+        self.began, self.last = time.monotonic(), 0.0
+        self.first: int | None = None
+
+    def __call__(self, done: int, of: int) -> None:
+        now = time.monotonic()
+        if self.first is None:
+            self.first = done
+        if not self.is_shown or (now - self.last < 0.1 and done < of):
+            return
+        self.last = now
+        fresh = done - self.first
+        left = f", {(now - self.began) * (of - done) / fresh:.0f} s to go" if fresh and done < of else ""
+        say(f"\r\x1b[K{done} of {of} faults{left}" + ("\r\x1b[K" if done == of else ""))
+
+
+def means_of(given: argparse.Namespace) -> Means:
+    words = [word for it in given.sshlogin for word in ("--sshlogin", it)]
+    words += [word for it in given.sshloginfile for word in ("--sshloginfile", os.path.abspath(it))]
+    hosts = Hosts(tuple(words)) if given.parallel else None
+    world, program = given.world or itself(usual_world()), itself(given.program)
+    if given.parallel and is_launcher(program):
+        raise Stop(USAGE, f"--parallel can't send {program}, which runs only in its checkout: name the program that it "
+                          "runs, in dist, by --program FILE")
+    return Means(str(Path(program).resolve()), world, given.cores, hosts)
+
+
+def selected(given: argparse.Namespace, cluster: Cluster) -> Selection:
+    """Returns the faults to list. Ends with status 2 if the cluster doesn't have what they are for."""
+    selection = Selection(given.kinds, given.nodes, given.slots, given.in_cycle)
+    missing = selection.missing(cluster)
+    if missing:
+        arguments(given.command).error(f"the cluster has no {missing}")
+    return selection
+
+
+def with_scenario(given: argparse.Namespace, folder: Path) -> tuple[Campaign, Inputs, Selection]:
+    """Returns the campaign of a scenario, after its run without a fault."""
+    children = Children()
+    inputs = accepted(given, folder, children)
+    selection = selected(given, inputs.cluster)
+    means, files = means_of(given), Folder(folder, *inputs.data, given.cycles, children)
+    try:
+        return Campaign(inputs.cluster, inputs.scenario, files, means), inputs, selection
+    except NotStarted as error:
+        other = "" if given.world else "; name another fr_world by --world FILE"
+        raise Stop(USAGE, f"{error.filename} can't be run: {os.strerror(error.errno or 0)}{other}") from None
+
+
+def with_host(given: argparse.Namespace, folder: Path) -> tuple[HostCampaign, Inputs, Selection]:
+    """Returns the campaign of a host program, after its run without a fault."""
+    inputs = accepted_host(given, folder)
+    selection = selected(given, inputs.cluster)
+    means = means_of(given)
+    job = HostJob(given.host, str(folder / CLUSTER_FILE), inputs.cluster, given.cycles, means.world, means.program)
+    return HostCampaign(job, means.cores), inputs, selection
+
+
+def measured(given: argparse.Namespace, folder: Path) -> Results | None:
+    """Returns all faults with their costs, or nothing if they were only to be listed."""
+    campaign: Campaign | HostCampaign
+    if given.host:
+        campaign, inputs, selection = with_host(given, folder)
+        program = itself(given.world or usual_world())
+    else:
+        campaign, inputs, selection = with_scenario(given, folder)
+        program = itself(given.program)
+    listing = campaign.listing(selection)
+    faults = listing.faults()
+    if given.list:
+        write(sys.stdout, formed(given, [list_rows(faults)], listed(faults)))
+        return None
+    log = Log(given.joblog, (*inputs.data, str(given.cycles).encode(), Path(program).read_bytes()), given.resume)
+    try:
+        done = campaign.run(faults, log, Progress())
+    finally:
+        log.close()
+    if campaign.done_here:
+        say(f"{counted(campaign.done_here, 'run')} had no answer from a machine, and were done on this one\n")
+    return Results(done, inputs.cluster, given.cycles, listing.left_out, campaign.overwritten(), campaign.quiet(),
+                   Labels.read(inputs.data[0]))
+
+
+def concluded(given: argparse.Namespace, found: Results, before: Ranks | None) -> int:
+    """Prints the table and the summary, and writes the page. Returns the status."""
+    done = found.done
+    write(sys.stdout, formed(given, [table_rows(done)], table(done)))
+    say("".join(summary(found)))
+    if given.html:
+        try:
+            text = page(Subject(given.cluster, given.host or given.scenario), found)
+            replace_file(given.html, text.encode())
+        except OSError as error:
+            raise Stop(USAGE, f"--html {given.html}: {error.strerror}") from None
+    greater = [] if before is None else worse(done, before)
+    if before is not None:
+        say("".join(not_compared(done, before)))
+        say(f"{counted(len(greater), 'thing')} worse than in {visible(given.against)}\n")
+        say("".join(worse_line(*it, found.labels) for it in greater[:MOST_WORSE]))
+        say(f"and {len(greater) - MOST_WORSE} more\n" if len(greater) > MOST_WORSE else "")
+    if has_effect(done, FAILED):
+        return UNDONE
+    is_found = has_effect(done, given.fail_on) or bool(greater and "worse" in given.fail_on)
+    return FOUND if is_found else FINE
+
+
+def worse_line(fault: SingleFault, found: Difference, labels: Labels) -> str:
+    return f"  {fault_label(fault)}: {told_difference(found, labels)}\n"
+
+
+def ran(given: argparse.Namespace) -> int:
+    """Runs the whole command and returns the status."""
+    try:
+        before = ranks_before(given.against)
+        try_outputs(given)
+        with temporary_folder("fr_faults-") as folder:
+            found = measured(given, folder)
+            return FINE if found is None else concluded(given, found, before)
+    except (NoReference, NoParallel, SessionOver) as error:
+        raise Stop(UNDONE, str(error)) from None
+    except Unusable as error:
+        raise Stop(USAGE, str(error)) from None
+    except BrokenPipeError:
+        raise
+    except OSError as error:
+        # A file or folder vanished meanwhile, or there is no folder for temporary files.
+        raise Stop(USAGE, ": ".join(str(it) for it in (error.filename, error.strerror or error) if it)) from None
+    except BrokenOff as signal:
+        how = f"; --joblog {given.joblog} --resume goes on" if given.joblog else ""
+        raise Stop(signal.status, f"broken off{how}") from None
+
+
+def main(words: list[str] | None = None, name: str = "fr_faults") -> int:
+    """Does the command. NAME is what its messages begin with."""
+    try:
+        with breaking_off():
+            return ran(parsed(words, name))
+    except Stop as stop:
+        return stop.tell(name)
+    except BrokenOff as signal:
+        return signal.status
+    except BrokenPipeError:
+        return FINE
+
+
+if __name__ == "__main__":
+    sys.exit(main())

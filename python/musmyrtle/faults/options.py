@@ -1,0 +1,125 @@
+"""The words of `fr_faults`."""
+import argparse
+import os
+import re
+from collections.abc import Callable
+
+from musmyrtle.faults.hosts import SSH_OPTIONS
+from musmyrtle.faults.listing import ALL, ALL_STATIC, KINDS
+from musmyrtle.faults.runs import OUTCOME
+from musmyrtle.findings import counted
+from musmyrtle.lint.command import Parser, add_forms, cycles_of
+from musmyrtle.program import usual_program
+
+FAIL_ON = ("lost", "older", "changed", "worse")
+ABOUT = """Prints the costs of each single fault of a network: a run for each, compared with the run without it.
+
+The table goes to standard output: a line for each fault and each thing of a node that it changes. The summary goes to
+standard error. docs/FAULTS.md describes the faults and the words."""
+STATUSES = """status: 0 if no other status applies, 1 if the cluster or the scenario is refused, 2 if the words are no
+command, a file can't be used or the output can't be written, 3 if --fail-on found a cost, 4 if a run was refused or
+killed or has no outcome, 130, 143 or 129 if SIGINT, SIGTERM or SIGHUP broke it off"""
+
+
+SSHLOGIN = f"""a machine, as parallel names it: 8/bench1, or 8/ssh -p 2222 bench1. The command ssh gets the options
+{SSH_OPTIONS}; another command, as /usr/bin/ssh, has to give such options itself"""
+
+
+def numbers_of(word: str) -> frozenset[int]:
+    """Returns the numbers of a text such as `1,3-5`."""
+    found: set[int] = set()
+    for part in word.split(","):
+        first, _, last = part.partition("-")
+        if not re.fullmatch(r"[0-9]{1,4}(-[0-9]{1,4})?", part) or int(last or first) < int(first):
+            raise argparse.ArgumentTypeError(f"{part!r} is no number, and no range as 3-5")
+        found |= set(range(int(first), int(last or first) + 1))
+    return frozenset(found)
+
+
+def places_of(word: str) -> frozenset[str]:
+    """Returns the places of a text such as `1,3-5,m7,s*,all`."""
+    found: set[str] = set()
+    for part in word.split(","):
+        if part in (ALL_STATIC, ALL):
+            found.add(part)
+        else:
+            front = "m" if part.startswith("m") else "s"
+            found |= {f"{front}{number}" for number in numbers_of(part.removeprefix(front))}
+    return frozenset(found)
+
+
+def words_of(known: tuple[str, ...]) -> Callable[[str], frozenset[str]]:
+    def read(word: str) -> frozenset[str]:
+        for part in word.split(","):
+            if part not in known:
+                raise argparse.ArgumentTypeError(f"{part!r} is none of {', '.join(known)}")
+        return frozenset(word.split(","))
+    return read
+
+
+def cycle_of(word: str) -> int:
+    if not re.fullmatch(r"0|[1-9][0-9]{0,3}", word):
+        raise argparse.ArgumentTypeError(f"{word!r} is no cycle")
+    return int(word)
+
+
+def cores_of(word: str) -> int:
+    if not re.fullmatch(r"[1-9][0-9]{0,2}", word):
+        raise argparse.ArgumentTypeError(f"{word!r} is no number of cores")
+    return int(word)
+
+
+def arguments(name: str = "fr_faults") -> argparse.ArgumentParser:
+    parser = Parser(prog=name, description=ABOUT, epilog=STATUSES, allow_abbrev=False,
+                    formatter_class=argparse.RawDescriptionHelpFormatter)
+    add = parser.add_argument
+    add("cluster", metavar="CLUSTER", help="a cluster file")
+    add("scenario", metavar="SCENARIO", nargs="?", help="a scenario, beside which each fault comes")
+    add("--host", metavar="MODULE:FUNCTION",
+        help="a host program in place of a scenario: a function that is called with the world")
+    add("--cycles", metavar="N", type=cycles_of, required=True, help="the cycles of each run, 1 to 1024")
+    add("--list", action="store_true", help="print the faults, and run none")
+    add("--kinds", metavar="KIND,..", type=words_of(tuple(KINDS)), default=frozenset(KINDS),
+        help=f"of the kinds {', '.join(KINDS)} only these")
+    add("--nodes", metavar="N,..", type=numbers_of, help="only faults of these nodes, as 0,3-5, and of their frames")
+    add("--slots", metavar="PLACE,..", type=places_of,
+        help="only faults at these places: static slots as 1,3-5, minislots as m7, s* for all static slots, and all")
+    add("--in-cycle", metavar="C", type=cycle_of, help="in this cycle of the run, instead of in every one")
+    add("--html", metavar="FILE", help="write a page with the matrix of nodes as well")
+    add("--fail-on", metavar="WORD,..", type=words_of(FAIL_ON), default=frozenset(),
+        help="end with status 3 where a fault costs this: lost (also not comparable), older, changed, or worse "
+             "with --against")
+    add("--against", metavar="TABLE", help="report faults that cost more than in this earlier table")
+    add_forms(parser)
+    add("--cores", metavar="N", type=cores_of, default=os.cpu_count() or 1, help="the runs at once (all cores)")
+    add("--joblog", metavar="FILE", help="note each fault that is done, in a new file")
+    add("--resume", action="store_true", help="go on where the run of this --joblog was broken off")
+    add("--parallel", action="store_true", help="give the runs to GNU parallel")
+    add("--sshlogin", "-S", metavar="HOST", action="append", default=[], help=SSHLOGIN)
+    add("--sshloginfile", metavar="FILE", action="append", default=[],
+        help="a file of such lines; trust it as a shell script, since it can run commands")
+    add("--program", metavar="FILE", help=f"the {OUTCOME[0]} to run, instead of the one beside fr_faults")
+    add("--world", metavar="FILE", help="the fr_world to ask, instead of the one beside fr_faults")
+    return parser
+
+
+def parsed(words: list[str] | None, name: str) -> argparse.Namespace:
+    parser = arguments(name)
+    given = parser.parse_args(words)
+    given.command = name
+    if given.in_cycle is not None and given.in_cycle >= given.cycles:
+        parser.error(f"the run has no cycle {given.in_cycle}: it has {counted(given.cycles, 'cycle')}")
+    if (given.scenario is None) == (given.host is None):
+        parser.error("it takes either a SCENARIO, or a host program by --host MODULE:FUNCTION")
+    if given.host is not None and given.parallel:
+        parser.error("--host doesn't go with --parallel: host programs run on this machine")
+    if given.resume and given.joblog is None:
+        parser.error("--resume wants --joblog FILE")
+    if (given.sshlogin or given.sshloginfile) and not given.parallel:
+        parser.error("--sshlogin and --sshloginfile want --parallel")
+    if "worse" in given.fail_on and given.against is None:
+        parser.error("--fail-on worse wants --against TABLE")
+    given.program = given.program or usual_program(OUTCOME[0])
+    if given.program is None:
+        parser.error(f"there is no {OUTCOME[0]}: name one by --program FILE")
+    return given

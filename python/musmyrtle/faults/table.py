@@ -1,0 +1,273 @@
+"""The table of the costs of faults, as a text, its summary, and the increases over an earlier table."""
+from collections.abc import Iterable, Iterator
+from dataclasses import dataclass, field
+
+from musmyrtle.cluster import Cluster
+from musmyrtle.faults.costs import COSTS, EFFECTS, FAILED, IDLE, LOSSES, NOT_COMPARABLE, RANKS, Difference, worst
+from musmyrtle.faults.labels import ONE_CHANNEL, Labels
+from musmyrtle.faults.listing import KINDS, LeftOut, SingleFault, is_stopped
+from musmyrtle.findings import counted
+from musmyrtle.show.tables import Column, Row, Section, Value
+
+COLUMNS = ("kind", "node", "channels", "cycles", "place", "receiver", "thing", "effect", "amount", "without", "with")
+HEADING = "\t".join(COLUMNS) + "\n"
+HEADING_OF_ONE_CHANNEL = HEADING.replace("channels", "channel")
+"""The heading of earlier versions, in which each fault is of one channel."""
+Done = list[tuple[SingleFault, list[Difference]]]
+"""Faults in the order of their list, each with the differences of its run."""
+HARMLESS_WORDS = ("harmless: counters alone (counted), the frame by the other channel (channel), a newer frame "
+                  "(newer), more sent (sent)")
+
+
+class BadTable(ValueError):
+    """A text that isn't a table of this form."""
+
+
+@dataclass(frozen=True)
+class Results:
+    """All faults with their costs, and the facts printed beside them."""
+
+    done: Done
+    cluster: Cluster
+    cycles: int
+    left_out: LeftOut = field(default_factory=LeftOut)
+    overwritten: dict[int, int] = field(default_factory=dict)
+    """The number of frames that each overwriting FIFO overwrites without any fault, by node."""
+    quiet: tuple[int, ...] = ()
+    """The nodes that could send data and for which the scenario has no commit."""
+    labels: Labels = field(default_factory=Labels)
+
+    @property
+    def runs(self) -> Done:
+        """Returns the faults that have a run: all but those of idle nodes."""
+        return [(fault, found) for fault, found in self.done if not fault.is_idle]
+
+    @property
+    def idle(self) -> list[SingleFault]:
+        return [fault for fault, _ in self.done if fault.is_idle]
+
+
+def table(done: Done) -> Iterator[str]:
+    yield HEADING
+    # A fault without a difference has no line: it is only counted.
+    for fault, found in done:
+        for it in found:
+            receiver = "-" if it.node is None else str(it.node)
+            words = (*fault.words, receiver, it.thing, it.effect, str(it.amount), it.without, it.having)
+            yield "\t".join(words) + "\n"
+
+
+def listed(faults: Iterable[SingleFault]) -> Iterator[str]:
+    """Yields a line for each fault: its words, and `idle` where its node sends nothing there."""
+    for fault in faults:
+        yield "\t".join((*fault.words, IDLE) if fault.is_idle else fault.words) + "\n"
+
+
+FAULT = (Column("fault", "fault"), Column("node", "node"), Column("channels", "channels"), Column("cycles", "cycles"),
+         Column("place", "place"))
+DIFFERENCE = (*FAULT, Column("receiver", "receiver"), Column("thing", "thing"), Column("effect", "effect"),
+              Column("amount", "amount"), Column("without", "without"), Column("with", "with"))
+
+
+def fault_values(fault: SingleFault) -> dict[str, Value]:
+    """Returns the five words of a fault as values."""
+    return {"fault": fault.kind, "node": fault.node, "channels": fault.channels, "cycles": fault.cycles,
+            "place": fault.place}
+
+
+def table_rows(done: Done) -> Section:
+    """Returns the table as rows, for JSON and CSV."""
+    rows = [Row({**fault_values(fault), "receiver": it.node, "thing": it.thing, "effect": it.effect,
+                 "amount": it.amount, "without": it.without, "with": it.having})
+            for fault, found in done for it in found]
+    return Section("difference", "", DIFFERENCE, rows)
+
+
+def list_rows(faults: Iterable[SingleFault]) -> Section:
+    """Returns the list of faults as rows, for JSON and CSV."""
+    rows = [Row({**fault_values(it), "is_idle": it.is_idle}) for it in faults]
+    return Section("fault", "", (*FAULT, Column("is_idle", "idle")), rows)
+
+
+@dataclass(frozen=True)
+class Ranks:
+    """The rank of each thing in a printed table: by the words of the fault, the receiver and the thing."""
+
+    ranks: dict[tuple[str, ...], tuple[int, int]]
+    is_of_one_channel: bool
+    """True for a table of an earlier version, which had no faults of both channels."""
+
+    def has(self, fault: SingleFault) -> bool:
+        """Returns whether the list of the table can have had the fault."""
+        return not (self.is_of_one_channel and fault.is_of_both)
+
+
+def read_ranks(text: str) -> Ranks:
+    lines = text.split("\n")
+    if lines[0] + "\n" not in (HEADING, HEADING_OF_ONE_CHANNEL) or lines[-1]:
+        raise BadTable("isn't a table of fr_faults that is whole")
+    ranks: dict[tuple[str, ...], tuple[int, int]] = {}
+    for number, line in enumerate(lines[1:-1], 2):
+        words = line.split("\t")
+        if len(words) != len(COLUMNS) or words[7] not in EFFECTS or not words[8].isdecimal():
+            raise BadTable(f"has no fault in line {number}")
+        key = tuple(words[:7])
+        ranks[key] = max(ranks.get(key, (-1, 0)), (RANKS[words[7]], int(words[8])))
+    return Ranks(ranks, lines[0] + "\n" != HEADING)
+
+
+def worse(done: Done, before: Ranks) -> list[tuple[SingleFault, Difference]]:
+    """Returns the differences that cost more than in an earlier table, or cost nothing in it.
+
+    A fault that its list can't have had isn't compared.
+    """
+    found = []
+    for fault, differences in done:
+        for it in differences if before.has(fault) else ():
+            key = (*fault.words, "-" if it.node is None else str(it.node), it.thing)
+            if it.is_cost and it.rank > before.ranks.get(key, (-1, 0)):
+                found.append((fault, it))
+    return found
+
+
+def not_compared(done: Done, before: Ranks) -> Iterator[str]:
+    """Yields the lines that aren't compared with an earlier table."""
+    new = sum(not before.has(fault) for fault, _ in done)
+    if new:
+        yield (f"not compared: {counted(new, 'fault')} on both channels, since the table is of an earlier version, "
+               "which had none; make it anew\n")
+    failures = sum(is_failed(found) for _, found in done)
+    if failures:
+        yield f"not compared: {counted(failures, 'run')} that failed\n"
+
+
+# ---- in words
+
+def told(it: Difference, labels: Labels = Labels()) -> str:
+    """Returns a difference in words, as `node 3 rx 2: lost`."""
+    if it.node is None:
+        return f"{it.effect}: {it.having}" if it.effect in FAILED else it.effect
+    more = {
+        NOT_COMPARABLE: f"{NOT_COMPARABLE}, which counts as a loss",
+        "lost": counted(it.amount, "frame") + " lost" if it.thing == "queue" else "lost",
+        "older": f"older by {counted(it.amount, 'cycle')}",
+        "changed": counted(it.amount, "other frame") if it.thing == "queue" else "another payload",
+        "pending": f"{counted(it.amount, 'commit')} more pending",
+        "unsent": f"{counted(it.amount, 'commit')} fewer sent",
+        "newer": f"newer by {counted(it.amount, 'cycle')}",
+        "channel": "by the other channel",
+        "counted": "counted otherwise",
+        "sent": "sent otherwise",
+    }
+    return f"{labels.node(it.node)} {labels.thing(it.node, it.thing)}: {more[it.effect]}"
+
+
+def kind_label(kind: str, is_of_both: bool) -> str:
+    return f"{kind}, both channels" if is_of_both else f"{kind}, {ONE_CHANNEL}"
+
+
+def rows(results: Results) -> Iterator[tuple[str, str, list[int]]]:
+    """Yields the rows of the summary.
+
+    A row is a kind, on both channels or on one, with its label, its description, and the counts of its runs. The last
+    row is for all kinds.
+    """
+    runs = results.runs
+    for kind, what in KINDS.items():
+        for is_of_both in (True, False):
+            found = [it for fault, it in runs if fault.kind == kind and fault.is_of_both == is_of_both]
+            if found:
+                yield kind_label(kind, is_of_both), what, counts(found)
+    yield "all", "", counts([it for _, it in runs])
+
+
+COUNTED = ("runs", "harmless", *COSTS, "failed")
+"""The headings of the counts of runs. Each run is counted once after the first, by its worst effect."""
+
+
+def counts(runs: list[list[Difference]]) -> list[int]:
+    words = [verdict(it) for it in runs]
+    return [len(runs), *(words.count(it) for it in COUNTED[1:])]
+
+
+def verdict(found: list[Difference]) -> str:
+    """Returns the worst result of a run: a cost, `failed` where it has no outcome, or `harmless`."""
+    bad = worst(found)
+    if bad is None:
+        return "harmless"
+    return "failed" if bad.effect in FAILED else bad.effect if bad.is_cost else "harmless"
+
+
+def is_failed(found: list[Difference]) -> bool:
+    return any(it.effect in FAILED for it in found)
+
+
+def summary(results: Results) -> Iterator[str]:
+    """Yields a line for each kind: the number of runs, of those without a cost, and the worst costs of the others."""
+    lines = [("kind", *COUNTED), *((label, *map(str, numbers)) for label, _, numbers in rows(results))]
+    widths = [max(len(line[column]) for line in lines) for column in range(len(lines[0]))]
+    for line in lines:
+        rest = (word.rjust(width) for word, width in zip(line[1:], widths[1:]))
+        yield "  ".join([line[0].ljust(widths[0]), *rest]) + "\n"
+    yield "each run is counted once, by its worst effect\n"
+    yield HARMLESS_WORDS + "\n"
+    for note in notes(results):
+        yield note + "\n"
+
+
+def notes(results: Results) -> Iterator[str]:
+    """Yields sentences on the runs as a whole."""
+    yield from stopped(results)
+    for node, count in sorted(results.overwritten.items()):
+        yield (f"{results.labels.node(node)}: FIFO not emptied by the scenario: {counted(count, 'frame')} overwritten "
+               "without any fault")
+    if results.quiet:
+        yield ("the scenario has no commit for " + ", ".join(map(results.labels.node, results.quiet))
+               + ": nothing of these can be lost here")
+    if results.idle:
+        yield (f"{counted(len(results.idle), 'fault')} idle, without a run, since the node sends nothing there: "
+               + ", ".join(f"node {it.node} on {' and '.join(it.channels)}" for it in results.idle))
+    if results.left_out.taken:
+        taken = counted(results.left_out.taken, "fault")
+        yield f"{taken} left out: the scenario has one of the kind in each of their windows"
+    if results.left_out.unopened:
+        yield f"{counted(results.left_out.unopened, 'fault')} left out: no slot opens at their minislot"
+
+
+def stopped(results: Results) -> Iterator[str]:
+    """Yields the sentence on the faults that guardians stop without any effect. Only runs with an outcome count."""
+    of_others = [found for fault, found in results.runs if is_stopped(fault, results.cluster, results.cycles)]
+    completed = [found for found in of_others if not is_failed(found)]
+    if not of_others:
+        return
+    costing, failures = sum(bool(it) for it in completed), len(of_others) - len(completed)
+    is_told = f"{costing or 'none'} made any difference to a node" if completed else "no run completed"
+    yield (f"of the babbles in guarded static slots that aren't the node's own, {len(completed)}, {is_told}"
+           + (f"; {failures} more failed" if failures else ""))
+
+
+def hurting(done: Done) -> list[tuple[list[SingleFault], list[Difference]]]:
+    """Returns the faults that cost something, those with equal costs together and the costliest first.
+
+    They are ordered by the number of things that aren't comparable, then lost, older, changed, and of each by its
+    amount.
+    """
+    alike: dict[tuple[object, ...], tuple[list[SingleFault], list[Difference]]] = {}
+    for fault, found in done:
+        costs = [it for it in found if it.is_cost]
+        if costs:
+            key = tuple((it.node, it.thing, it.effect, it.amount) for it in costs)
+            alike.setdefault(key, ([], costs))[0].append(fault)
+    return sorted(alike.values(), key=lambda it: weight(it[1]), reverse=True)
+
+
+def weight(found: list[Difference]) -> tuple[tuple[int, int], ...]:
+    of_each = ([it.amount for it in found if it.effect == cost] for cost in COSTS)
+    return tuple((len(amounts), sum(amounts)) for amounts in of_each)
+
+
+def has_effect(done: Done, effects: Iterable[str]) -> bool:
+    """Returns whether a fault has one of the effects. A fault that isn't comparable counts as lost."""
+    wanted = set(effects)
+    wanted |= set(LOSSES) if "lost" in wanted else set()
+    return any(it.effect in wanted for _, found in done for it in found)

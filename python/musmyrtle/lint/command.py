@@ -1,0 +1,273 @@
+"""The command `fr_lint`."""
+import argparse
+import io
+import os
+import re
+import sys
+from collections.abc import Iterable, Iterator
+from contextlib import ExitStack, contextmanager, suppress
+from dataclasses import replace
+from typing import Any, NoReturn, TextIO
+
+from musmyrtle.findings import MOST_REASONS, block, counted
+from musmyrtle.lint.allows import NAMES, expected_name
+from musmyrtle.lint.lint import Lint, Task, lint, read_bytes
+from musmyrtle.lint.overwriting import Overwritten
+from musmyrtle.lint.rows import sections
+from musmyrtle.lint.runs import MOST_CYCLES
+from musmyrtle.lint.trace_why import MAGIC, NoAnswer, TraceFile, ask_why, finding_of, is_trace
+from musmyrtle.output import Stop, write
+from musmyrtle.program import Answer, ask, no_answer, usual_program
+from musmyrtle.show.tables import Section, as_csv, as_json
+from musmyrtle.version import version
+from musmyrtle.visible import cut, visible
+
+FINE, REFUSED, USAGE, WARNED, BROKEN_OFF = 0, 1, 2, 4, 130
+MOST_WARNINGS, MOST_REPEATED = 40, 200
+ABOUT = """Explains the faults of a cluster file, and of a scenario for it: place, reason, and expected form.
+
+fr_bench runs first, by `check CLUSTER` or by `run CLUSTER SCENARIO --cycles N`, and decides what is refused. An
+accepted input that can't work, or breaks a rule of the standard that the bench doesn't check, has a warning."""
+STATUSES = """status: 0 if fr_bench accepts the input, with warnings or without, 1 if it refuses it, 2 if the words are
+no command, fr_bench can't be run or fails, or the output can't be written, 4 if there are warnings and --strict is
+given, 130 if SIGINT broke it off"""
+SILENCED = """warnings: each ends with its name, as `[sync-nodes]`. `--allow NAME` silences it, and so does a comment
+`# lint: allow NAME: why` at the end of the line of its place in the cluster file, or alone in the line before. Names:
+
+"""
+
+
+class PrintVersion(argparse.Action):
+    """Prints the command's name and version, and ends."""
+
+    def __call__(self, parser: argparse.ArgumentParser, *_: object) -> None:
+        write(sys.stdout, [f"{parser.prog} {version()}\n"])
+        parser.exit()
+
+
+class Parser(argparse.ArgumentParser):
+    """Reads the words of a command. Its help and its version are written as all other output is."""
+
+    def __init__(self, **options: Any) -> None:
+        super().__init__(**options)
+        self.add_argument("--version", action=PrintVersion, nargs=0, help="show the version and exit")
+
+    def print_help(self, file: Any = None) -> None:
+        write(file or sys.stdout, [self.format_help()])
+
+    def error(self, message: str) -> NoReturn:
+        """Writes the error with the words of the command escaped, since they may be anything."""
+        super().error(visible(message))
+
+
+def cycles_of(word: str) -> int:
+    if not re.fullmatch(r"[1-9][0-9]{0,3}", word) or int(word) > MOST_CYCLES:
+        raise argparse.ArgumentTypeError(f"{word!r} is no number from 1 to {MOST_CYCLES}")
+    return int(word)
+
+
+def listed_names() -> str:
+    width = max(map(len, NAMES))
+    return "\n".join(f"  {name:{width}}  {what}" for name, what in NAMES.items())
+
+
+def allowed_name(word: str) -> str:
+    if word not in NAMES:
+        raise argparse.ArgumentTypeError(f"no warning has the name {word!r}. {expected_name(word)}")
+    return word
+
+
+def arguments(name: str = "fr_lint") -> Parser:
+    parser = Parser(prog=name, description=ABOUT, epilog=f"{STATUSES}\n\n{SILENCED}{listed_names()}",
+                    allow_abbrev=False, formatter_class=argparse.RawDescriptionHelpFormatter)
+    parser.add_argument("cluster", metavar="CLUSTER",
+                        help="a cluster file, or a refused trace, which fr_view explains")
+    parser.add_argument("scenario", metavar="SCENARIO", nargs="?", help="a scenario; it wants --cycles as well")
+    parser.add_argument("--cycles", metavar="N", type=cycles_of, help=f"the cycles of the run, 1 to {MOST_CYCLES}")
+    parser.add_argument("--strict", action="store_true", help="end with status 4 where there are warnings")
+    parser.add_argument("--allow", metavar="NAME", action="append", default=[], type=allowed_name,
+                        help="print no warning of this name; it may be given several times")
+    parser.add_argument("--program", metavar="FILE",
+                        help="the fr_bench to ask, or for a trace the fr_view, instead of the one beside fr_lint")
+    add_forms(parser)
+    return parser
+
+
+def add_forms(parser: argparse.ArgumentParser) -> None:
+    """Adds the options for the form of tables."""
+    forms = parser.add_mutually_exclusive_group()
+    forms.add_argument("--json", action="store_true", help="print one object a line")
+    forms.add_argument("--csv", action="store_true", help="print one table with commas")
+
+
+def formed(given: argparse.Namespace, tables: list[Section], text: Iterable[str]) -> Iterable[str]:
+    """Returns tables in the form that is asked for, or the text for people."""
+    return as_json(tables) if given.json else as_csv(tables) if given.csv else text
+
+
+def printed(texts: Iterable[str]) -> None:
+    """Writes to standard output. A reader may end early, and a terminal may be unable to spell the texts."""
+    if isinstance(sys.stdout, io.TextIOWrapper):
+        sys.stdout.reconfigure(errors="backslashreplace")
+    with suppress(BrokenPipeError):
+        write(sys.stdout, texts)
+
+
+def parsed(words: list[str] | None, name: str) -> argparse.Namespace:
+    parser = arguments(name)
+    given = parser.parse_args(words)
+    if given.scenario is not None and given.cycles is None:
+        parser.error("a scenario wants --cycles N")
+    given.named, given.program = given.program, given.program or usual_program()
+    if given.program is None:
+        parser.error("there is no fr_bench: name one by --program FILE")
+    return given
+
+
+def words_for(task: Task) -> list[str]:
+    """Returns the words by which the program is asked."""
+    if task.scenario is None:
+        return ["check", "--", task.file(task.cluster)]
+    return ["run", "--cycles", str(task.cycles), "--", task.file(task.cluster), task.file(task.scenario)]
+
+
+@contextmanager
+def lasting(task: Task) -> Iterator[Task]:
+    """Yields the task with files that can be read again, also by another process."""
+    with ExitStack() as copies:
+        names = dict.fromkeys(it for it in (task.cluster, task.scenario) if it is not None)
+        yield replace(task, files={name: lasting_file(name, copies) for name in names})
+
+
+def lasting_file(name: str, copies: ExitStack) -> str:
+    """Returns a name under which a file can be read again.
+
+    It is the file behind a name such as `/dev/stdin`, which is another one for the program, or a copy of a pipe's
+    content.
+    """
+    behind = os.path.realpath(name)
+    if os.path.isfile(behind):
+        return behind
+    data = read_bytes(name)
+    if data is None:
+        return name
+    # Most files can be read again, and each call would wait for the import.
+    from tempfile import NamedTemporaryFile
+    try:
+        copy = copies.enter_context(NamedTemporaryFile(prefix="musmyrtle-"))
+        copy.write(data)
+        copy.flush()
+    except OSError as error:
+        raise Stop(USAGE, f"{name} can't be copied: {error.strerror}") from None
+    return copy.name
+
+
+def told(answer: Answer, found: Lint, is_bold: bool = False) -> Iterator[str]:
+    """Yields the text to print: the answer, the reasons and the warnings."""
+    refusal = visible(cut(answer.refusal or "", MOST_REPEATED))
+    if answer.status == USAGE:
+        yield f"fr_bench: {refusal}\n"
+        yield "The words are no command for it: is the program another one than fr_bench?\n"
+        return
+    yield f"fr_bench: refused {refusal}\n" if answer.status else "fr_bench: accepted\n"
+    if answer.refusal is None and found.refusals:
+        yield f"No more can be said: fr_lint takes the input for {found.refusals[0][0]}, and fr_bench decides.\n"
+        return
+    if answer.refusal is not None:
+        yield from told_reasons(answer, found, is_bold)
+    for finding in found.warnings[:MOST_WARNINGS]:
+        yield block("warning", finding, is_bold)
+    for finding in found.notes[:MOST_WARNINGS]:
+        yield block("note", finding, is_bold)
+    more = len(found.warnings[MOST_WARNINGS:]) + found.further_warnings
+    if more:
+        yield f"and {counted(more, 'more warning')}\n"
+
+
+def told_reasons(answer: Answer, found: Lint, is_bold: bool) -> Iterator[str]:
+    if not is_explained(answer, found):
+        yield f"No reason is known for `{visible(cut(answer.refusal or '', MOST_REPEATED))}`.\n"
+        return
+    for refusal, finding in found.refusals[:MOST_REASONS]:
+        yield block(f"refused {refusal}", finding, is_bold)
+    if len(found.refusals) > MOST_REASONS:
+        yield f"and {counted(len(found.refusals) - MOST_REASONS, 'more mistake')}\n"
+
+
+def is_explained(answer: Answer, found: Lint) -> bool:
+    """Returns whether the first refusal printed is the program's, or neither has any."""
+    return answer.refusal == (found.refusals[0][0] if found.refusals else None)
+
+
+def is_bold_on(stream: TextIO | None) -> bool:
+    return stream is not None and stream.isatty() and "NO_COLOR" not in os.environ
+
+
+def is_trace_file(file: str) -> bool:
+    try:
+        with open(file, "rb") as source:
+            return is_trace(source.read(len(MAGIC) + 1))
+    except (OSError, ValueError):
+        return False
+
+
+def traced(given: argparse.Namespace, task: Task) -> int:
+    """Asks `fr_view why` about a trace, prints the reason in words, and returns the status."""
+    if given.scenario is not None or given.cycles is not None:
+        raise Stop(USAGE, f"{task.cluster} is a trace, and takes no scenario and no cycles")
+    program, file = given.named or usual_program("fr_view"), task.file(task.cluster)
+    if program is None:
+        raise Stop(USAGE, "there is no fr_view: name one by --program FILE")
+    try:
+        why, found = ask_why(program, file), Lint()
+        lines = ["fr_view: accepted\n"]
+        if why.refusal:
+            finding = finding_of(why, TraceFile(task.cluster, file, why.line))
+            found.refusals.append((why.refusal, finding))
+            told = block(f"refused {why.refusal}", finding, is_bold_on(sys.stdout))
+            lines = [f"fr_view: refused {why.refusal}\n", told]
+    except NoAnswer as error:
+        raise Stop(USAGE, visible(str(error))) from None
+    except OSError as error:
+        raise Stop(USAGE, f"{program} can't be run: {error.strerror}") from None
+    printed(formed(given, sections("fr_view", why.refusal, found), ["\n".join(lines)]))
+    return REFUSED if why.refusal else FINE
+
+
+def linted(given: argparse.Namespace) -> int:
+    """Asks the program, prints the findings, and returns the status."""
+    whole = Task(given.cluster, given.scenario, given.cycles, allowed=frozenset(given.allow))
+    with lasting(whole) as task:
+        if is_trace_file(task.file(task.cluster)):
+            return traced(given, task)
+        try:
+            overwritten = Overwritten()
+            # `run` itself decides whether a scenario fits the cluster. Its outcome is dropped.
+            answer = ask(given.program, words_for(task), listen=overwritten.read if given.scenario else None)
+        except OSError as error:
+            raise Stop(USAGE, f"{given.program} can't be run: {error.strerror}") from None
+        if not answer.is_one:
+            raise Stop(USAGE, no_answer(given.program, words_for(task), answer))
+        found = lint(task, overwritten)
+    known = found if is_explained(answer, found) else Lint()
+    text = "\n".join(told(answer, found, is_bold_on(sys.stdout)))
+    printed(formed(given, sections("fr_bench", answer.refusal, known), [text]))
+    if answer.status:
+        return USAGE if answer.status == USAGE else REFUSED
+    return WARNED if given.strict and found.warnings else FINE
+
+
+def main(words: list[str] | None = None, name: str = "fr_lint") -> int:
+    """Does the command. NAME is what its messages begin with."""
+    try:
+        return linted(parsed(words, name))
+    except Stop as stop:
+        return stop.tell(name)
+    except BrokenPipeError:
+        return FINE
+    except KeyboardInterrupt:
+        return BROKEN_OFF
+
+
+if __name__ == "__main__":
+    sys.exit(main())

@@ -1,0 +1,155 @@
+"""The findings about a cluster file and a scenario, beside the answer of `fr_bench`."""
+from collections.abc import Callable, Iterable
+from dataclasses import dataclass, field, replace
+from pathlib import Path
+
+from musmyrtle.cluster import Cluster
+from musmyrtle.cluster import Reading as ClusterReading
+from musmyrtle.findings import Finding
+from musmyrtle.lint import physical, ranges, receiving, sending, unread
+from musmyrtle.lint.allows import NOTES, Allows
+from musmyrtle.lint.clashes import clashes
+from musmyrtle.lint.overwriting import overwriting_fifos
+from musmyrtle.lint.runs import Run
+from musmyrtle.lint.strikes import Strikes, small_journals
+from musmyrtle.lint.trace_why import is_trace
+from musmyrtle.scenario import Reading as ScenarioReading
+from musmyrtle.texts import FILE_LIMIT, NoText, Text, read_text
+
+TRACE_LIMIT = 98_548_055
+"""The bytes of the longest trace."""
+
+OF_CLUSTER: tuple[tuple[str, Callable[[Cluster, Text], Iterable[Finding]]], ...] = (
+    ("repeated-name", ranges.repeated_names),
+    ("never-sends", sending.silent_buffers),
+    ("unfilled-slot", sending.unfilled_slots),
+    ("sync-nodes", sending.sync_nodes),
+    ("key-slot", sending.key_slots),
+    ("sync-channels", sending.sync_channels),
+    ("startup-nodes", sending.startup_nodes),
+    ("fault-tolerance", sending.fault_tolerance),
+    ("receives-nothing", receiving.idle_receivers),
+    ("doubled-receivers", receiving.doubled_receivers),
+    ("fifo-behind-buffer", receiving.queues_behind_buffers),
+    ("divided-slot", ranges.divided_slots),
+    ("standard-range", ranges.out_of_range),
+    ("bit-rate", ranges.other_bit_rate),
+    ("physical", physical.wrong_times),
+    ("short-slots", physical.short_slots),
+    ("action-point", physical.without_action_point),
+)
+"""The warnings and notes of an accepted cluster, with their names."""
+
+
+@dataclass
+class Lint:
+    """The expected refusals, the first one first, each with its reason; and the warnings."""
+
+    refusals: list[tuple[str, Finding]] = field(default_factory=list)
+    warnings: list[Finding] = field(default_factory=list)
+    further_warnings: int = 0
+    """The number of warnings beside those in `warnings`."""
+    notes: list[Finding] = field(default_factory=list)
+    """Findings that are no mistakes, and still worth knowing."""
+    allowed: frozenset[str] = frozenset()
+    """The names of warnings that are silenced everywhere."""
+    allows: Allows | None = None
+
+    def warn(self, name: str, findings: Iterable[Finding], further: int = 0) -> None:
+        """Adds the findings of a name to the warnings, or to the notes, unless they are silenced.
+
+        FURTHER ones are counted only.
+        """
+        if name in self.allowed:
+            return
+        self.further_warnings += further
+        named = (replace(it, name=name) for it in findings)
+        kept = [it for it in named if self.allows is None or not self.allows.allow(it)]
+        (self.notes if name in NOTES else self.warnings).extend(kept)
+
+    def refuse(self, refusal: str, finding: Finding) -> None:
+        self.refusals.append((refusal, finding))
+
+
+@dataclass(frozen=True)
+class Task:
+    """The inputs to check: a cluster file, a scenario if there is one, and a number of cycles."""
+
+    cluster: str
+    scenario: str | None = None
+    cycles: int | None = None
+    files: dict[str, str] = field(default_factory=dict)
+    """The files that are read in the place of these names, such as copies of pipes."""
+    allowed: frozenset[str] = frozenset()
+    """The names of warnings that are silenced everywhere."""
+
+    def file(self, name: str) -> str:
+        return self.files.get(name, name)
+
+
+def read_bytes(file: str) -> bytes | None:
+    """Returns the bytes of a file up to the limit of its kind; a trace may be longer than others."""
+    try:
+        with open(file, "rb") as source:
+            data = source.read(FILE_LIMIT + 1)
+            return data + source.read(TRACE_LIMIT) if is_trace(data) else data
+    except (OSError, ValueError):
+        return None
+
+
+def unreadable(file: str, what: str) -> Finding:
+    path = Path(file)
+    found = "is a folder" if path.is_dir() else "can't be read" if path.exists() else "isn't there"
+    return Finding(f"{what} {file!r} {found}", "Expected the name of a file that can be read.")
+
+
+def lint(task: Task, overwritten: dict[int, int] | None = None) -> Lint:
+    """Returns the findings. OVERWRITTEN has the frames that the FIFO of each node overwrote in the run."""
+    found = Lint(allowed=task.allowed)
+    data = read_bytes(task.file(task.cluster))
+    if data is None:
+        found.refuse("Read", unreadable(task.cluster, "the cluster file"))
+        return found
+    try:
+        text = read_text(task.cluster, data)
+    except NoText as error:
+        found.refuse(error.refusal, error.why)
+        return found
+    cluster = lint_cluster(text, found)
+    if cluster and task.scenario is not None:
+        lint_scenario(task, cluster, text, found, overwritten or {})
+    elif cluster:
+        # One cycle is the shortest run: a cluster with less room has none.
+        found.warn("small-journal", small_journals(cluster, text, task.cycles or 1))
+    return found
+
+
+def lint_cluster(text: Text, found: Lint) -> Cluster | None:
+    """Returns the cluster, if it is accepted. Unread keys are reported in any case."""
+    found.allows = Allows(text)
+    found.warn("unknown-allow", *found.allows.unknown())
+    found.warn("unread-key", *unread.unread_keys(text))
+    reading = ClusterReading(text.document)
+    cluster = reading.cluster
+    faults = reading.faults if cluster is None else clashes(cluster)
+    for fault in faults:
+        found.refuse(fault.refusal, text.finding(fault.headline, fault.reason, fault.path, fault.notes))
+    if cluster is None or faults:
+        return None
+    found.warn("idle-key", unread.idle_keys(text, cluster.parameters.static_slots))
+    for name, warnings in OF_CLUSTER:
+        found.warn(name, warnings(cluster, text))
+    return cluster
+
+
+def lint_scenario(task: Task, cluster: Cluster, text: Text, found: Lint, overwritten: dict[int, int]) -> None:
+    name = task.scenario or ""
+    data, cycles = read_bytes(task.file(name)), task.cycles or 1
+    if data is None:
+        found.refuse("Read", unreadable(name, "the scenario"))
+        return
+    scenario = ScenarioReading(name, data).scenario
+    found.refusals += scenario.refusals or Run(cluster, text, scenario, cycles).refusals()
+    if not found.refusals:
+        found.warn("idle-fault", Strikes(cluster, scenario, cycles).findings())
+        found.warn("fifo-overwrites", overwriting_fifos(cluster, text, scenario, overwritten))

@@ -1,0 +1,123 @@
+"""Warnings of slots that are too short for their frames at a bit rate.
+
+A byte is ten bits on the bus: two of a start sequence, and eight. A transmission start sequence of at least three bits
+and a frame start bit come before the first byte. Two bits of an end sequence come after the last byte; a dynamic frame
+has at least two bits of a trailing sequence more (chapter 3). Eleven bits of silence show that the channel is idle
+again (chapters 3 and 5). A static slot also has an action point offset at both ends. Delays and the clocks' deviations
+come on top (chapter 5), and aren't known.
+"""
+from collections.abc import Iterator
+from typing import TypeGuard
+
+from musmyrtle.cluster import PARAMETERS, Cluster
+from musmyrtle.findings import MOST_NOTES, Finding, counted, shown
+from musmyrtle.lint.standard import rule_of
+from musmyrtle.texts import Text
+
+BITS_OF_BYTE = 10
+BYTES_BESIDE_PAYLOAD = 8
+START, END, TRAILING, IDLE = 3 + 1, 2, 2, 11
+UNITS = {"bit_rate": "bits a second", "macrotick_us": "microseconds"}
+LONGEST_SLOT = PARAMETERS["static_mt"][1]
+
+
+def bits_of_frame(words: int, is_dynamic: bool) -> int:
+    """Returns the least bits that a frame of so many words takes, with the silence after it."""
+    trailing = TRAILING if is_dynamic else 0
+    return START + BITS_OF_BYTE * (BYTES_BESIDE_PAYLOAD + 2 * words) + END + trailing + IDLE
+
+
+def bit_and_macrotick(text: Text) -> tuple[float | None, float | None]:
+    """Returns the bits a second and the microseconds of a macrotick, as far as the file has numbers for them."""
+    table = text.document.get("physical")
+    values = [table.get(key) if isinstance(table, dict) else None for key in UNITS]
+    bit_rate, macrotick = (float(it) if is_number(it) else None for it in values)
+    return bit_rate, macrotick
+
+
+def is_number(value: object) -> TypeGuard[int | float]:
+    return not isinstance(value, bool) and isinstance(value, int | float) and 1e-6 <= value < 1e12
+
+
+def wrong_times(_: Cluster, text: Text) -> Iterator[Finding]:
+    """Yields warnings of keys of `physical` that are no numbers."""
+    if "physical" not in text.document:
+        return
+    table = text.document["physical"]
+    if not isinstance(table, dict):
+        yield text.finding("`physical` is no table", "It isn't read. Expected `[physical]`.", ("physical",))
+        return
+    for key, unit in UNITS.items():
+        if not is_number(table.get(key)):
+            found = f"is {shown(table[key])}" if key in table else "is missing"
+            reason = f"Slots aren't compared with times without it. Expected a number from 1e-6 to 1e12, of {unit}."
+            yield text.finding(f"`{key}` of `[physical]` {found}", reason, ("physical", key))
+
+
+def bits_of_macrotick(text: Text) -> float | None:
+    bit_rate, macrotick = bit_and_macrotick(text)
+    return None if bit_rate is None or macrotick is None else bit_rate * macrotick / 1_000_000
+
+
+def short_slots(cluster: Cluster, text: Text) -> Iterator[Finding]:
+    """Yields warnings of static slots and of minislots that are too short for their frames."""
+    bits = bits_of_macrotick(text)
+    if bits is not None:
+        yield from short_static_slots(cluster, text, bits)
+        yield from short_minislots(cluster, text, bits)
+
+
+def static_bits(cluster: Cluster, bits: float) -> tuple[int, float]:
+    """Returns the bits that a static frame needs, and those that a static slot has."""
+    return bits_of_frame(cluster.parameters.static_words, False), cluster.parameters.static_mt * bits
+
+
+def short_static_slots(cluster: Cluster, text: Text, bits: float) -> Iterator[Finding]:
+    parameters = cluster.parameters
+    needed, had = static_bits(cluster, bits)
+    if needed > had:
+        room = "is shorter than one bit" if had < 1 else f"has room for {had:g} bits"
+        least = -int(-needed // bits)
+        reason = (f"{parameters.static_words} words are {START} + {BITS_OF_BYTE} * ({BYTES_BESIDE_PAYLOAD} + 2 * "
+                  f"{parameters.static_words}) + {END} + {IDLE} = {needed} bits: start, bytes, end and silence "
+                  f"(chapters 3 and 5). `static_mt` is {parameters.static_mt} macroticks of {bits:g} bits. Expected ")
+        reason += f"at least {least}." if least <= LONGEST_SLOT else (
+            "`bit_rate` in bits a second and `macrotick_us` in microseconds, such as 10_000_000 and 1.")
+        headline = f"a static slot {room}, and its frame needs {needed} at least"
+        yield text.finding(headline, reason, ("params", "static_mt"), [("`[physical]`", ("physical",))])
+
+
+def without_action_point(cluster: Cluster, text: Text) -> Iterator[Finding]:
+    """Yields a warning where a static frame fits only without action point offsets at both ends."""
+    bits = bits_of_macrotick(text)
+    if bits is None:
+        return
+    needed, had = static_bits(cluster, bits)
+    least = 2 * rule_of("gdActionPointOffset").least
+    if needed <= had < needed + least * bits:
+        headline = f"a static slot has {had - needed:g} bits left, too few for an action point offset"
+        reason = (f"Its frame needs {needed} of {had:g} bits. `gdActionPointOffset` is at least 1 macrotick before the "
+                  f"frame and after it, here 2 * {bits:g} bits (chapter 5 and appendix B). The bench doesn't model "
+                  f"action points. Expected `static_mt` of at least {-int(-needed // bits) + least}.")
+        yield text.finding(headline, reason, ("params", "static_mt"), [("`[physical]`", ("physical",))])
+
+
+def short_minislots(cluster: Cluster, text: Text, bits: float) -> Iterator[Finding]:
+    parameters = cluster.parameters
+    had_each = parameters.minislot_mt * bits
+    short = []
+    for buffer in cluster.buffers():
+        if not buffer.transmits or cluster.is_static(buffer.slot):
+            continue
+        minislots = parameters.minislots_of(buffer.words) + parameters.idle
+        needed, had = bits_of_frame(buffer.words, True), minislots * had_each
+        if needed > had:
+            told = f"need {needed} bits, and have {counted(minislots, 'minislot')} of {had_each:g} bits"
+            short.append((f"{buffer}: {buffer.words} words {told}", buffer.path))
+    if short:
+        headline = f"minislots are too short for the frames of {counted(len(short), 'buffer')}"
+        reason = (f"p words are {START} + {BITS_OF_BYTE} * ({BYTES_BESIDE_PAYLOAD} + 2 * p) + {END} + {TRAILING} + "
+                  f"{IDLE} bits: start, bytes, end, trailing and silence (chapters 3 and 5). A frame has the minislots "
+                  "of its words, with `idle` more. Expected a greater `minislot_mt`, or a smaller "
+                  "`words_per_minislot`.")
+        yield text.finding(headline, reason, ("params", "minislot_mt"), short[:MOST_NOTES])

@@ -1,0 +1,110 @@
+"""Warnings of parameters out of the ranges of FlexRay 2.1 Rev A, and of features of version 3 alone."""
+from collections import defaultdict
+from collections.abc import Iterator
+
+from musmyrtle.cluster import CYCLES, PARAMETERS, Cluster, Ownership
+from musmyrtle.findings import MOST_NOTES, Finding, joined
+from musmyrtle.lint.physical import bit_and_macrotick
+from musmyrtle.lint.standard import CHAPTER, OF_PARAMETERS, STANDARD, Rule, rule_of
+from musmyrtle.places import Path
+from musmyrtle.texts import Text
+
+ALL_CYCLES = (1 << len(CYCLES)) - 1
+NOMINAL_BIT_RATE = rule_of("gdBit").greatest
+
+
+def out_of_range(cluster: Cluster, text: Text) -> Iterator[Finding]:
+    """Yields a warning for each parameter out of its range."""
+    for key in PARAMETERS:
+        rule = OF_PARAMETERS.get(key)
+        value = getattr(cluster.parameters, key)
+        if rule and not rule.admits(value):
+            yield text.finding(f"`{key}` is {value}", allowed(rule), ("params", key))
+    latest = rule_of("pLatestTx")
+    for node in cluster.nodes:
+        for channel, value in node.latest.items():
+            if not latest.admits(value):
+                key = f"latest_{channel.lower()}"
+                yield text.finding(f"`{key}` of node {node.number} is {value}", allowed(latest), (*node.path, key))
+    yield from long_times(cluster, text)
+
+
+def allowed(rule: Rule) -> str:
+    """Returns the rule in words."""
+    return f"It is `{rule.name}` of {STANDARD} ({CHAPTER}). Expected {rule.range}. The bench runs with it."
+
+
+def long_times(cluster: Cluster, text: Text) -> Iterator[Finding]:
+    """Yields warnings of a macrotick or a cycle that is too long or too short, where the file has its time."""
+    _, macrotick = bit_and_macrotick(text)
+    if macrotick is None:
+        return
+    rule, path = rule_of("gdMacrotick"), ("physical", "macrotick_us")
+    if not rule.admits(macrotick):
+        yield text.finding(f"`macrotick_us` is {macrotick:g}", allowed(rule), path)
+    rule, macroticks = rule_of("gdCycle"), cluster.parameters.cycle_mt
+    cycle = macroticks * macrotick
+    # A macrotick such as 0.7 isn't exact as a number with a binary point.
+    if not rule.admits(round(cycle, 6)):
+        headline = f"the cycle is {cycle:g} microseconds long: {macroticks} macroticks of {macrotick:g}"
+        notes: list[tuple[str, Path]] = [("`macrotick_us`", path)]
+        yield text.finding(headline, allowed(rule), ("params", "cycle_mt"), notes)
+
+
+def other_bit_rate(_: Cluster, text: Text) -> Iterator[Finding]:
+    """Yields a warning of a bit rate that the standard doesn't have."""
+    rate, _macrotick = bit_and_macrotick(text)
+    if rate is not None and rate != NOMINAL_BIT_RATE:
+        reason = (f"{STANDARD} has 10 Mbit/s alone: `gdBit` is 0.1 microseconds ({CHAPTER}). Expected "
+                  "`bit_rate = 10_000_000`, in bits a second.")
+        yield text.finding(f"`bit_rate` is {rate:.12g} bits a second", reason, ("physical", "bit_rate"))
+
+
+def divided_slots(cluster: Cluster, text: Text) -> Iterator[Finding]:
+    """Yields a warning for each static slot that several nodes share, or that is without an owner in some cycles."""
+    owners: dict[int, dict[str, list[Ownership]]] = defaultdict(lambda: defaultdict(list))
+    for line in cluster.owned():
+        for channel in line.channels:
+            owners[line.slot][channel].append(line)
+    for slot, by_channel in sorted(owners.items()):
+        divided = [channel for channel in sorted(by_channel) if is_divided(by_channel[channel])]
+        if divided:
+            yield divided_slot(text, slot, divided, by_channel[divided[0]])
+
+
+def is_divided(lines: list[Ownership]) -> bool:
+    cycles = 0
+    for line in lines:
+        cycles |= line.cycles.bits
+    return len({line.node for line in lines}) > 1 or cycles != ALL_CYCLES
+
+
+def divided_slot(text: Text, slot: int, channels: list[str], lines: list[Ownership]) -> Finding:
+    nodes = [str(number) for number in sorted({line.node for line in lines})]
+    what = f"is divided among nodes {joined(nodes)}" if len(nodes) > 1 else f"is node {nodes[0]}'s in some cycles only"
+    reason = (f"In {STANDARD} a static slot is one node's in every cycle of a channel (chapter 5, static segment); to "
+              "divide it by cycles is a feature of version 3. Expected one owner, without `base` and `repetition`.")
+    notes = [(f"{it} has slot {slot} on {it.channels} in {it.cycles}", it.path) for it in lines[1:]]
+    return text.finding(f"slot {slot} on {joined(channels)} {what}", reason, lines[0].path, notes[:MOST_NOTES])
+
+
+def repeated_names(_: Cluster, text: Text) -> Iterator[Finding]:
+    """Yields a warning for each node, and for each buffer of a node, with the name of an earlier one."""
+    nodes = text.document["node"]
+    yield from repeated(text, nodes, ("node",), "node {}")
+    for number, node in enumerate(nodes):
+        yield from repeated(text, node.get("buffer", []), ("node", number, "buffer"), f"buffer {{}} of node {number}")
+
+
+def repeated(text: Text, tables: list[dict[str, object]], path: Path, who: str) -> Iterator[Finding]:
+    first: dict[str, int] = {}
+    for number, table in enumerate(tables):
+        name = table.get("name")
+        if not isinstance(name, str):
+            continue
+        before = first.setdefault(name, number)
+        if before != number:
+            headline = f"{who.format(number)} has the name of {who.format(before)}"
+            reason = "Host programs find nodes and buffers by name, and refuse this one. Expected another name."
+            notes = [(who.format(before), (*path, before, "name"))]
+            yield text.finding(headline, reason, (*path, number, "name"), notes)

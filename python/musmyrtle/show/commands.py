@@ -1,0 +1,122 @@
+"""The one table of the commands of `musmyrtle`, from which help, completion and the man page are made."""
+import argparse
+import sys
+from collections.abc import Callable
+from dataclasses import dataclass
+
+import musmyrtle.faults.command
+import musmyrtle.faults.options
+import musmyrtle.lint.command
+from musmyrtle.breaking import BrokenOff, breaking_off
+from musmyrtle.lint.command import FINE, formed, is_bold_on, printed
+from musmyrtle.output import Stop
+from musmyrtle.show import options
+from musmyrtle.show.commits import commits
+from musmyrtle.show.engines import COMMAND, Inputs, opened
+from musmyrtle.show.facts import Facts
+from musmyrtle.show.log import log
+from musmyrtle.show.options import Words
+from musmyrtle.show.parameters import check
+from musmyrtle.show.reads import reads
+from musmyrtle.show.selection import Selection, numbers_of_nodes
+from musmyrtle.show.senders import plan
+from musmyrtle.show.summary import run
+from musmyrtle.show.tables import Section, as_text
+
+Main = Callable[[list[str]], int]
+THREE = "examples/three-nodes/cluster.toml"
+RUN = f"{THREE} examples/three-nodes/scenario --cycles 4"
+
+
+@dataclass(frozen=True)
+class Command:
+    """A command: its name, purpose and examples, the parser of its words, and what does it and returns the status."""
+
+    name: str
+    purpose: str
+    examples: tuple[str, ...]
+    parser: Callable[[], argparse.ArgumentParser]
+    main: Main
+
+
+def selection_of(given: argparse.Namespace, inputs: Inputs) -> Selection:
+    """Returns the rows that the words select."""
+    channels = None if given.channel is None else frozenset(given.channel)
+    return Selection(numbers_of_nodes(given.node, inputs.network), given.slot, channels, given.in_cycles, given.errors)
+
+
+def table(name: str, purpose: str, words: Words, examples: tuple[str, ...],
+          sections: Callable[[Inputs, argparse.Namespace], list[Section]]) -> Command:
+    """Returns a command that prints tables."""
+    def parser() -> argparse.ArgumentParser:
+        return options.arguments(name, purpose, words, examples)
+
+    def main(given_words: list[str]) -> int:
+        try:
+            with breaking_off():
+                given = options.parsed(parser(), given_words)
+                scenario = (given.scenario, given.cycles) if words.has_run else (None, None)
+                with opened(given.cluster, *scenario) as inputs:
+                    found = sections(inputs, given)
+                    printed(formed(given, found, as_text(found, is_bold_on(sys.stdout))))
+            return FINE
+        except Stop as stop:
+            return stop.tell(COMMAND)
+        except BrokenOff as signal:
+            return signal.status
+        except BrokenPipeError:
+            return FINE
+    return Command(name, purpose, examples, parser, main)
+
+
+def of_cluster(make: Callable[[Inputs], list[Section]]) -> Callable[[Inputs, argparse.Namespace], list[Section]]:
+    """Returns the tables of a command that takes a cluster file alone."""
+    return lambda inputs, _: make(inputs)
+
+
+def selected(make: Callable[[Facts, Selection], list[Section]]
+             ) -> Callable[[Inputs, argparse.Namespace], list[Section]]:
+    """Returns the tables of a run, of which only some rows are selected.
+
+    The run comes first, since only an accepted cluster has names.
+    """
+    def sections(inputs: Inputs, given: argparse.Namespace) -> list[Section]:
+        facts = Facts(inputs)
+        facts.run()
+        return make(facts, selection_of(given, inputs))
+    return sections
+
+
+def lint_main(words: list[str]) -> int:
+    """Does the command `lint`, and returns the status."""
+    return musmyrtle.lint.command.main(words, f"{COMMAND} lint")
+
+
+def faults_main(words: list[str]) -> int:
+    """Does the command `faults`, and returns the status."""
+    return musmyrtle.faults.command.main(words, f"{COMMAND} faults")
+
+
+TABLES = (
+    table("check", "Prints the parameters and the nodes of a cluster file.", Words(), (f"check {THREE}",),
+          of_cluster(check)),
+    table("plan", "Prints who sends in which slot, who is to receive it, and when bus guardians are open.", Words(),
+          (f"plan {THREE}", f"plan {THREE} --json"), of_cluster(plan)),
+    table("run", "Runs a scenario, and prints what went wrong: commits that no node received and why, receive buffers\n"
+          "that hold nothing, FIFOs that overwrote frames, errors with their slots, faults without effect.",
+          Words(has_run=True), (f"run {RUN}",), lambda inputs, _: run(Facts(inputs))),
+    table("log", "Prints all transmissions of a run and their fates.", Words(True, True),
+          (f"log {RUN} --slot 1 --channel B", f"log {RUN} --errors --csv"), selected(log)),
+    table("commits", "Prints what came of each commit of a run: when it was sent, its latency and its receivers.",
+          Words(True, True), (f"commits {RUN} --node 0 --in-cycles 2",), selected(commits)),
+    table("reads", "Prints what tasks read and popped in a run, and what each receive FIFO holds and lost.",
+          Words(True, True), (f"reads {RUN} --node 1",), selected(reads)),
+)
+COMMANDS = (
+    Command("lint", "Explains the faults of a cluster file, a scenario or a trace.",
+            (f"lint {THREE}",), lambda: musmyrtle.lint.command.arguments(f"{COMMAND} lint"), lint_main),
+    Command("faults", "Runs a scenario once for each single fault, and prints what each receiver loses.",
+            (f"faults {RUN} --html faults.html > faults",),
+            lambda: musmyrtle.faults.options.arguments(f"{COMMAND} faults"), faults_main),
+    *TABLES,
+)

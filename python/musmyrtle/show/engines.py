@@ -1,0 +1,129 @@
+"""The programs that a command asks, and its inputs: a refusal is explained as `lint` explains it."""
+import sys
+from collections.abc import Iterator
+from contextlib import contextmanager
+from dataclasses import dataclass
+from functools import cached_property
+from typing import NoReturn
+
+from musmyrtle.faults.children import Children
+from musmyrtle.findings import block, counted
+from musmyrtle.lint.command import MOST_REPEATED, REFUSED, USAGE, is_bold_on, lasting
+from musmyrtle.lint.lint import Lint, Task, lint, read_bytes
+from musmyrtle.output import Stop, pass_on, write
+from musmyrtle.program import REFUSED_LINE, Answer, is_launcher, itself, no_answer, places, usual_program
+from musmyrtle.show.network import Network
+from musmyrtle.texts import NoText, read_text
+from musmyrtle.visible import cut, visible
+
+COMMAND = "musmyrtle"
+IDLE_FRONT, IDLE_BACK = "line ", " struck nothing"
+MOST_REASONS = 20
+
+
+@dataclass(frozen=True)
+class Printed:
+    """The lines that a program printed, and the lines of the scenario whose faults had no effect."""
+
+    lines: list[str]
+    idle: tuple[int, ...] = ()
+
+
+class Inputs:
+    """The cluster file, and the scenario with its cycles if there is one, for the programs that are asked about them.
+    """
+
+    def __init__(self, task: Task) -> None:
+        self.task, self.children = task, Children()
+        self.programs: dict[str, str] = {}
+
+    @cached_property
+    def network(self) -> Network:
+        """Returns the network of the cluster file, which a program has accepted before."""
+        data = read_bytes(self.task.file(self.task.cluster))
+        try:
+            network = None if data is None else Network.of(read_text(self.task.cluster, data))
+        except NoText:
+            network = None
+        if network is None:
+            raise Stop(USAGE, f"{self.task.cluster} can't be read again, or was changed meanwhile")
+        return network
+
+    @property
+    def cycles(self) -> int:
+        """Returns the cycles of the run, or 0 without a run."""
+        return self.task.cycles or 0
+
+    def program(self, name: str) -> str:
+        """Returns the program of this name. Raises `Stop` with the places where it is looked for."""
+        if name not in self.programs:
+            found = usual_program(name)
+            if found is None:
+                raise Stop(USAGE, f"there is no {name}. It is looked for in this order: {places(name)}")
+            self.programs[name] = found
+        return self.programs[name]
+
+    def of_cluster(self, name: str, command: str) -> Printed:
+        """Returns what a program prints about the cluster file."""
+        return self.ask(name, [command, "--", self.task.file(self.task.cluster)])
+
+    def of_run(self, command: str, *words: str) -> Printed:
+        """Returns what `fr_view` prints about the run."""
+        files = self.task.file(self.task.cluster), self.task.file(self.task.scenario or "")
+        return self.ask("fr_view", [command, *words, "--cycles", str(self.task.cycles), "--", *files])
+
+    def ask(self, name: str, words: list[str], data: bytes = b"") -> Printed:
+        """Returns what a program prints. Raises `Stop` where it refuses the inputs, which are then explained, and where
+        it gives no answer."""
+        program = self.program(name)
+        try:
+            status, output, told = self.children.ran([program, *words], data)
+        except OSError as error:
+            raise Stop(USAGE, f"{program} can't be run: {error.strerror}. {name} is looked for in this order: "
+                              f"{places(name)}") from None
+        lines = told.decode(errors="replace").splitlines()
+        if is_launcher(program):
+            # One check of the sources is enough for all that one command asks.
+            self.programs[name] = itself(program)
+        if status:
+            self.stop(program, words, status, lines)
+        idle = [it for it in lines if it.startswith(IDLE_FRONT) and it.endswith(IDLE_BACK)]
+        for line in lines:
+            if line not in idle:
+                pass_on(line)
+        numbers = (it.removeprefix(IDLE_FRONT).removesuffix(IDLE_BACK) for it in idle)
+        return Printed(output.decode(errors="replace").splitlines(), tuple(int(it) for it in numbers if it.isdecimal()))
+
+    def stop(self, program: str, words: list[str], status: int, lines: list[str]) -> NoReturn:
+        """Raises `Stop` for a program that refused or failed, after the reason of a refusal."""
+        refusals = [it.removeprefix("refused ") for it in lines if REFUSED_LINE.fullmatch(it)]
+        told = refusals[-1] if refusals else " ".join(lines).strip() or f"status {status}"
+        answer = Answer(status, told, bool(refusals))
+        if not answer.is_one or answer.status == USAGE:
+            raise Stop(USAGE, no_answer(program, words, answer))
+        write(sys.stderr, ["\n".join(reasons(told, lint(self.task)))])
+        raise Stop(REFUSED)
+
+
+def reasons(refusal: str, found: Lint) -> Iterator[str]:
+    """Yields the refusal and its reasons, as `lint` prints them."""
+    yield f"{COMMAND}: refused {visible(cut(refusal, MOST_REPEATED))}\n"
+    if not found.refusals or found.refusals[0][0] != refusal:
+        yield f"No reason is known for `{visible(cut(refusal, MOST_REPEATED))}`.\n"
+        return
+    for words, finding in found.refusals[:MOST_REASONS]:
+        yield block(f"refused {words}", finding, is_bold_on(sys.stderr))
+    if len(found.refusals) > MOST_REASONS:
+        yield f"and {counted(len(found.refusals) - MOST_REASONS, 'more mistake')}\n"
+
+
+@contextmanager
+def opened(cluster: str, scenario: str | None = None, cycles: int | None = None) -> Iterator[Inputs]:
+    """Yields the inputs with files that can be read several times, also if they are pipes."""
+    with lasting(Task(cluster, scenario, cycles)) as task:
+        inputs = Inputs(task)
+        try:
+            yield inputs
+        except BaseException:
+            inputs.children.end()
+            raise

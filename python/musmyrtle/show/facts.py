@@ -1,0 +1,230 @@
+"""The facts of a run, as `fr_view` prints them: commits, answers, the record of the bus, and the outcome."""
+from collections.abc import Iterable
+from dataclasses import dataclass
+from functools import cache, cached_property
+
+from musmyrtle.faults.fifos import TABLE, Fifo, Unread, read_fifo
+from musmyrtle.lint.command import USAGE
+from musmyrtle.outcomes import BadOutcome, Outcome, read_outcome
+from musmyrtle.output import Stop
+from musmyrtle.show.engines import Inputs
+from musmyrtle.show.network import Network
+
+ARRIVED = "alone"
+"""The end of a transmission that arrived as it was sent."""
+
+
+@dataclass(frozen=True, slots=True)
+class Transmission:
+    """A line of the record. A bit that a fault names has no node, and its number in `bit`."""
+
+    window: int
+    cycle: int
+    minislot: int | None
+    slot: int | None
+    channel: str
+    node: int | None
+    what: str
+    passed: str | None
+    end: str | None
+    frame: int | None
+    flags: str | None
+    data: str | None
+    bit: int | None
+    line: int | None
+
+
+@dataclass(frozen=True, slots=True)
+class Sent:
+    """A transmission of a commit: cycle of the run, slot, channel, end, and receivers as `0:b1,2:queue` or `-`."""
+
+    cycle: int
+    slot: int
+    channel: str
+    end: str
+    receivers: str
+
+
+@dataclass(frozen=True, slots=True)
+class Commit:
+    """A commit with its fate, and the cycle in which it was overwritten or withdrawn."""
+
+    node: int
+    buffer: int
+    task: int
+    cycle: int
+    entry: int
+    data: str
+    fate: str
+    ended: int | None
+    sent: tuple[Sent, ...]
+
+    @property
+    def is_delivered(self) -> bool:
+        """Returns whether a receive buffer or a FIFO stored it."""
+        return any(it.receivers != "-" for it in self.sent)
+
+
+@dataclass(frozen=True, slots=True)
+class Call:
+    """A call of a task with its answer: of a frame the cycle count, slot, channel and payload, or nothing."""
+
+    node: int
+    task: int
+    cycle: int
+    kind: str
+    buffer: int | None
+    count: int | None
+    slot: int | None
+    channel: str | None
+    data: str | None
+
+
+def number(word: str) -> int | None:
+    """Returns the number of a word, or None for `-`."""
+    return None if word == "-" else int(word)
+
+
+def text(word: str) -> str | None:
+    """Returns a word, or None for `-`."""
+    return None if word == "-" else word
+
+
+def transmission_of(line: str) -> Transmission:
+    """Returns the transmission of a line of the record."""
+    words = line.split(" ")
+    window, cycle = int(words[0]), int(words[1])
+    place = number(words[2]), number(words[3])
+    if words[6] == "corrupt":
+        return Transmission(window, cycle, *place, words[4], None, "corrupt", None, None, None, None, None,
+                            int(words[7]), int(words[8]))
+    return Transmission(window, cycle, *place, words[4], int(words[5]), words[6], words[7], words[8],
+                        number(words[9]), text(words[10]), words[11], None, number(words[12]))
+
+
+def commit_of(line: str) -> Commit:
+    """Returns the commit of a line of `fr_view commits`."""
+    words = line.split(" ")
+    node, buffer, task, cycle, entry = map(int, words[:5])
+    fate, rest = words[7], words[8:]
+    if fate != "sent":
+        return Commit(node, buffer, task, cycle, entry, words[5], fate, int(rest[0]) if rest else None, ())
+    sent = tuple(Sent(int(rest[at]), int(rest[at + 1]), *rest[at + 2:at + 5]) for at in range(0, len(rest), 5))
+    return Commit(node, buffer, task, cycle, entry, words[5], fate, None, sent)
+
+
+def call_of(line: str) -> Call:
+    """Returns the call of a line of `fr_view answers`."""
+    front, _, back = line.partition(" = ")
+    node, task, cycle, kind, *rest = front.split(" ")
+    buffer = int(rest[0]) if rest else None
+    answer = back.split(" ")
+    if kind in ("read", "pop") and len(answer) == 4:
+        return Call(int(node), int(task), int(cycle), kind, buffer, int(answer[0]), int(answer[1]), *answer[2:])
+    return Call(int(node), int(task), int(cycle), kind, buffer, None, None, None, None)
+
+
+class Facts:
+    """The facts of the run of some inputs. Each is asked for once, when it is needed."""
+
+    def __init__(self, inputs: Inputs) -> None:
+        self.inputs = inputs
+        self.trace = cache(self.read_trace)
+        self.frames = cache(self.read_frames)
+
+    @property
+    def network(self) -> Network:
+        """Returns the network of the cluster file."""
+        return self.inputs.network
+
+    def run(self) -> None:
+        """Does the run. Raises `Stop` where it is refused."""
+        len(self.record)
+
+    @cached_property
+    def record(self) -> list[Transmission]:
+        """Returns the lines of the record."""
+        return [transmission_of(line) for line in self.inputs.of_run("record").lines]
+
+    @cached_property
+    def commits(self) -> list[Commit]:
+        """Returns the commits of all nodes."""
+        return [commit_of(line) for line in self.inputs.of_run("commits").lines]
+
+    @cached_property
+    def calls(self) -> list[Call]:
+        """Returns the calls of all tasks."""
+        return [call_of(line) for line in self.inputs.of_run("answers").lines]
+
+    @cached_property
+    def ended(self) -> tuple[Outcome, tuple[int, ...]]:
+        """Returns the outcome, and the lines of the scenario whose faults had no effect."""
+        printed = self.inputs.of_run("outcome")
+        try:
+            return read_outcome("".join(f"{it}\n" for it in printed.lines), self.network.cluster), printed.idle
+        except BadOutcome as error:
+            raise Stop(USAGE, f"{self.inputs.program('fr_view')} prints no outcome: {error}") from None
+
+    @cached_property
+    def minislots(self) -> dict[tuple[int, int, str], int | None]:
+        """Returns the minislot of each window with a transmission, by cycle, slot and channel; none in a static slot.
+        """
+        return {(it.cycle, it.slot, it.channel): it.minislot for it in self.record if it.slot is not None}
+
+    @cached_property
+    def by_place(self) -> dict[tuple[int, int, str], list[Transmission]]:
+        """Returns the lines of the record by cycle, slot and channel."""
+        found: dict[tuple[int, int, str], list[Transmission]] = {}
+        for it in self.record:
+            if it.slot is not None:
+                found.setdefault((it.cycle, it.slot, it.channel), []).append(it)
+        return found
+
+    def begin(self, cycle: int, slot: int, channel: str) -> int | None:
+        """Returns the macrotick of the run at which the window of a transmission begins."""
+        if (cycle, slot, channel) not in self.minislots:
+            return None
+        return self.network.begin(cycle, slot, self.minislots[cycle, slot, channel])
+
+    # ---- traces
+
+    def read_trace(self, node: int) -> list[str]:
+        """Returns the lines of the trace of a node."""
+        return self.inputs.of_run("trace", str(node)).lines
+
+    def read_frames(self, node: int) -> list[list[str]]:
+        """Returns the words of each row of the table of frames of a node, with all observations."""
+        data = "".join(f"{line}\n" for line in self.trace(node)).encode()
+        return [line.split(" ") for line in self.inputs.ask("fr_view", ["frames", "--all"], data).lines[1:]]
+
+    @cached_property
+    def openings(self) -> dict[tuple[int, int, str], int]:
+        """Returns the minislot at which each dynamic slot opened, by cycle, slot and channel.
+
+        All nodes have the same windows, so the trace of node 0 has them.
+        """
+        found: dict[tuple[int, int, str], int] = {}
+        cycle = -1
+        for line in self.trace(0):
+            if line.startswith("fetch "):
+                _, _, _, minislot, *slots = line.split(" ")[:6]
+                cycle += minislot == "0" and slots[0] == "1"
+                for channel, slot in zip("AB", slots):
+                    if minislot != "0" and slot != "-":
+                        found[cycle, int(slot), channel] = int(minislot)
+        return found
+
+    def fifo(self, node: int, capacity: int) -> Fifo:
+        """Returns the frames of a node's receive FIFO by their fates. Raises `Stop` where they can't be read."""
+        trace = self.trace(node)
+        table = [" ".join(words) for words in self.frames(node) if len(words) == len(TABLE)]
+        try:
+            return read_fifo(table, trace, starts_of(trace), capacity, self.network.cluster.parameters)
+        except Unread as error:
+            raise Stop(USAGE, f"the FIFO of node {node} can't be read: {error}") from None
+
+
+def starts_of(trace: Iterable[str]) -> list[int]:
+    """Returns the number of the first window of each cycle."""
+    fetches = (line.split(" ") for line in trace if line.startswith("fetch "))
+    return [int(words[1]) for words in fetches if words[3:5] == ["0", "1"]]

@@ -1,0 +1,99 @@
+"""The command `musmyrtle`: finds the command of its first word, and does it."""
+import argparse
+import sys
+from collections.abc import Callable, Iterator
+from contextlib import suppress
+
+from musmyrtle.findings import nearest
+from musmyrtle.lint.command import FINE, USAGE, Parser
+from musmyrtle.output import Stop, pass_on, write
+from musmyrtle.program import VARIABLES, places
+from musmyrtle.show.commands import COMMANDS, Command
+from musmyrtle.show.completion import bash, first_line, zsh
+from musmyrtle.show.engines import COMMAND
+from musmyrtle.show.manual import manual
+from musmyrtle.version import version
+from musmyrtle.visible import cut, visible
+
+SHELLS = {"bash": bash, "zsh": zsh}
+HELP = ("help", "--help", "-h")
+
+
+def texts(name: str, purpose: str, example: str, adding: Callable[[argparse.ArgumentParser], None],
+          text: Callable[[argparse.Namespace], str]) -> Command:
+    """Returns a command that prints a text."""
+    def parser() -> argparse.ArgumentParser:
+        made = Parser(prog=f"{COMMAND} {name}", description=purpose, epilog=f"example: {COMMAND} {example}",
+                      allow_abbrev=False)
+        adding(made)
+        return made
+
+    def main(words: list[str]) -> int:
+        return printed(text(parser().parse_args(words)))
+    return Command(name, purpose, (example,), parser, main)
+
+
+def printed(text: str) -> int:
+    """Writes a text to standard output, and returns the status."""
+    with suppress(BrokenPipeError):
+        write(sys.stdout, [text])
+    return FINE
+
+
+def add_shell(parser: argparse.ArgumentParser) -> None:
+    """Adds the word for the shell."""
+    parser.add_argument("shell", choices=tuple(SHELLS), help="the shell for which the script is")
+
+
+EVERY: tuple[Command, ...] = (
+    *COMMANDS,
+    texts("completion", "Prints the script that completes words of this command in a shell.", "completion bash",
+          add_shell, lambda given: SHELLS[given.shell](EVERY)),
+    texts("man", "Prints the man page.", "man > musmyrtle.1", lambda _: None, lambda _: manual(EVERY)),
+)
+
+
+def overview() -> Iterator[str]:
+    """Yields the lines of the help."""
+    yield f"usage: {COMMAND} COMMAND [ARGUMENT ..]\n\ncommands:\n"
+    width = max(len(it.name) for it in EVERY)
+    for it in EVERY:
+        yield f"  {it.name:{width}}  {first_line(it.purpose)}\n"
+    yield f"\n`{COMMAND} COMMAND --help` describes the arguments of a command, with examples.\n"
+    yield "The programs are looked for in this order:\n"
+    for name in VARIABLES:
+        yield f"  {name}: {visible(places(name))}\n"
+
+
+def done(words: list[str]) -> int:
+    """Does the command of some words, and returns the status."""
+    if not words or words[0] in HELP and len(words) == 1:
+        return printed("".join(overview()))
+    if words in (["--version"], ["-V"]):
+        return printed(f"{COMMAND} {version()}\n")
+    if words[0] in HELP:
+        words = [words[1], "--help"]
+    for command in EVERY:
+        if command.name == words[0]:
+            return command.main(words[1:])
+    meant = nearest(words[0], [it.name for it in EVERY])
+    more = f"; did you mean {meant}?" if meant else ""
+    pass_on(f"{COMMAND}: there is no command {cut(words[0])}{more}")
+    pass_on(f"{COMMAND}: the commands are {', '.join(it.name for it in EVERY)}")
+    return USAGE
+
+
+def main(words: list[str] | None = None) -> int:
+    """Does the command of these words, or of those of the process. Returns the status."""
+    try:
+        return done(sys.argv[1:] if words is None else words)
+    except Stop as stop:
+        return stop.tell(COMMAND)
+    except BrokenPipeError:
+        return FINE
+    except KeyboardInterrupt:
+        return 130
+
+
+if __name__ == "__main__":
+    sys.exit(main())

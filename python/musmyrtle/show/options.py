@@ -1,0 +1,56 @@
+"""The words of the commands that print tables."""
+import argparse
+from dataclasses import dataclass
+
+from musmyrtle.faults.options import numbers_of
+from musmyrtle.findings import counted
+from musmyrtle.lint.command import Parser, add_forms, cycles_of
+
+STATUSES = """status: 0 if it is done, 1 if the cluster file, the scenario or the run is refused, with the reason as by
+`musmyrtle lint`, 2 if the words are no command, a program can't be run or fails, or the output can't be written, 130,
+143 or 129 if SIGINT, SIGTERM or SIGHUP broke it off"""
+CLUSTER, SCENARIO = "CLUSTER", "SCENARIO"
+
+
+@dataclass(frozen=True)
+class Words:
+    """The words of a command: whether it takes a run, and whether its rows can be selected."""
+
+    has_run: bool = False
+    has_selection: bool = False
+
+
+def arguments(name: str, purpose: str, words: Words, examples: tuple[str, ...]) -> argparse.ArgumentParser:
+    """Returns the parser of a command that prints tables."""
+    shown = "\n".join(f"  musmyrtle {it}" for it in examples)
+    parser = Parser(prog=f"musmyrtle {name}", description=purpose, epilog=f"examples:\n{shown}\n\n{STATUSES}",
+                    allow_abbrev=False, formatter_class=argparse.RawDescriptionHelpFormatter)
+    add = parser.add_argument
+    add("cluster", metavar=CLUSTER, help="a cluster file")
+    if words.has_run:
+        add("scenario", metavar=SCENARIO, help="a scenario of this cluster")
+        add("--cycles", metavar="N", type=cycles_of, required=True, help="the cycles of the run, 1 to 1024")
+    if words.has_selection:
+        add_selection(parser)
+    add_forms(parser)
+    return parser
+
+
+def add_selection(parser: argparse.ArgumentParser) -> None:
+    """Adds the options that select rows."""
+    add = parser.add_argument
+    add("--node", metavar="NODE", action="append", default=[],
+        help="only rows of this node, by its name or number; it may be given several times")
+    add("--slot", metavar="SLOT,..", type=numbers_of, help="only rows of these slots, as 1,3-5")
+    add("--channel", choices=("A", "B"), help="only rows of this channel")
+    add("--in-cycles", metavar="CYCLE,..", type=numbers_of, help="only rows of these cycles of the run, as 0,3-5")
+    add("--errors", action="store_true", help="only rows with an error")
+
+
+def parsed(parser: argparse.ArgumentParser, words: list[str]) -> argparse.Namespace:
+    """Returns the words of a command. Ends with status 2 for wrong ones."""
+    given = parser.parse_args(words)
+    outside = [it for it in getattr(given, "in_cycles", None) or () if it >= given.cycles]
+    if outside:
+        parser.error(f"the run has no cycle {min(outside)}: it has {counted(given.cycles, 'cycle')}")
+    return given

@@ -1,0 +1,239 @@
+"""Tables in three forms: aligned text for people, JSON with one object a line, and CSV."""
+import csv
+import io
+import json
+import re
+from collections.abc import Iterable, Iterator, Mapping, Sequence
+from dataclasses import dataclass, field
+from typing import NamedTuple
+
+from musmyrtle.visible import cut, visible
+
+Plain = int | float | str | bool | None | Sequence[int] | Sequence[Mapping[str, "int | str | None"]]
+"""A value of a JSON object."""
+BOLD, RED, USUAL = "\x1b[1m", "\x1b[31m", "\x1b[0m"
+ABSENT = "-"
+LONGEST_TEXT = 120
+NUMERIC = re.compile(r"[0-9.]+|-")
+
+
+class Name(NamedTuple):
+    """A node or a buffer: its number, its key `name` in the cluster file if there is one, and which of the two it is.
+    """
+
+    number: int
+    name: str | None
+    kind: str
+
+    def __str__(self) -> str:
+        """Returns `pedal (0)`, or `node 0` without a name."""
+        return f"{self.kind} {self.number}" if self.name is None else f"{cut(self.name)} ({self.number})"
+
+
+class Time(NamedTuple):
+    """A time in macroticks, and in microseconds where the cluster file has `macrotick_us`."""
+
+    macroticks: int
+    microseconds: float | None
+
+    def __str__(self) -> str:
+        return str(self.macroticks) if self.microseconds is None else decimal(self.microseconds)
+
+
+class Receiver(NamedTuple):
+    """A receive buffer or a receive FIFO that stored a frame, or is for it. The FIFO has no buffer."""
+
+    node: Name
+    buffer: Name | None
+
+    def __str__(self) -> str:
+        """Returns `brake (1) position (1)`, or `brake (1) FIFO`."""
+        return f"{self.node} {self.buffer or 'FIFO'}"
+
+    @property
+    def word(self) -> str:
+        """Returns the receiver as `fr_view commits` spells it: `1:b1`, or `1:queue`."""
+        return f"{self.node.number}:" + ("queue" if self.buffer is None else f"b{self.buffer.number}")
+
+    @property
+    def object(self) -> dict[str, int | str | None]:
+        """Returns the object that stands for it in JSON."""
+        buffer = self.buffer or Name(0, None, "")
+        return {"node": self.node.number, "node_name": self.node.name,
+                "buffer": None if self.buffer is None else buffer.number, "buffer_name": buffer.name}
+
+
+class Numbers(NamedTuple):
+    """Numbers in ascending order, such as slots: a list in JSON, and ranges otherwise."""
+
+    numbers: tuple[int, ...]
+
+    def __str__(self) -> str:
+        """Returns `1-3,5` for 1, 2, 3 and 5."""
+        return ranges(self.numbers)
+
+
+class Receivers(NamedTuple):
+    """The receivers of a frame: a list of objects in JSON, and the words of `fr_view commits` in CSV."""
+
+    receivers: tuple[Receiver, ...]
+
+    def __str__(self) -> str:
+        return ", ".join(map(str, self.receivers))
+
+
+Value = int | float | str | bool | None | Name | Time | Numbers | Receivers
+
+
+def ranges(numbers: Iterable[int]) -> str:
+    """Returns `1-3,5` for 1, 2, 3 and 5, which are in ascending order."""
+    found: list[list[int]] = []
+    for number in numbers:
+        if found and number == found[-1][-1] + 1:
+            found[-1].append(number)
+        else:
+            found.append([number])
+    return ",".join(f"{it[0]}-{it[-1]}" if len(it) > 1 else str(it[0]) for it in found)
+
+
+def decimal(number: float) -> str:
+    """Returns a number with at most three decimal places."""
+    return f"{number:.3f}".rstrip("0").rstrip(".")
+
+
+@dataclass(frozen=True)
+class Column:
+    """A column: its key in JSON and CSV, its heading in a text, and the kind of its values.
+
+    The kind `name` has two keys, KEY and KEY_name, and `time` has KEY_mt and KEY_us; all other values are `plain`. A
+    heading that is empty leaves the column out of texts.
+    """
+
+    key: str
+    heading: str
+    kind: str = "plain"
+    words: Mapping[str, str] = field(default_factory=dict, hash=False)
+    """Words for people, for those of the programs."""
+
+    @property
+    def keys(self) -> tuple[str, ...]:
+        """Returns the keys of the column in JSON and CSV."""
+        if self.kind == "name":
+            return self.key, f"{self.key}_name"
+        return (f"{self.key}_mt", f"{self.key}_us") if self.kind == "time" else (self.key,)
+
+    def fields(self, value: Value) -> dict[str, Plain]:
+        """Returns the keys and values of an object in JSON."""
+        if isinstance(value, Name):
+            return {self.keys[0]: value.number, self.keys[1]: value.name}
+        if isinstance(value, Time):
+            return {self.keys[0]: value.macroticks, self.keys[1]: value.microseconds}
+        if isinstance(value, Receivers):
+            return {self.key: [it.object for it in value.receivers]}
+        if isinstance(value, Numbers):
+            return {self.key: value.numbers}
+        return {**dict.fromkeys(self.keys), self.keys[0]: value}
+
+    def cells(self, value: Value) -> list[str]:
+        """Returns the cells of the value in CSV."""
+        if isinstance(value, Receivers):
+            return [",".join(it.word for it in value.receivers)]
+        if isinstance(value, Numbers):
+            return [str(value)]
+        return ["" if it is None else visible(spelled(it)) for it in self.fields(value).values()]
+
+    def text(self, value: Value) -> str:
+        """Returns the value for people, in one line."""
+        text = "" if value is None else spelled(value)
+        return visible(cut(self.words.get(text, text) or ABSENT, LONGEST_TEXT))
+
+
+def spelled(value: object) -> str:
+    """Returns a value as a text: numbers with a point for decimals, truth values in lower case."""
+    if isinstance(value, bool):
+        return "true" if value else "false"
+    return decimal(value) if isinstance(value, float) else str(value)
+
+
+@dataclass(frozen=True)
+class Row:
+    """A row: the values by the keys of their columns, and whether it shows an error, which is red on a terminal."""
+
+    values: Mapping[str, Value]
+    is_error: bool = False
+
+
+@dataclass(frozen=True)
+class Section:
+    """A table, whose KIND is the first key of each row in JSON and CSV.
+
+    A text has the title above the table, and leaves out columns without a value. Without rows it has the line NOTHING,
+    if that isn't empty.
+    """
+
+    kind: str
+    title: str
+    columns: tuple[Column, ...]
+    rows: Sequence[Row]
+    nothing: str = ""
+
+
+def as_json(sections: Iterable[Section]) -> Iterator[str]:
+    """Yields an object a line. All characters are ASCII, so that no terminal obeys one."""
+    for section in sections:
+        for row in section.rows:
+            fields: dict[str, Plain] = {"kind": section.kind}
+            for column in section.columns:
+                fields.update(column.fields(row.values.get(column.key)))
+            yield json.dumps(fields).replace("\x7f", "\\u007f") + "\n"
+
+
+def as_csv(sections: Sequence[Section]) -> Iterator[str]:
+    """Yields one table for all sections: a heading with the keys of all columns, each once, and a line for each row."""
+    keys = list(dict.fromkeys(key for section in sections for column in section.columns for key in column.keys))
+    lines = io.StringIO()
+    writer = csv.writer(lines, lineterminator="\n")
+    writer.writerow(["kind", *keys])
+    for section in sections:
+        for row in section.rows:
+            cells = dict.fromkeys(keys, "")
+            for column in section.columns:
+                cells.update(zip(column.keys, column.cells(row.values.get(column.key))))
+            writer.writerow([section.kind, *cells.values()])
+    yield lines.getvalue()
+
+
+def as_text(sections: Iterable[Section], is_coloured: bool = False) -> Iterator[str]:
+    """Yields the tables for people, with an empty line between them."""
+    is_first = True
+    for section in sections:
+        lines = list(text_lines(section, is_coloured))
+        if lines:
+            yield ("" if is_first else "\n") + "".join(f"{line}\n" for line in lines)
+            is_first = False
+
+
+def text_lines(section: Section, is_coloured: bool) -> Iterator[str]:
+    """Yields the lines of one table for people."""
+    if not section.rows:
+        if section.nothing:
+            yield section.nothing
+        return
+    shown = {it: [it.text(row.values.get(it.key)) for row in section.rows] for it in section.columns if it.heading}
+    columns = [it for it, texts in shown.items() if set(texts) != {ABSENT}]
+    cells = list(zip(*(shown[it] for it in columns)))
+    widths = [max(len(column.heading), *(len(row[place]) for row in cells)) for place, column in enumerate(columns)]
+    is_right = [all(NUMERIC.fullmatch(row[place]) for row in cells) for place in range(len(columns))]
+
+    def line(words: Iterable[str]) -> str:
+        placed = zip(words, widths, is_right)
+        return "  ".join(word.rjust(width) if right else word.ljust(width) for word, width, right in placed).rstrip()
+
+    def coloured(text: str, colour: str) -> str:
+        return f"{colour}{text}{USUAL}" if is_coloured else text
+
+    if section.title:
+        yield coloured(section.title, BOLD)
+    yield coloured(line(it.heading for it in columns), BOLD)
+    for row, words in zip(section.rows, cells):
+        yield coloured(line(words), RED) if row.is_error else line(words)

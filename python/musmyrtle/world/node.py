@@ -1,0 +1,126 @@
+"""The nodes of a world and their message buffers, as host programs and controllers call them."""
+from typing import TYPE_CHECKING
+
+from musmyrtle.world.bounds import buffer_number, node_number, payload_hex, task_number
+from musmyrtle.world.refusals import UnknownNode, refusal
+from musmyrtle.world.replies import Frame, Report, Window, frame_of, number_or_none, report_of, window_of
+
+if TYPE_CHECKING:
+    from musmyrtle.world.world import World
+
+
+class Node:
+    """A node of a world, as one of its tasks calls it: task 0 unless another one is chosen.
+
+    Each call is one request. It raises `ValueError` for a number that is out of range, with nothing sent, `UnknownNode`
+    where the cluster doesn't have the node, other refusals by name, and `SessionOver`.
+    """
+
+    def __init__(self, world: "World", number: int, task: int = 0) -> None:
+        """Names a node, 0 to 15, and a task, 0 to 7. Raises `ValueError` for others."""
+        self.world, self.number, self._task = world, node_number(number), task_number(task)
+
+    def task(self, number: int) -> "Node":
+        """Returns the same node, called by this task, 0 to 7. Raises `ValueError` for others."""
+        return Node(self.world, self.number, number)
+
+    def __getitem__(self, name: str) -> "Buffer":
+        """Returns the buffer of this name in the cluster file.
+
+        Raises `UnknownName` for a name that no buffer of the node has, or more than one, and `UnknownNode`.
+        """
+        names = self.world.names
+        if self.number >= len(names.buffers):
+            raise UnknownNode(("UnknownNode",), f"a buffer of node {self.number}")
+        return Buffer(self, names.buffer(self.number, name))
+
+    def commit(self, buffer: int, payload: bytes) -> int:
+        """Gives a transmit buffer, 0 to 63, its next payload and returns the number of its entry in the journal.
+
+        Raises `ValueError` for a payload that isn't 0 to 127 two-byte words, `WrongLength` for one that isn't as long
+        as the buffer's, `UnknownTask`, `UnknownBuffer`, `NotTransmit` and `HostFull`.
+        """
+        number = buffer_number(buffer)
+        payload_word = payload_hex(payload, lambda: self.world.payload_length(self.number, number))
+        return int(self._ask(f"commit {self.number} {self._task} {number} {payload_word}"))
+
+    def withdraw(self, buffer: int) -> int | None:
+        """Takes the last commit of a transmit buffer, 0 to 63, back and returns its entry, or None if none is pending.
+
+        Raises `UnknownTask`, `UnknownBuffer`, `NotTransmit` and `HostFull`.
+        """
+        return number_or_none(self._ask(f"withdraw {self.number} {self._task} {buffer_number(buffer)}"))
+
+    def read(self, buffer: int) -> Frame | None:
+        """Returns the frame that a receive buffer, 0 to 63, holds, or None.
+
+        Raises `UnknownTask`, `UnknownBuffer`, `NotReceive` and `HostFull`.
+        """
+        return self._frame(f"read {self.number} {self._task} {buffer_number(buffer)}")
+
+    def pop(self) -> Frame | None:
+        """Takes the oldest frame out of the receive FIFO and returns it, or None where the FIFO is empty.
+
+        Raises `UnknownTask`, `NoQueue` and `HostFull`.
+        """
+        return self._frame(f"pop {self.number} {self._task}")
+
+    def look(self) -> Window:
+        """Has the controller ask the bus for the open window, and returns that. Raises `WrongTurn` and `BusRefused`."""
+        return window_of(self._ask(f"look {self.number}").split(" "))
+
+    def fetch(self) -> None:
+        """Has the controller fetch what its interface offers in the window. Raises `WrongTurn` and `SlotRefused`."""
+        self.world.ask(f"fetch {self.number}")
+
+    def put(self) -> None:
+        """Has the controller put what it fetched on the bus. Raises `WrongTurn` and `BusRefused`."""
+        self.world.ask(f"put {self.number}")
+
+    def take(self) -> None:
+        """Has the controller take its observation in the sealed window. Raises `WrongTurn` and `BusRefused`."""
+        self.world.ask(f"take {self.number}")
+
+    def observe(self) -> None:
+        """Has the controller give its observation to its interface. Raises `WrongTurn` and `SlotRefused`."""
+        self.world.ask(f"observe {self.number}")
+
+    def report(self) -> Report:
+        """Returns the node's report. It makes no entry in the journal. Raises `Memory`."""
+        return report_of("".join(f"{line}\n" for line in self.world.block(f"report {self.number}")))
+
+    def trace(self) -> str:
+        """Returns the node's trace, which `fr_bench audit` reads. Raises `Memory`."""
+        return "".join(f"{line}\n" for line in self.world.block(f"trace {self.number}"))
+
+    def _frame(self, line: str) -> Frame | None:
+        """Returns the frame of a read or a pop. Its origin is requested with it."""
+        asked = [line, f"origin {self.number}"]
+        reply, origin = replies = self.world.send(asked)
+        for request, answer in zip(asked, replies):
+            if answer.startswith("refused "):
+                raise refusal(answer, request)
+        return frame_of(reply.split(" ")[1:], origin)
+
+    def _ask(self, line: str) -> str:
+        return self.world.ask(line).split(" ", 1)[1]
+
+
+class Buffer:
+    """A message buffer of a node. Its calls raise what those of the node raise."""
+
+    def __init__(self, node: Node, number: int) -> None:
+        """Names a buffer of the node, 0 to 63. Raises `ValueError` for others."""
+        self.node, self.number = node, buffer_number(number)
+
+    def commit(self, payload: bytes) -> int:
+        """Gives the transmit buffer its next payload and returns the number of its entry in the journal."""
+        return self.node.commit(self.number, payload)
+
+    def withdraw(self) -> int | None:
+        """Takes the last commit back and returns its entry, or None if none is pending."""
+        return self.node.withdraw(self.number)
+
+    def read(self) -> Frame | None:
+        """Returns the frame that the receive buffer holds, or None."""
+        return self.node.read(self.number)

@@ -1,0 +1,42 @@
+"""The reason why a world isn't opened: the refusal of the program, and the explanation by `fr_lint`."""
+import os
+
+from musmyrtle.visible import visible
+from musmyrtle.world.refusals import ClusterRefused
+
+REFUSED = "refused "
+OF_THE_MACHINE = ("Memory", "Write")
+"""Refusals that aren't about the cluster file."""
+
+
+def refused_cluster(said: str, cluster: str) -> ClusterRefused | None:
+    """Returns the exception for the program's answer in place of its first line.
+
+    Returns None if that is no refusal of the file. SAID may have further lines: before the refusal those of a launcher,
+    and after it those that explain it.
+    """
+    lines = said.split("\n")
+    places = [number for number, line in enumerate(lines) if line.startswith(REFUSED)]
+    if not places:
+        return None
+    refusal, _, explained = lines[places[-1]].removeprefix(REFUSED).partition(": ")
+    if refusal in OF_THE_MACHINE:
+        return None
+    told = " ".join(filter(None, (explained, *lines[places[-1] + 1:])))
+    return ClusterRefused(refusal, visible(reason_of(refusal, cluster) or told))
+
+
+def reason_of(refusal: str, cluster: str) -> str:
+    """Returns file, line and column, the reason and related places, or nothing where none is known."""
+    if os.path.exists(cluster) and not os.path.isfile(cluster) and not os.path.isdir(cluster):
+        # Reading a pipe again would wait for a writer.
+        return ""
+    # The rules of clusters are read only where one is broken, so that opening a world takes no longer.
+    from musmyrtle.lint.lint import Task, lint
+    found = lint(Task(cluster)).refusals
+    if not found or found[0][0] != refusal:
+        return ""
+    finding = found[0][1]
+    where = f"{finding.place}: " if finding.place else ""
+    notes = "; ".join(f"{note.place}: {note.text}" if note.place else note.text for note in finding.notes)
+    return f"{where}{finding.headline}. {finding.reason}" + (f" ({notes})" if notes else "")

@@ -1,0 +1,220 @@
+"""A session with the program `fr_world`: requests and replies."""
+import os
+import threading
+import time
+import weakref
+from collections.abc import Iterable
+
+from musmyrtle.world.child import Child, Gone, Late
+from musmyrtle.world.faults import is_fault_line
+from musmyrtle.world.opening import refused_cluster
+from musmyrtle.world.refusals import SessionOver, TimedOut, refusal
+from musmyrtle.world.world_program import not_started
+
+VERSION = "frworld 1"
+CLOSE_SECONDS = 1.0
+FileName = str | os.PathLike[str]
+
+
+class Session:
+    """Asks a program requests and returns its replies, in order and each to the request it belongs to.
+
+    Threads can share a session: each waits until the reply to the request before is read. `lock` keeps several
+    requests together. A session whose reply wasn't read to its end is broken: every later request raises `SessionOver`.
+    `asked` has all requests so far, to be asked again without Python, and `kept` the fault lines that the program has.
+    """
+
+    def __init__(self, program: FileName, cluster: FileName, cycles: int, timeout: float | None = None) -> None:
+        """Starts the program and reads its first line.
+
+        TIMEOUT is the time limit of each request in seconds, or None for no limit. Raises `NotStarted`,
+        `ClusterRefused`, `SessionOver` where the program speaks another version, and `TimedOut`.
+        """
+        command = [os.fspath(program), os.fspath(cluster), "--cycles", str(cycles)]
+        self.lock = threading.RLock()
+        self.asked: list[str] = []
+        self.kept: list[str] = []
+        self._timeout = timeout
+        self._over: str | None = None
+        self._is_waiting = self._is_closed = False
+        try:
+            self._child = Child(command)
+        except OSError as error:
+            raise not_started(command[0], error) from None
+        # A dropped session ends its program, and so does the end of this one.
+        self._ender = weakref.finalize(self, self._child.end)
+        _SESSIONS.add(self)
+        try:
+            version = self._talk([], 1, b"", timeout)[0]
+            if version != VERSION:
+                raise SessionOver(f"{command[0]} speaks {version[:60]!r}, not {VERSION!r}")
+        except SessionOver as error:
+            self.close()
+            raise refused_cluster(str(error), command[1]) or error from None
+        except BaseException:
+            self.close()
+            raise
+
+    @property
+    def is_closed(self) -> bool:
+        """Returns whether `close` was called."""
+        return self._is_closed
+
+    def close(self, timeout: float = CLOSE_SECONDS) -> None:
+        """Ends the program. A second call has no effect.
+
+        The program has TIMEOUT seconds to end by itself, and is killed at the latest after three times as many. A
+        request of another thread that is still unanswered after TIMEOUT seconds raises `SessionOver` there.
+        """
+        self._is_closed = True
+        if self._over is None:
+            self._over = "the world is closed"
+        has_lock = self.lock.acquire(timeout=timeout)
+        if not has_lock:
+            self._child.kill()
+            has_lock = self.lock.acquire(timeout=max(timeout, CLOSE_SECONDS))
+        try:
+            self._child.end(timeout)
+            self._ender.detach()
+        finally:
+            if has_lock:
+                self.lock.release()
+
+    def ask(self, line: str, timeout: float | None = None) -> str:
+        """Returns the reply to one request. A reply of several lines has line feeds between them.
+
+        Raises the exception of a refusal, and what `send` raises.
+        """
+        data = encoded(line, 1)
+        with self.lock:
+            reply = self._talk([line], 1, data, self._timeout if timeout is None else timeout)[0]
+            if reply == "done":
+                self._keep(line)
+        if reply.startswith("refused "):
+            raise refusal(reply, line)
+        return reply
+
+    def block(self, line: str, timeout: float | None = None) -> list[str]:
+        """Returns the lines of a query's reply, without the first, which counts them.
+
+        Raises the exceptions of `ask`, and `ValueError` for a request whose reply is one line.
+        """
+        first, *lines = self.ask(line, timeout).split("\n")
+        if not first.startswith("lines "):
+            raise ValueError(f"`{shown(line)}` is no query: it was answered with `{shown(first)}`")
+        return lines
+
+    def send(self, lines: Iterable[str], timeout: float | None = None) -> list[str]:
+        """Returns the replies to requests, which are written and read at the same time, however many there are.
+
+        TIMEOUT limits the time for all of them, in seconds; None is the session's own limit. A refusal isn't raised.
+        Raises `ValueError`, with nothing written, for a request of more than one line or one that UTF-8 can't encode;
+        `TimedOut` where replies are missing when the time is over, and `SessionOver` where the session is over.
+        """
+        asked = list(lines)
+        if not asked:
+            return []
+        data = encoded("\n".join(asked), len(asked))
+        with self.lock:
+            replies = self._talk(asked, len(asked), data, self._timeout if timeout is None else timeout)
+            for line, reply in zip(asked, replies):
+                if reply == "done":
+                    self._keep(line)
+        return replies
+
+    def _keep(self, line: str) -> None:
+        """Notes the change of the fault lines by a request that was done."""
+        if line == "forget":
+            self.kept.clear()
+        elif is_fault_line(line):
+            self.kept.append(line)
+
+    # ---- one exchange
+
+    def _talk(self, asked: list[str], count: int, data: bytes, timeout: float | None) -> list[str]:
+        """Writes requests and reads this many replies.
+
+        From the first byte written up to the last reply read the session is marked as waiting. An exception between,
+        also that of a signal handler, leaves the mark, and no later request can get a reply that isn't its own.
+        """
+        if self._over is not None or self._is_waiting:
+            raise SessionOver(self._over or self._broken("a request was broken off before its reply was read"))
+        deadline = None if timeout is None else time.monotonic() + timeout
+        replies: list[str] = []
+        self._is_waiting = True
+        try:
+            self.asked += asked
+            child = self._child
+            child.write(data)
+            for _ in range(count):
+                reply = child.line(deadline)
+                replies.append(self._whole(reply, deadline) if reply.startswith("lines ") else reply)
+        except Gone as error:
+            raise SessionOver(self._broken(self._over or str(error) or self._child.last_words())) from None
+        except Late:
+            raise TimedOut(self._broken(f"{missing(asked, replies)} within {timeout:g} s")) from None
+        except BaseException as error:
+            if len(replies) < count:
+                self._broken(f"{missing(asked, replies)}: {type(error).__name__} came before it")
+            else:
+                self._is_waiting = False
+            raise
+        self._is_waiting = False
+        return replies
+
+    def _whole(self, first: str, deadline: float | None) -> str:
+        """Returns the reply that begins with the line `lines K` and has K further lines."""
+        count = first[len("lines "):]
+        if not count.isdecimal():
+            raise Gone(f"the program answers with `{shown(first)}`")
+        return "\n".join([first, *(self._child.line(deadline) for _ in range(int(count)))])
+
+    def _broken(self, why: str) -> str:
+        """Ends a session in which replies are outstanding. Returns the reason."""
+        if self._over is None:
+            self._over = why
+        self._child.hang_up()
+        return self._over
+
+    def _leave(self) -> None:
+        """Leaves the program to the parent, in a process that was forked from it."""
+        self.lock = threading.RLock()
+        self._over = "the world belongs to the process that opened it, and this one was forked from that"
+        self._ender.detach()
+        self._child.leave()
+
+
+_SESSIONS: "weakref.WeakSet[Session]" = weakref.WeakSet()
+
+
+def _leave_all() -> None:
+    for session in list(_SESSIONS):
+        session._leave()
+
+
+# A forked process has the same pipes. If it used them, each process would read replies of the other. If it only held
+# them, the program wouldn't see that its input ends.
+os.register_at_fork(after_in_child=_leave_all)
+
+
+def encoded(text: str, count: int) -> bytes:
+    """Returns the bytes of requests, which have line feeds between them.
+
+    Raises `ValueError` where these aren't so many lines, or UTF-8 can't encode them.
+    """
+    if text.count("\n") != count - 1:
+        raise ValueError("a request is one line, without a line feed")
+    try:
+        return f"{text}\n".encode()
+    except UnicodeEncodeError as error:
+        raise ValueError(f"a request has a character that UTF-8 can't encode: {error.object[error.start]!r}") from None
+
+
+def missing(asked: list[str], replies: list[str]) -> str:
+    """Returns a clause that names the missing reply."""
+    return f"no reply to `{shown(asked[len(replies)])}`" if asked else "no first line"
+
+
+def shown(text: str) -> str:
+    """Returns a text, cut where it is long."""
+    return text if len(text) <= 80 else f"{text[:77]}..."

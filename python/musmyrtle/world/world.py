@@ -1,0 +1,378 @@
+"""A proved FlexRay cluster in which host programs take part, before there is hardware.
+
+Each call is one line to the program `fr_world` and one reply, and does exactly what it names. A refusal is raised as
+the exception of its name, and has changed nothing.
+"""
+import os
+import stat
+from collections.abc import Callable, Iterable, Iterator
+from contextlib import AbstractContextManager, contextmanager, suppress
+from functools import partial
+
+from musmyrtle.cluster_file import payload_length
+from musmyrtle.names import Names, UnknownName
+from musmyrtle.texts import FILE_LIMIT
+from musmyrtle.world.bounds import run_cycles, some_cycles, window_number
+from musmyrtle.world.capture import captured, listener, only_bytes
+from musmyrtle.world.faults import Fault, fault_line
+from musmyrtle.world.node import Buffer, Node
+from musmyrtle.world.refusals import BadCycles, BadName, TooManyFaults, UnknownNode, WrongLength, refusal
+from musmyrtle.world.replies import Record, Window, record_of, window_of
+from musmyrtle.world.session import CLOSE_SECONDS, FileName, Session
+from musmyrtle.world.stepping import requests_of
+from musmyrtle.world.world_program import usual_world
+
+__all__ = ["Buffer", "Host", "Node", "World"]
+
+Host = Iterator[object]
+
+
+class World:
+    """The world of a cluster: a controller host interface for each node, and the bus.
+
+        with World("cluster.toml", cycles=8) as world:
+            sender, receiver = world.node(0), world.node(1)
+            for number in range(8):
+                sender.commit(0, number.to_bytes(2, "big"))
+                world.cycle()
+                frame = receiver.read(1)
+
+    Threads can share a world: each call is done whole before that of another thread. Every call raises `SessionOver`
+    once the world is closed, its program has ended, or a request was broken off before its reply was read, as by an
+    exception of a signal handler. A process that is forked can't use the worlds of its parent.
+    """
+
+    def __init__(self, cluster: FileName, cycles: int, *, program: FileName | None = None,
+                 timeout: float | None = None) -> None:
+        """Opens the world of a cluster file for a run of so many cycles, 1 to 1024.
+
+        PROGRAM is the `fr_world` to run, which `usual_world` finds otherwise. TIMEOUT is the time limit in seconds of
+        each request and of the opening, or None. Raises `BadCycles` for another number of cycles, `NotStarted` where
+        the program can't be started, `ClusterRefused`, `BadName` where a key `name` of the cluster file isn't a string,
+        and `TimedOut`.
+        """
+        try:
+            cycles = run_cycles(cycles)
+        except ValueError as error:
+            raise BadCycles(*error.args) from None
+        self._data = regular_file(cluster)
+        self._faults: list[tuple[Fault, Callable[[Window], bool]]] = []
+        self._unread = ""
+        self._session = Session(program or usual_world(), cluster, cycles, timeout)
+        try:
+            self._names = self._read_names(self._data)
+        except BaseException:
+            self._session.close()
+            raise
+
+    def __enter__(self) -> "World":
+        return self
+
+    def __exit__(self, *_: object) -> None:
+        self.close()
+
+    def close(self, timeout: float = CLOSE_SECONDS) -> None:
+        """Ends the program. A second time does nothing.
+
+        The program has TIMEOUT seconds to end by itself, and is killed at the latest after three times as many. A
+        request of another thread that has no reply by then raises `SessionOver` there.
+        """
+        self._session.close(timeout)
+
+    # ---- requests
+
+    def ask(self, line: str, timeout: float | None = None) -> str:
+        """Returns the reply to a request. One of several lines, as to `report 0`, has line feeds between them.
+
+        TIMEOUT is the time limit in seconds, or None for that of the world. Raises the exception of a refusal,
+        `ValueError` with nothing sent for more than one line and for characters that UTF-8 can't encode, `TimedOut`
+        and `SessionOver`.
+        """
+        try:
+            return self._session.ask(line, timeout)
+        except WrongLength as error:
+            node, _, buffer = map(int, line.split(" ")[1:4])
+            raise WrongLength(error.names, line, self.payload_length(node, buffer)) from None
+
+    def block(self, line: str, timeout: float | None = None) -> list[str]:
+        """Returns the lines of a query's reply, without the one that counts them.
+
+        Raises the exceptions of `ask`, and `ValueError` for a request whose reply is one line.
+        """
+        return self._session.block(line, timeout)
+
+    def send(self, lines: Iterable[str], timeout: float | None = None) -> list[str]:
+        """Returns the replies to many requests, each as `ask` returns it. A refusal isn't raised.
+
+        All are written without waiting for replies, and no request of another thread comes between. TIMEOUT is the
+        time limit in seconds of all together. Raises `ValueError`, `TimedOut` and `SessionOver` as `ask` does.
+        """
+        return self._session.send(lines, timeout)
+
+    def transcript(self) -> str:
+        """Returns all requests so far, a line each.
+
+        On the standard input of `fr_world` they give the same replies again. A request that was broken off is there.
+        """
+        return "".join(f"{line}\n" for line in self._session.asked)
+
+    # ---- nodes
+
+    def node(self, number: int) -> Node:
+        """Returns the node of this number, 0 to 15, in the order of the cluster file. Raises `ValueError` for others.
+
+        If the cluster doesn't have it, the calls of the node raise `UnknownNode`.
+        """
+        return Node(self, number)
+
+    def __getitem__(self, name: str) -> Node:
+        """Returns the node of this name in the cluster file. Raises `UnknownName`."""
+        return self.node(self.names.node(name))
+
+    @property
+    def names(self) -> Names:
+        """Returns the names of nodes and buffers, as the cluster file had them when the world was opened.
+
+        Raises `UnknownName` where they couldn't be read, as from a pipe, which the program alone can read.
+        """
+        if self._names is None:
+            raise UnknownName(f"no names are known: {self._unread}")
+        return self._names
+
+    def payload_length(self, node: int, buffer: int) -> int | None:
+        """Returns the bytes of a transmit buffer's payload, as of the cluster file when the world was opened.
+
+        Returns None where there is no such buffer, or where the file couldn't be read.
+        """
+        return None if self._data is None else payload_length(self._data, node, buffer)
+
+    def _read_names(self, data: bytes | None) -> Names | None:
+        """Reads the names of a file that the program has accepted. Raises `BadName` for one that isn't a string."""
+        if data is None:
+            self._unread = "the cluster file is no regular file"
+            return None
+        try:
+            names = Names.of(data)
+        except ValueError as error:
+            self._unread = f"the cluster file can't be read: {error}"
+            return None
+        if names.wrong:
+            raise BadName(names.wrong)
+        return names
+
+    # ---- the bus
+
+    def now(self) -> Window | None:
+        """Returns the window that is open or sealed, or None once the run is over."""
+        return moved(self.ask("now"))
+
+    def inject(self, fault: Fault) -> None:
+        """Brings the fault into the open window.
+
+        Raises `NotCollecting` where that is sealed, `TooManyFaults` where it has one of this kind, node and channel,
+        and `UnknownNode`.
+        """
+        self.ask(str(fault))
+
+    def seal(self) -> None:
+        """Seals the open window. Raises `NotCollecting`, `NotAllPut` and `Memory`."""
+        self.ask("seal")
+
+    def advance(self) -> None:
+        """Opens the window after the sealed one. Raises `NotSealed` and `NotAllTaken`."""
+        self.ask("advance")
+
+    def record(self, number: int) -> Record:
+        """Returns the sealed window of this number, counted from 0: its transmissions and their fates.
+
+        Raises `NoWindow` where no such window is sealed, `Memory`, and `ValueError` out of 0 to 4294967295.
+        """
+        return record_of(self.block(f"record {window_number(number)}"))
+
+    def capture(self, path: FileName, *, program: FileName | None = None) -> None:
+        """Writes a capture of all that was on the bus so far, which Wireshark opens.
+
+        It has the records of `fr_view bus`: each transmission that passed alone and wasn't too long. A window counts
+        once nodes 0 and 1 have observed it. PROGRAM is the `fr_view` to run, which is otherwise looked for. Raises
+        `NotStarted` where it can't be started, `OSError` where the file can't be written, and `SessionOver`.
+        """
+        with self._session.lock:
+            first = self.block("trace 0")
+            try:
+                second: list[str] | None = self.block("trace 1")
+            except UnknownNode:
+                second = None
+            trace = listener(first, second, lambda number, channel: only_bytes(self.record(number), channel))
+        data = captured(trace, program)
+        with open(path, "wb") as file:
+            file.write(data)
+
+    # ---- windows and cycles
+
+    def window(self) -> Window | None:
+        """Does all due steps in the open window. Returns the next window, or None once the run is over.
+
+        Raises the first refusal that isn't `WrongTurn`. Steps that were done before it stay done.
+        """
+        if not self._faults:
+            return moved(self.ask("window"))
+        with self._session.lock:
+            self._inject_due()
+            return moved(self.ask("window"))
+
+    def cycle(self) -> Window | None:
+        """Does windows up to the first one of the next cycle. Returns and raises as `window` does."""
+        if not self._faults:
+            return moved(self.ask("cycle"))
+        with self._session.lock:
+            window = self.window()
+            while window and not window.opens_cycle:
+                window = self.window()
+            return window
+
+    def run(self, cycles: int) -> Window | None:
+        """Does so many cycles, 0 to 1024. Returns and raises as `window` does, and `ValueError` for other numbers."""
+        cycles = some_cycles(cycles)
+        if not self._faults:
+            return moved(self.ask(f"run {cycles}"))
+        with self._session.lock:
+            window = self.now()
+            for _ in range(cycles):
+                window = self.cycle()
+            return window
+
+    def play_scenario(self, text: str, cycles: int) -> list[tuple[str, str]]:
+        """Does a scenario in a world that has just been opened, for so many cycles, as a lockstep run does it.
+
+        Its fault lines are kept. In each cycle the lines of the tasks come first, by node and then task. Returns each
+        request of a task with its reply. Raises `ValueError`, with the line number and nothing sent, for a text that
+        is no scenario of so many cycles; a refusal by its name; and what `cycle` raises.
+        """
+        faults, requests = requests_of(text, some_cycles(cycles))
+        answers: list[tuple[str, str]] = []
+        with self._session.lock:
+            for line in faults:
+                self.keep(line)
+            for lines in requests:
+                answers += [(line, self.ask(line)) for line in lines]
+                self.cycle()
+        return answers
+
+    def play(self, *hosts: Host, cycles: int) -> Window | None:
+        """Runs host programs as generators for so many cycles, 0 to 1024.
+
+        At the start of each cycle each goes on to its next `yield`. Other threads can come in between. Returns and
+        raises what `cycle` does, `ValueError` for other numbers, and what a host program raises.
+        """
+        cycles, running = some_cycles(cycles), list(hosts)
+        window = self.now()
+        for _ in range(cycles):
+            running = [host for host in running if next(host, self) is not self]
+            window = self.cycle()
+        return window
+
+    # ---- faults
+
+    def fault(self, fault: Fault | str, when: Callable[[Window], bool] | None = None) -> AbstractContextManager[None]:
+        """Returns a context manager that brings the fault into windows while its block runs.
+
+        A `Babble`, `Mute` or `Corrupt` comes into each window for which WHEN is true, or into each one without WHEN,
+        by a request for each window. A window that has one of this kind, node and channel keeps that one. WHEN is
+        called while the world is locked: it must not wait for a thread that uses the world.
+
+        A fault line of a scenario, as `"mute 2 A * s*"`, says itself where it comes. Raises `ValueError` for a line
+        beside WHEN and for a text that is no fault line; the block raises `BadFault` as `keep` does. An exception of
+        the block is never replaced.
+        """
+        if isinstance(fault, str):
+            if when is not None:
+                raise ValueError("a fault line says itself where it comes: give it no `when`, or give a Babble, Mute "
+                                 "or Corrupt")
+            return self._kept_in_block(fault_line(fault))
+        return self._injected_in_block(fault, when or every_window)
+
+    def keep(self, line: str) -> None:
+        """Has the world bring the fault of a scenario's fault line into each window that it names from now on.
+
+        The line may end with a line feed. Raises `ValueError` for a text that is no fault line, with nothing sent, and
+        `BadFault` where no run of the cluster can have it beside those that are kept.
+        """
+        self.ask(fault_line(line))
+
+    def forget(self) -> None:
+        """Ends all fault lines. The faults that they brought into the open window stay there."""
+        self.ask("forget")
+
+    @contextmanager
+    def _kept_in_block(self, line: str) -> Iterator[None]:
+        self.keep(line)
+        yield from self._block(partial(self._drop, line))
+
+    @contextmanager
+    def _injected_in_block(self, fault: Fault, when: Callable[[Window], bool]) -> Iterator[None]:
+        entry = (fault, when)
+        with self._session.lock:
+            self._faults.append(entry)
+        yield from self._block(partial(self._faults.remove, entry))
+
+    def _block(self, ending: Callable[[], None]) -> Iterator[None]:
+        """Runs a block and then its ending, which raises nothing where the block does or where the world is closed."""
+        try:
+            yield
+        except BaseException:
+            with suppress(Exception):
+                self._end_block(ending)
+            raise
+        self._end_block(ending)
+
+    def _end_block(self, ending: Callable[[], None]) -> None:
+        with self._session.lock:
+            if not self._session.is_closed:
+                ending()
+
+    def _drop(self, line: str) -> None:
+        """Ends one fault line. The others are kept again in the same exchange, so that none is lost between."""
+        others = list(self._session.kept)
+        if line in others:
+            others.remove(line)
+            requests = ["forget", *others]
+            for request, reply in zip(requests, self.send(requests)):
+                if reply != "done":
+                    raise refusal(reply, request)
+
+    def _inject_due(self) -> None:
+        """Brings the faults of the blocks into the open window.
+
+        It does so as the world does with those of fault lines: none where the window is sealed, and where it has one of
+        this kind, node and channel already, that one stays.
+        """
+        kind, *words = self.ask("now").split(" ")
+        if kind != "open":
+            return
+        window = window_of(words)
+        for fault, when in list(self._faults):
+            if when(window):
+                with suppress(TooManyFaults):
+                    self.inject(fault)
+
+
+def every_window(_: Window) -> bool:
+    """Returns True: a fault without a condition comes into each window."""
+    return True
+
+
+def moved(reply: str) -> Window | None:
+    """Returns the window of a reply `open ..` or `sealed ..`, or None once the run is over."""
+    kind, *words = reply.split(" ")
+    return None if kind == "over" else window_of(words)
+
+
+def regular_file(file: FileName) -> bytes | None:
+    """Returns the bytes of a regular file, or None. Reading a pipe would take them from the program."""
+    try:
+        if stat.S_ISREG(os.stat(file).st_mode):
+            with open(file, "rb") as opened:
+                return opened.read(FILE_LIMIT + 1)
+    except OSError:
+        pass
+    return None
