@@ -123,13 +123,13 @@ module _ (p : Parameters) (w : Opportunity) (a b : Seen) where
   abbrev on_b : Option Fields
   on_b = data_frame_seen p w B b
 
-  buffers_is : (channel : Channel) (node : Option ℕ) (number : ℕ) (lines : List Buffer)
-      → buffers_by w (is_some on_a) (is_some on_b) channel node number lines
-      ≡ buffers_from p w a b channel node number lines
-  buffers_is channel node number [] = refl
-  buffers_is channel node number (line ∷ lines) =
-      λ i. taker_if (takes_is p w a b channel line i) node (Some number)
-      ++ buffers_is channel node (number + 1) lines i
+  buffers_is : (channel : Channel) (which : Option ℕ) (number : ℕ) (lines : List Buffer)
+      → buffers_by w (is_some on_a) (is_some on_b) channel which number lines
+      ≡ buffers_from p w a b channel which number lines
+  buffers_is channel which number [] = refl
+  buffers_is channel which number (line ∷ lines) =
+      λ i. taker_if (takes_is p w a b channel line i) which (Some number)
+      ++ buffers_is channel which (number + 1) lines i
 
 module _ (p : Parameters) (plan : Plan) (w : Opportunity) (a b : Seen) where
   -- the receivers, if it is known whether data frames came

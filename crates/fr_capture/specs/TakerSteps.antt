@@ -10,9 +10,9 @@ use Rattle.fr_slots.specs.Windows.{Opportunity}
 
 -- the buffers that store the frame, from this number on
 abbrev pub buffers_by : Opportunity → Bool → Bool → Channel → Option ℕ → ℕ → List Buffer → List Taker
-buffers_by w a b channel node number [] = []
-buffers_by w a b channel node number (line ∷ lines) =
-    taker_if (takes_by w a b channel line) node (Some number) ++ buffers_by w a b channel node (number + 1) lines
+buffers_by w a b channel which number [] = []
+buffers_by w a b channel which number (line ∷ lines) =
+    taker_if (takes_by w a b channel line) which (Some number) ++ buffers_by w a b channel which (number + 1) lines
 
 -- the buffers, and then the receive FIFO
 abbrev pub takers_by : Plan → Opportunity → Bool → Bool → Channel → Option ℕ → List Taker

@@ -21,10 +21,10 @@ taker_if takes node buffer = if takes then record { node = node; buffer = buffer
 
 -- the buffers from this number on
 abbrev pub buffers_from : Parameters → Opportunity → Seen → Seen → Channel → Option ℕ → ℕ → List Buffer → List Taker
-buffers_from p w a b channel node number [] = []
-buffers_from p w a b channel node number (line ∷ lines) =
-    taker_if (buffer_takes p w a b channel line) node (Some number)
-    ++ buffers_from p w a b channel node (number + 1) lines
+buffers_from p w a b channel which number [] = []
+buffers_from p w a b channel which number (line ∷ lines) =
+    taker_if (buffer_takes p w a b channel line) which (Some number)
+    ++ buffers_from p w a b channel which (number + 1) lines
 
 -- of the observations in the window on channels A and B, the buffers that store the frame of one of them, and then the
 -- receive FIFO
