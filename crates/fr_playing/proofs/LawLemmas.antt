@@ -3,7 +3,8 @@ use Rattle.std.proofs.Common.{ℕ, zero, suc, List, [], ◌∷◌, length, Ok}
 use Rattle.fr_core.specs.declared.event.Event.{Event}
 use Rattle.fr_core.specs.Scripts.{Scripted}
 use Rattle.fr_core.specs.Worlds.{WorldState, opening_world}
-use Rattle.fr_playing.specs.Calls.{DoesCalls, event_of}
+use Rattle.fr_core.specs.Steps.{event_of}
+use Rattle.fr_playing.specs.Calls.{DoesCalls}
 use Rattle.fr_playing.specs.declared.call.ExecutedCall.{ExecutedCall}
 use Rattle.fr_playing.specs.declared.play.Played.{Played}
 use Rattle.fr_playing.specs.Playing.{IsPlayed, PlaysCycles}

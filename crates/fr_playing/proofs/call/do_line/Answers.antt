@@ -11,4 +11,4 @@ pub returns : goal.returns
 returns c =
     one_line c.args.cycle c.args.node c.args.task c.args.line.now c.args.calls.now.items c.push.new.self.items
     c.in_ok-call.call c.args.world.now
-    c.do_action.new.world (search rules) (search rules) c.in_ok-call.ensures.does c.in_ok-call.ensures.is
+    c.do_call.new.world (search rules) (search rules) c.in_ok-call.ensures.does c.in_ok-call.ensures.is
