@@ -94,10 +94,10 @@ fn takers_at<'a>(plan: &'a NodePlan, sent: &Transmission<'a>, node: NodeId) -> T
 /// Writes the receivers of the transmission, and returns whether there were any.
 ///
 /// It was on the channel of the window.
-fn write_nodes<W: Write>(
+fn write_nodes<'a, W: Write>(
     writer: &mut W,
-    interfaces: &[Interface],
-    sent: &Transmission<'_>,
+    interfaces: &'a [Interface],
+    sent: &Transmission<'a>,
 ) -> io::Result<bool>
     requires { length interfaces.now ≤ 16 }
     ensures text { Writes W.contents writer.old writer.new result
@@ -117,10 +117,10 @@ fn write_nodes<W: Write>(
 /// Writes the receivers of the transmission, with commas between them, or a dash.
 ///
 /// They are the buffers and receive FIFOs that stored it on the channel of the window.
-pub(crate) fn write_takers<W: Write>(
+pub(crate) fn write_takers<'a, W: Write>(
     writer: &mut W,
-    interfaces: &[Interface],
-    sent: &Transmission<'_>,
+    interfaces: &'a [Interface],
+    sent: &Transmission<'a>,
 ) -> io::Result<()>
     requires { length interfaces.now ≤ 16 }
     ensures { Writes W.contents writer.old writer.new result
