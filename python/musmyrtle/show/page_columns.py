@@ -15,9 +15,9 @@ NOTHING = {"u8": 0xff, "u16": 0xffff, "u32": 0xffffffff}
 """The number that stands for the absence of one, by type."""
 
 
-def padded(data: bytes) -> bytes:
-    """Returns the bytes with zeros up to a multiple of four."""
-    return data + bytes(-len(data) % 4)
+def padded(data: bytes, filler: bytes = b"\0") -> bytes:
+    """Returns the bytes with so many of FILLER that their number is a multiple of four."""
+    return data + filler * (-len(data) % 4)
 
 
 class Columns:
@@ -58,5 +58,5 @@ class Columns:
 
     def packed(self, header: Mapping[str, Any]) -> bytes:
         """Returns the packed text of a header and the columns."""
-        text = padded(json.dumps({**header, "columns": self.listed}).encode())
+        text = padded(json.dumps({**header, "columns": self.listed}).encode(), b" ")
         return b"".join((struct.pack("<I", len(text)), text, *self.parts))
