@@ -17,7 +17,8 @@ from musmyrtle.show.page_data import packed_run
 from musmyrtle.visible import visible
 
 FILES = Path(__file__).with_name("page_files")
-SCRIPTS = ("decode", "run", "lines", "cells", "view", "layout", "find", "details", "slots", "paint", "panel", "explore")
+SCRIPTS = ("decode", "run", "lines", "cells", "view", "layout", "find", "buffers", "details", "slots", "paint", "panel",
+           "explore")
 """The scripts of the page, each after those that it uses."""
 PURPOSE = ("Writes a page in which a run is explored in a browser: what was sent when, what each node received, and\n"
            "what came of each commit.")

@@ -43,7 +43,7 @@ class Columns:
         kind = "u8" if len(numbers) <= 0xff else "u16" if len(numbers) <= 0xffff else "u32"
         self.add(name, kind, array(TYPES[kind], places), words=list(numbers))
 
-    def bytes(self, name: str, values: Sequence[str | None]) -> None:
+    def contents(self, name: str, values: Sequence[str | None]) -> None:
         """Adds columns of the sizes and the contents of values that are spelled `x0a0b`. An absent one has no bytes.
         """
         held = [bytes.fromhex(it[1:]) if it else b"" for it in values]

@@ -143,7 +143,7 @@ def add_record(facts: Facts, columns: Columns) -> None:
     columns.numbers("record_frame", "u16", (it.frame for it in lines))
     columns.numbers("record_bit", "u16", (it.bit for it in lines))
     columns.numbers("record_line", "u16", (it.line for it in lines))
-    columns.bytes("record_data", [it.data for it in lines])
+    columns.contents("record_data", [it.data for it in lines])
 
 
 def add_commits(facts: Facts, columns: Columns) -> None:
@@ -154,7 +154,7 @@ def add_commits(facts: Facts, columns: Columns) -> None:
         columns.numbers(f"commit_{key}", "u8", (getattr(it, key) for it in commits))
     columns.numbers("commit_cycle", "u16", (it.cycle for it in commits))
     columns.numbers("commit_entry", "u32", (it.entry for it in commits))
-    columns.bytes("commit_data", [it.data for it in commits])
+    columns.contents("commit_data", [it.data for it in commits])
     columns.words("commit_fate", [it.fate for it in commits])
     columns.numbers("commit_ended", "u16", (it.ended for it in commits))
     # The entry of the call that ended it is the last word of the line, after its cycle.
@@ -181,13 +181,13 @@ def add_answers(inputs: Inputs, columns: Columns) -> None:
     columns.numbers("answer_cycle", "u16", (int(it[2]) for it in fronts))
     columns.words("answer_kind", [it[3] for it in fronts])
     columns.numbers("answer_buffer", "u8", (int(it[4]) if len(it) > 4 else None for it in fronts))
-    columns.bytes("answer_committed", [it[5] if len(it) > 5 else None for it in fronts])
+    columns.contents("answer_committed", [it[5] if len(it) > 5 else None for it in fronts])
     columns.numbers("answer_entry", "u32", (number(it[0]) if len(it) == 1 else None for it in backs))
     frames = [it if len(it) == 4 else None for it in backs]
     columns.numbers("answer_count", "u8", (int(it[0]) if it else None for it in frames))
     columns.numbers("answer_slot", "u16", (int(it[1]) if it else None for it in frames))
     columns.words("answer_channel", [it[2] if it else "-" for it in frames])
-    columns.bytes("answer_frame", [it[3] if it else None for it in frames])
+    columns.contents("answer_frame", [it[3] if it else None for it in frames])
 
 
 # ---- what each node received

@@ -5,8 +5,8 @@
  * @typedef {{title: string, facts: string[], tables: Table[], line: (string|undefined), lit: Lit,
  *            span: ([number, number]|null)}} Details
  * @typedef {{caption: string, head: string[], rows: (string|{text: string, choice: Choice})[][]}} Table
- * @typedef {{places: number[], nodes: Map<number, string>, calls: number[]}} Lit places are twice the window, and 1
- *           more for channel B; calls are macroticks
+ * @typedef {{places: number[], nodes: Map<number, string>, calls: {time: number, text: string}[]}} Lit places are
+ *           twice the window, and 1 more for channel B; calls have macroticks
  */
 
 /** Returns details without anything in them. */
@@ -61,10 +61,12 @@ function counterTexts(run, node) {
   return found;
 }
 
-function commitTable(run, node) {
+/** Returns the table of the commits of a node, or of one of its buffers. */
+function commitTable(run, node, buffer = null) {
   const rows = [];
   for (let commit = 0; commit < run.columns.commit_node.length; commit += 1) {
-    if (run.columns.commit_node[commit] === node) {
+    const isOfBuffer = buffer === null || run.columns.commit_buffer[commit] === buffer;
+    if (run.columns.commit_node[commit] === node && isOfBuffer) {
       rows.push([link(`cycle ${run.columns.commit_cycle[commit]}`, "commit", commit),
                  bufferName(run, node, run.columns.commit_buffer[commit]), run.bytes("commit_data", commit),
                  fateText(run, commit)]);
@@ -112,9 +114,13 @@ function bufferTable(run, node) {
   const {buffers, outcome} = run.header.nodes[node];
   const rows = buffers.map((it, number) => {
     const slot = link(String(it.slot), "slot", it.slot);
-    return [bufferName(run, node, number), it.kind, slot, it.channels, cyclesText(it.base, it.repetition),
+    const name = link(bufferName(run, node, number), "buffer", bufferNumber(node, number));
+    return [name, it.kind, slot, it.channels, cyclesText(it.base, it.repetition),
             heldText(outcome.find((line) => line.startsWith(`rx ${number} `)))];
   });
+  if (run.header.nodes[node].has_fifo) {
+    rows.push([link("receive FIFO", "buffer", bufferNumber(node, FIFO)), "receive", "", "", "", ""]);
+  }
   return {caption: "Buffers", head: ["buffer", "kind", "slot", "channels", "cycles", "at the end"], rows};
 }
 
@@ -143,7 +149,11 @@ function detailsOfCommit(run, commit) {
     + "journal.",
     `Slot: ${slot} on ${channels}.`, `Result: ${fateText(run, commit)}.`];
   details.line = commitLine(run, commit);
-  details.lit.calls = [cycle * run.cycleLength];
+  details.lit.calls = [{time: cycle * run.cycleLength, text: "call"}];
+  const ended = run.number("commit_ended", commit, "u16");
+  if (ended !== null) {
+    details.lit.calls.push({time: ended * run.cycleLength, text: run.word("commit_fate", commit)});
+  }
   details.tables = [sentTable(run, commit, details)];
   details.lit.nodes.set(node, "sends");
   return details;

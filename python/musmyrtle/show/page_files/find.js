@@ -12,13 +12,9 @@ function isNamed(name, number, wanted) {
 /** The searches by what is looked for. Each returns the choices of all that it finds. */
 const SEARCHES = {
   node: (run, wanted) => choicesOf(run.nodes, "node", (it) => isNamed(run.header.nodes[it].name, it, wanted)),
-  buffer: (run, wanted) => choicesOf(run.columns.commit_node.length, "commit", (it) => {
-    const node = run.columns.commit_node[it];
-    const buffer = run.columns.commit_buffer[it];
-    return isNamed(run.header.nodes[node].buffers[buffer].name, buffer, wanted);
-  }),
-  slot: (run, wanted) => choicesOf(usedSlots(run).length, "slot", (it) => String(usedSlots(run)[it]) === wanted)
-    .map((it) => ({...it, number: usedSlots(run)[it.number]})),
+  buffer: (run, wanted) => buffersNamed(run, wanted),
+  slot: (run, wanted) => usedSlots(run).filter((it) => String(it) === wanted)
+    .map((it) => ({kind: "slot", number: it})),
   payload: (run, wanted) => withPayload(run, wanted.toLowerCase().replace(/^0?x/, "").replace(/[^0-9a-f]/g, "")),
 };
 

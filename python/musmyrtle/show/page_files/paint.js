@@ -13,7 +13,7 @@ const PAPER = {ink: "#000", paper: "#fff", grid: "#bbb", silent: "#eee", dynamic
 /**
  * Paints the picture.
  * @param {CanvasRenderingContext2D} context
- * @param {{run: Run, view: View, lanes: object[], lit: ?Uint8Array, sums: Uint32Array[], calls: number[],
+ * @param {{run: Run, view: View, lanes: object[], lit: ?Uint8Array, sums: Uint32Array[], calls: object[],
  *          theme: Object<string, string>, height: number}} picture
  */
 function paint(context, picture) {
@@ -181,11 +181,11 @@ function boxText(run, cells, cell, width) {
 
 /** Paints a mark for each call of the chosen way, at the start of its cycle. */
 function paintCalls(context, {view, theme, calls, height}) {
-  for (const time of calls) {
+  for (const {time, text} of calls) {
     const x = pixelOf(view, time);
     context.fillStyle = theme.lit;
     context.fillRect(x, 16, 2, height - 16);
-    context.fillText("call", x + 5, 18);
+    context.fillText(text, x + 5, 18);
   }
 }
 

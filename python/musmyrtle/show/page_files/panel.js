@@ -41,9 +41,6 @@ function tableElement({caption, head, rows}, choose) {
   const title = element("caption", {}, `${caption} (${rows.length.toLocaleString("en")})`);
   const box = element("div", {class: "table", tabindex: "0", role: "region", "aria-label": caption},
                       element("table", {}, title, element("thead", {}, heading), body));
-  if (!rows.length) {
-    return box;
-  }
   let shown = 0;
   const more = button("", () => show());
   const show = () => {
@@ -51,11 +48,13 @@ function tableElement({caption, head, rows}, choose) {
     const made = rows.slice(shown, until).map((row) => row.map((it) => cellElement(it, choose)));
     body.append(...made.map((it) => element("tr", {}, ...it)));
     shown = until;
-    more.hidden = shown === rows.length;
     more.textContent = `Show ${Math.min(MOST_ROWS, rows.length - shown)} more`;
+    if (shown === rows.length) {
+      more.remove();
+    }
   };
-  show();
   box.append(more);
+  show();
   return box;
 }
 
@@ -102,7 +101,7 @@ function showFaults(place, run, choose) {
 
 /** Fills an element with what a search found. */
 function showResults(place, run, choices, choose) {
-  const rows = choices.map((it) => [{text: choiceText(run, it), choice: it}]);
+  const rows = choices.map((it) => [{text: TEXTS[it.kind](run, it), choice: it}]);
   place.replaceChildren(rows.length ? tableElement({caption: "Found", head: ["place"], rows}, choose)
     : element("p", {}, "Nothing was found."));
 }

@@ -127,14 +127,17 @@ function openedText(run, slot, places) {
 
 /** Returns the lines of the record in which a fault line took effect. */
 function effectsOf(run, fault) {
-  const {line: number} = run.header.faults[fault];
-  const found = [];
-  for (let line = 0; line < run.columns.record_window.length; line += 1) {
-    if (run.columns.record_line[line] === number && hasEffect(run, line)) {
-      found.push(line);
+  if (!run.effects) {
+    const faults = new Map(run.header.faults.map((it, place) => [it.line, place]));
+    run.effects = run.header.faults.map(() => []);
+    for (let line = 0; line < run.columns.record_window.length; line += 1) {
+      const its = faults.get(run.columns.record_line[line]);
+      if (its !== undefined && hasEffect(run, line)) {
+        run.effects[its].push(line);
+      }
     }
   }
-  return found;
+  return run.effects[fault];
 }
 
 /** Returns whether a line of the record with a fault's number is an effect: a bit flips only in a lone transmission. */
@@ -172,23 +175,21 @@ function detailsOfFault(run, fault) {
 
 /** The details of each kind of choice. */
 const DETAILS = {
-  node: (run, it) => detailsOfNode(run, it.number), commit: (run, it) => detailsOfCommit(run, it.number),
-  window: (run, it) => detailsOfWindow(run, it.number, it.channel),
-  slot: (run, it) => detailsOfSlot(run, it.number), fault: (run, it) => detailsOfFault(run, it.number),
+  node: (run, it) => detailsOfNode(run, it.number), buffer: (run, it) => detailsOfBuffer(run, it.number),
+  commit: (run, it) => detailsOfCommit(run, it.number), slot: (run, it) => detailsOfSlot(run, it.number),
+  window: (run, it) => detailsOfWindow(run, it.number, it.channel), fault: (run, it) => detailsOfFault(run, it.number),
 };
 
-/** Returns a short text for a choice, as in a list of what a search found. */
-function choiceText(run, {kind, number, channel}) {
-  if (kind === "node") {
-    return nodeName(run, number);
-  }
-  if (kind === "commit") {
-    const node = run.columns.commit_node[number];
-    return `${nodeName(run, node)} ${bufferName(run, node, run.columns.commit_buffer[number])}, cycle `
-      + `${run.columns.commit_cycle[number]}: ${run.bytes("commit_data", number)}`;
-  }
-  if (kind === "window") {
-    return placeText(run, number, channel);
-  }
-  return kind === "slot" ? `slot ${number}` : faultText(run, number);
+/** Short texts for each kind of choice, as in a list of what a search found. */
+const TEXTS = {
+  node: (run, {number}) => nodeName(run, number), buffer: (run, {number}) => receiverName(run, bufferAt(number)),
+  commit: (run, {number}) => commitText(run, number), slot: (_, {number}) => `slot ${number}`,
+  window: (run, {number, channel}) => placeText(run, number, channel), fault: (run, {number}) => faultText(run, number),
+};
+
+/** Returns the node, buffer, cycle and bytes of a commit. */
+function commitText(run, commit) {
+  const node = run.columns.commit_node[commit];
+  return `${nodeName(run, node)} ${bufferName(run, node, run.columns.commit_buffer[commit])}, cycle `
+    + `${run.columns.commit_cycle[commit]}: ${run.bytes("commit_data", commit)}`;
 }
