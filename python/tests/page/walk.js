@@ -7,7 +7,7 @@
 
 /** Waits until frames and lists are made. */
 function settled() {
-  return new Promise((resolve) => { setTimeout(resolve, 400); });
+  return new Promise((resolve) => { setTimeout(resolve, 250); });
 }
 
 /** Returns the button with a text within an element. */

@@ -88,6 +88,7 @@ function fateText(run, commit) {
   return `received by ${[...receivers].join(", ")}`;
 }
 
+/** Returns the table of the calls of a node that are no commits. */
 function callTable(run, node) {
   const rows = [];
   for (let answer = 0; answer < run.columns.answer_node.length; answer += 1) {
@@ -110,6 +111,7 @@ function answerText(reply) {
   return reply === "-" ? "nothing" : `entry ${reply}`;
 }
 
+/** Returns the table of the buffers of a node. */
 function bufferTable(run, node) {
   const {buffers, outcome} = run.header.nodes[node];
   const rows = buffers.map((it, number) => {
@@ -206,6 +208,7 @@ function commitOf(run, line) {
   return found === undefined ? null : found;
 }
 
+/** Returns a key for the offer of a node in a cycle, slot and channel. */
 function placeKey(node, cycle, slot, channel) {
   return `${node} ${cycle} ${slot} ${channel}`;
 }

@@ -29,6 +29,7 @@ class Explorer {
     this.list();
   }
 
+  /** Returns the pixels of the time axis. */
   widthOfPicture() {
     return Math.max(100, this.canvas.parentElement.clientWidth - GUTTER);
   }
@@ -74,6 +75,7 @@ class Explorer {
     }
   }
 
+  /** Shows a choice without adding it to the history. */
   show(choice) {
     this.details = DETAILS[choice.kind](this.run, choice);
     if (choice.kind === "node") {
@@ -137,6 +139,7 @@ class Explorer {
     this.open({kind: "window", number: next >> 1, channel: next & 1});
   }
 
+  /** Searches for what was typed, and lists what is found. */
   search() {
     const kind = document.getElementById("search-kind").value;
     const choices = found(this.run, kind, document.getElementById("search-text").value);
@@ -151,6 +154,7 @@ class Explorer {
 
   // ---- the view
 
+  /** Sets the view. */
   set(view) {
     this.view = view;
     this.draw();
@@ -184,6 +188,7 @@ class Explorer {
     }
   }
 
+  /** Paints the picture as it is now. */
   paint() {
     const height = heightOf(this.lanes.length);
     const ratio = globalThis.devicePixelRatio || 1;
@@ -219,12 +224,14 @@ class Explorer {
                               LIST_DELAY);
   }
 
+  /** Suits the view to the width of the window. */
   resize() {
     this.set(clamped({...this.view, width: this.widthOfPicture()}));
   }
 
   // ---- events
 
+  /** Connects the controls with what they do. */
   listen() {
     const on = (name, event, act) => document.getElementById(name).addEventListener(event, act);
     for (const name of ["whole", "cycle", "in", "out", "left", "right"]) {
@@ -260,6 +267,7 @@ class Explorer {
     };
   }
 
+  /** Does what a key on the picture stands for. */
   press(event) {
     const commands = {ArrowLeft: "left", ArrowRight: "right", ArrowUp: "in", ArrowDown: "out", "+": "in", "=": "in",
                       "-": "out", 0: "whole", 1: "cycle", Home: "start", End: "end", PageUp: "before",
@@ -279,6 +287,7 @@ class Explorer {
     }
   }
 
+  /** Zooms, or moves with Shift or a wheel that turns sideways. */
   wheel(event) {
     event.preventDefault();
     const x = this.pixel(event).x;
@@ -295,6 +304,7 @@ class Explorer {
     return {x: event.clientX - box.left - GUTTER, y: event.clientY - box.top};
   }
 
+  /** Begins to move the picture, or to choose a slot. */
   grab(event) {
     if (event.button === 0) {
       this.grabbed = {x: event.clientX, view: this.view, isMoved: false};
@@ -302,6 +312,7 @@ class Explorer {
     }
   }
 
+  /** Moves the picture with the pointer, or names the slot below it. */
   drag(event) {
     const {grabbed} = this;
     if (!grabbed) {
@@ -316,6 +327,7 @@ class Explorer {
     }
   }
 
+  /** Chooses the slot below the pointer, unless the picture was moved. */
   release(event) {
     const {grabbed} = this;
     this.grabbed = null;

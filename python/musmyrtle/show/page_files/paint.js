@@ -77,6 +77,7 @@ function paintMinislots(context, lane, begin, end, minislots) {
   }
 }
 
+/** Paints the times on the axis. */
 function paintTicks(context, {run, view, theme}) {
   const {scale, unit} = unitOf(run);
   for (const {time, text} of ticksOf(view, scale)) {
@@ -88,6 +89,7 @@ function paintTicks(context, {run, view, theme}) {
   }
 }
 
+/** Paints a lane: boxes, or columns of a pixel where cells are narrow. */
 function paintLane(context, picture, lane, place) {
   const {boxes, columns} = laneOf(lane.cells, picture.view);
   if (boxes) {
@@ -143,6 +145,7 @@ function paintBox(context, {run, view, theme, lit}, lane, {cell, x, width}) {
   context.globalAlpha = 1;
 }
 
+/** Paints what went wrong at the top of a box. */
 function paintMarks(context, theme, mark, x, top, width) {
   const colour = mark & MARK.collision ? theme.collision : mark & MARK.error ? theme.error : null;
   if (colour) {
@@ -154,6 +157,7 @@ function paintMarks(context, theme, mark, x, top, width) {
   }
 }
 
+/** Paints the stripes of nodes 8 to 15. */
 function paintStripes(context, x, top, width, height) {
   context.fillStyle = "#fff";
   for (let stripe = top + 3; stripe + 3 < top + height; stripe += 9) {
@@ -189,6 +193,7 @@ function paintCalls(context, {view, theme, calls, height}) {
   }
 }
 
+/** Paints the names of the lanes. */
 function paintLabels(context, {run, theme, lanes}) {
   for (const {cells, top, height} of lanes) {
     context.fillStyle = theme.ink;

@@ -38,6 +38,7 @@ function carriedTable(run, caption, lines) {
                           "fault"], rows: lines.map((it) => carriedRow(run, it))};
 }
 
+/** Returns the row of a line of the record. */
 function carriedRow(run, line) {
   const window = run.columns.record_window[line];
   const channel = run.channelOf(line);
@@ -72,6 +73,7 @@ function faultCell(run, line) {
   return fault < 0 ? "" : link(`line ${number}`, "fault", fault);
 }
 
+/** Returns the table of what each node received in a window on a channel. */
 function receivedTable(run, window, channel) {
   const rows = [];
   for (let node = 0; node < run.nodes; node += 1) {
