@@ -3,6 +3,7 @@
 Expected values come from `fr_view` and by hand from the run of tests/shows.py.
 """
 import importlib
+import json
 import os
 import re
 import subprocess
@@ -167,6 +168,30 @@ class Scripts(Pages):
         self.assertEqual(shown[1]["label"], "Time axis from 200 µs to 400 µs. A table below lists what is in view.")
         self.assertTrue(shown[1]["inView"].startswith("5 lines of the record from 200 µs to 400 µs."),
                         shown[1]["inView"])
+
+
+    def test_the_pointer(self) -> None:
+        """The axis begins at pixel 130 and has 1,000 pixels for 200 macroticks, so that a macrotick is 5 pixels wide.
+        """
+        chosen, closer, moved, sideways, same = self.walked(
+            self.page(*self.run_of()), "drag 340 340 60", "turn 630 -462.098", "drag 630 530 60", "turn 630 100 shift",
+            "drag 630 630 10")[1:]
+        # Pixel 340 is macrotick 42 of channel A, in slot 3.
+        self.assertEqual(chosen["status"], "Slot 3 on A in cycle 0, minislot 1")
+        # The wheel makes 200 macroticks to 200 * exp(-462.098 * 0.0015), which is 100, around the middle.
+        for shown, expected in ((closer, (50, 100)), (moved, (60, 100)), (sideways, (70, 100)), (same, (70, 100))):
+            for value, wanted in zip(shown["view"], expected):
+                self.assertAlmostEqual(value, wanted, 2)
+        # Nothing is at the axis.
+        self.assertEqual(same["status"], chosen["status"])
+
+    def test_what_is_painted(self) -> None:
+        """Texts of the picture, on the screen and on paper."""
+        painted = json.loads(self.ran("painted.js", self.page(*self.run_of())))
+        for texts in painted:
+            for text in ("cycle 0", "cycle 1", "0 µs", "Channel A", "Channel B", "at brake (1)", "1: pedal (0)"):
+                self.assertIn(text, texts)
+        self.assertEqual(painted[0], painted[1])
 
 
 class Page(Pages):

@@ -20,7 +20,24 @@ function buttonIn(name, text) {
   return found;
 }
 
-/** Does one step, as `click nodes pedal`, `find slot 4`, `press n` or `press+Shift N`. */
+/** Drags the picture from one pixel to another, or clicks it where both are the same. */
+function drag(from, to, y) {
+  const {explorer} = globalThis;
+  const box = document.getElementById("picture").getBoundingClientRect();
+  const at = (x) => ({button: 0, pointerId: 1, clientX: box.left + Number(x), clientY: box.top + Number(y)});
+  explorer.grab(at(from));
+  explorer.drag(at(to));
+  explorer.release(at(to));
+}
+
+/** Turns the wheel at a pixel. */
+function turn(x, delta, shift) {
+  const box = document.getElementById("picture").getBoundingClientRect();
+  globalThis.explorer.wheel({deltaX: 0, deltaY: Number(delta), shiftKey: shift === "shift", preventDefault() {},
+                             clientX: box.left + Number(x), clientY: box.top});
+}
+
+/** Does one step, as `click nodes pedal`, `find slot 4`, `press n`, `drag 200 300 50` or `turn 200 -100`. */
 function doStep(step) {
   const [verb, where, ...rest] = step.split(" ");
   const text = rest.join(" ");
@@ -30,8 +47,10 @@ function doStep(step) {
     document.getElementById("search-kind").value = where;
     document.getElementById("search-text").value = text;
     globalThis.explorer.search();
-  } else {
+  } else if (verb === "press") {
     globalThis.explorer.press({key: where, preventDefault() {}});
+  } else {
+    ({drag, turn})[verb](where, ...rest);
   }
 }
 

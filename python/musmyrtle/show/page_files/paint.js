@@ -139,8 +139,9 @@ function paintBox(context, {run, view, theme, lit}, lane, {cell, x, width}) {
   }
   if (width > 22) {
     const ink = isDrawn ? (DARK.includes(sender % 8) && sender < 8 ? "#fff" : "#000") : theme.ink;
-    paintText(context, ink, boxText(run, cells, cell, width), Math.max(x, 0) + 3, top + height - 10,
-              Math.min(x + inner, view.width) - Math.max(x, 0) - 6);
+    const left = Math.max(x, 0) + 3;
+    paintText(context, ink, boxTexts(run, cells, cell), left, top + height - 10,
+              Math.min(x + inner, view.width) - left - 3);
   }
   context.globalAlpha = 1;
 }
@@ -165,22 +166,24 @@ function paintStripes(context, x, top, width, height) {
   }
 }
 
-/** Paints a text where it has room. */
-function paintText(context, ink, text, x, y, room) {
-  if (context.measureText(text).width <= room) {
+/** Paints the first of some texts that has room. */
+function paintText(context, ink, texts, x, y, room) {
+  const text = texts.find((it) => context.measureText(it).width <= room);
+  if (text) {
     context.fillStyle = ink;
     context.fillText(text, x, y);
   }
 }
 
-/** Returns the slot of a box, and where it is wide what it carries. */
-function boxText(run, cells, cell, width) {
+/** Returns texts for a box, the longest first: its slot with its sender and what went wrong, or its slot alone. */
+function boxTexts(run, cells, cell) {
   const slot = String(run.slots[cells.channel][cells.window[cell]] || "");
-  if (width < 160 || cells.sender[cell] === NO_NODE) {
-    return slot;
+  if (cells.sender[cell] === NO_NODE) {
+    return [slot];
   }
+  const front = `${slot}: ${nodeName(run, cells.sender[cell])}`;
   const sign = cells.mark[cell] & MARK.collision ? ", collided" : cells.mark[cell] & MARK.null ? ", null frame" : "";
-  return `${slot}: ${nodeName(run, cells.sender[cell])}${sign}`;
+  return [front + sign, front, slot];
 }
 
 /** Paints a mark for each call of the chosen way, at the start of its cycle. */
