@@ -63,6 +63,15 @@ def brake(node: Node, car: Car) -> Iterator[None]:
         yield
 
 
+def drive(world: World) -> Iterator[None]:
+    """Runs both host programs, for `musmyrtle faults --host brakes:drive`."""
+    hosts = pedal(world["pedal"], 1.0), brake(world["brake"], Car())
+    while True:
+        for host in hosts:
+            next(host)
+        yield
+
+
 def is_the_pedals(window: Window) -> bool:
     return window.is_static and window.a == PEDAL_SLOT
 

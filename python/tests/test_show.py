@@ -68,7 +68,7 @@ class Commits(Shows):
             ("brake", "state", 0, "pending", None, 4, "A", None, None, "pending")])
 
     def test_the_line_of_the_guide(self) -> None:
-        """The first line of VIEWING: `0 0 0 0 0 x0a0b = sent 0 1 A alone 1:b1 0 1 B collided -`."""
+        """The example of the README: `0 0 0 0 0 x0a0b = sent 0 1 A alone 1:b1 0 1 B collided -`."""
         keys = "node buffer task cycle entry data sent_cycle slot channel end"
         found = self.rows("commit", "commits", *THREE, "--in-cycles", "0", "--slot", "1")
         self.assertEqual([tuple(row[key] for key in keys.split()) for row in found], [
@@ -119,11 +119,14 @@ class Reads(Shows):
         self.assertEqual(self.values("fifo", keys, "reads", *run, "--errors"), [overwritten])
 
     def test_the_answers_of_the_guide(self) -> None:
-        """VIEWING: task 1 of node 0 pops the frame of cycle 0, slot 4 and channel A; node 1 reads `x0c0d` of cycle 2.
+        """Task 1 of node 0 pops the frame of cycle 0, slot 4 and channel A. Node 1 reads the frame of cycle 2 and slot 1.
+
+        Slot 4 is the first after three of 20 macroticks. A cycle has 90, so the pop comes at 180, and the read at 270.
         """
-        keys = "node task cycle call buffer data frame_cycle slot channel sender"
+        keys = "node task cycle call buffer data frame_cycle slot channel sender age_mt latency_mt"
         self.assertEqual(self.values("call", keys, "reads", *THREE), [
-            (0, 1, 2, "pop", None, "x7001", 0, 4, "A", 2), (1, 0, 3, "read", 1, "x0c0d", 2, 1, "A", 0)])
+            (0, 1, 2, "pop", None, "x7001", 0, 4, "A", 2, 120, 180),
+            (1, 0, 3, "read", 1, "x0c0d", 2, 1, "A", 0, 90, 90)])
 
 
 class Log(Shows):
@@ -185,9 +188,9 @@ class Runs(Shows):
         run = self.run_of(scene=SCENE.replace(POP, ""))
         self.assertEqual(self.values("empty", "node_name count buffers names slots", "run", *run), [
             ("brake", 1, [3], "unused", [5])])
-        self.assertEqual(self.values("fifo", "node_name capacity waiting overwritten", "run", *run), [
+        self.assertEqual(self.values("overwriting", "node_name capacity waiting overwritten", "run", *run), [
             ("brake", 1, 1, 1)])
-        self.assertEqual(self.values("fifo", "node", "run", *self.run_of()), [])
+        self.assertEqual(self.values("overwriting", "node", "run", *self.run_of()), [])
 
     def test_errors_with_their_slots(self) -> None:
         """Both nodes send in slot 1 of cycle 0 on B, so each of them counts a conflict."""

@@ -1,11 +1,16 @@
 """The words of `musmyrtle`, its statuses and forms, and what reaches a terminal."""
+import contextlib
 import csv
 import io
 import json
 import os
+import pty
+import re
 import shutil
+import signal
 import subprocess
 import sys
+import time
 import unittest
 from pathlib import Path
 from unittest.mock import patch
@@ -16,18 +21,20 @@ from musmyrtle.show.main import EVERY
 from musmyrtle.show.manual import manual
 from musmyrtle.show.tables import Column, Name, Receiver, Receivers, Row, Section, Time, as_csv, as_json, as_text
 from musmyrtle.version import version
-from tests.shows import NETWORK, SCENE, THREE, Shows
+from tests.shows import NETWORK, POP, SCENE, THREE, Shows
 from tests.test_visible_output import IN_TOML, SPELLED
 
 TOP = Path(__file__).resolve().parents[2]
 PEDAL, BRAKE = Name(0, "pedal", "node"), Name(1, None, "node")
-SECTION = Section("row", "Rows", (
+COLUMNS = (
     Column("node", "node", "name"), Column("at", "at [us]", "time"),
     Column("what", "what", words={"turned": "flipped"}), Column("receivers", "receivers"), Column("inner", ""),
-    Column("empty", "empty")), [
-    Row({"node": PEDAL, "at": Time(4, 2.5), "what": "turned", "inner": True, "receivers": Receivers((
-        Receiver(BRAKE, Name(2, "speed, fast", "buffer")), Receiver(PEDAL, None)))}),
-    Row({"node": BRAKE, "at": Time(40, None), "what": None, "receivers": Receivers(()), "inner": None}, True)])
+    Column("empty", "empty"))
+RECEIVERS = Receivers((Receiver(BRAKE, Name(2, "speed, fast", "buffer")), Receiver(PEDAL, None)))
+ROWS = [
+    Row({"node": PEDAL, "at": Time(4, 2.5), "what": "turned", "inner": True, "receivers": RECEIVERS}),
+    Row({"node": BRAKE, "at": Time(40, None), "what": None, "receivers": Receivers(()), "inner": None}, True)]
+SECTION = Section("row", "Rows", COLUMNS, ROWS)
 
 
 class Forms(unittest.TestCase):
@@ -64,13 +71,31 @@ class Forms(unittest.TestCase):
                          "Nothing.\n")
 
 
+class Keys(Shows):
+    def test_the_table_of_the_document(self) -> None:
+        """Each kind of row has the keys of python/README.md, in their order."""
+        page = (TOP / "python/README.md").read_text().partition("## Tables")[2]
+        rows = [line.split("|")[1:4] for line in page.splitlines() if line.startswith("| `")]
+        expected = {tuple(it.strip(" `") for it in row[:2]): re.findall(r"`([a-z_]+)`", row[2]) for row in rows}
+        run = self.run_of(scene=SCENE.replace(POP, ""))
+        found: dict[tuple[str, ...], list[str]] = {}
+        guarded = self.written("guarded.toml", NETWORK.replace('"none"', '"AB"'))
+        for command in ("check", "plan", "run", "log", "commits", "reads"):
+            words = (guarded,) if command in ("check", "plan") else run
+            for line in self.printed(command, *words, "--json").splitlines():
+                row = json.loads(line)
+                kind = row.pop("kind")
+                found[command, kind] = list(row)
+        self.assertEqual(found, expected)
+
+
 class Escapes(Shows):
     def test_names(self) -> None:
         """Names with signs of HTML, controls of a terminal, and 10,000 characters."""
         for name, shown in (("<b>&\\\"]]>", '<b>&"]]>'), (IN_TOML, SPELLED[:40]), ("n" * 10000, "n" * 40 + "..")):
             run = self.run_of(NETWORK.replace('"pedal"', f'"{name}"'))
-            for words in (("check", run[0]), ("plan", run[0]), *((it, *run) for it in ("run", "log", "commits",
-                                                                                        "reads"))):
+            of_run = [(it, *run) for it in ("run", "log", "commits", "reads")]
+            for words in [("check", run[0]), ("plan", run[0]), *of_run]:
                 with self.subTest(name=name[:20], command=words[0]):
                     text = self.printed(*words)
                     self.assertTrue(all(it.isprintable() for it in text.replace("\n", "")), text)
@@ -114,7 +139,8 @@ class Statuses(Shows):
              "musmyrtle log: error: argument --csv: not allowed with argument --json"),
             (("log", *run, "--node", "2"), "musmyrtle: the cluster has 2 nodes, and none is 2; names: pedal, brake"),
             (("lint",), "musmyrtle lint: error: the following arguments are required: CLUSTER"),
-            (("faults", *run, "--nodes", "9"), "musmyrtle faults: error: the cluster has no node 9: its nodes are 0 to 1"),
+            (("faults", *run, "--nodes", "9"),
+             "musmyrtle faults: error: the cluster has no node 9: its nodes are 0 to 1"),
         ):
             with self.subTest(words[0]):
                 status, output, error = self.asked(*words)
@@ -177,6 +203,54 @@ class Statuses(Shows):
         self.assertEqual((ran.returncode, ran.stderr), (0, ""))
 
 
+class Terminals(Shows):
+    def on_terminal(self, **more: str) -> str:
+        """Returns the output of a command on a terminal."""
+        kept = {name: value for name, value in os.environ.items() if name != "NO_COLOR"}
+        master, slave = pty.openpty()
+        with open(master, "rb", buffering=0) as terminal:
+            ran = subprocess.run([sys.executable, "-B", str(TOP / "musmyrtle"), "check", THREE[0]], stdout=slave,
+                                 env={**kept, **more})
+            os.close(slave)
+            found = b""
+            with contextlib.suppress(OSError):
+                while part := terminal.read(4096):
+                    found += part
+        self.assertEqual(ran.returncode, 0)
+        return found.decode()
+
+    def test_colours_come_on_a_terminal_alone(self) -> None:
+        self.assertTrue(self.on_terminal().startswith("\x1b[1mParameters; guardians on A\x1b[0m\r\n"))
+        self.assertNotIn("\x1b", self.on_terminal(NO_COLOR="1"))
+        ran = subprocess.run([sys.executable, "-B", str(TOP / "musmyrtle"), "check", THREE[0]], capture_output=True)
+        self.assertNotIn(b"\x1b", ran.stdout)
+
+    def test_signals(self) -> None:
+        """A signal ends the command and the program that it waits for."""
+        stub, begun = self.folder / "stub", self.folder / "begun"
+        stub.write_text(f"#!/bin/sh\necho $$ > '{begun}.new'\nmv '{begun}.new' '{begun}'\nexec sleep 60\n")
+        stub.chmod(0o755)
+        for number, status in ((signal.SIGINT, 130), (signal.SIGTERM, 143), (signal.SIGHUP, 129)):
+            with self.subTest(number):
+                begun.unlink(missing_ok=True)
+                words = [sys.executable, "-B", str(TOP / "musmyrtle"), "log", *THREE]
+                with subprocess.Popen(words, env={**os.environ, "MUSMYRTLE_VIEW": str(stub)}, stdout=subprocess.PIPE,
+                                      stderr=subprocess.PIPE, preexec_fn=usual_signals) as running:
+                    limit = time.monotonic() + 20
+                    while not begun.exists() and time.monotonic() < limit:
+                        time.sleep(0.02)
+                    running.send_signal(number)
+                    self.assertEqual((running.communicate(timeout=20), running.returncode), ((b"", b""), status))
+                with self.assertRaises(ProcessLookupError):
+                    os.kill(int(begun.read_text()), 0)
+
+
+def usual_signals() -> None:
+    """Undoes what a shell without job control does to the signals of a job."""
+    for number in (signal.SIGINT, signal.SIGTERM, signal.SIGHUP):
+        signal.signal(number, signal.default_int_handler if number == signal.SIGINT else signal.SIG_DFL)
+
+
 class Help(Shows):
     def test_overview(self) -> None:
         for words in ((), ("help",), ("--help",), ("-h",)):
@@ -218,8 +292,8 @@ class Help(Shows):
         script = self.written("script", self.printed("completion", "bash"))
         for words, expected in (
             (("co",), "commits completion"), (("log", "--cha"), "--channel"), (("log", "--channel", ""), "A B"),
-            (("completion", "b"), "bash"), (("log", "--cycles", ""), ""), (("check", "--"), "--help --version --json "
-                                                                                          "--csv"),
+            (("completion", "b"), "bash"), (("log", "--cycles", ""), ""),
+            (("check", "--"), "--help --version --json --csv"),
         ):
             with self.subTest(words):
                 text = (f'. "{script}"; COMP_WORDS=(musmyrtle "$@"); COMP_CWORD=$#; _musmyrtle; '

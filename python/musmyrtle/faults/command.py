@@ -7,17 +7,20 @@ import time
 from pathlib import Path
 
 from musmyrtle.breaking import BrokenOff, breaking_off, temporary_folder
+from musmyrtle.cluster import Cluster
 from musmyrtle.faults.campaign import Campaign, Means, NoReference
 from musmyrtle.faults.children import Children
 from musmyrtle.faults.costs import FAILED, Difference
 from musmyrtle.faults.hosts import Hosts, NoParallel
-from musmyrtle.faults.inputs import accepted
+from musmyrtle.faults.host_campaign import HostCampaign
+from musmyrtle.faults.host_runs import HostJob
+from musmyrtle.faults.inputs import Inputs, accepted, accepted_host
 from musmyrtle.faults.labels import Labels, fault_label
 from musmyrtle.faults.listing import Selection, SingleFault
 from musmyrtle.faults.log import Log, already, is_begun
 from musmyrtle.faults.options import arguments, parsed
 from musmyrtle.faults.page import Subject, page
-from musmyrtle.faults.runs import Folder
+from musmyrtle.faults.runs import CLUSTER_FILE, Folder
 from musmyrtle.faults.table import (
     BadTable, Ranks, Results, has_effect, listed, not_compared, read_ranks, summary, table,
 )
@@ -114,26 +117,52 @@ def means_of(given: argparse.Namespace) -> Means:
     return Means(str(Path(program).resolve()), world, given.cores, hosts)
 
 
-def measured(given: argparse.Namespace, folder: Path) -> Results | None:
-    """Returns all faults with their costs, or nothing if they were only to be listed."""
-    children = Children()
-    inputs = accepted(given, folder, children)
+def selected(given: argparse.Namespace, cluster: Cluster) -> Selection:
+    """Returns the faults to list. Ends with status 2 if the cluster doesn't have what they are for."""
     selection = Selection(given.kinds, given.nodes, given.slots, given.in_cycle)
-    missing = selection.missing(inputs.cluster)
+    missing = selection.missing(cluster)
     if missing:
         arguments(given.command).error(f"the cluster has no {missing}")
+    return selection
+
+
+def with_scenario(given: argparse.Namespace, folder: Path) -> tuple[Campaign, Inputs, Selection]:
+    """Returns the campaign of a scenario, after its run without a fault."""
+    children = Children()
+    inputs = accepted(given, folder, children)
+    selection = selected(given, inputs.cluster)
     means, files = means_of(given), Folder(folder, *inputs.data, given.cycles, children)
     try:
-        campaign = Campaign(inputs.cluster, inputs.scenario, files, means)
+        return Campaign(inputs.cluster, inputs.scenario, files, means), inputs, selection
     except NotStarted as error:
         other = "" if given.world else "; name another fr_world by --world FILE"
         raise Stop(USAGE, f"{error.filename} can't be run: {os.strerror(error.errno or 0)}{other}") from None
+
+
+def with_host(given: argparse.Namespace, folder: Path) -> tuple[HostCampaign, Inputs, Selection]:
+    """Returns the campaign of a host program, after its run without a fault."""
+    inputs = accepted_host(given, folder)
+    selection = selected(given, inputs.cluster)
+    means = means_of(given)
+    job = HostJob(given.host, str(folder / CLUSTER_FILE), inputs.cluster, given.cycles, means.world, means.program)
+    return HostCampaign(job, means.cores), inputs, selection
+
+
+def measured(given: argparse.Namespace, folder: Path) -> Results | None:
+    """Returns all faults with their costs, or nothing if they were only to be listed."""
+    campaign: Campaign | HostCampaign
+    if given.host:
+        campaign, inputs, selection = with_host(given, folder)
+        program = itself(given.world or usual_world())
+    else:
+        campaign, inputs, selection = with_scenario(given, folder)
+        program = itself(given.program)
     listing = campaign.listing(selection)
     faults = listing.faults()
     if given.list:
         write(sys.stdout, listed(faults))
         return None
-    log = Log(given.joblog, (*inputs.data, str(given.cycles).encode(), Path(means.program).read_bytes()), given.resume)
+    log = Log(given.joblog, (*inputs.data, str(given.cycles).encode(), Path(program).read_bytes()), given.resume)
     try:
         done = campaign.run(faults, log, Progress())
     finally:
@@ -151,7 +180,7 @@ def concluded(given: argparse.Namespace, found: Results, before: Ranks | None) -
     say("".join(summary(found)))
     if given.html:
         try:
-            text = page(Subject(given.cluster, given.scenario), found)
+            text = page(Subject(given.cluster, given.host or given.scenario), found)
             replace_file(given.html, text.encode())
         except OSError as error:
             raise Stop(USAGE, f"--html {given.html}: {error.strerror}") from None

@@ -9,6 +9,7 @@ from musmyrtle.cluster import Reading as ClusterReading
 from musmyrtle.faults.answers import NO_REFUSALS, Answer
 from musmyrtle.faults.campaign import NoReference, no_outcome
 from musmyrtle.faults.children import Children
+from musmyrtle.faults.host_runs import HostFunction, NoHost, function_of
 from musmyrtle.faults.runs import CLUSTER_FILE, SCENARIO_FILE, outcome_words
 from musmyrtle.faults.whole_files import write_file
 from musmyrtle.lint.command import REFUSED, USAGE, is_bold_on, told
@@ -53,6 +54,35 @@ def accepted(given: argparse.Namespace, folder: Path, children: Children) -> Inp
     # Otherwise `found` has a refusal.
     assert cluster is not None
     return Inputs(cluster, ScenarioReading(given.scenario, files_read[1]).scenario, files_read)
+
+
+def accepted_host(given: argparse.Namespace, folder: Path) -> Inputs:
+    """Reads the cluster file, and loads the host program.
+
+    Reports a refusal of the file as `fr_lint` does. Raises `Stop` for that, and where there is no such host program.
+    """
+    data = read_bytes(given.cluster)
+    copy = folder / CLUSTER_FILE
+    if data is not None:
+        write_file(copy, data)
+    found = lint(Task(given.cluster, files={} if data is None else {given.cluster: str(copy)}))
+    if data is None or found.refusals:
+        answer = Asked(REFUSED, found.refusals[0][0] if found.refusals else "Read")
+        write(sys.stderr, ["\n".join(told(answer, found, is_bold_on(sys.stderr)))])
+        raise Stop(REFUSED)
+    try:
+        source = source_of(function_of(given.host))
+    except NoHost as error:
+        raise Stop(USAGE, f"--host {given.host}: {error}") from None
+    cluster = ClusterReading(read_text(given.cluster, data).document).cluster
+    assert cluster is not None
+    return Inputs(cluster, Scenario(given.host), (data, given.host.encode() + source))
+
+
+def source_of(function: HostFunction) -> bytes:
+    """Returns the bytes of the module of a function, as far as it is in a file."""
+    file = getattr(sys.modules.get(getattr(function, "__module__", "")), "__file__", None)
+    return (read_bytes(file) if file else None) or b""
 
 
 def copied(given: argparse.Namespace, folder: Path) -> tuple[Task, dict[str, bytes]]:

@@ -74,7 +74,9 @@ def arguments(name: str = "fr_faults") -> argparse.ArgumentParser:
                     formatter_class=argparse.RawDescriptionHelpFormatter)
     add = parser.add_argument
     add("cluster", metavar="CLUSTER", help="a cluster file")
-    add("scenario", metavar="SCENARIO", help="a scenario, beside which each fault comes")
+    add("scenario", metavar="SCENARIO", nargs="?", help="a scenario, beside which each fault comes")
+    add("--host", metavar="MODULE:FUNCTION",
+        help="a host program in place of a scenario: a function that is called with the world")
     add("--cycles", metavar="N", type=cycles_of, required=True, help="the cycles of each run, 1 to 1024")
     add("--list", action="store_true", help="print the faults, and run none")
     add("--kinds", metavar="KIND,..", type=words_of(tuple(KINDS)), default=frozenset(KINDS),
@@ -106,6 +108,10 @@ def parsed(words: list[str] | None, name: str) -> argparse.Namespace:
     given.command = name
     if given.in_cycle is not None and given.in_cycle >= given.cycles:
         parser.error(f"the run has no cycle {given.in_cycle}: it has {counted(given.cycles, 'cycle')}")
+    if (given.scenario is None) == (given.host is None):
+        parser.error("it takes either a SCENARIO, or a host program by --host MODULE:FUNCTION")
+    if given.host is not None and given.parallel:
+        parser.error("--host doesn't go with --parallel: host programs run on this machine")
     if given.resume and given.joblog is None:
         parser.error("--resume wants --joblog FILE")
     if (given.sshlogin or given.sshloginfile) and not given.parallel:

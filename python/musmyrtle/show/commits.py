@@ -14,8 +14,8 @@ FATES = {**ENDS, ARRIVED: "arrived"}
 def commits(facts: Facts, selection: Selection) -> list[Section]:
     """Returns the table of `commits`.
 
-    Nodes select the sender or a receiver, and cycles that of the commit. With errors alone it has the rows without a
-    receiver.
+    Nodes select the sender or a receiver, and cycles that of the commit. With errors alone it has commits without
+    a receiver, and transmissions that didn't arrive.
     """
     rows = [row for it in facts.commits if selection.has_cycle(it.cycle) for row in rows_of(facts, it, selection)]
     return [Section("commit", "", columns(facts.network), rows, "No commit is selected.")]
@@ -45,7 +45,7 @@ def rows_of(facts: Facts, commit: Commit, selection: Selection) -> Iterator[Row]
 def is_selected(commit: Commit, sent: Sent, selection: Selection) -> bool:
     nodes = [commit.node, *(int(it.split(":")[0]) for it in sent.receivers.split(",") if it != "-")]
     return (any(selection.has_node(it) for it in nodes) and selection.has_place(sent.slot, sent.channel)
-            and (sent.receivers == "-" or not selection.is_errors))
+            and (not selection.is_errors or sent.end != ARRIVED or not commit.is_delivered))
 
 
 def front(facts: Facts, commit: Commit) -> dict[str, Value]:

@@ -4,6 +4,7 @@ from collections.abc import Iterator
 from contextlib import contextmanager
 from dataclasses import dataclass
 from functools import cached_property
+from typing import NoReturn
 
 from musmyrtle.faults.children import Children
 from musmyrtle.findings import block, counted
@@ -92,7 +93,7 @@ class Inputs:
         numbers = (it.removeprefix(IDLE_FRONT).removesuffix(IDLE_BACK) for it in idle)
         return Printed(output.decode(errors="replace").splitlines(), tuple(int(it) for it in numbers if it.isdecimal()))
 
-    def stop(self, program: str, words: list[str], status: int, lines: list[str]) -> None:
+    def stop(self, program: str, words: list[str], status: int, lines: list[str]) -> NoReturn:
         """Raises `Stop` for a program that refused or failed, after the reason of a refusal."""
         refusals = [it.removeprefix("refused ") for it in lines if REFUSED_LINE.fullmatch(it)]
         told = refusals[-1] if refusals else " ".join(lines).strip() or f"status {status}"

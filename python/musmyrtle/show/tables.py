@@ -124,9 +124,9 @@ class Column:
     def fields(self, value: Value) -> dict[str, Plain]:
         """Returns the keys and values of an object in JSON."""
         if isinstance(value, Name):
-            return dict(zip(self.keys, (value.number, value.name)))
+            return {self.keys[0]: value.number, self.keys[1]: value.name}
         if isinstance(value, Time):
-            return dict(zip(self.keys, value))
+            return {self.keys[0]: value.macroticks, self.keys[1]: value.microseconds}
         if isinstance(value, Receivers):
             return {self.key: [it.object for it in value.receivers]}
         if isinstance(value, Numbers):

@@ -13,9 +13,10 @@ from musmyrtle.cluster_file import payload_length
 from musmyrtle.names import Names, UnknownName
 from musmyrtle.texts import FILE_LIMIT
 from musmyrtle.world.bounds import run_cycles, some_cycles, window_number
+from musmyrtle.world.capture import captured, listener, only_bytes
 from musmyrtle.world.faults import Fault, fault_line
 from musmyrtle.world.node import Buffer, Node
-from musmyrtle.world.refusals import BadCycles, BadName, TooManyFaults, WrongLength, refusal
+from musmyrtle.world.refusals import BadCycles, BadName, TooManyFaults, UnknownNode, WrongLength, refusal
 from musmyrtle.world.replies import Record, Window, record_of, window_of
 from musmyrtle.world.session import CLOSE_SECONDS, FileName, Session
 from musmyrtle.world.stepping import requests_of
@@ -187,6 +188,24 @@ class World:
         Raises `NoWindow` where no such window is sealed, `Memory`, and `ValueError` out of 0 to 4294967295.
         """
         return record_of(self.block(f"record {window_number(number)}"))
+
+    def capture(self, path: FileName, *, program: FileName | None = None) -> None:
+        """Writes a capture of all that was on the bus so far, which Wireshark opens.
+
+        It has the records of `fr_view bus`: each transmission that passed alone and wasn't too long. A window counts
+        once nodes 0 and 1 have observed it. PROGRAM is the `fr_view` to run, which is otherwise looked for. Raises
+        `NotStarted` where it can't be started, `OSError` where the file can't be written, and `SessionOver`.
+        """
+        with self._session.lock:
+            first = self.block("trace 0")
+            try:
+                second: list[str] | None = self.block("trace 1")
+            except UnknownNode:
+                second = None
+            trace = listener(first, second, lambda number, channel: only_bytes(self.record(number), channel))
+        data = captured(trace, program)
+        with open(path, "wb") as file:
+            file.write(data)
 
     # ---- windows and cycles
 

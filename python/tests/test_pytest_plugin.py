@@ -1,0 +1,122 @@
+"""The plugin of pytest: its parts over a small stand-in of pytest, and whole where pytest is installed."""
+import importlib
+import importlib.util
+import subprocess
+import sys
+import tempfile
+import types
+import unittest
+from pathlib import Path
+from typing import Any
+from unittest.mock import patch
+
+from musmyrtle import SessionOver, World
+
+TOP = Path(__file__).resolve().parents[2]
+THREE_NODES = TOP / "examples/three-nodes/cluster.toml"
+HAS_PYTEST = importlib.util.find_spec("pytest") is not None
+TESTS = f"""
+import pytest
+
+pytestmark = pytest.mark.world({str(THREE_NODES)!r}, cycles=8)
+
+def test_passes(world):
+    world.node(0).commit(0, b"\\0\\7")
+
+def test_fails(world):
+    world.node(0).commit(0, b"\\0\\7")
+    world.cycle()
+    assert world.node(1).read(1) is None
+"""
+
+
+class UsageError(Exception):
+    """Stands for the exception of pytest."""
+
+
+class StashKey:
+    """Stands for the key of a stash."""
+
+    def __class_getitem__(cls, _: object) -> type:
+        return cls
+
+
+def stand_in() -> types.ModuleType:
+    """Returns a module with what the plugin uses of pytest."""
+    module = types.ModuleType("pytest")
+    names: dict[str, Any] = {"StashKey": StashKey, "UsageError": UsageError, "fixture": lambda function: function,
+                             "hookimpl": lambda **_: lambda function: function, "FixtureRequest": object}
+    vars(module).update(names)
+    return module
+
+
+def mark(*args: Any, **kwargs: Any) -> types.SimpleNamespace:
+    return types.SimpleNamespace(args=args, kwargs=kwargs)
+
+
+class Parts(unittest.TestCase):
+    def setUp(self) -> None:
+        with patch.dict(sys.modules, {"pytest": stand_in()}):
+            sys.modules.pop("musmyrtle.pytest_plugin", None)
+            self.plugin: Any = importlib.import_module("musmyrtle.pytest_plugin")
+            sys.modules.pop("musmyrtle.pytest_plugin", None)
+
+    def node(self, marker: Any) -> Any:
+        return types.SimpleNamespace(stash={}, get_closest_marker=lambda name: marker if name == "world" else None)
+
+    def report(self, item: Any, has_failed: bool, when: str = "call") -> list[tuple[str, str]]:
+        """Returns the sections that the plugin adds to a report."""
+        report = types.SimpleNamespace(failed=has_failed, when=when, sections=[])
+        making = self.plugin.pytest_runtest_makereport(item)
+        next(making)
+        with self.assertRaises(StopIteration):
+            making.send(types.SimpleNamespace(get_result=lambda: report))
+        return report.sections
+
+    def test_a_world_and_its_requests(self) -> None:
+        item = self.node(mark(THREE_NODES, cycles=8))
+        fixture = self.plugin.world(types.SimpleNamespace(node=item))
+        world = next(fixture)
+        self.assertIsInstance(world, World)
+        world.node(0).commit(0, b"\0\7")
+        world.cycle()
+        self.assertEqual(self.report(item, True), [
+            ("requests to the world, for fr_world", "commit 0 0 0 x0007\ncycle\n")])
+        self.assertEqual((self.report(item, False), self.report(item, True, "teardown")), ([], []))
+        with self.assertRaises(StopIteration):
+            next(fixture)
+        with self.assertRaises(SessionOver):
+            world.now()
+
+    def test_a_test_without_the_marker(self) -> None:
+        with self.assertRaises(UsageError):
+            next(self.plugin.world(types.SimpleNamespace(node=self.node(None))))
+
+    def test_a_test_without_a_world(self) -> None:
+        self.assertEqual(self.report(self.node(None), True), [])
+
+    def test_the_marker_is_known(self) -> None:
+        lines: list[tuple[str, str]] = []
+        self.plugin.pytest_configure(types.SimpleNamespace(addinivalue_line=lambda *words: lines.append(words)))
+        self.assertEqual([(name, text.split("(")[0]) for name, text in lines], [("markers", "world")])
+
+
+class Whole(unittest.TestCase):
+    def test_the_package_does_not_need_pytest(self) -> None:
+        text = "import sys; sys.modules['pytest'] = None; import musmyrtle, musmyrtle.show.main"
+        self.assertEqual(subprocess.run([sys.executable, "-B", "-c", text], cwd=TOP / "python").returncode, 0)
+
+    @unittest.skipUnless(HAS_PYTEST, "pytest isn't installed")
+    def test_pytest(self) -> None:
+        with tempfile.TemporaryDirectory() as folder:
+            (Path(folder) / "test_of_world.py").write_text(TESTS)
+            words = [sys.executable, "-B", "-m", "pytest", "-p", "musmyrtle.pytest_plugin", "-p", "no:cacheprovider",
+                     "--rootdir", folder, folder]
+            ran = subprocess.run(words, cwd=TOP / "python", capture_output=True, text=True)
+        self.assertIn("1 failed, 1 passed", ran.stdout)
+        self.assertIn("requests to the world, for fr_world", ran.stdout)
+        self.assertIn("commit 0 0 0 x0007\ncycle\nread 1 0 1\n", ran.stdout)
+
+
+if __name__ == "__main__":
+    unittest.main()
