@@ -148,7 +148,7 @@ class Scripts(Pages):
         first, effect, idle, error, collision, none = self.walked(
             page, "click faults line 9", "click faults line 10", "click next-error", "press C", "press n")
         self.assertIn("line 9: babble brake (1) B 0 s1 x001 windowline 10: corrupt B 0 m9 0no effect", first["faults"])
-        self.assertEqual(first["errors"], "Errors that nodes counted (2)nodeallcycle 0cycle 1pedal (0)110brake (1)110")
+        self.assertEqual(first["errors"], "Errors that nodes countednodeallcycle 0cycle 1pedal (0)110brake (1)110")
         self.assertIn("It took effect in 1 window.", effect["details"])
         self.assertIn("It had no effect in the whole run.", idle["details"])
         self.assertEqual(error["status"], "Slot 1 on B in cycle 0")

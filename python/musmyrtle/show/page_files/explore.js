@@ -4,6 +4,9 @@ const WHEEL = 0.0015;
 const ZOOM = 1.5;
 const CLICK = 4;
 const LIST_DELAY = 200;
+/** The way of a commit with less than this share of the view is brought closer, with this room at both sides. */
+const CLOSE = 0.2;
+const ROOM = 0.3;
 /** All marks. */
 const EVERY = 0xff;
 
@@ -85,10 +88,7 @@ class Explorer {
     if (choice.kind === "window") {
       this.place = 2 * choice.number + choice.channel;
     }
-    if (this.details.span) {
-      const [begin, end] = this.details.span;
-      this.view = end - begin > this.view.span ? viewOf(this.view, begin, end, 0.2) : viewAt(this.view, begin, end);
-    }
+    this.bring(choice.kind === "commit" ? CLOSE : 0);
     this.light(this.details.lit);
     this.markNodes();
     const heading = showDetails(document.getElementById("details"), this.details, this.choose);
@@ -99,6 +99,15 @@ class Explorer {
     }
     this.draw();
     this.list();
+  }
+
+  /** Brings what is chosen into view, and closer if it has less than a share of the view. */
+  bring(share) {
+    if (this.details.span) {
+      const [begin, end] = this.details.span;
+      const isFitting = end - begin <= this.view.span && end - begin >= share * this.view.span;
+      this.view = isFitting ? viewAt(this.view, begin, end) : viewOf(this.view, begin, end, ROOM);
+    }
   }
 
   /** Sets the lanes of the picture: both channels, and both as the chosen node received them. */

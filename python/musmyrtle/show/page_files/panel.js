@@ -35,10 +35,10 @@ function cellElement(cell, choose) {
 }
 
 /** Returns a table with a button for more rows, in a box that can be scrolled with the keyboard. */
-function tableElement({caption, head, rows}, choose) {
+function tableElement({caption, head, rows, isList = true}, choose) {
   const body = element("tbody");
   const heading = element("tr", {}, ...head.map((it) => element("th", {scope: "col"}, it)));
-  const title = element("caption", {}, `${caption} (${rows.length.toLocaleString("en")})`);
+  const title = element("caption", {}, caption + (isList ? ` (${rows.length.toLocaleString("en")})` : ""));
   const box = element("div", {class: "table", tabindex: "0", role: "region", "aria-label": caption},
                       element("table", {}, title, element("thead", {}, heading), body));
   let shown = 0;
@@ -76,7 +76,7 @@ function showErrors(place, run, choose) {
   const {cycles, rows} = errorTable(run, MOST_PARTS);
   const parts = rows[0].counts.map((_, part) => partText(run, part * cycles, cycles));
   const table = {
-    caption: "Errors that nodes counted", head: ["node", "all", ...parts],
+    caption: "Errors that nodes counted", isList: false, head: ["node", "all", ...parts],
     rows: rows.map(({total, counts, first}, node) => [
       {text: nodeName(run, node), choice: {kind: "node", number: node}}, String(total),
       ...counts.map((it, part) => (it ? {text: String(it), choice: first[part]} : "0"))]),
