@@ -120,7 +120,7 @@ class Scripts(Pages):
         self.ran("logic.js", self.page(*self.run_of()))
 
     def test_the_way_of_a_commit_in_three_clicks(self) -> None:
-        """What came of the pedal's commit of cycle 1, and when."""
+        """The pedal's commit of cycle 1 leads to its receiver and time."""
         page = self.page(*self.run_of())
         shown = self.walked(page, "click nodes pedal", "click details cycle 1")[-1]
         # Slot 3 opens at macrotick 40 of its cycle, which is 80 us after its start at 200 us.

@@ -30,7 +30,7 @@ ENDING = """<script>
 }});
 </script>
 """
-"""What is added to the page for the walk. The page's policy allows scripts in the file."""
+"""The end of the page, with the walk. The page's policy allows scripts in the file."""
 
 
 @unittest.skipUnless(BROWSER, "there is no Chromium, in which the page is opened")

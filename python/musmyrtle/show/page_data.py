@@ -197,7 +197,7 @@ def add_seen(facts: Facts, windows: Windows, columns: Columns) -> None:
     """Adds what each node received in each window on each channel, as `fr_view frames --all` prints it.
 
     The column has a place for each node, window and channel, in this order. Each place holds the words for status and
-    error, or nothing where the table has no row. What stored a frame is in columns of its own, since it is rare.
+    error, or nothing where the table has no row. Receivers are rare, and have columns of their own.
     """
     count = len(windows.begins)
     places = {begin: 2 * window for window, begin in enumerate(windows.begins)}
