@@ -185,6 +185,19 @@ class Scripts(Pages):
         # Nothing is at the axis.
         self.assertEqual(same["status"], chosen["status"])
 
+    def test_the_focus(self) -> None:
+        """A button that is replaced gives its focus to the heading of the details; other buttons keep theirs."""
+        shown = self.walked(self.page(*self.run_of()), "click faults line 9", "click details 0", "click in-view 0",
+                            "click nodes pedal")
+        self.assertEqual([it["focus"] for it in shown[1:]],
+                         ["line 9: babble brake (1) B 0 s1 x00", "chosen", "chosen", "pedal (0)"])
+
+    def test_data_that_are_broken(self) -> None:
+        page = Path(self.page(*self.run_of()))
+        page.write_text(page.read_text(encoding="utf-8").replace('id="data">', 'id="data">eJ'), encoding="utf-8")
+        self.assertRegex(self.ran("opened.js", str(page)), r"\AThe page can't be shown: .*\. It opens in a current "
+                                                           r"Firefox or Chromium\.\Z")
+
     def test_what_is_painted(self) -> None:
         """Texts of the picture, on the screen and on paper."""
         painted = json.loads(self.ran("painted.js", self.page(*self.run_of())))

@@ -19,6 +19,10 @@ class Element {
     this.clientWidth = 1130;
   }
 
+  get id() {
+    return this.attributes.id || "";
+  }
+
   get hidden() {
     return "hidden" in this.attributes;
   }

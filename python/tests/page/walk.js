@@ -61,7 +61,7 @@ function shownNow() {
   return {
     subject: textOf("subject"), nodes: textOf("nodes"), details: textOf("details"), results: textOf("results"),
     status: textOf("status"), inView: textOf("in-view"), errors: textOf("errors"), faults: textOf("faults"),
-    view: [view.from, view.span], label: document.getElementById("picture").getAttribute("aria-label"),
+    focus: document.activeElement.id || document.activeElement.textContent, view: [view.from, view.span], label: document.getElementById("picture").getAttribute("aria-label"),
   };
 }
 

@@ -23,6 +23,7 @@ class Explorer {
     this.isPrinted = false;
     this.canvas = document.getElementById("picture");
     this.choose = (choice) => this.open(choice);
+    this.enter = (choice) => this.open(choice).focus({preventScroll: true});
     this.view = wholeView(run.length, this.widthOfPicture());
     this.setLanes();
     this.light(null);
@@ -43,8 +44,10 @@ class Explorer {
     const {cluster, scenario, cycles, nodes} = run.header;
     document.getElementById("subject").textContent = `${cluster} with ${scenario}: ${counted(cycles, "cycle")} of `
       + `${timeText(run, run.cycleLength)}, ${counted(nodes.length, "node")}, ${counted(run.windows, "window")}.`;
-    this.buttons = nodes.map((_, node) => button(nodeName(run, node), () => this.toggle(node),
-                                                 {"aria-pressed": "false", class: `node n${node % 8}`}));
+    this.buttons = nodes.map((_, node) => {
+      const classes = `node n${node % 8}${node < 8 ? "" : " striped"}`;
+      return button(nodeName(run, node), () => this.toggle(node), {"aria-pressed": "false", class: classes});
+    });
     document.getElementById("nodes").append(...this.buttons);
     showFaults(document.getElementById("faults"), run, this.choose);
     showErrors(document.getElementById("errors"), run, this.choose);
@@ -64,10 +67,13 @@ class Explorer {
     }
   }
 
-  /** Opens the details of a choice, and lights up what belongs to it. */
+  /**
+   * Opens the details of a choice, lights up what belongs to it, and returns the heading. The heading takes the focus
+   * of a button that is replaced.
+   */
   open(choice) {
     this.history.push(choice);
-    this.show(choice);
+    return this.show(choice);
   }
 
   /** Returns to the choice before. */
@@ -78,7 +84,7 @@ class Explorer {
     }
   }
 
-  /** Shows a choice without adding it to the history. */
+  /** Shows a choice without adding it to the history, and returns the heading of its details. */
   show(choice) {
     this.details = DETAILS[choice.kind](this.run, choice);
     if (choice.kind === "node") {
@@ -91,14 +97,12 @@ class Explorer {
     this.bring(choice.kind === "commit" ? CLOSE : 0);
     this.light(this.details.lit);
     this.markNodes();
-    const heading = showDetails(document.getElementById("details"), this.details, this.choose);
+    const heading = showDetails(document.getElementById("details"), this.details, this.enter);
     document.getElementById("back").hidden = this.history.length < 2;
     this.tell(this.details.title);
-    if (!document.activeElement || document.activeElement === document.body) {
-      heading.focus({preventScroll: true});
-    }
     this.draw();
     this.list();
+    return heading;
   }
 
   /** Brings what is chosen into view, and closer if it has less than a share of the view. */
@@ -229,7 +233,7 @@ class Explorer {
   /** Lists what is in view, a moment after the last change. */
   list() {
     clearTimeout(this.listing);
-    this.listing = setTimeout(() => showView(document.getElementById("in-view"), this.run, this.view, this.choose),
+    this.listing = setTimeout(() => showView(document.getElementById("in-view"), this.run, this.view, this.enter),
                               LIST_DELAY);
   }
 
