@@ -15,7 +15,7 @@ from random import Random
 
 from musmyrtle.program import usual_program
 from musmyrtle.show.page import FILES, SCRIPTS
-from tests.pages import SCRIPT, Pages, needs_node, view
+from tests.pages import HERE, SCRIPT, Pages, needs_node, view
 from tests.shows import EXAMPLES, NETWORK, SCENE, THREE
 from tests.test_visible_output import IN_TOML, SPELLED
 
@@ -245,6 +245,11 @@ class Page(Pages):
                         self.assertTrue(lines[number - 1].endswith("*/"), line)
                     if re.match(r" {0,2}\}$", line):
                         self.assertLess(number - begun, 40)
+
+    def test_lines_of_the_other_files(self) -> None:
+        for file in (FILES / "page.html", FILES / "page.css", *sorted(HERE.glob("*.js"))):
+            for number, line in enumerate(file.read_text(encoding="utf-8").split("\n"), 1):
+                self.assertLessEqual(len(line), 120, f"{file.name}:{number}")
 
     def test_names_that_look_like_markup(self) -> None:
         for name in NAMES:

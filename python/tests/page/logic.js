@@ -53,8 +53,8 @@ test("a view of some macroticks, and one in which a time is in the middle", () =
 });
 
 test("ticks are round in the unit of the axis", () => {
-  const ticks = ticksOf({from: 0, span: 1000, width: 900, length: 1000}, 1);
-  assert.deepEqual(ticks.map((it) => it.text), ["0", "100", "200", "300", "400", "500", "600", "700", "800", "900", "1,000"]);
+  const ticks = ticksOf({from: 0, span: 1000, width: 450, length: 1000}, 1);
+  assert.deepEqual(ticks.map((it) => it.text), ["0", "200", "400", "600", "800", "1,000"]);
   const halves = ticksOf({from: 10, span: 8, width: 360, length: 1000}, 0.5);
   assert.deepEqual(halves, [{time: 10, text: "5"}, {time: 12, text: "6"}, {time: 14, text: "7"}, {time: 16, text: "8"},
                             {time: 18, text: "9"}]);
@@ -63,7 +63,8 @@ test("ticks are round in the unit of the axis", () => {
 test("boxes have the real lengths, and a cell that began before is in view", () => {
   const cells = cellsFrom([0, 20, 40], [20, 40, 60], [MARK.data, MARK.data, MARK.data]);
   const {boxes} = laneOf(cells, {from: 10, span: 40, width: 400, length: 100});
-  assert.deepEqual(boxes, [{cell: 0, x: -100, width: 200}, {cell: 1, x: 100, width: 200}, {cell: 2, x: 300, width: 200}]);
+  assert.deepEqual(boxes, [{cell: 0, x: -100, width: 200}, {cell: 1, x: 100, width: 200},
+                           {cell: 2, x: 300, width: 200}]);
 });
 
 test("narrow cells are columns with the share of their traffic", () => {

@@ -1,8 +1,8 @@
 "use strict";
 
 /**
- * Measures the page in milliseconds: `node measured.js PAGE [TIMES]`. TIMES repeats the run's windows, for a run that is
- * longer than the programs allow.
+ * Measures the page in milliseconds: `node measured.js PAGE [TIMES]`. TIMES repeats the run's windows, for a run that
+ * is longer than the programs allow.
  */
 require("./loaded.js");
 const {dataOf} = require("./loaded.js");

@@ -59,9 +59,10 @@ function shownNow() {
   const textOf = (name) => document.getElementById(name).textContent;
   const {view} = globalThis.explorer;
   return {
+    focus: document.activeElement.id || document.activeElement.textContent, view: [view.from, view.span],
     subject: textOf("subject"), nodes: textOf("nodes"), details: textOf("details"), results: textOf("results"),
     status: textOf("status"), inView: textOf("in-view"), errors: textOf("errors"), faults: textOf("faults"),
-    focus: document.activeElement.id || document.activeElement.textContent, view: [view.from, view.span], label: document.getElementById("picture").getAttribute("aria-label"),
+    label: document.getElementById("picture").getAttribute("aria-label"),
   };
 }
 
