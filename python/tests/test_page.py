@@ -119,6 +119,18 @@ class Scripts(Pages):
         """Views, lanes, hits and searches; page/logic.js has the tests."""
         self.ran("logic.js", self.page(*self.run_of()))
 
+    def test_all_that_can_be_chosen(self) -> None:
+        """Each node, buffer, commit, slot and fault of some runs, and many windows, are shown and painted."""
+        pages = [self.page(*self.run_of(), name="two.html"), self.page(name="three.html")]
+        for name in ("divided-slot", "vehicle"):
+            run = (str(EXAMPLES / name / "cluster.toml"), str(EXAMPLES / name / "scenario"), "--cycles", "8")
+            pages.append(self.page(*run, name=f"{name}.html"))
+        counts = [int(it) for it in self.ran("explored.js", *pages).splitlines()]
+        # Two nodes, seven choices of buffers and the FIFO, five commits, two faults, and both channels of 24 windows,
+        # besides the slots.
+        self.assertGreater(counts[0], 2 + 7 + 5 + 2 + 48)
+        self.assertEqual(len(counts), len(pages))
+
     def test_the_way_of_a_commit_in_three_clicks(self) -> None:
         """The pedal's commit of cycle 1 leads to its receiver and time."""
         page = self.page(*self.run_of())
