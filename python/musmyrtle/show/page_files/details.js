@@ -175,7 +175,8 @@ function sentTable(run, commit, details) {
     receivers.forEach((it) => details.lit.nodes.set(it.node, "receives"));
     details.lit.places.push(2 * window + channel);
     if (!rows.length) {
-      details.span = [start, begin + run.lengths[channel][window]];
+      // The cycles from the call to the first transmission.
+      details.span = [start, (run.columns.sent_cycle[sent] + 1) * run.cycleLength];
     }
     rows.push([link(`cycle ${run.columns.sent_cycle[sent]}`, "window", window, channel), timeText(run, begin),
                timeText(run, begin - start), link(String(slot), "slot", slot), CHANNELS[channel],

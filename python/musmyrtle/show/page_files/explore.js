@@ -6,7 +6,7 @@ const CLICK = 4;
 const LIST_DELAY = 200;
 /** The way of a commit with less than this share of the view is brought closer, with this room at both sides. */
 const CLOSE = 0.2;
-const ROOM = 0.3;
+const ROOM = 0.05;
 /** All marks. */
 const EVERY = 0xff;
 
