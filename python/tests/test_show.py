@@ -119,7 +119,7 @@ class Reads(Shows):
         self.assertEqual(self.values("fifo", keys, "reads", *run, "--errors"), [overwritten])
 
     def test_the_answers_of_the_guide(self) -> None:
-        """Task 1 of node 0 pops the frame of cycle 0, slot 4 and channel A. Node 1 reads the frame of cycle 2 and slot 1.
+        """Task 1 of node 0 pops the frame of cycle 0 and slot 4. Node 1 reads the frame of cycle 2 and slot 1.
 
         Slot 4 is the first after three of 20 macroticks. A cycle has 90, so the pop comes at 180, and the read at 270.
         """

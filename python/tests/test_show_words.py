@@ -26,6 +26,8 @@ from tests.test_visible_output import IN_TOML, SPELLED
 
 TOP = Path(__file__).resolve().parents[2]
 PEDAL, BRAKE = Name(0, "pedal", "node"), Name(1, None, "node")
+TWO_STARTUP_NODES = NETWORK.replace("sync = true", "sync = true, startup = true").replace(
+    'own = [{slot = 2, channels = "AB"}]', 'own = [{slot = 2, channels = "AB", sync = true, startup = true}]')
 COLUMNS = (
     Column("node", "node", "name"), Column("at", "at [us]", "time"),
     Column("what", "what", words={"turned": "flipped"}), Column("receivers", "receivers"), Column("inner", ""),
@@ -76,17 +78,45 @@ class Keys(Shows):
         """Each kind of row has the keys of python/README.md, in their order."""
         page = (TOP / "python/README.md").read_text().partition("## Tables")[2]
         rows = [line.split("|")[1:4] for line in page.splitlines() if line.startswith("| `")]
-        expected = {tuple(it.strip(" `") for it in row[:2]): re.findall(r"`([a-z_]+)`", row[2]) for row in rows}
+        expected = {(row[0].strip(" `"), kind): re.findall(r"`([a-z_]+)`", row[2])
+                    for row in rows for kind in re.findall(r"`([a-z]+)`", row[1])}
         run = self.run_of(scene=SCENE.replace(POP, ""))
         found: dict[tuple[str, ...], list[str]] = {}
-        guarded = self.written("guarded.toml", NETWORK.replace('"none"', '"AB"'))
-        for command in ("check", "plan", "run", "log", "commits", "reads"):
-            words = (guarded,) if command in ("check", "plan") else run
-            for line in self.printed(command, *words, "--json").splitlines():
+        network = NETWORK.replace('"none"', '"AB"').replace("sync", "startup = true, sync")
+        guarded = self.written("guarded.toml", network)
+        past = self.written("past", SCENE.replace("read 1 0 1 1", "read 1 0 9 1"))
+        for command, words in (
+            ("lint", [guarded]), ("lint", [guarded, past, "--cycles", "2"]), ("lint", [THREE[0]]),
+            ("lint", [self.written("two.toml", TWO_STARTUP_NODES)]),
+            ("faults", [*run, "--kinds", "lost"]), ("faults --list", [*run, "--kinds", "lost"]),
+            ("check", [guarded]), ("plan", [guarded]), *((it, run) for it in ("run", "log", "commits", "reads")),
+        ):
+            for line in self.asked(*command.split(), *words, "--json")[1].splitlines():
                 row = json.loads(line)
                 kind = row.pop("kind")
                 found[command, kind] = list(row)
         self.assertEqual(found, expected)
+
+    def test_findings(self) -> None:
+        """The place and the reason of the README: `scenario:7:10: refused BadScript 2: the run has no cycle 3`."""
+        words = (*THREE[:3], "3", "--json")
+        status, output, _ = self.asked("lint", *words)
+        rows = [json.loads(line) for line in output.splitlines()]
+        self.assertEqual((status, rows[0]), (
+            1, {"kind": "answer", "program": "fr_bench", "refusal": "BadScript 2", "further_warnings": 0}))
+        first = rows[1]
+        self.assertEqual([first[it] for it in ("kind", "refusal", "name", "file", "line", "column", "headline")],
+                         ["refused", "BadScript 2", None, THREE[1], 7, 10, "the run has no cycle 3"])
+
+    def test_differences(self) -> None:
+        """The line of FAULTS: `lost 0 A * all 1 rx 1 lost 1 2:A x0c0d -`."""
+        words = ("faults", *THREE, "--kinds", "lost", "--nodes", "0")
+        text = self.asked(*words, "--csv")[1]
+        self.assertIn("difference,lost,0,A,*,all,1,rx 1,lost,1,2:A x0c0d,-\n", text)
+        rows = [json.loads(line) for line in self.asked(*words, "--json")[1].splitlines()]
+        self.assertIn({"kind": "difference", "fault": "lost", "node": 0, "channels": "A", "cycles": "*", "place": "all",
+                       "receiver": 1, "thing": "rx 1", "effect": "lost", "amount": 1, "without": "2:A x0c0d",
+                       "with": "-"}, rows)
 
 
 class Escapes(Shows):

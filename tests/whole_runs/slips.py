@@ -211,7 +211,7 @@ class Slips:
         for program in self.programs:
             self.runs.compare(f"the version of {program}", self.call(program, ("--version",)),
                               (f"{program} {version}", "", 0))
-        for tool in ("fr_lint", "fr_faults"):
+        for tool in ("fr_lint", "fr_faults", "musmyrtle"):
             ran = subprocess.run([TOP / tool, "--version"], capture_output=True, text=True, timeout=SECONDS)
             self.runs.compare(f"the version of {tool}", (ran.stdout, ran.stderr, ran.returncode),
                               (f"{tool} {version}", "", 0))

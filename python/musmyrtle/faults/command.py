@@ -22,13 +22,13 @@ from musmyrtle.faults.options import arguments, parsed
 from musmyrtle.faults.page import Subject, page
 from musmyrtle.faults.runs import CLUSTER_FILE, Folder
 from musmyrtle.faults.table import (
-    BadTable, Ranks, Results, has_effect, listed, not_compared, read_ranks, summary, table,
+    BadTable, Ranks, Results, has_effect, list_rows, listed, not_compared, read_ranks, summary, table, table_rows,
 )
 from musmyrtle.faults.table import told as told_difference
 from musmyrtle.faults.table import worse
 from musmyrtle.faults.whole_files import Unusable, replace_file, spare_inputs
 from musmyrtle.findings import counted
-from musmyrtle.lint.command import FINE, USAGE
+from musmyrtle.lint.command import FINE, USAGE, formed
 from musmyrtle.output import Stop, write
 from musmyrtle.program import is_launcher, itself
 from musmyrtle.visible import visible
@@ -160,7 +160,7 @@ def measured(given: argparse.Namespace, folder: Path) -> Results | None:
     listing = campaign.listing(selection)
     faults = listing.faults()
     if given.list:
-        write(sys.stdout, listed(faults))
+        write(sys.stdout, formed(given, [list_rows(faults)], listed(faults)))
         return None
     log = Log(given.joblog, (*inputs.data, str(given.cycles).encode(), Path(program).read_bytes()), given.resume)
     try:
@@ -176,7 +176,7 @@ def measured(given: argparse.Namespace, folder: Path) -> Results | None:
 def concluded(given: argparse.Namespace, found: Results, before: Ranks | None) -> int:
     """Prints the table and the summary, and writes the page. Returns the status."""
     done = found.done
-    write(sys.stdout, table(done))
+    write(sys.stdout, formed(given, [table_rows(done)], table(done)))
     say("".join(summary(found)))
     if given.html:
         try:

@@ -37,6 +37,7 @@ class Pool:
         self.cores = cores
 
     def started(self, cores: int) -> ProcessPoolExecutor:
+        """Returns so many processes."""
         return ProcessPoolExecutor(cores, multiprocessing.get_context("fork"), start_quietly)
 
     def one(self, job: HostJob) -> HostRan:
@@ -97,11 +98,13 @@ class HostCampaign:
         self.scenario = commits_of(first)
 
     def ended(self, ran: HostRan) -> Ended:
+        """Returns the end of a run, for the comparison."""
         calendar = Calendar(Scenario(self.job.host), ran.played.starts)
         calendar.begins = ran.begins
         return Ended(read_outcome(ran.outcome, self.job.cluster, self.known), calendar, ran.played.fifos)
 
     def listing(self, selection: Selection) -> Listing:
+        """Returns the list of faults."""
         return Listing(self.job.cluster, self.scenario, self.job.cycles, selection, HostPlays(self))
 
     def overwritten(self) -> dict[int, int]:
@@ -123,6 +126,7 @@ class HostCampaign:
         return failed("unreadable", wrong) if wrong else differences(self.reference, self.ended(ran))
 
     def job_of(self, fault: SingleFault) -> HostJob:
+        """Returns the run with a fault."""
         watched = fault.minislot if fault.kind == "forged" else None
         return replace(self.job, lines=tuple(fault.lines), watched=watched)
 
@@ -157,16 +161,20 @@ class HostPlays:
         self.campaign = campaign
 
     def recorded(self) -> list[Begun]:
+        """Returns the transmissions that begin in the dynamic segment in the run without the fault."""
         return self.campaign.begun
 
     def lose(self, node: int, channels: str, cycles: range) -> list[Begun]:
+        """Returns the node's offers in the dynamic segment in a run that loses all of them."""
         return self.ran(replace(self.campaign.job, loss=Loss(node, channels, cycles))).played.begun
 
     def forge(self, node: int, minislot: int, occasions: Collection[Occasion]) -> dict[Occasion, int]:
+        """Returns the slots that are open at the minislot where the node forges a frame of the open slot."""
         forgery = Forgery(node, minislot, frozenset(occasions))
         return self.ran(replace(self.campaign.job, forgery=forgery)).played.slots
 
     def ran(self, job: HostJob) -> HostRan:
+        """Returns the end of a run. Raises `NoReference` if it failed."""
         found = self.campaign.pool.one(job)
         if found.failure:
             raise NoReference(f"for the list of faults: {found.failure[1]}")

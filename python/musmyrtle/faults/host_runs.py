@@ -146,12 +146,14 @@ class RunCycle:
 
 
 def losing(loss: Loss, cycle: RunCycle) -> Callable[[Window], bool]:
+    """Returns the function that is true for each window with a loss."""
     def is_lost(window: Window) -> bool:
         return cycle.of(window) in loss.cycles and not window.is_static
     return is_lost
 
 
 def forging(forgery: Forgery, world: World, slots: dict[Occasion, int]) -> Callable[[Window], bool]:
+    """Returns a function that forges the frames of each window, and notes their slots."""
     cycle = RunCycle()
 
     def forge(window: Window) -> bool:
@@ -207,6 +209,7 @@ def begins(trace: list[str]) -> list[int]:
 
 
 def committed(traces: dict[int, list[str]]) -> frozenset[tuple[int, int]]:
+    """Returns the nodes and buffers to which a host program committed."""
     return frozenset((node, int(line.split(" ")[2])) for node, trace in traces.items() for line in trace
                      if line.startswith("commit "))
 
@@ -230,6 +233,7 @@ def begun(world: World, windows: list[list[str]]) -> list[Begun]:
 
 
 def fifo(job: HostJob, trace: list[str], starts: list[int], capacity: int) -> Fifo | str:
+    """Returns the frames of a receive FIFO, or why they can't be read."""
     try:
         return read_fifo(table_of(job.viewer, trace, Children()), trace, starts, capacity, job.cluster.parameters)
     except Unread as error:

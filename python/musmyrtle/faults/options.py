@@ -8,7 +8,7 @@ from musmyrtle.faults.hosts import SSH_OPTIONS
 from musmyrtle.faults.listing import ALL, ALL_STATIC, KINDS
 from musmyrtle.faults.runs import OUTCOME
 from musmyrtle.findings import counted
-from musmyrtle.lint.command import Parser, cycles_of
+from musmyrtle.lint.command import Parser, add_forms, cycles_of
 from musmyrtle.program import usual_program
 
 FAIL_ON = ("lost", "older", "changed", "worse")
@@ -90,6 +90,7 @@ def arguments(name: str = "fr_faults") -> argparse.ArgumentParser:
         help="end with status 3 where a fault costs this: lost (also not comparable), older, changed, or worse "
              "with --against")
     add("--against", metavar="TABLE", help="report faults that cost more than in this earlier table")
+    add_forms(parser)
     add("--cores", metavar="N", type=cores_of, default=os.cpu_count() or 1, help="the runs at once (all cores)")
     add("--joblog", metavar="FILE", help="note each fault that is done, in a new file")
     add("--resume", action="store_true", help="go on where the run of this --joblog was broken off")

@@ -7,6 +7,7 @@ from musmyrtle.faults.costs import COSTS, EFFECTS, FAILED, IDLE, LOSSES, NOT_COM
 from musmyrtle.faults.labels import ONE_CHANNEL, Labels
 from musmyrtle.faults.listing import KINDS, LeftOut, SingleFault, is_stopped
 from musmyrtle.findings import counted
+from musmyrtle.show.tables import Column, Row, Section, Value
 
 COLUMNS = ("kind", "node", "channels", "cycles", "place", "receiver", "thing", "effect", "amount", "without", "with")
 HEADING = "\t".join(COLUMNS) + "\n"
@@ -60,6 +61,32 @@ def listed(faults: Iterable[SingleFault]) -> Iterator[str]:
     """Yields a line for each fault: its words, and `idle` where its node sends nothing there."""
     for fault in faults:
         yield "\t".join((*fault.words, IDLE) if fault.is_idle else fault.words) + "\n"
+
+
+FAULT = (Column("fault", "fault"), Column("node", "node"), Column("channels", "channels"), Column("cycles", "cycles"),
+         Column("place", "place"))
+DIFFERENCE = (*FAULT, Column("receiver", "receiver"), Column("thing", "thing"), Column("effect", "effect"),
+              Column("amount", "amount"), Column("without", "without"), Column("with", "with"))
+
+
+def fault_values(fault: SingleFault) -> dict[str, Value]:
+    """Returns the five words of a fault as values."""
+    return {"fault": fault.kind, "node": fault.node, "channels": fault.channels, "cycles": fault.cycles,
+            "place": fault.place}
+
+
+def table_rows(done: Done) -> Section:
+    """Returns the table as rows, for JSON and CSV."""
+    rows = [Row({**fault_values(fault), "receiver": it.node, "thing": it.thing, "effect": it.effect,
+                 "amount": it.amount, "without": it.without, "with": it.having})
+            for fault, found in done for it in found]
+    return Section("difference", "", DIFFERENCE, rows)
+
+
+def list_rows(faults: Iterable[SingleFault]) -> Section:
+    """Returns the list of faults as rows, for JSON and CSV."""
+    rows = [Row({**fault_values(it), "is_idle": it.is_idle}) for it in faults]
+    return Section("fault", "", (*FAULT, Column("is_idle", "idle")), rows)
 
 
 @dataclass(frozen=True)

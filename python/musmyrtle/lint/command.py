@@ -4,7 +4,7 @@ import io
 import os
 import re
 import sys
-from collections.abc import Iterator
+from collections.abc import Iterable, Iterator
 from contextlib import ExitStack, contextmanager, suppress
 from dataclasses import replace
 from typing import Any, NoReturn, TextIO
@@ -13,10 +13,12 @@ from musmyrtle.findings import MOST_REASONS, block, counted
 from musmyrtle.lint.allows import NAMES, expected_name
 from musmyrtle.lint.lint import Lint, Task, lint, read_bytes
 from musmyrtle.lint.overwriting import Overwritten
+from musmyrtle.lint.rows import sections
 from musmyrtle.lint.runs import MOST_CYCLES
 from musmyrtle.lint.trace_why import MAGIC, NoAnswer, TraceFile, ask_why, finding_of, is_trace
 from musmyrtle.output import Stop, write
 from musmyrtle.program import Answer, ask, no_answer, usual_program
+from musmyrtle.show.tables import Section, as_csv, as_json
 from musmyrtle.version import version
 from musmyrtle.visible import cut, visible
 
@@ -87,7 +89,28 @@ def arguments(name: str = "fr_lint") -> Parser:
                         help="print no warning of this name; it may be given several times")
     parser.add_argument("--program", metavar="FILE",
                         help="the fr_bench to ask, or for a trace the fr_view, instead of the one beside fr_lint")
+    add_forms(parser)
     return parser
+
+
+def add_forms(parser: argparse.ArgumentParser) -> None:
+    """Adds the options for the form of tables."""
+    forms = parser.add_mutually_exclusive_group()
+    forms.add_argument("--json", action="store_true", help="print one object a line")
+    forms.add_argument("--csv", action="store_true", help="print one table with commas")
+
+
+def formed(given: argparse.Namespace, tables: list[Section], text: Iterable[str]) -> Iterable[str]:
+    """Returns tables in the form that is asked for, or the text for people."""
+    return as_json(tables) if given.json else as_csv(tables) if given.csv else text
+
+
+def printed(texts: Iterable[str]) -> None:
+    """Writes to standard output. A reader may end early, and a terminal may be unable to spell the texts."""
+    if isinstance(sys.stdout, io.TextIOWrapper):
+        sys.stdout.reconfigure(errors="backslashreplace")
+    with suppress(BrokenPipeError):
+        write(sys.stdout, texts)
 
 
 def parsed(words: list[str] | None, name: str) -> argparse.Namespace:
@@ -196,20 +219,18 @@ def traced(given: argparse.Namespace, task: Task) -> int:
     if program is None:
         raise Stop(USAGE, "there is no fr_view: name one by --program FILE")
     try:
-        why = ask_why(program, file)
+        why, found = ask_why(program, file), Lint()
         lines = ["fr_view: accepted\n"]
         if why.refusal:
             finding = finding_of(why, TraceFile(task.cluster, file, why.line))
+            found.refusals.append((why.refusal, finding))
             told = block(f"refused {why.refusal}", finding, is_bold_on(sys.stdout))
             lines = [f"fr_view: refused {why.refusal}\n", told]
     except NoAnswer as error:
         raise Stop(USAGE, visible(str(error))) from None
     except OSError as error:
         raise Stop(USAGE, f"{program} can't be run: {error.strerror}") from None
-    if isinstance(sys.stdout, io.TextIOWrapper):
-        sys.stdout.reconfigure(errors="backslashreplace")
-    with suppress(BrokenPipeError):
-        write(sys.stdout, ["\n".join(lines)])
+    printed(formed(given, sections("fr_view", why.refusal, found), ["\n".join(lines)]))
     return REFUSED if why.refusal else FINE
 
 
@@ -228,11 +249,9 @@ def linted(given: argparse.Namespace) -> int:
         if not answer.is_one:
             raise Stop(USAGE, no_answer(given.program, words_for(task), answer))
         found = lint(task, overwritten)
-    if isinstance(sys.stdout, io.TextIOWrapper):
-        # The terminal may be unable to spell a file's name or a line.
-        sys.stdout.reconfigure(errors="backslashreplace")
-    with suppress(BrokenPipeError):
-        write(sys.stdout, ["\n".join(told(answer, found, is_bold_on(sys.stdout)))])
+    known = found if is_explained(answer, found) else Lint()
+    text = "\n".join(told(answer, found, is_bold_on(sys.stdout)))
+    printed(formed(given, sections("fr_bench", answer.refusal, known), [text]))
     if answer.status:
         return USAGE if answer.status == USAGE else REFUSED
     return WARNED if given.strict and found.warnings else FINE

@@ -1,17 +1,15 @@
 """The one table of the commands of `musmyrtle`, from which help, completion and the man page are made."""
 import argparse
-import io
 import sys
 from collections.abc import Callable
-from contextlib import suppress
 from dataclasses import dataclass
 
 import musmyrtle.faults.command
 import musmyrtle.faults.options
 import musmyrtle.lint.command
 from musmyrtle.breaking import BrokenOff, breaking_off
-from musmyrtle.lint.command import FINE, is_bold_on
-from musmyrtle.output import Stop, write
+from musmyrtle.lint.command import FINE, formed, is_bold_on, printed
+from musmyrtle.output import Stop
 from musmyrtle.show import options, page
 from musmyrtle.show.commits import commits
 from musmyrtle.show.engines import COMMAND, Inputs, opened
@@ -23,7 +21,7 @@ from musmyrtle.show.reads import reads
 from musmyrtle.show.selection import Selection, numbers_of_nodes
 from musmyrtle.show.senders import plan
 from musmyrtle.show.summary import run
-from musmyrtle.show.tables import Section, as_csv, as_json, as_text
+from musmyrtle.show.tables import Section, as_text
 
 Main = Callable[[list[str]], int]
 THREE = "examples/three-nodes/cluster.toml"
@@ -42,19 +40,9 @@ class Command:
 
 
 def selection_of(given: argparse.Namespace, inputs: Inputs) -> Selection:
+    """Returns the rows that the words select."""
     channels = None if given.channel is None else frozenset(given.channel)
     return Selection(numbers_of_nodes(given.node, inputs.network), given.slot, channels, given.in_cycles, given.errors)
-
-
-def printed(given: argparse.Namespace, sections: list[Section]) -> None:
-    """Prints tables in the form that is asked for."""
-    if isinstance(sys.stdout, io.TextIOWrapper):
-        # The terminal may be unable to spell a name.
-        sys.stdout.reconfigure(errors="backslashreplace")
-    texts = as_json(sections) if given.json else as_csv(sections) if given.csv else as_text(
-        sections, is_bold_on(sys.stdout))
-    with suppress(BrokenPipeError):
-        write(sys.stdout, texts)
 
 
 def table(name: str, purpose: str, words: Words, examples: tuple[str, ...],
@@ -69,7 +57,8 @@ def table(name: str, purpose: str, words: Words, examples: tuple[str, ...],
                 given = options.parsed(parser(), given_words)
                 scenario = (given.scenario, given.cycles) if words.has_run else (None, None)
                 with opened(given.cluster, *scenario) as inputs:
-                    printed(given, sections(inputs, given))
+                    found = sections(inputs, given)
+                    printed(formed(given, found, as_text(found, is_bold_on(sys.stdout))))
             return FINE
         except Stop as stop:
             return stop.tell(COMMAND)
@@ -81,6 +70,7 @@ def table(name: str, purpose: str, words: Words, examples: tuple[str, ...],
 
 
 def of_cluster(make: Callable[[Inputs], list[Section]]) -> Callable[[Inputs, argparse.Namespace], list[Section]]:
+    """Returns the tables of a command that takes a cluster file alone."""
     return lambda inputs, _: make(inputs)
 
 
@@ -98,10 +88,12 @@ def selected(make: Callable[[Facts, Selection], list[Section]]
 
 
 def lint_main(words: list[str]) -> int:
+    """Does the command `lint`, and returns the status."""
     return musmyrtle.lint.command.main(words, f"{COMMAND} lint")
 
 
 def faults_main(words: list[str]) -> int:
+    """Does the command `faults`, and returns the status."""
     return musmyrtle.faults.command.main(words, f"{COMMAND} faults")
 
 

@@ -22,6 +22,7 @@ def commits(facts: Facts, selection: Selection) -> list[Section]:
 
 
 def columns(network: Network) -> tuple[Column, ...]:
+    """Returns the columns of commits."""
     return (Column("node", "node", "name"), Column("buffer", "buffer", "name"), Column("task", ""),
             Column("cycle", "cycle"), Column("entry", ""), Column("data", "bytes"), Column("fate", ""),
             Column("ended_cycle", ""), Column("sent_cycle", "sent in"), Column("slot", "slot"),
@@ -30,6 +31,7 @@ def columns(network: Network) -> tuple[Column, ...]:
 
 
 def rows_of(facts: Facts, commit: Commit, selection: Selection) -> Iterator[Row]:
+    """Yields the selected rows of a commit."""
     buffer = facts.network.cluster.nodes[commit.node].buffers[commit.buffer]
     if not commit.sent and selection.has_node(commit.node) and any(
             selection.has_place(buffer.slot, channel) for channel in buffer.channels):
@@ -43,12 +45,14 @@ def rows_of(facts: Facts, commit: Commit, selection: Selection) -> Iterator[Row]
 
 
 def is_selected(commit: Commit, sent: Sent, selection: Selection) -> bool:
+    """Returns whether the row of a transmission is printed."""
     nodes = [commit.node, *(int(it.split(":")[0]) for it in sent.receivers.split(",") if it != "-")]
     return (any(selection.has_node(it) for it in nodes) and selection.has_place(sent.slot, sent.channel)
             and (not selection.is_errors or sent.end != ARRIVED or not commit.is_delivered))
 
 
 def front(facts: Facts, commit: Commit) -> dict[str, Value]:
+    """Returns the values that all rows of a commit have."""
     return {"node": facts.network.node(commit.node), "buffer": facts.network.buffer(commit.node, commit.buffer),
             "task": commit.task, "cycle": commit.cycle, "entry": commit.entry, "data": commit.data,
             "fate": commit.fate, "ended_cycle": commit.ended}

@@ -51,6 +51,7 @@ class Inputs:
 
     @property
     def cycles(self) -> int:
+        """Returns the cycles of the run, or 0 without a run."""
         return self.task.cycles or 0
 
     def program(self, name: str) -> str:

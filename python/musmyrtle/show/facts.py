@@ -81,14 +81,17 @@ class Call:
 
 
 def number(word: str) -> int | None:
+    """Returns the number of a word, or None for `-`."""
     return None if word == "-" else int(word)
 
 
 def text(word: str) -> str | None:
+    """Returns a word, or None for `-`."""
     return None if word == "-" else word
 
 
 def transmission_of(line: str) -> Transmission:
+    """Returns the transmission of a line of the record."""
     words = line.split(" ")
     window, cycle = int(words[0]), int(words[1])
     place = number(words[2]), number(words[3])
@@ -100,6 +103,7 @@ def transmission_of(line: str) -> Transmission:
 
 
 def commit_of(line: str) -> Commit:
+    """Returns the commit of a line of `fr_view commits`."""
     words = line.split(" ")
     node, buffer, task, cycle, entry = map(int, words[:5])
     fate, rest = words[7], words[8:]
@@ -110,6 +114,7 @@ def commit_of(line: str) -> Commit:
 
 
 def call_of(line: str) -> Call:
+    """Returns the call of a line of `fr_view answers`."""
     front, _, back = line.partition(" = ")
     node, task, cycle, kind, *rest = front.split(" ")
     buffer = int(rest[0]) if rest else None
@@ -129,6 +134,7 @@ class Facts:
 
     @property
     def network(self) -> Network:
+        """Returns the network of the cluster file."""
         return self.inputs.network
 
     def run(self) -> None:
@@ -137,14 +143,17 @@ class Facts:
 
     @cached_property
     def record(self) -> list[Transmission]:
+        """Returns the lines of the record."""
         return [transmission_of(line) for line in self.inputs.of_run("record").lines]
 
     @cached_property
     def commits(self) -> list[Commit]:
+        """Returns the commits of all nodes."""
         return [commit_of(line) for line in self.inputs.of_run("commits").lines]
 
     @cached_property
     def calls(self) -> list[Call]:
+        """Returns the calls of all tasks."""
         return [call_of(line) for line in self.inputs.of_run("answers").lines]
 
     @cached_property
@@ -180,6 +189,7 @@ class Facts:
     # ---- traces
 
     def read_trace(self, node: int) -> list[str]:
+        """Returns the lines of the trace of a node."""
         return self.inputs.of_run("trace", str(node)).lines
 
     def read_frames(self, node: int) -> list[list[str]]:

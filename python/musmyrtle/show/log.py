@@ -15,6 +15,7 @@ def log(facts: Facts, selection: Selection) -> list[Section]:
 
 
 def columns(network: Network) -> tuple[Column, ...]:
+    """Returns the columns of the record."""
     return (Column("cycle", "cycle"), Column("window", ""), Column("minislot", ""), network.column("begin", "begin"),
             Column("slot", "slot"), Column("channel", "channel"), Column("node", "node", "name"),
             Column("what", "what"), Column("passed", ""), Column("end", "end", words=ENDS), Column("frame", "frame"),
@@ -22,15 +23,18 @@ def columns(network: Network) -> tuple[Column, ...]:
 
 
 def is_error(it: Transmission) -> bool:
+    """Returns whether a transmission didn't arrive as it was sent, or a fault made it."""
     return it.end != ARRIVED or it.what != "offer"
 
 
 def is_selected(it: Transmission, selection: Selection) -> bool:
+    """Returns whether the row of a transmission is printed."""
     return (selection.has_node(it.node) and selection.has_cycle(it.cycle)
             and selection.has_place(it.slot, it.channel) and (is_error(it) or not selection.is_errors))
 
 
 def row_of(network: Network, it: Transmission) -> Row:
+    """Returns the row of a transmission."""
     begin = network.begin(it.cycle, it.slot or 1, it.minislot)
     return Row({
         "cycle": it.cycle, "window": it.window, "minislot": it.minislot, "begin": network.time(begin), "slot": it.slot,

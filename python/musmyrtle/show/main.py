@@ -34,12 +34,14 @@ def texts(name: str, purpose: str, example: str, adding: Callable[[argparse.Argu
 
 
 def printed(text: str) -> int:
+    """Writes a text to standard output, and returns the status."""
     with suppress(BrokenPipeError):
         write(sys.stdout, [text])
     return FINE
 
 
 def add_shell(parser: argparse.ArgumentParser) -> None:
+    """Adds the word for the shell."""
     parser.add_argument("shell", choices=tuple(SHELLS), help="the shell for which the script is")
 
 

@@ -41,10 +41,12 @@ def manual(commands: Sequence[Command]) -> str:
 
 
 def tagged(tag: str, text: str) -> list[str]:
+    """Returns the lines of a paragraph with a tag."""
     return [".TP", f".B {escaped(tag)}", escaped(text)]
 
 
 def command_lines(command: Command) -> Iterator[str]:
+    """Yields the lines of one command: its purpose, arguments and examples."""
     yield from (f'.SS "{command.name}"', escaped(command.purpose))
     for argument in arguments_of(command.parser()):
         yield from tagged(argument.spelled, argument.help or "the same")

@@ -27,9 +27,11 @@ class Network:
     # ---- names
 
     def node(self, number: int) -> Name:
+        """Returns the number and the name of a node."""
         return Name(number, self.node_names[number], "node")
 
     def buffer(self, node: int, number: int) -> Name:
+        """Returns the number and the name of a buffer."""
         return Name(number, self.buffer_names[node][number], "buffer")
 
     def receiver(self, word: str) -> Receiver:
@@ -45,6 +47,7 @@ class Network:
     # ---- times
 
     def time(self, macroticks: int) -> Time:
+        """Returns a time in macroticks, with its microseconds."""
         return Time(macroticks, None if self.macrotick is None else macroticks * self.macrotick)
 
     def column(self, key: str, heading: str) -> Column:
@@ -76,6 +79,7 @@ class Network:
                                for it in self.listeners_of(node, slot, channel, cycles)))
 
     def listeners_of(self, node: Node, slot: int, channel: str, cycles: Cycles) -> Iterator[Receiver]:
+        """Yields the receive buffers of a node that are for a slot, and its FIFO if that gets some of the frames."""
         found = [it for it in node.buffers if not it.transmits and is_for(it, slot, channel, cycles)]
         for buffer in found:
             yield Receiver(self.node(node.number), self.buffer(node.number, buffer.number))
@@ -87,17 +91,21 @@ class Network:
 
 
 def name_in(table: dict[str, object]) -> str | None:
+    """Returns the key `name` of a table, if it is a string."""
     name = table.get("name")
     return name if isinstance(name, str) else None
 
 
 def cycle_set(cycles: Cycles) -> set[int]:
+    """Returns the cycle counts that a filter admits."""
     return {it for it in range(64) if cycles.admit(it)}
 
 
 def is_for(buffer: Buffer, slot: int, channel: str, cycles: Cycles) -> bool:
+    """Returns whether a buffer admits a slot on a channel in some of these cycles."""
     return buffer.slot == slot and channel in buffer.channels and buffer.cycles.meet(cycles)
 
 
 def is_for_queue(queue: Queue, slot: int, channel: str) -> bool:
+    """Returns whether a receive FIFO is for a slot on a channel."""
     return queue.first <= slot <= queue.last and channel in queue.channels

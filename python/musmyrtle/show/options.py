@@ -4,7 +4,7 @@ from dataclasses import dataclass
 
 from musmyrtle.faults.options import numbers_of
 from musmyrtle.findings import counted
-from musmyrtle.lint.command import Parser, cycles_of
+from musmyrtle.lint.command import Parser, add_forms, cycles_of
 
 STATUSES = """status: 0 if it is done, 1 if the cluster file, the scenario or the run is refused, with the reason as by
 `musmyrtle lint`, 2 if the words are no command, a program can't be run or fails, or the output can't be written, 130,
@@ -32,13 +32,12 @@ def arguments(name: str, purpose: str, words: Words, examples: tuple[str, ...]) 
         add("--cycles", metavar="N", type=cycles_of, required=True, help="the cycles of the run, 1 to 1024")
     if words.has_selection:
         add_selection(parser)
-    form = parser.add_mutually_exclusive_group()
-    form.add_argument("--json", action="store_true", help="print one object a line")
-    form.add_argument("--csv", action="store_true", help="print one table with commas")
+    add_forms(parser)
     return parser
 
 
 def add_selection(parser: argparse.ArgumentParser) -> None:
+    """Adds the options that select rows."""
     add = parser.add_argument
     add("--node", metavar="NODE", action="append", default=[],
         help="only rows of this node, by its name or number; it may be given several times")

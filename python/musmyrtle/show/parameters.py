@@ -17,6 +17,7 @@ def check(inputs: Inputs) -> list[Section]:
 
 
 def parameters(network: Network, values: list[int]) -> Section:
+    """Returns the table of the ten parameters."""
     rows = []
     for key, value in zip(PARAMETERS, values):
         rule = OF_PARAMETERS.get(key)
@@ -31,6 +32,7 @@ def parameters(network: Network, values: list[int]) -> Section:
 
 
 def nodes(network: Network) -> Section:
+    """Returns the table of the nodes."""
     rows = []
     for node in network.cluster.nodes:
         slots = sorted({it.slot for it in node.owned})

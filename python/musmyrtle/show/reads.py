@@ -27,6 +27,7 @@ def reads(facts: Facts, selection: Selection) -> list[Section]:
 
 
 def call_columns(network: Network) -> tuple[Column, ...]:
+    """Returns the columns of calls."""
     return (Column("node", "node", "name"), Column("task", ""), Column("cycle", "cycle"), Column("call", "call"),
             Column("buffer", "buffer", "name"), Column("data", "bytes"), Column("frame_cycle", "sent in"),
             Column("cycle_count", ""), Column("slot", "slot"), Column("channel", "channel"),
@@ -35,11 +36,13 @@ def call_columns(network: Network) -> tuple[Column, ...]:
 
 
 def fifo_columns(network: Network) -> tuple[Column, ...]:
+    """Returns the columns of frames in receive FIFOs."""
     return (Column("node", "node", "name"), Column("state", "state"), Column("frame_cycle", "sent in"),
             Column("slot", "slot"), Column("channel", "channel"), Column("flags", "flags"), Column("data", "bytes"))
 
 
 def is_selected(call: Call, selection: Selection) -> bool:
+    """Returns whether the row of a call is printed."""
     return (selection.has_node(call.node) and selection.has_cycle(call.cycle)
             and selection.has_place(call.slot, call.channel) and (call.data is None or not selection.is_errors))
 
@@ -103,5 +106,6 @@ def fifo_rows(facts: Facts, node: int, capacity: int, selection: Selection) -> I
 
 
 def fifo_row(network: Network, node: int, state: str, frame: StoredFrame) -> Row:
+    """Returns the row of a frame in a receive FIFO."""
     return Row({"node": network.node(node), "state": state, "frame_cycle": frame.cycle, "slot": frame.slot,
                 "channel": frame.channel, "flags": frame.flags, "data": frame.payload}, state == "overwritten")

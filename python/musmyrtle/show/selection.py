@@ -19,9 +19,11 @@ class Selection:
     """True if only errors are printed."""
 
     def has_node(self, node: int | None) -> bool:
+        """Returns whether rows of a node are printed."""
         return self.nodes is None or node in self.nodes
 
     def has_cycle(self, cycle: int) -> bool:
+        """Returns whether rows of a cycle of the run are printed."""
         return self.cycles is None or cycle in self.cycles
 
     def has_place(self, slot: int | None, channel: str | None) -> bool:

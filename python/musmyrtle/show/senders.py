@@ -18,6 +18,7 @@ def plan(inputs: Inputs) -> list[Section]:
 
 
 def sender_columns(network: Network) -> tuple[Column, ...]:
+    """Returns the columns of senders."""
     return (Column("segment", ""), Column("slot", "slot"), Column("channel", "channel"), Column("node", "node", "name"),
             Column("buffer", "buffer", "name"), Column("mode", "mode"), Column("base", ""), Column("repetition", ""),
             Column("cycles", "cycles"), network.column("begin", "begin"), network.column("end", "end"),
@@ -25,6 +26,7 @@ def sender_columns(network: Network) -> tuple[Column, ...]:
 
 
 def guard_columns(network: Network) -> tuple[Column, ...]:
+    """Returns the columns of open windows."""
     return (Column("node", "node", "name"), Column("channel", "channel"), Column("cycle", "cycle"),
             network.column("begin", "from"), network.column("end", "to"))
 
@@ -55,5 +57,6 @@ def senders(network: Network, words: list[str]) -> Iterator[Row]:
 
 
 def guard(network: Network, words: list[str]) -> Row:
+    """Returns the row of an open window from the words of its line."""
     return Row({"node": network.node(int(words[1])), "channel": words[2], "cycle": int(words[3]),
                 "begin": network.time(int(words[4])), "end": network.time(int(words[5]))})

@@ -19,6 +19,7 @@ def run(facts: Facts) -> list[Section]:
 
 
 def totals(facts: Facts) -> Section:
+    """Returns the numbers of the whole run."""
     outcome, idle_lines = facts.ended
     delivered = sum(it.is_delivered for it in facts.commits)
     columns = (Column("nodes", "nodes"), Column("cycles", "cycles"), facts.network.column("time", "time"),
@@ -31,6 +32,7 @@ def totals(facts: Facts) -> Section:
 
 
 def undelivered(facts: Facts) -> Section:
+    """Returns the commits that no receiver stored."""
     network = facts.network
     rows = [Row({"node": network.node(it.node), "buffer": network.buffer(it.node, it.buffer), "task": it.task,
                  "cycle": it.cycle, "data": it.data, "fate": it.fate, "why": why(facts, it)}, True)
@@ -41,6 +43,7 @@ def undelivered(facts: Facts) -> Section:
 
 
 def empty_buffers(facts: Facts) -> Section:
+    """Returns the receive buffers without a frame, by node."""
     columns = (Column("node", "node", "name"), Column("count", "count"), Column("buffers", "buffers"),
                Column("names", "names"), Column("slots", "slots"))
     rows = list(empty_rows(facts))
@@ -62,6 +65,7 @@ def empty_rows(facts: Facts) -> Iterator[Row]:
 
 
 def overwriting(facts: Facts) -> Section:
+    """Returns the receive FIFOs that overwrote frames."""
     network = facts.network
     rows = [Row({"node": network.node(node.number), "capacity": node.queue.capacity, "waiting": ended.queue.waiting,
                  "overwritten": ended.queue.lost}, True)
@@ -74,6 +78,7 @@ def overwriting(facts: Facts) -> Section:
 
 
 def errors(facts: Facts) -> Section:
+    """Returns the error counters that aren't 0."""
     rows = [row for node, ended in enumerate(facts.ended[0].nodes) for channel in "AB"
             for row in error_rows(facts, node, channel, ended.counters[channel])]
     columns = (Column("node", "node", "name"), Column("channel", "channel"), Column("error", "error"),

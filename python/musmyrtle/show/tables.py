@@ -117,6 +117,7 @@ class Column:
 
     @property
     def keys(self) -> tuple[str, ...]:
+        """Returns the keys of the column in JSON and CSV."""
         if self.kind == "name":
             return self.key, f"{self.key}_name"
         return (f"{self.key}_mt", f"{self.key}_us") if self.kind == "time" else (self.key,)
@@ -213,6 +214,7 @@ def as_text(sections: Iterable[Section], is_coloured: bool = False) -> Iterator[
 
 
 def text_lines(section: Section, is_coloured: bool) -> Iterator[str]:
+    """Yields the lines of one table for people."""
     if not section.rows:
         if section.nothing:
             yield section.nothing
