@@ -210,6 +210,15 @@ class Scripts(Pages):
         self.assertRegex(self.ran("opened.js", str(page)), r"\AThe page can't be shown: .*\. It opens in a current "
                                                            r"Firefox or Chromium\.\Z")
 
+    def test_the_text_at_the_pointer(self) -> None:
+        texts = json.loads(self.ran("hovered.js", self.page(*self.run_of()), "0 0", "0 1", "1 1", "2 0"))
+        self.assertEqual(texts, [
+            "Slot 1 on A in cycle 0\npedal (0): data frame, arrived",
+            "Slot 1 on B in cycle 0\npedal (0): data frame, collided\n"
+            "brake (1): babble, bytes that are no frame, collided",
+            "Slot 2 on B in cycle 0\nbrake (1): null frame, arrived",
+            "Slot 3 on A in cycle 0, minislot 1\npedal (0): data frame, arrived"])
+
     def test_what_is_painted(self) -> None:
         """Texts of the picture, on the screen and on paper."""
         painted = json.loads(self.ran("painted.js", self.page(*self.run_of())))

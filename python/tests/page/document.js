@@ -179,6 +179,9 @@ function openPage(file) {
   globalThis.getComputedStyle = () => ({getPropertyValue: () => ""});
   globalThis.matchMedia = () => ({addEventListener() {}});
   globalThis.addEventListener = () => {};
+  globalThis.ResizeObserver = class {
+    observe() {}
+  };
   document.getElementById("search-kind").value = "node";
 }
 

@@ -239,7 +239,11 @@ class Explorer {
 
   /** Suits the view to the width of the window. */
   resize() {
-    this.set(clamped({...this.view, width: this.widthOfPicture()}));
+    const width = this.widthOfPicture();
+    if (width !== this.view.width) {
+      this.view = clamped({...this.view, width});
+    }
+    this.draw();
   }
 
   // ---- events
@@ -265,6 +269,8 @@ class Explorer {
     on("picture", "pointerup", (event) => this.release(event));
     on("picture", "pointercancel", () => { this.grabbed = null; });
     globalThis.addEventListener("resize", () => this.resize());
+    // A scroll bar that appears changes the width without that event.
+    new ResizeObserver(() => this.resize()).observe(this.canvas.parentElement);
     globalThis.addEventListener("beforeprint", () => this.print(true));
     globalThis.addEventListener("afterprint", () => this.print(false));
     globalThis.matchMedia("(prefers-color-scheme: dark)").addEventListener("change", () => this.draw());
@@ -331,7 +337,7 @@ class Explorer {
     if (!grabbed) {
       const {x, y} = this.pixel(event);
       const place = hit(this.lanes, this.view, x, y);
-      this.canvas.title = place ? placeText(this.run, place.window, place.channel) : "";
+      this.canvas.title = place ? hoverText(this.run, place.window, place.channel) : "";
       return;
     }
     grabbed.isMoved = grabbed.isMoved || Math.abs(event.clientX - grabbed.x) >= CLICK;

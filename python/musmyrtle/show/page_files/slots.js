@@ -10,6 +10,13 @@ function placeText(run, window, channel) {
   return `${place} in cycle ${run.columns.window_cycle[window]}${minislot ? `, minislot ${minislot}` : ""}`;
 }
 
+/** Returns the place of a window, with a line for each transmission, for the pointer. */
+function hoverText(run, window, channel) {
+  const lines = run.linesAt(window, channel).filter((it) => run.word("record_what", it) !== "corrupt");
+  return [placeText(run, window, channel), ...lines.map((it) => `${nodeName(run, run.columns.record_node[it])}: `
+    + `${whatText(run, it)}, ${endText(run, run.word("record_end", it))}`)].join("\n");
+}
+
 /** Returns the details of a window on a channel: its transmissions, and what each node received. */
 function detailsOfWindow(run, window, channel) {
   const details = emptyDetails(placeText(run, window, channel));
