@@ -19,6 +19,10 @@ class Element {
     this.clientWidth = 1130;
   }
 
+  set id(name) {
+    this.attributes.id = name;
+  }
+
   get id() {
     return this.attributes.id || "";
   }

@@ -1,8 +1,8 @@
 "use strict";
 
 /**
- * Opens all that can be chosen in pages, and paints each: `node explored.js PAGE ..`. It prints for each page the number
- * of choices, and fails at the first one that can't be shown.
+ * Opens all that can be chosen in pages, and paints each: `node explored.js PAGE ..`. It prints the number of choices
+ * for each page, and fails at the first one that can't be shown.
  */
 require("./loaded.js");
 const {openPage} = require("./document.js");
