@@ -49,6 +49,7 @@ def assembled(data: bytes, title: str) -> str:
 
 
 def file(name: str) -> str:
+    """Returns the text of a file of the page."""
     return (FILES / name).read_text(encoding="utf-8")
 
 

@@ -44,13 +44,16 @@ class Columns:
         self.add(name, kind, array(TYPES[kind], places), words=list(numbers))
 
     def contents(self, name: str, values: Sequence[str | None]) -> None:
-        """Adds columns of the sizes and the contents of values that are spelled `x0a0b`. An absent one has no bytes.
+        """Adds columns of the sizes and contents of values that are spelled `x0a0b`.
+
+        An absent value has no bytes.
         """
         held = [bytes.fromhex(it[1:]) if it else b"" for it in values]
         self.numbers(f"{name}_size", "u16", map(len, held))
         self.add(f"{name}_bytes", "u8", array("B", b"".join(held)))
 
     def add(self, name: str, kind: str, values: "array[int]", **more: Any) -> None:
+        """Adds a column, with MORE keys of its entry in the header."""
         if sys.byteorder == "big":
             values.byteswap()
         self.listed.append({"name": name, "type": kind, "count": len(values), **more})

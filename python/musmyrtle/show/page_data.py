@@ -101,7 +101,9 @@ class Windows:
                        in zip(self.cycles, self.slots["A"], self.minislots)]
 
     def lengths(self, channel: str) -> Iterator[int]:
-        """Yields for each window the macroticks until the next one of the channel, or the end of the dynamic segment.
+        """Yields the macroticks of each window on a channel.
+
+        A dynamic slot lasts until the channel opens the next one, or until the end of the segment.
         """
         it = self.facts.network.cluster.parameters
         found, after, cycle = [0] * len(self.cycles), it.minislots + 1, -1
@@ -116,6 +118,7 @@ class Windows:
         yield from found
 
     def add(self, columns: Columns) -> None:
+        """Adds the columns of the windows."""
         columns.rising("window_cycle", self.cycles)
         columns.rising("window_begin", self.begins)
         columns.numbers("window_minislot", "u16", self.minislots)
@@ -216,7 +219,10 @@ def add_seen(facts: Facts, windows: Windows, columns: Columns) -> None:
 
 
 def rows_of_node(facts: Facts, node: int) -> Iterator[list[str]]:
-    """Yields the words of the rows of a node's table. They aren't kept: sixteen tables of a long run are large."""
+    """Yields the words of each row of a node's table.
+
+    They aren't kept, since sixteen tables of a long run are large.
+    """
     trace = facts.trace(0) if node == 0 else facts.read_trace(node)
     data = "".join(f"{line}\n" for line in trace).encode()
     for line in facts.inputs.ask("fr_view", ["frames", "--all"], data).lines[1:]:

@@ -32,8 +32,7 @@ def traces_of(block: Callable[[str], list[str]]) -> Iterator[list[str]]:
 
 
 def first_of_cycle(trace: list[str], window: Window | None) -> int:
-    """Returns the number of the first window of the cycle that isn't done yet, or of the windows of a run that is over.
-    """
+    """Returns the first window of the cycle that isn't done yet, or the number of all once the run is over."""
     if window is None:
         return sum(line.startswith("fetch ") for line in trace)
     return window.number if window.opens_cycle else starts_of(trace)[-1]
@@ -75,6 +74,7 @@ def calls_of(node: int, trace: list[str], cycles: int) -> Iterator[str]:
 
 
 def in_the_middle(node: int, cycle: int, line: str) -> ValueError:
+    """Returns the error for a call in the middle of a cycle."""
     return ValueError(f"`{line}` of node {node} came in the middle of cycle {cycle}. The page has only calls between "
                       "two cycles")
 
