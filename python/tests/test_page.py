@@ -59,6 +59,8 @@ class Data(Pages):
         counts = [[int(it) for it in line.split(" ")[2:]] for line in outcome if line[:2] in ("A ", "B ")]
         self.assertEqual([its for node in found["counts"] for its in node], counts)
         self.assertEqual(found["tables"], [sum(one + other) for one, other in zip(counts[::2], counts[1::2])])
+        keys = "node cycle call sender sender_buffer commit_cycle"
+        self.assertEqual(list(map(tuple, found["sources"])), self.values("call", keys, "reads", *run))
         self.assertEqual(found["stored"], [row for node in range(len(found["counts"]))
                                            for row in self.stored(run, node)])
 
@@ -136,9 +138,18 @@ class Scripts(Pages):
         page = self.page(*self.run_of())
         shown = self.walked(page, "click nodes pedal", "click details cycle 1")[-1]
         # Slot 3 opens at macrotick 40 of its cycle, which is 80 us after its start at 200 us.
-        self.assertIn("sent inatafter the start of the call's cycleslotchannelwhat came of itreceivers"
+        self.assertIn("sent inatafter the start of the commit's cycleslotchannelwhat came of itreceivers"
                       "cycle 1280 µs80 µs3Aarrivedbrake (1) FIFO", shown["details"])
         self.assertIn("pedal (0) sendsbrake (1) receives", shown["nodes"])
+
+    def test_the_way_to_the_call_that_reads(self) -> None:
+        """The brake reads in cycle 1, from 200 us on, what the pedal committed in cycle 0, and leads there and back."""
+        _, _, commit, brake, back = self.walked(self.page(*self.run_of()), "click nodes pedal", "click details cycle 0",
+                                                "click details brake", "click details cycle 0 of pedal")
+        self.assertIn("brake (1)0cycle 1readbrake (1) position (1)200 µs200 µs", commit["details"])
+        self.assertIn("10readposition (1)x0001 of cycle count 0, slot 1, channel Acycle 0 of pedal (0)",
+                      brake["details"])
+        self.assertEqual(back["details"], commit["details"])
 
     def test_commits_that_ended(self) -> None:
         """The brake's frame has no receiver, and its slot 4 opens at minislot 5, above the latest one."""

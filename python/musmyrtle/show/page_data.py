@@ -5,9 +5,10 @@ from typing import Any
 from musmyrtle.lint.lint import read_bytes
 from musmyrtle.scenario import Reading
 from musmyrtle.show.engines import Inputs
-from musmyrtle.show.facts import ARRIVED, Facts, commit_of, number, text
+from musmyrtle.show.facts import ARRIVED, Facts, call_of, commit_of, number, text
 from musmyrtle.show.log import ENDS
 from musmyrtle.show.page_columns import Columns
+from musmyrtle.show.reads import Sources
 from musmyrtle.show.reasons import why
 from musmyrtle.show.summary import ERRORS
 from musmyrtle.version import version
@@ -25,7 +26,7 @@ def packed_run(facts: Facts) -> bytes:
     windows.add(columns)
     add_record(facts, columns)
     add_commits(facts, columns)
-    add_answers(facts.inputs, columns)
+    add_answers(facts, columns)
     add_seen(facts, windows, columns)
     return columns.packed(header_of(facts))
 
@@ -172,10 +173,11 @@ def add_commits(facts: Facts, columns: Columns) -> None:
         columns.words(f"sent_{key}", [getattr(it, key) for it in sent])
 
 
-def add_answers(inputs: Inputs, columns: Columns) -> None:
-    """Adds the lines of `fr_view answers`."""
+def add_answers(facts: Facts, columns: Columns) -> None:
+    """Adds the lines of `fr_view answers`, with the commit whose frame a task read."""
     fronts, backs = [], []
-    for line in inputs.of_run("answers").lines:
+    lines = facts.inputs.of_run("answers").lines
+    for line in lines:
         front, _, back = line.partition(" = ")
         fronts.append(front.split(" "))
         backs.append(back.split(" "))
@@ -191,6 +193,9 @@ def add_answers(inputs: Inputs, columns: Columns) -> None:
     columns.numbers("answer_slot", "u16", (int(it[1]) if it else None for it in frames))
     columns.words("answer_channel", [it[2] if it else "-" for it in frames])
     columns.contents("answer_frame", [it[3] if it else None for it in frames])
+    sources, places = Sources(facts), {(it.node, it.entry): place for place, it in enumerate(facts.commits)}
+    read = (sources.of(call_of(line)) for line in lines)
+    columns.numbers("answer_commit", "u32", (places[it[0].node, it[0].entry] if it else None for it in read))
 
 
 # ---- what each node received

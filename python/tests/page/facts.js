@@ -22,6 +22,18 @@ function storedOf(run) {
   return found;
 }
 
+/** Returns each read and pop, with the sender of its frame, the sender's buffer, and the cycle of the commit. */
+function sourcesOf(run) {
+  const its = run.columns;
+  const answers = Array.from(its.answer_node.keys()).filter((it) => /read|pop/.test(run.word("answer_kind", it)));
+  return answers.map((it) => {
+    const commit = run.number("answer_commit", it, "u32");
+    const source = commit === null ? [null, null, null]
+      : [its.commit_node[commit], its.commit_buffer[commit], its.commit_cycle[commit]];
+    return [its.answer_node[it], its.answer_cycle[it], run.word("answer_kind", it), ...source];
+  });
+}
+
 async function main() {
   for (const page of process.argv.slice(2)) {
     const run = await runOf(page);
@@ -30,7 +42,7 @@ async function main() {
       record: linesOf(run, "record"), commits: linesOf(run, "commits"), answers: linesOf(run, "answers"),
       idle: faults.filter((_, it) => !effectsOf(run, it).length).map((it) => it.line),
       counts: Array.from({length: run.nodes}, (_, node) => countsOf(run, node)), stored: storedOf(run),
-      tables: errorTable(run, 16).rows.map((it) => it.total),
+      sources: sourcesOf(run), tables: errorTable(run, 16).rows.map((it) => it.total),
     }));
   }
 }

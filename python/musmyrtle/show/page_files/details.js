@@ -96,10 +96,18 @@ function callTable(run, node) {
       const [call, reply] = answerLine(run, answer).split(" = ");
       const buffer = run.number("answer_buffer", answer, "u8");
       rows.push([String(run.columns.answer_cycle[answer]), String(run.columns.answer_task[answer]),
-                 call.split(" ")[3], buffer === null ? "FIFO" : bufferName(run, node, buffer), answerText(reply)]);
+                 call.split(" ")[3], buffer === null ? "FIFO" : bufferName(run, node, buffer), answerText(reply),
+                 sourceCell(run, answer)]);
     }
   }
-  return {caption: "Other calls of its tasks", head: ["cycle", "task", "call", "buffer", "answer"], rows};
+  return {caption: "Other calls of its tasks", head: ["cycle", "task", "call", "buffer", "answer", "commit"], rows};
+}
+
+/** Returns the cell for the commit whose frame a call read. */
+function sourceCell(run, answer) {
+  const commit = run.number("answer_commit", answer, "u32");
+  return commit === null ? "" : link(`cycle ${run.columns.commit_cycle[commit]} of `
+    + nodeName(run, run.columns.commit_node[commit]), "commit", commit);
 }
 
 /** Returns the answer to a call in words. */
@@ -156,7 +164,7 @@ function detailsOfCommit(run, commit) {
   if (ended !== null) {
     details.lit.calls.push({time: ended * run.cycleLength, text: run.word("commit_fate", commit)});
   }
-  details.tables = [sentTable(run, commit, details)];
+  details.tables = [sentTable(run, commit, details), readTable(run, commit, details)];
   details.lit.nodes.set(node, "sends");
   return details;
 }
@@ -183,8 +191,27 @@ function sentTable(run, commit, details) {
                endText(run, run.word("sent_end", sent)),
                receivers.map((it) => receiverName(run, it)).join(", ") || "none"]);
   }
-  return {caption: "Transmissions", head: ["sent in", "at", "after the start of the call's cycle", "slot", "channel",
+  return {caption: "Transmissions", head: ["sent in", "at", "after the start of the commit's cycle", "slot", "channel",
                                            "what came of it", "receivers"], rows};
+}
+
+/** Returns the table of the calls that read a commit, and adds them to what lights up. */
+function readTable(run, commit, details) {
+  const rows = [];
+  for (let answer = 0; answer < run.columns.answer_node.length; answer += 1) {
+    if (run.number("answer_commit", answer, "u32") === commit) {
+      const node = run.columns.answer_node[answer];
+      const cycle = run.columns.answer_cycle[answer];
+      const kind = run.word("answer_kind", answer);
+      const time = cycle * run.cycleLength;
+      details.lit.calls.push({time, text: kind});
+      rows.push([link(nodeName(run, node), "node", node), String(run.columns.answer_task[answer]), `cycle ${cycle}`,
+                 kind, receiverName(run, {node, buffer: run.number("answer_buffer", answer, "u8")}), timeText(run, time),
+                 timeText(run, time - run.columns.commit_cycle[commit] * run.cycleLength)]);
+    }
+  }
+  return {caption: "Calls that read it", head: ["node", "task", "called in", "call", "buffer", "at",
+                                                "after the start of the commit's cycle"], rows};
 }
 
 /** Returns the commit that a line of the record carried, or null. */
