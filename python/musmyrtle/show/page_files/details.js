@@ -206,8 +206,8 @@ function readTable(run, commit, details) {
       const time = cycle * run.cycleLength;
       details.lit.calls.push({time, text: kind});
       rows.push([link(nodeName(run, node), "node", node), String(run.columns.answer_task[answer]), `cycle ${cycle}`,
-                 kind, receiverName(run, {node, buffer: run.number("answer_buffer", answer, "u8")}), timeText(run, time),
-                 timeText(run, time - run.columns.commit_cycle[commit] * run.cycleLength)]);
+                 kind, receiverName(run, {node, buffer: run.number("answer_buffer", answer, "u8")}),
+                 timeText(run, time), timeText(run, time - run.columns.commit_cycle[commit] * run.cycleLength)]);
     }
   }
   return {caption: "Calls that read it", head: ["node", "task", "called in", "call", "buffer", "at",
