@@ -10,7 +10,7 @@ import musmyrtle.lint.command
 from musmyrtle.breaking import BrokenOff, breaking_off
 from musmyrtle.lint.command import FINE, formed, is_bold_on, printed
 from musmyrtle.output import Stop
-from musmyrtle.show import options
+from musmyrtle.show import options, page
 from musmyrtle.show.commits import commits
 from musmyrtle.show.engines import COMMAND, Inputs, opened
 from musmyrtle.show.facts import Facts
@@ -119,4 +119,5 @@ COMMANDS = (
             (f"faults {RUN} --html faults.html > faults",),
             lambda: musmyrtle.faults.options.arguments(f"{COMMAND} faults"), faults_main),
     *TABLES,
+    Command("page", page.PURPOSE, page.EXAMPLE, page.arguments, page.main),
 )

@@ -55,7 +55,7 @@ class World:
             cycles = run_cycles(cycles)
         except ValueError as error:
             raise BadCycles(*error.args) from None
-        self._data = regular_file(cluster)
+        self._cluster, self._data = cluster, regular_file(cluster)
         self._faults: list[tuple[Fault, Callable[[Window], bool]]] = []
         self._unread = ""
         self._session = Session(program or usual_world(), cluster, cycles, timeout)
@@ -206,6 +206,24 @@ class World:
         data = captured(trace, program)
         with open(path, "wb") as file:
             file.write(data)
+
+    def page(self, path: FileName, *, program: FileName | None = None) -> None:
+        """Writes a page in which the cycles that are done are explored in a browser, as `musmyrtle page` does.
+
+        PROGRAM is the `fr_view` to run, which is otherwise looked for. Raises `ValueError` where no cycle is done, or
+        where the calls are those of no scenario: each one comes between two cycles, and in each cycle those of task 0
+        come first. Raises `OSError` where the file can't be written, and `SessionOver` where a program can't be asked.
+        """
+        # Each program that opens a world would wait for these imports.
+        from musmyrtle.show.page_session import first_of_cycle, page_of_session, traces_of
+        if self._data is None:
+            raise ValueError("the page needs a cluster file that is a regular file")
+        with self._session.lock:
+            traces = list(traces_of(self.block))
+            records = [self.record(number) for number in range(first_of_cycle(traces[0], self.now()))]
+        text = page_of_session(self._cluster, self._data, traces, records, program)
+        with open(path, "w", encoding="utf-8") as file:
+            file.write(text)
 
     # ---- windows and cycles
 

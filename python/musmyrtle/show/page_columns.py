@@ -1,0 +1,65 @@
+"""Columns of numbers, words and bytes, packed one after another for the page of a run.
+
+A packed text is the length of the header in four bytes, the header in JSON, and the columns. Numbers have their lowest
+byte first. Each column begins at a multiple of four bytes.
+"""
+import json
+import struct
+import sys
+from array import array
+from collections.abc import Iterable, Mapping, Sequence
+from typing import Any
+
+TYPES = {"u8": "B", "u16": "H", "u32": "I"}
+NOTHING = {"u8": 0xff, "u16": 0xffff, "u32": 0xffffffff}
+"""The number that stands for the absence of one, by type."""
+
+
+def padded(data: bytes, filler: bytes = b"\0") -> bytes:
+    """Returns the bytes with so many of FILLER that their number is a multiple of four."""
+    return data + filler * (-len(data) % 4)
+
+
+class Columns:
+    """Columns by name, with their types, in the order in which they were added."""
+
+    def __init__(self) -> None:
+        self.listed: list[dict[str, Any]] = []
+        self.parts: list[bytes] = []
+
+    def numbers(self, name: str, kind: str, values: Iterable[int | None]) -> None:
+        """Adds a column of numbers of a type of `TYPES`."""
+        absent = NOTHING[kind]
+        self.add(name, kind, array(TYPES[kind], (absent if it is None else it for it in values)))
+
+    def rising(self, name: str, values: Sequence[int]) -> None:
+        """Adds a column of numbers in ascending order, kept as differences, which are compressed far better."""
+        self.add(name, "u32", array("I", (it - before for before, it in zip((0, *values), values))), is_rising=True)
+
+    def words(self, name: str, values: Sequence[str]) -> None:
+        """Adds a column of words. The header has each different word once, and the column its number."""
+        numbers: dict[str, int] = {}
+        places = [numbers.setdefault(it, len(numbers)) for it in values]
+        kind = "u8" if len(numbers) <= 0xff else "u16" if len(numbers) <= 0xffff else "u32"
+        self.add(name, kind, array(TYPES[kind], places), words=list(numbers))
+
+    def contents(self, name: str, values: Sequence[str | None]) -> None:
+        """Adds columns of the sizes and contents of values that are spelled `x0a0b`.
+
+        An absent value has no bytes.
+        """
+        held = [bytes.fromhex(it[1:]) if it else b"" for it in values]
+        self.numbers(f"{name}_size", "u16", map(len, held))
+        self.add(f"{name}_bytes", "u8", array("B", b"".join(held)))
+
+    def add(self, name: str, kind: str, values: "array[int]", **more: Any) -> None:
+        """Adds a column, with MORE keys of its entry in the header."""
+        if sys.byteorder == "big":
+            values.byteswap()
+        self.listed.append({"name": name, "type": kind, "count": len(values), **more})
+        self.parts.append(padded(values.tobytes()))
+
+    def packed(self, header: Mapping[str, Any]) -> bytes:
+        """Returns the packed text of a header and the columns."""
+        text = padded(json.dumps({**header, "columns": self.listed}).encode(), b" ")
+        return b"".join((struct.pack("<I", len(text)), text, *self.parts))

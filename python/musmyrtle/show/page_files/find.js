@@ -1,0 +1,152 @@
+"use strict";
+
+/** A place in the run with a text: what is chosen if the text is clicked.
+ * @typedef {{kind: string, number: number, channel: (number|undefined)}} Choice
+ */
+
+/** Returns whether a name or a number is what was typed. */
+function isNamed(name, number, wanted) {
+  return String(number) === wanted || name !== null && name.toLowerCase().includes(wanted.toLowerCase());
+}
+
+/** The searches by what is looked for. Each returns the choices of all that it finds. */
+const SEARCHES = {
+  node: (run, wanted) => choicesOf(run.nodes, "node", (it) => isNamed(run.header.nodes[it].name, it, wanted)),
+  buffer: (run, wanted) => buffersNamed(run, wanted),
+  slot: (run, wanted) => usedSlots(run).filter((it) => String(it) === wanted)
+    .map((it) => ({kind: "slot", number: it})),
+  payload: (run, wanted) => withPayload(run, wanted.toLowerCase().replace(/^0?x/, "").replace(/[^0-9a-f]/g, "")),
+};
+
+/** Returns the choices of the numbers below a count that suit. */
+function choicesOf(count, kind, suits) {
+  const found = [];
+  for (let number = 0; number < count; number += 1) {
+    if (suits(number)) {
+      found.push({kind, number});
+    }
+  }
+  return found;
+}
+
+/** Returns the slots in which something was sent, or that have an owner or a sender, in ascending order. */
+function usedSlots(run) {
+  if (!run.usedSlots) {
+    const slots = new Set(run.header.plan.map((it) => Number(it[1])));
+    for (let line = 0; line < run.columns.record_window.length; line += 1) {
+      slots.add(run.slots[run.channelOf(line)][run.columns.record_window[line]]);
+    }
+    slots.delete(0);
+    run.usedSlots = [...slots].sort((one, other) => one - other);
+  }
+  return run.usedSlots;
+}
+
+/** Returns the choices of commits with these digits in their bytes, and then of other transmissions with them. */
+function withPayload(run, digits) {
+  if (!digits) {
+    return [];
+  }
+  const commits = choicesOf(run.columns.commit_node.length, "commit",
+                            (it) => run.bytes("commit_data", it).includes(digits));
+  const places = [];
+  for (let line = 0; line < run.columns.record_window.length; line += 1) {
+    if (run.columns.record_data_size[line] && run.bytes("record_data", line).includes(digits)) {
+      places.push({kind: "window", number: run.columns.record_window[line], channel: run.channelOf(line)});
+    }
+  }
+  return [...commits, ...places];
+}
+
+/**
+ * Returns what a search finds.
+ * @param {Run} run
+ * @param {string} kind a key of SEARCHES
+ * @param {string} text
+ * @returns {Choice[]}
+ */
+function found(run, kind, text) {
+  const wanted = text.trim();
+  return wanted ? SEARCHES[kind](run, wanted) : [];
+}
+
+/**
+ * Returns the next cell with a mark after a place, or the one before it, in the order of windows and channels.
+ * @param {Cells[]} lanes
+ * @param {number} mark
+ * @param {number} place twice the window, and 1 more for channel B
+ * @param {boolean} isBack
+ * @returns {number|null} a place
+ */
+function nextMarked(lanes, mark, place, isBack) {
+  const places = lanes.map((cells) => nextIn(cells, mark, place, isBack)).filter((it) => it !== null);
+  if (!places.length) {
+    return null;
+  }
+  return isBack ? Math.max(...places) : Math.min(...places);
+}
+
+/** Returns the next place with a mark in one lane, or null. */
+function nextIn(cells, mark, place, isBack) {
+  const window = place >> 1;
+  const first = isBack ? below(cells.window, window + 1) - 1 : below(cells.window, window);
+  for (let cell = first; cell >= 0 && cell < cells.window.length; cell += isBack ? -1 : 1) {
+    const its = 2 * cells.window[cell] + cells.channel;
+    if (cells.mark[cell] & mark && (isBack ? its < place : its > place)) {
+      return its;
+    }
+  }
+  return null;
+}
+
+/**
+ * Returns the errors of each node by parts of the run, as the nodes counted them.
+ * @param {Run} run
+ * @param {number} most the largest number of parts
+ * @returns {{cycles: number, rows: {total: number, counts: number[], first: (Choice|null)[]}[]}} the cycles of a part
+ */
+function errorTable(run, most) {
+  const cycles = Math.ceil(run.header.cycles / most);
+  const parts = Math.ceil(run.header.cycles / cycles);
+  const isError = run.words.seen_state.map((it) => isErrorWord(run, it));
+  const rows = [];
+  for (let node = 0; node < run.nodes; node += 1) {
+    const counts = new Array(parts).fill(0);
+    const first = new Array(parts).fill(null);
+    const base = run.seenPlace(node, 0, 0);
+    for (let place = 0; place < 2 * run.windows; place += 1) {
+      if (isError[run.columns.seen_state[base + place]]) {
+        const part = Math.floor(run.columns.window_cycle[place >> 1] / cycles);
+        first[part] = first[part] || {kind: "window", number: place >> 1, channel: place & 1};
+        counts[part] += 1;
+      }
+    }
+    rows.push({total: counts.reduce((sum, it) => sum + it, 0), counts, first});
+  }
+  return {cycles, rows};
+}
+
+/** Returns whether a node counts what the word stands for: an error on a channel with a slot. */
+function isErrorWord(run, word) {
+  const [status, , slot] = word.split(" ");
+  return slot === "slot" && Object.values(run.header.errors).some((it) => it.includes(status));
+}
+
+/** Returns the counts of an error of a node on a channel, for the comparison with its counters. */
+function countOf(run, node, channel, error) {
+  let count = 0;
+  for (let window = 0; window < run.windows; window += 1) {
+    const {status, hasSlot} = run.seen(node, window, channel);
+    count += hasSlot && run.header.errors[error].includes(status) ? 1 : 0;
+  }
+  return count;
+}
+
+/** Returns the choices of the lines of the record in view, at most MOST, and their number. */
+function inView(run, view, most) {
+  const begin = below(run.columns.window_begin, view.from);
+  const end = below(run.columns.window_begin, view.from + view.span);
+  const first = run.firstOfWindow[begin];
+  const last = run.firstOfWindow[end];
+  return {count: last - first, lines: Array.from({length: Math.min(most, last - first)}, (_, it) => first + it)};
+}
