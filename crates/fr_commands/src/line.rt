@@ -41,6 +41,14 @@ fn put_number(line: &mut [u8; ROOM], end: usize, number: u64) -> usize
     start - 1
 }
 
+/// The numbers of a line that come after its channels.
+#[derive(Clone, Copy)]
+pub(crate) struct LastNumbers {
+    pub(crate) second: u64,
+    pub(crate) third: u64,
+    pub(crate) fourth: u64,
+}
+
 /// Writes a line: its first word, a number, the channels, and three more numbers (project-defined).
 ///
 /// Fails if the writer fails, which may have written a part by then.
@@ -49,22 +57,21 @@ pub(crate) fn write_line<W: Write>(
     told: &str,
     first: u64,
     channels: &str,
-    second: u64,
-    third: u64,
-    fourth: u64,
+    last: LastNumbers,
 ) -> io::Result<()>
     requires told { length told.now ≤ 7 }
     requires channels { length channels.now ≤ 2 }
     ensures { OnOk result
         (Appends (W.contents writer.old) (W.contents writer.new)
         (line_text
-        (told.now ∷ decimal first ∷ channels.now ∷ decimal second ∷ decimal third ∷ decimal fourth ∷ []))) }
+        (told.now ∷ decimal first ∷ channels.now ∷ decimal last.second ∷ decimal last.third ∷ decimal last.fourth
+        ∷ []))) }
 {
     let mut line = [b'\n'; ROOM];
     let end = ROOM - 1;
-    let end = put_number(&mut line, end, fourth);
-    let end = put_number(&mut line, end, third);
-    let end = put_number(&mut line, end, second);
+    let end = put_number(&mut line, end, last.fourth);
+    let end = put_number(&mut line, end, last.third);
+    let end = put_number(&mut line, end, last.second);
     let end = put_word(&mut line, end, channels);
     let end = put_number(&mut line, end, first);
     let start = end - told.len();

@@ -12,7 +12,7 @@ ghost use Rattle.fr_commands.specs.PlanText.{guard_line, IsGuardText, AreCycleTe
 ghost use Rattle.fr_slots.specs.Numbers.{cycle_count};
 ghost use Rattle.fr_schedule.specs.Clusters.{IsCluster};
 
-use crate::line::write_line;
+use crate::line::{LastNumbers, write_line};
 use fr_files::cluster_file::cluster_of;
 use fr_files::error::BenchError;
 use fr_files::output::write_whole;
@@ -80,9 +80,11 @@ fn write_slot_line<W: Write>(
         "slot",
         u64::from(slot.number()),
         letter(channel),
-        u64::from(node.number()),
-        u64::from(cycles.base()),
-        u64::from(cycles.repetition()),
+        LastNumbers {
+            second: u64::from(node.number()),
+            third: u64::from(cycles.base()),
+            fourth: u64::from(cycles.repetition()),
+        },
     )
 }
 
@@ -190,9 +192,11 @@ fn write_dynamic<W: Write>(writer: &mut W, number: usize, buffer: &Buffer) -> io
         "dynamic",
         u64::from(filter.slot.number()),
         channels_word(filter.channels),
-        number as u64,
-        u64::from(filter.cycles.base()),
-        u64::from(filter.cycles.repetition()),
+        LastNumbers {
+            second: number as u64,
+            third: u64::from(filter.cycles.base()),
+            fourth: u64::from(filter.cycles.repetition()),
+        },
     )
 }
 
@@ -262,9 +266,11 @@ fn write_spans<W: Write>(
             "guard",
             u64::from(number),
             letter(channel),
-            u64::from(cycle.number()),
-            u64::from(*start),
-            u64::from(*end),
+            LastNumbers {
+                second: u64::from(cycle.number()),
+                third: u64::from(*start),
+                fourth: u64::from(*end),
+            },
         )?;
     }
     Ok(())

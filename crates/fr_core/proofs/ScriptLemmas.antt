@@ -183,8 +183,8 @@ module _ (s : State) (scripts : List Scripted) (n : ℕ) where
     each = λ task x there. course_past task k x e (far.each task x there) at (none_done s k task e none);
   }
 
-  pub courses_on : (k : ℕ) (xs : List Course) (e : Entry) (done : ℕ × Executed) (x y : Course) → AreCourses s scripts n k xs
-      → slice_get s.entries k ≡ Some e
+  pub courses_on : (k : ℕ) (xs : List Course) (e : Entry) (done : ℕ × Executed) (x y : Course)
+      → AreCourses s scripts n k xs → slice_get s.entries k ≡ Some e
       → done_by s k e ≡ Some done → slice_get xs done.0 ≡ Some x → CourseNext scripts n done.0 done.1 x y
       → AreCourses s scripts n (k + 1) (set xs done.0 y)
   courses_on k xs e done x y far at is there next = record {

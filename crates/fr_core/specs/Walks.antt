@@ -13,7 +13,8 @@ use Rattle.fr_core.specs.declared.tasks.Course.{Course}
 use Rattle.fr_core.specs.declared.walk.Fetches.{Fetches}
 use Rattle.fr_core.specs.declared.walk.Findings.{Findings}
 use Rattle.fr_core.specs.declared.walk.Observes.{Observes}
-use Rattle.fr_core.specs.Scripts.{Scripted, IsLine, AreLines, ScriptAgrees, is_for, Executed, call_at, calls_of, calls_in}
+use Rattle.fr_core.specs.Scripts.{Scripted, IsLine, AreLines, ScriptAgrees, is_for, Executed, call_at, calls_of}
+use Rattle.fr_core.specs.Scripts.{calls_in}
 use Rattle.fr_core.specs.Scripts.{frame_reply}
 use Rattle.fr_core.specs.Settling.{IsFirst, EachTask, IfThere, HasWindows, WindowsAgree, IsHandedAt, IsShownAt}
 use Rattle.fr_core.specs.Settling.{fetches_at, observes_at, windows_of}

@@ -50,9 +50,12 @@ fn write_style<W: Write>(writer: &mut W) -> io::Result<()> {
 
 /// The meaning of the signs in the cells.
 const LEGEND: [&str; 3] = [
-    "A number is the node whose transmission came first of those that passed; its colour is filled for data and pale for a null frame (-).",
-    "? bytes that are no frame, + too long for the slot, X several at once (red), = the node's own; nothing where nothing passed.",
-    "b a guardian stopped a transmission, l a fault lost one, t a fault turned a bit. Each cell has a title with all that was sent.",
+    "A number is the node whose transmission came first of those that passed; \
+     its colour is filled for data and pale for a null frame (-).",
+    "? bytes that are no frame, + too long for the slot, X several at once (red), = the node's own; \
+     nothing where nothing passed.",
+    "b a guardian stopped a transmission, l a fault lost one, t a fault turned a bit. \
+     Each cell has a title with all that was sent.",
 ];
 
 /// The extent of a record: its cycles, the drawn ones, and the windows of the longest cycles.

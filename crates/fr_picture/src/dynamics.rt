@@ -13,9 +13,11 @@ use std::io::Write;
 /// The length of a box that has room for the number of a slot.
 const SLOT_LENGTH: u64 = 300;
 
-/// The place of a slot among those of the segment: its left end, and its length.
+/// The cell of a slot among those of the segment: the slot, its sender, the left end of the cell, and its length.
 #[derive(Clone, Copy)]
 struct Cell {
+    slot: SlotId,
+    node: NodeId,
     left: u64,
     length: u64,
 }
@@ -85,25 +87,15 @@ fn never_sends(cluster: &Cluster, node: NodeId, channel: Channel) -> bool {
 }
 
 /// Writes the numbers of the slot and of its node into a cell, if they fit.
-fn write_numbers<W: Write>(
-    writer: &mut W,
-    slot: SlotId,
-    node: NodeId,
-    cell: Cell,
-    top: u64,
-) -> io::Result<()> {
+fn write_numbers<W: Write>(writer: &mut W, cell: Cell, top: u64) -> io::Result<()> {
+    let node = u64::from(cell.node.number());
     let middle = cell.left.saturating_add(cell.length / 2);
     let (over, under) = (top.saturating_add(195), top.saturating_add(315));
     if cell.length >= SLOT_LENGTH {
-        write_number(writer, middle, over, u64::from(slot.number()))?;
-        write_number(writer, middle, under, u64::from(node.number()))
+        write_number(writer, middle, over, u64::from(cell.slot.number()))?;
+        write_number(writer, middle, under, node)
     } else if cell.length >= NUMBER_LENGTH {
-        write_number(
-            writer,
-            middle,
-            top.saturating_add(260),
-            u64::from(node.number()),
-        )
+        write_number(writer, middle, top.saturating_add(260), node)
     } else {
         Ok(())
     }
@@ -113,8 +105,8 @@ fn write_numbers<W: Write>(
 fn write_sender<W: Write>(
     writer: &mut W,
     cluster: &Cluster,
-    slot: SlotId,
     channel: Channel,
+    slot: SlotId,
     node: NodeId,
 ) -> io::Result<()> {
     let never = if never_sends(cluster, node, channel) {
@@ -134,13 +126,17 @@ fn write_slot<W: Write>(
     writer: &mut W,
     cluster: &Cluster,
     cycle: Cycle,
-    slot: SlotId,
     channel: Channel,
-    node: NodeId,
     cell: Cell,
 ) -> io::Result<()> {
-    let (left, top) = (cell.left, row_of(channel));
-    write_sender(writer, cluster, slot, channel, node)?;
+    let Cell {
+        slot,
+        node,
+        left,
+        length,
+    } = cell;
+    let top = row_of(channel);
+    write_sender(writer, cluster, channel, slot, node)?;
     if let Some(buffer) = buffer_for(cluster, node, cycle, slot, channel) {
         write_buffer(writer, &buffer)?;
     }
@@ -152,10 +148,10 @@ fn write_slot<W: Write>(
         writer,
         left,
         top.saturating_add(70),
-        cell.length,
+        length,
         CHANNEL_HEIGHT - 140,
     )?;
-    write_numbers(writer, slot, node, cell, top)?;
+    write_numbers(writer, cell, top)?;
     close_group(writer)
 }
 
@@ -191,10 +187,12 @@ pub(crate) fn write_dynamic<W: Write>(
             index = index.saturating_add(1);
             let end = left.saturating_add(index.saturating_mul(length) / count);
             let cell = Cell {
+                slot,
+                node,
                 left: start,
                 length: end.saturating_sub(start).max(1),
             };
-            write_slot(writer, cluster, cycle, slot, channel, node, cell)?;
+            write_slot(writer, cluster, cycle, channel, cell)?;
         }
     }
     Ok(())

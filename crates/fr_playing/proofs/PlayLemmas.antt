@@ -91,8 +91,8 @@ pub adds_none : (calls : List ExecutedCall) (w : WorldState) → AddsCalls calls
 unfolding DoesCalls
 adds_none calls w = ([], sym (append-nil calls), refl, refl)
 
-pub adds_one : (before : List ExecutedCall) (call : ExecutedCall) (asked : Asked) (old new : WorldState) → DoesCall old call new
-    → asked_of call ≡ asked
+pub adds_one : (before : List ExecutedCall) (call : ExecutedCall) (asked : Asked) (old new : WorldState)
+    → DoesCall old call new → asked_of call ≡ asked
     → AddsCalls before (before ++ call ∷ []) old (asked ∷ []) new
 unfolding DoesCalls
 adds_one before call asked old new does is = (call ∷ [], refl, ap (λ (a : Asked). a ∷ []) is, (new, does, refl))
@@ -101,8 +101,8 @@ abbrev asked : ℕ → ℕ → ℕ → Call → Asked
 asked node task cycle call = record { node = node; task = task; cycle = cycle; call = call }
 
 -- a line of another cycle leads to no call
-pub other_line : (cycle node task : ℕ) (line : Line) (calls : List ExecutedCall) (w : WorldState) → (line.cycle ≡ cycle → ⊥)
-    → AddsCalls calls calls w (asked_in_line cycle node task line) w
+pub other_line : (cycle node task : ℕ) (line : Line) (calls : List ExecutedCall) (w : WorldState)
+    → (line.cycle ≡ cycle → ⊥) → AddsCalls calls calls w (asked_in_line cycle node task line) w
 other_line cycle node task line calls w other = by (line.cycle == cycle) refl
   where
     by : (b : Bool) → (line.cycle == cycle) ≡ b → AddsCalls calls calls w
@@ -111,8 +111,8 @@ other_line cycle node task line calls w other = by (line.cycle == cycle) refl
     by false e = adds_none calls w
 
 -- a line of this cycle that was executed
-pub one_line : (cycle node task : ℕ) (line : Line) (before after : List ExecutedCall) (call : ExecutedCall) (old new : WorldState)
-    → line.cycle ≡ cycle → after ≡ before ++ call ∷ []
+pub one_line : (cycle node task : ℕ) (line : Line) (before after : List ExecutedCall) (call : ExecutedCall)
+    (old new : WorldState) → line.cycle ≡ cycle → after ≡ before ++ call ∷ []
     → DoesCall old call new → (call.node ≡ node) × (call.task ≡ task) × (call.cycle ≡ cycle) ×
     (call.call ≡ line.action)
     → AddsCalls before after old (asked_in_line cycle node task line) new
@@ -141,8 +141,8 @@ adds_append before between after xs ys old mid new first second =
       does_append old calls mid more new does does',
     )
 
-pub adds_more : {X : Type 0} (f : X → List Asked) (xs : List X) (i : ℕ) (x : X) (before between after : List ExecutedCall)
-    (old mid new : WorldState) → i < length xs
+pub adds_more : {X : Type 0} (f : X → List Asked) (xs : List X) (i : ℕ) (x : X)
+    (before between after : List ExecutedCall) (old mid new : WorldState) → i < length xs
     → x ≡ get_or xs i x → AddsCalls before between old (flat_map f (take i xs)) mid
     → AddsCalls between after mid (f x) new
     → AddsCalls before after old (flat_map f (take (i + 1) xs)) new
@@ -186,8 +186,8 @@ asked_more count scripts =
     ∙ ap (λ (l : List Asked). asked_by count scripts ++ l) (append-nil (asked_in count scripts))
 
 -- the executed calls are those of the scripts
-pub all_asked : (scripts : List Scripted) (faults : List FaultLine) (due : List Event) (count : ℕ) (calls : List ExecutedCall)
-    (old new : WorldState)
+pub all_asked : (scripts : List Scripted) (faults : List FaultLine) (due : List Event) (count : ℕ)
+    (calls : List ExecutedCall) (old new : WorldState)
     → PlaysCycles scripts faults due count old calls new → map asked_of calls ≡ asked_by count scripts
 unfolding PlaysCycles
 all_asked scripts faults due zero calls old new plays = ap (map asked_of) plays.0

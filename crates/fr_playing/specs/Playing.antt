@@ -17,22 +17,24 @@ use Rattle.fr_playing.specs.Moving.{whole_window}
 -- ---- cycles
 
 -- The cycle of this number of the run: these calls execute all its lines in order, and then come its windows.
-abbrev pub PlaysCycle : ℕ → List Scripted → List FaultLine → List Event → WorldState → List ExecutedCall → WorldState → Type 0
+abbrev pub PlaysCycle : ℕ → List Scripted → List FaultLine → List Event → WorldState → List ExecutedCall → WorldState
+    → Type 0
 PlaysCycle cycle scripts faults due old calls new =
     (called : WorldState) × (map asked_of calls ≡ asked_in cycle scripts) × DoesCalls old calls called
     × PlaysWindows cycle faults due called new
 
 -- this number of cycles, with all their calls
-unfoldable pub PlaysCycles : List Scripted → List FaultLine → List Event → ℕ → WorldState → List ExecutedCall → WorldState
-    → Type 0
+unfoldable pub PlaysCycles : List Scripted → List FaultLine → List Event → ℕ → WorldState → List ExecutedCall
+    → WorldState → Type 0
 PlaysCycles scripts faults due zero old calls new = (calls ≡ []) × (new ≡ old)
 PlaysCycles scripts faults due (suc n) old calls new =
-    (mid : WorldState) × (before : List ExecutedCall) × (later : List ExecutedCall) × PlaysCycles scripts faults due n old before mid
-    × PlaysCycle n scripts faults due mid later new × (calls ≡ before ++ later)
+    (mid : WorldState) × (before : List ExecutedCall) × (later : List ExecutedCall)
+    × PlaysCycles scripts faults due n old before mid × PlaysCycle n scripts faults due mid later new
+    × (calls ≡ before ++ later)
 
 -- after the calls `before` come those of the cycle
-abbrev pub AddsCycle : ℕ → List Scripted → List FaultLine → List Event → List ExecutedCall → List ExecutedCall → WorldState
-    → WorldState → Type 0
+abbrev pub AddsCycle : ℕ → List Scripted → List FaultLine → List Event → List ExecutedCall → List ExecutedCall
+    → WorldState → WorldState → Type 0
 AddsCycle cycle scripts faults due before after old new =
     (calls : List ExecutedCall) × (after ≡ before ++ calls) × PlaysCycle cycle scripts faults due old calls new
 

@@ -85,7 +85,6 @@ fn audit_through<R: Read, W: Write>(
 /// Returns the error of the first line at fault, at which it stops reading; `Read` if the reader fails; `Memory` if an
 /// allocation fails; and `Write` if the writer fails. Nothing is written on an error other than `Write`. After `Write`
 /// a part of the report may have been written.
-/// written.
 pub fn audit<R: Read, W: Write>(
     alloc: Global,
     reader: &mut R,

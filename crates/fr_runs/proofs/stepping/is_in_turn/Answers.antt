@@ -12,8 +12,8 @@ returns c =
     let x = c.args.progress.now in
     let b = c.stands_for.result in
     let of = c.from.ensures ∙ c.number.ensures.value in
-    in_turn rs (take c.args.place.now.number c.args.place.now.interface.now.entries) x c.requires c.args.scripts.now c.args.node
-    (whole c.args.entry.now) c.in-Some.task 0 b
+    in_turn rs (take c.args.place.now.number c.args.place.now.interface.now.entries) x c.requires
+    c.args.scripts.now c.args.node (whole c.args.entry.now) c.in-Some.task 0 b
     (sym c.task_of.ensures ∙ c.in-Some.is) (omega (arith, c.number.ensures.fits, c.number.ensures.value))
     (subst (λ n. IsTrue b ↔ StandsFor rs (lines_given c.args.scripts.now c.args.node c.in-Some.task)
     (slice_index_or x.calls n 0) x) of

@@ -8,15 +8,15 @@ use Rattle.fr_runs.proofs.stepping.pass.Goals.{then-is_beginning, else-is_beginn
 
 pub overflow_add-progress : goal.overflow_add-progress
 overflow_add-progress c =
-    let few = few_calls c.args.recorded.now c.args.place.now.interface.now.entries c.args.place.now.number c.args.progress.now
-    c.requires.so_far (whole c.args.entry.now) c.requires.here
+    let few = few_calls c.args.recorded.now c.args.place.now.interface.now.entries c.args.place.now.number
+    c.args.progress.now c.requires.so_far (whole c.args.entry.now) c.requires.here
     c.from.result 0 (omega (arith, c.from.ensures, c.number.ensures.fits, c.number.ensures.value)) in
     omega (arith, few, c.requires.few)
 
 pub returns-in-Some : goal.returns-in-Some
 returns-in-Some c =
-    called c.args.recorded.now c.args.place.now.interface.now.entries c.args.place.now.number c.args.progress.now c.requires.so_far
-    (whole c.args.entry.now) c.requires.here c.from.result
+    called c.args.recorded.now c.args.place.now.interface.now.entries c.args.place.now.number
+    c.args.progress.now c.requires.so_far (whole c.args.entry.now) c.requires.here c.from.result
     (sym c.task_of.ensures ∙ c.in-Some.is ∙ ap Some (sym (c.from.ensures ∙ c.number.ensures.value)))
     (omega (arith, c.from.ensures, c.number.ensures.fits, c.number.ensures.value)) 0
 
@@ -43,6 +43,6 @@ returns-after-is_beginning c =
 
 pub returns-else-is_fetch : goal.returns-else-is_fetch
 returns-else-is_fetch c =
-    observed_more c.args.recorded.now c.args.place.now.interface.now.entries c.args.place.now.number c.args.progress.now c.requires.so_far
-    (whole c.args.entry.now) c.requires.here
+    observed_more c.args.recorded.now c.args.place.now.interface.now.entries c.args.place.now.number
+    c.args.progress.now c.requires.so_far (whole c.args.entry.now) c.requires.here
     (sym c.task_of.ensures ∙ c.in_default.is) (sym c.is_fetch.ensures ∙ c.if-is_fetch.false)

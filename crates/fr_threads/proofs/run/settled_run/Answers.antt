@@ -13,14 +13,16 @@ returns g c =
     let settled = settles_same _ _ _ _ _ _ _ same_interfaces c.as_slice-3.ensures.value c.in_ok-settled.ensures.answer
     in
     let at_end : IsTrue c.in_ok-is_at_end.field-0 = search rules in
-    let stepped : c.args.workload.now.stepped ≡ true → AreStepped c.args.bus.sealed c.args.workload.now.scripts.now c.args.nodes.interfaces.items =
+    let scripts = c.args.workload.now.scripts.now in
+    let interfaces = c.args.nodes.interfaces.items in
+    let stepped : c.args.workload.now.stepped ≡ true → AreStepped c.args.bus.sealed scripts interfaces =
     elim c.else-workload.branch [
       | else-workload-via-then-workload+else-not-are_stepped w ↦
           λ yes.
           let are : IsTrue w.are_stepped.result = search rules in
           let found = w.are_stepped.ensures.0 are in
-          subst (λ rs. AreStepped rs c.args.workload.now.scripts.now c.args.nodes.interfaces.items) w.record.ensures.value
-          (subst (λ is. AreStepped w.record.result.now c.args.workload.now.scripts.now is) w.as_slice-then-workload.ensures.value found)
+          subst (λ rs. AreStepped rs scripts interfaces) w.record.ensures.value
+          (subst (λ is. AreStepped w.record.result.now scripts is) w.as_slice-then-workload.ensures.value found)
       | else-workload-via-else-workload w ↦ λ yes. cc (w.if-workload.false, yes)
     ] in
     record {
