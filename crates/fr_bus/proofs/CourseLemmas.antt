@@ -20,7 +20,7 @@ use Rattle.fr_slots.specs.Parameters.{Parameters}
 zero_more : (n : ℕ) → n + 0 ≡ n
 zero_more n = omega arith
 
-fold_more : {X Y : Type 0} (f : Y → X → Y) (y : Y) (xs : List X) (x : X) → fold f y (xs ++ x ∷ []) ≡ f (fold f y xs) x
+pub fold_more : {X Y : Type 0} (f : Y → X → Y) (y : Y) (xs : List X) (x : X) → fold f y (xs ++ x ∷ []) ≡ f (fold f y xs) x
 fold_more f y [] x = refl
 fold_more f y (z ∷ xs) x = fold_more f (f y z) xs x
 
@@ -34,7 +34,7 @@ count_more test xs x b e =
     let one : cond {A = ℕ} (test x) 1 0 ≡ cond {A = ℕ} b 1 0 = ap (λ (c : Bool). cond {A = ℕ} c 1 0) e in
     omega (arith, one, sum_by-append (λ y. cond {A = ℕ} (test y) 1 0) xs (x ∷ []))
 
-counts_more : (channel : Channel) (done : List Recorded) (r : Recorded) (b : Bool) → is_row_of channel r ≡ b
+pub counts_more : (channel : Channel) (done : List Recorded) (r : Recorded) (b : Bool) → is_row_of channel r ≡ b
     → counts_on channel (done ++ r ∷ []) ≡ counts_on channel done ++ cond b (longest channel r.sent ∷ []) []
 counts_more channel done r true e =
     ap (λ (rs : List Recorded). map (λ (s : Recorded). longest channel s.sent) rs)

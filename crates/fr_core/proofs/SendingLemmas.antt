@@ -21,8 +21,8 @@ use Rattle.fr_journal.specs.Entries.{IsEntry}
 use Rattle.fr_journal.specs.Fate.{is_data_of, sends}
 use Rattle.fr_journal.specs.Legal.{IsLegal, IsLegalFetch}
 use Rattle.fr_slots.specs.Plans.{admits_slot, buffer_at, Plan, is_receive}
-use Rattle.fr_journal.specs.Offers.{is_admitting, transmitter, ready, ready_in, owns, data_or, offered_at, offered}
-use Rattle.fr_journal.specs.Offers.{payload_of}
+use Rattle.fr_journal.specs.Offers.{is_admitting, transmitter, may_begin, ready, ready_in, owns, data_or, offered_at}
+use Rattle.fr_journal.specs.Offers.{offered, payload_of}
 use Rattle.fr_slots.specs.Admission.{includes, cycle_admitted}
 use Rattle.fr_slots.specs.declared.channel.Channel.{Channel}
 use Rattle.fr_slots.specs.declared.channel.Channel.TheVariants.{A, B}
@@ -78,7 +78,7 @@ or_rest : (p q : Bool) → q ≡ true → (p || q) ≡ true
 or_rest true q e = refl
 or_rest false q e = e
 
-sends_on : (number : ℕ) (w : Opportunity) (x y : Offered) (plan : Plan) (before : List Entry) (channel : Channel)
+pub sends_on : (number : ℕ) (w : Opportunity) (x y : Offered) (plan : Plan) (before : List Entry) (channel : Channel)
     → x ≡ offered plan before w A → y ≡ offered plan before w B
     → offered plan before w channel ≡ Data number → sends number (Fetch w x y) ≡ true
 sends_on number w x y plan before A e f is = or_first (is_data_of number x) (is_data_of number y)
@@ -86,10 +86,10 @@ sends_on number w x y plan before A e f is = or_first (is_data_of number x) (is_
 sends_on number w x y plan before B e f is = or_rest (is_data_of number x) (is_data_of number y)
     (ap (is_data_of number) (f ∙ is) ∙ eq-eqb number number refl)
 
-module _ (p : Parameters) (plan : Plan) (k : ℕ) (b : Buffer) (at : buffer_at plan k ≡ Some b)
-    (static : is_static_slot p b.filter.slot ≡ true) (transmitting : transmits b ≡ true) (one : HasOneSender plan) where
+module _ (plan : Plan) (k : ℕ) (b : Buffer) (at : buffer_at plan k ≡ Some b) (transmitting : transmits b ≡ true)
+    (one : HasOneSender plan) where
   -- the buffer is the one that transmits in the slots that it admits
-  transmits_there : (w : Opportunity) (channel : Channel) → w.cycle < 64 → IsSlot b.filter.slot
+  pub transmits_there : (w : Opportunity) (channel : Channel) → w.cycle < 64 → IsSlot b.filter.slot
       → slot_of w channel ≡ Some b.filter.slot → includes b.filter.channels channel ≡ true
       → cycle_admitted b.filter.cycles w.cycle ≡ true → transmitter plan w channel ≡ Some k
   transmits_there w channel cycle_fits slot_fits is included admitted =
@@ -112,18 +112,21 @@ module _ (p : Parameters) (plan : Plan) (k : ℕ) (b : Buffer) (at : buffer_at p
       (record { at = slice_get-get_or plan.buffers found.place b first.0; sends = other_sends })
       (record { at = at; sends = sends_it }))
 
-  offers_ready : (before : List Entry) (w : Opportunity) (channel : Channel) (slot number : ℕ) → is_static w ≡ true
-      → slot_of w channel ≡ Some slot → transmitter plan w channel ≡ Some k
+  -- where it may begin, it offers the commit that it has ready
+  pub offers_ready : (before : List Entry) (w : Opportunity) (channel : Channel) (slot number : ℕ)
+      → may_begin plan w channel ≡ true → slot_of w channel ≡ Some slot → transmitter plan w channel ≡ Some k
       → ready b.mode k before ≡ Some number → offered plan before w channel ≡ Data number
-  offers_ready before w channel slot number still is transmitter_is ready_is =
+  offers_ready before w channel slot number begins is transmitter_is ready_is =
       let otherwise = cond (owns plan w channel slot) Null Nothing in
       ap (offered_at plan before w channel) is
-      ∙ ap (λ (t : Bool). data_or otherwise (cond (t || nat_le w.minislot (latest_on plan channel))
-      (option_and_then (ready_in plan before) (transmitter plan w channel)) None)) still
+      ∙ ap (λ (t : Bool). data_or otherwise (cond t
+      (option_and_then (ready_in plan before) (transmitter plan w channel)) None)) begins
       ∙ ap (λ (t : Option ℕ). data_or otherwise (option_and_then (ready_in plan before) t)) transmitter_is
       ∙ ap (λ (o : Option Buffer). data_or otherwise (option_and_then (λ (x : Buffer). ready x.mode k before) o)) at
       ∙ ap (data_or otherwise) ready_is
 
+module _ (p : Parameters) (plan : Plan) (k : ℕ) (b : Buffer) (at : buffer_at plan k ≡ Some b)
+    (static : is_static_slot p b.filter.slot ≡ true) (transmitting : transmits b ≡ true) (one : HasOneSender plan) where
   -- a window that uses up the commit sends it
   sent : (before : List Entry) (w : Opportunity) (x y : Offered) (number cycle : ℕ) → IsLegalFetch p plan before w x y
       → IsInRange w
@@ -143,8 +146,9 @@ module _ (p : Parameters) (plan : Plan) (k : ℕ) (b : Buffer) (at : buffer_at p
       let is : slot_of w c.channel ≡ Some b.filter.slot = slot_on w c.channel b.filter.slot range still on_a in
       let slot_fits : IsSlot b.filter.slot = subst IsSlotOrNone on_a range.slot_a in
       sends_on number w x y plan before c.channel legal.offer_a legal.offer_b
-      (offers_ready before w c.channel b.filter.slot number still is
-      (transmits_there w c.channel range.cycle_fits slot_fits is c.is admitted) ready_is)
+      (offers_ready plan k b at transmitting one before w c.channel b.filter.slot number
+      (or_first (is_static w) (nat_le w.minislot (latest_on plan c.channel)) still) is
+      (transmits_there plan k b at transmitting one w c.channel range.cycle_fits slot_fits is c.is admitted) ready_is)
 
   -- ---- over a journal
 

@@ -79,11 +79,11 @@ same_buffer j k number es e f =
 
 -- ---- the buffer that offers
 
-record IsOfferedBy (plan : Plan) (es : List Entry) (w : Opportunity) (channel : Channel) (number : ℕ) : Type 0 where
-  buffer : ℕ
-  at : transmitter plan w channel ≡ Some buffer
-  is_ready : ready_in plan es buffer ≡ Some number
-  last : last_commit buffer es ≡ Some number
+pub record IsOfferedBy (plan : Plan) (es : List Entry) (w : Opportunity) (channel : Channel) (number : ℕ) : Type 0 where
+  pub buffer : ℕ
+  pub at : transmitter plan w channel ≡ Some buffer
+  pub is_ready : ready_in plan es buffer ≡ Some number
+  pub last : last_commit buffer es ≡ Some number
 
 ready_last_of : (j number : ℕ) (es : List Entry) (b : Option Buffer)
     → option_and_then (λ (x : Buffer). ready x.mode j es) b ≡ Some number → last_commit j es ≡ Some number
@@ -102,7 +102,7 @@ by_transmitter plan es w channel number (Some j) is e = record {
       ready_last_of j number es (buffer_at plan j) e;
 }
 
-in_slot : (plan : Plan) (es : List Entry) (w : Opportunity) (channel : Channel) (number : ℕ) (slot : Option ℕ)
+pub in_slot : (plan : Plan) (es : List Entry) (w : Opportunity) (channel : Channel) (number : ℕ) (slot : Option ℕ)
     → offered_at plan es w channel slot ≡ Data number → IsOfferedBy plan es w channel number
 in_slot plan es w channel number None e = absurd (let none : ⊥ = cc in none)
 in_slot plan es w channel number (Some slot) e =
