@@ -20,8 +20,6 @@ use crate::shared::{Common, Shared};
 use crate::workload::Workload;
 use fr_bus::bus::Bus;
 use fr_bus::error::Phase;
-use fr_bus::outcome::Sealed;
-use fr_bus::windows::opens_cycle;
 use fr_core::event::Reply;
 use fr_core::script::Script;
 use fr_core::settle::{Settled, settle_in_threads};
@@ -240,19 +238,6 @@ fn run_workload<'w, R: Threads + Wait + Clock + Sync, G: Gate + Sync>(
     })
 }
 
-/// Returns the number of cycles that began in these windows.
-fn count_cycles(recorded: &[Sealed]) -> usize
-    ensures { result ≡ cycles_begun recorded.now }
-{
-    let mut count = 0;
-    for sealed in recorded {
-        if opens_cycle(&sealed.window) {
-            count += 1;
-        }
-    }
-    count
-}
-
 /// Returns whether the bus came to its end after this number of cycles, with these faults.
 ///
 /// The faults of its windows are exactly those of the lines.
@@ -266,9 +251,8 @@ fn is_at_end(
     ensures cycles { IfOk result (λ answer. IsTrue answer → cycles_begun bus.now.sealed ≡ cycles) }
     ensures faults { IfOk result (λ answer. IsTrue answer → HaveFaults faults.now bus.now.sealed) }
 {
-    let recorded = bus.record();
-    let is_faulted = have_faults(alloc, faults, recorded)?;
-    let has_cycles = count_cycles(recorded) == usize::from(cycles);
+    let is_faulted = have_faults(alloc, faults, bus.record())?;
+    let has_cycles = bus.cycles_begun() == cycles;
     Ok(bus.phase() == Phase::Finished && has_cycles && is_faulted)
 }
 

@@ -1,0 +1,5 @@
+pub mod ServedLemmas
+pub mod RowLemmas
+pub mod OfferLemmas
+pub mod WayLemmas
+pub mod GuaranteeLemmas

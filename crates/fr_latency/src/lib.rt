@@ -1,0 +1,2 @@
+//! Where dynamic slots can open, and what a schedule guarantees.
+#![tactic(auto)]
