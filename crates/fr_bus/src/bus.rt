@@ -120,7 +120,7 @@ fn has_number(number: u32, window: &Option<Window>) -> bool
 }
 
 impl Bus {
-    ghost use Rattle.std.specs.Prelude.{◌≡◌, OnOk, OnErr, IfOk, length};
+    ghost use Rattle.std.specs.Prelude.{◌≡◌, ◌↔◌, IsTrue, OnOk, OnErr, IfOk, length};
     ghost use Rattle.std.specs.Result.{result_err};
     ghost use Rattle.fr_bus.specs.declared.error.Phase.TheVariants as phase;
     ghost use Rattle.fr_bus.specs.declared.fault.Fault.TheVariants as fault;
@@ -195,6 +195,13 @@ impl Bus {
         ensures { result ≡ length self.now.stations }
     {
         self.stations.len() as u8
+    }
+
+    /// Returns whether the bus was made for this cluster.
+    pub fn is_of(&self, cluster: &Cluster) -> bool
+        ensures { IsTrue result ↔ (self.now.cluster ≡ cluster.now) }
+    {
+        self.guardian.is_of(cluster)
     }
 
     /// Returns whether all nodes have put their offers in the open window.

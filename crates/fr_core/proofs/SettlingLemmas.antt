@@ -1,7 +1,7 @@
 -- Further results of a cross-check: the senders and the receivers of the record are those of the cluster, for a bus
 -- that was made with any cluster.
 use Rattle.std.proofs.Common.{◌≡◌, ◌<◌, ◌≤◌, ℕ, Bool, true, false, not, ◌&&◌, ◌||◌, List, [], ◌∷◌, length, Some, refl}
-use Rattle.std.proofs.Common.{ap, subst, ◌∙◌, arith, ◌+◌}
+use Rattle.std.proofs.Common.{Option, None, sym, ap, subst, ◌∙◌, arith, ◌+◌}
 use Rattle.std.specs.Prelude.{slice_get, nat_lt, ◌==◌, Result, Ok, Err, OnOk, All}
 use Rattle.std.specs.List.{list_all}
 use Rattle.std.proofs.lemmas.Bool.{eq-eqb, ltb-true}
@@ -16,15 +16,17 @@ use Rattle.fr_bus.specs.Record.{Recorded, IsOutcome}
 use Rattle.fr_bus.specs.States.{BusState, IsRun, OneSenderEach}
 use Rattle.fr_core.proofs.CaseLemmas.{both, both_first, both_rest}
 use Rattle.fr_core.proofs.FollowLemmas.{legal_at}
+use Rattle.fr_core.proofs.HarmlessLemmas.{harmless}
 use Rattle.fr_core.proofs.JudgedLemmas.{is_judged, is_judged_in, AreJudged}
 use Rattle.fr_core.proofs.ReceiverLemmas.{receivers}
 use Rattle.fr_core.proofs.SentLemmas.{of_all}
 use Rattle.fr_core.proofs.SettledLemmas.{each_follows, outcome_at, lt_of}
+use Rattle.fr_core.specs.Accounts.{IsHarmless}
 use Rattle.fr_core.specs.declared.settle.Settled.{Settled}
 use Rattle.fr_core.specs.declared.settle.SettleError.{SettleError}
 use Rattle.fr_core.specs.Receivers.{Receivers}
 use Rattle.fr_core.specs.Scripts.{Scripted}
-use Rattle.fr_core.specs.Settling.{is_due, is_right, Agrees, Settles}
+use Rattle.fr_core.specs.Settling.{ArePlanned, is_due, is_right, Agrees, Settles}
 use Rattle.fr_guardian.specs.Guarding.{passes}
 use Rattle.fr_interface.specs.State.{State, IsLegalInterface}
 use Rattle.fr_schedule.specs.Clusters.{IsCluster}
@@ -32,6 +34,8 @@ use Rattle.fr_schedule.specs.Descriptions.{Description}
 use Rattle.fr_slots.specs.Admission.{is_channel}
 use Rattle.fr_slots.specs.declared.channel.Channel.{Channel}
 use Rattle.fr_slots.specs.Numbers.{last_node}
+use Rattle.fr_slots.specs.Parameters.{Parameters}
+use Rattle.fr_slots.specs.Plans.{Plan}
 use Rattle.fr_slots.specs.Windows.{Opportunity}
 
 -- ---- each transmission is of a node of some cluster
@@ -134,3 +138,31 @@ answer_receivers d is b given (Ok x) cluster run lawful told =
     receivers d is b.sealed cluster (agreed_judged d is b given run told.0) (legal_at is lawful)
     (each_follows d is b.sealed given cluster told.0)
 answer_receivers d is b given (Err e) cluster run lawful told = tt
+
+-- ---- babbling nodes
+
+-- a node that has an interface has its plan
+planned_at : (p : Parameters) (s : State) (plans : List Plan) (n : ℕ) → ArePlanned p (Some s) (slice_get plans n)
+    → slice_get plans n ≡ Some s.plan
+planned_at p s plans n is = by (slice_get plans n) refl is
+  where
+    by : (o : Option Plan) → slice_get plans n ≡ o → ArePlanned p (Some s) o → slice_get plans n ≡ Some s.plan
+    by None there planned = absurd planned
+    by (Some plan) there planned = there ∙ ap Some (sym planned.1)
+
+agreed_harmless : (b : BusState) (is : List State) (given : List Scripted) → IsRun b → All IsLegalInterface is
+    → Agrees b.cluster is b.sealed given → IsHarmless b.cluster is b.sealed
+agreed_harmless b is given run lawful a =
+    harmless b.cluster b.cycles is b.sealed run.lawful run.recorded (legal_at is lawful)
+    (λ n s at. planned_at b.cluster.params s b.cluster.plans n
+    (subst (λ (o : Option State). ArePlanned b.cluster.params o (slice_get b.cluster.plans n)) at (a.plans n)))
+    (each_follows b.cluster is b.sealed given run.lawful a)
+
+pub answer_harmless : (d : Description) (is : List State) (b : BusState) (given : List Scripted)
+    (answer : Result Settled SettleError) → IsRun b → All IsLegalInterface is → Settles d is b.sealed given answer
+    → OnOk answer (b.cluster ≡ d → IsHarmless d is b.sealed)
+answer_harmless d is b given (Ok x) run lawful told =
+    λ same. subst (λ (c : Description). IsHarmless c is b.sealed) same
+    (agreed_harmless b is given run lawful
+    (subst (λ (c : Description). Agrees c is b.sealed given) (sym same) told.0))
+answer_harmless d is b given (Err e) run lawful told = tt

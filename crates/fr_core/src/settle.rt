@@ -3,6 +3,7 @@
 ghost use Rattle.std.specs.Prelude.{◌≡◌, ◌↔◌, ◌<◌, ◌+◌, true, IsTrue, IfSome, OnOk, length, slice_get, option_map};
 ghost use Rattle.std.specs.List.{list_all};
 ghost use Rattle.fr_bus.specs.States.{OneSenderEach};
+ghost use Rattle.fr_core.specs.Accounts.{IsHarmless};
 ghost use Rattle.fr_core.specs.Receivers.{Receivers};
 ghost use Rattle.fr_core.specs.Settling.{ArePlanned, PlansAgree, WindowsAgree, IsFatedAt, is_due, is_right, are_right};
 ghost use Rattle.fr_core.specs.Settling.{Settles, EachFollows, IsBetweenWindows, DiffersInScriptsAlone};
@@ -368,6 +369,8 @@ fn settle_beside(
     ensures follows { OnOk result (EachFollows cluster.now.params interfaces.now bus.now.sealed) }
     ensures one_sender { OnOk result (OneSenderEach cluster.now bus.now.sealed) }
     ensures receivers { OnOk result (Receivers cluster.now interfaces.now bus.now.sealed) }
+    ensures harmless { OnOk result (bus.now.cluster ≡ cluster.now
+        → IsHarmless cluster.now interfaces.now bus.now.sealed) }
     ensures between { IsBetweenWindows cluster.now interfaces.now bus.now → DiffersInScriptsAlone result }
 {
     // The clauses on senders and receivers hold for any bus, since a lock can't return the bus that was put in it.
@@ -399,7 +402,8 @@ fn settle_beside(
 ///
 /// If everything agrees, each static slot of a channel that the cluster guards carries at most one sender in the
 /// record. A frame from a fault-free slot, in a receive buffer or a receive FIFO, is one that the slot's owner in that
-/// cycle committed and handed to the bus. Both hold for a bus that was made with any cluster.
+/// cycle committed and handed to the bus. Both hold for a bus that was made with any cluster. If the bus was made for
+/// this one, babbling nodes are harmless in guarded static slots.
 pub fn settle(
     alloc: Global,
     cluster: &Cluster,
@@ -411,6 +415,8 @@ pub fn settle(
     ensures follows { OnOk result (EachFollows cluster.now.params interfaces.now bus.now.sealed) }
     ensures one_sender { OnOk result (OneSenderEach cluster.now bus.now.sealed) }
     ensures receivers { OnOk result (Receivers cluster.now interfaces.now bus.now.sealed) }
+    ensures harmless { OnOk result (bus.now.cluster ≡ cluster.now
+        → IsHarmless cluster.now interfaces.now bus.now.sealed) }
     ensures between { IsBetweenWindows cluster.now interfaces.now bus.now → DiffersInScriptsAlone result }
 {
     settle_beside(alloc, cluster, interfaces, bus, scripts, &[])
@@ -430,6 +436,8 @@ pub fn settle_in_threads<R: Threads + Sync>(
     ensures follows { OnOk result (EachFollows cluster.now.params interfaces.now bus.now.sealed) }
     ensures one_sender { OnOk result (OneSenderEach cluster.now bus.now.sealed) }
     ensures receivers { OnOk result (Receivers cluster.now interfaces.now bus.now.sealed) }
+    ensures harmless { OnOk result (bus.now.cluster ≡ cluster.now
+        → IsHarmless cluster.now interfaces.now bus.now.sealed) }
     ensures between { IsBetweenWindows cluster.now interfaces.now bus.now → DiffersInScriptsAlone result }
 {
     // A thread for each node took longer than a short walk, so there are as many threads as cores.

@@ -5,3 +5,4 @@ pub mod SameLemmas
 pub mod AloneLemmas
 pub mod SearchLemmas
 pub mod PeriodLemmas
+pub mod GivenPlanLemmas

@@ -1,6 +1,7 @@
 //! The bus guardians of a cluster.
 
-ghost use Rattle.std.specs.Prelude.{◌≡◌, ◌≤◌, ◌↔◌, ◌%◌, ℕ, option_map, slice_get, length, IfOk, List, true, ◌&&◌, map};
+ghost use Rattle.std.specs.Prelude.{◌≡◌, ◌≤◌, ◌↔◌, ◌%◌, ℕ, option_map, slice_get, length, IfOk, IsTrue, List, true};
+ghost use Rattle.std.specs.Prelude.{◌&&◌, map};
 ghost use Rattle.fr_slots.specs.Windows.{is_static};
 ghost use Rattle.fr_guardian.specs.GuardianFields.{rows_on, IsRowAt, AreRows, IsPost, ArePosts};
 ghost use Rattle.fr_guardian.specs.Guarding.{passes, PassesAlone, IsOpenTo, IsOpenMacrotick};
@@ -80,6 +81,20 @@ impl Guardian {
         ensures lawful { IsCluster self.now }
     {
         self.posts.len() as u8
+    }
+
+    /// Returns whether these are the guardians of the cluster: they have its parameters, its guarded channels, and the
+    /// plans of its nodes in their order.
+    pub fn is_of(&self, cluster: &Cluster) -> bool
+        ensures { IsTrue result ↔ (self.now ≡ cluster.now) }
+    {
+        if !is_same_params(&self.params, cluster.params()) {
+            return false;
+        }
+        if !is_same_guard(self.guard, guard_of(cluster)) {
+            return false;
+        }
+        have_plans(self.posts.as_slice(), cluster.plans())
     }
 
     /// Returns the number of cycles after which the open macroticks of all nodes repeat. It is the greatest repetition
@@ -212,6 +227,35 @@ fn guard_of(cluster: &Cluster) -> Option<Channels>
         (false, true) => Some(Channels::B),
         (false, false) => None,
     }
+}
+
+/// Returns whether the parameters are the same.
+fn is_same_params(params: &Params, other: &Params) -> bool
+    ensures { IsTrue result ↔ (params.now ≡ other.now) }
+{
+    params == other
+}
+
+/// Returns whether the guarded channels are the same.
+fn is_same_guard(guard: Option<Channels>, other: Option<Channels>) -> bool
+    ensures { IsTrue result ↔ (guard ≡ other) }
+{
+    guard == other
+}
+
+/// Returns whether the posts are those of nodes with these plans, in their order.
+fn have_plans(posts: &[Post], plans: &[NodePlan]) -> bool
+    ensures { IsTrue result ↔ (map (λ post. post.plan) posts.now ≡ plans.now) }
+{
+    if posts.len() != plans.len() {
+        return false;
+    }
+    for index in 0..posts.len() {
+        if !posts[index].plan.is_same(&plans[index]) {
+            return false;
+        }
+    }
+    true
 }
 
 /// Returns the posts of the cluster's nodes.

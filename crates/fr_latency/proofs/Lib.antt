@@ -3,3 +3,4 @@ pub mod RowLemmas
 pub mod OfferLemmas
 pub mod WayLemmas
 pub mod GuaranteeLemmas
+pub mod WayLaws

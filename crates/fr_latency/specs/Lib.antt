@@ -1,2 +1,3 @@
+pub mod Openings
 pub mod Ways
 pub mod Guarantees

@@ -4,10 +4,11 @@ use Rattle.std.specs.Prelude.{option_map, slice_get}
 use Rattle.std.specs.Option.{option_and_then}
 use Rattle.std.specs.Global.{Vec}
 use Rattle.fr_bus.specs.declared.error.Phase.TheVariants.{Finished}
-use Rattle.fr_bus.specs.States.{OneSenderEach}
+use Rattle.fr_bus.specs.States.{IsRun, OneSenderEach}
 use Rattle.fr_bus.specs.Windows.{cycles_begun}
 use Rattle.fr_interface.specs.Commits.{commits_of}
 use Rattle.fr_core.specs.declared.event.Reply.{Reply}
+use Rattle.fr_core.specs.Accounts.{IsHarmless}
 use Rattle.fr_core.specs.Receivers.{Receivers}
 use Rattle.fr_core.specs.Answers.{AreAnswered}
 use Rattle.fr_core.specs.Scripts.{Scripted}
@@ -69,6 +70,11 @@ pub record IsRunOf (d : Description) (given : List Scripted) (lines : List Fault
   pub receivers : Receivers d run.interfaces.items run.bus.sealed
   -- no static slot of a guarded channel carried two senders
   pub one_sender : OneSenderEach d run.bus.sealed
+  -- the bus was made for the cluster, and its windows are those of a run of the cluster
+  pub cluster : run.bus.cluster ≡ d
+  pub run_is : IsRun run.bus
+  -- in a guarded static slot each node's observation follows from its owner's account, whatever other nodes send
+  pub harmless : IsHarmless d run.interfaces.items run.bus.sealed
   -- the shares of each node's tasks count the commits of its interface
   pub commits : run.commits.items ≡ map commits_of run.interfaces.items
   -- the bus came to its end

@@ -4,6 +4,7 @@ ghost use Rattle.std.specs.Prelude.{◌≡◌, ◌+◌, ◌≤◌, ◌<◌, IfOk
 ghost use Rattle.std.specs.Result.{result_err};
 ghost use Rattle.std.specs.Vec.{vec_capacity};
 ghost use Rattle.fr_bus.specs.declared.error.Phase.TheVariants.{Finished};
+ghost use Rattle.fr_bus.specs.States.{IsRun};
 ghost use Rattle.fr_bus.specs.Windows.{cycles_begun};
 ghost use Rattle.fr_interface.specs.Commits.{commits_of};
 ghost use Rattle.fr_runs.specs.Faulted.{HaveFaults};
@@ -238,22 +239,27 @@ fn run_workload<'w, R: Threads + Wait + Clock + Sync, G: Gate + Sync>(
     })
 }
 
-/// Returns whether the bus came to its end after this number of cycles, with these faults.
+/// Returns whether the bus was made for the cluster, and came to its end after this number of cycles, with these faults.
 ///
 /// The faults of its windows are exactly those of the lines.
 fn is_at_end(
     alloc: Global,
+    cluster: &Cluster,
     bus: &Bus,
     faults: &[FaultLine],
     cycles: u16,
 ) -> Result<bool, RunFailure>
+    ensures cluster { IfOk result (λ answer. IsTrue answer → bus.now.cluster ≡ cluster.now) }
+    ensures run { IfOk result (λ answer. IsTrue answer → IsRun bus.now) }
     ensures finished { IfOk result (λ answer. IsTrue answer → bus.now.phase ≡ Finished) }
     ensures cycles { IfOk result (λ answer. IsTrue answer → cycles_begun bus.now.sealed ≡ cycles) }
     ensures faults { IfOk result (λ answer. IsTrue answer → HaveFaults faults.now bus.now.sealed) }
 {
     let is_faulted = have_faults(alloc, faults, bus.record())?;
     let has_cycles = bus.cycles_begun() == cycles;
-    Ok(bus.phase() == Phase::Finished && has_cycles && is_faulted)
+    // A lock can't tell which bus was put in it.
+    let is_of_cluster = bus.is_of(cluster);
+    Ok(bus.phase() == Phase::Finished && has_cycles && is_faulted && is_of_cluster)
 }
 
 /// Returns the run, if it passes all checks.
@@ -273,7 +279,7 @@ fn settled_run<R: Threads + Sync>(
         workload.now.stepped) }
 {
     let given = workload.scripts;
-    if !is_at_end(alloc, &bus, workload.faults, workload.cycles)? {
+    if !is_at_end(alloc, cluster, &bus, workload.faults, workload.cycles)? {
         return Err(RunFailure::Thread);
     }
     let NodesDone {

@@ -1,7 +1,7 @@
 use Rattle.std.proofs.Common.{List, subst}
 use Rattle.fr_bus.specs.Record.{Recorded}
 use Rattle.fr_core.proofs.SettledLemmas.{answer_follows, between_windows}
-use Rattle.fr_core.proofs.SettlingLemmas.{answer_one_sender, answer_receivers}
+use Rattle.fr_core.proofs.SettlingLemmas.{answer_one_sender, answer_receivers, answer_harmless}
 use Rattle.fr_core.specs.Settling.{Settles}
 use Rattle.fr_core.proofs.settle.settle_beside.Goals as goal
 
@@ -34,5 +34,12 @@ pub returns-clause-receivers : goal.returns-clause-receivers
 returns-clause-receivers c =
     answer_receivers c.args.cluster.now c.args.interfaces.now c.args.bus.now c.args.scripts.now c.judge-answer.result
     c.params-params.ensures.lawful c.record-recorded.ensures.run c.known.ensures.legal
+    (subst (λ (rs : List Recorded). Settles c.args.cluster.now c.args.interfaces.now rs c.args.scripts.now
+    c.judge-answer.result) c.record-recorded.ensures.value c.judge-answer.ensures)
+
+pub returns-clause-harmless : goal.returns-clause-harmless
+returns-clause-harmless c =
+    answer_harmless c.args.cluster.now c.args.interfaces.now c.args.bus.now c.args.scripts.now c.judge-answer.result
+    c.record-recorded.ensures.run c.known.ensures.legal
     (subst (λ (rs : List Recorded). Settles c.args.cluster.now c.args.interfaces.now rs c.args.scripts.now
     c.judge-answer.result) c.record-recorded.ensures.value c.judge-answer.ensures)

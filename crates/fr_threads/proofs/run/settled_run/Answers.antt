@@ -1,5 +1,6 @@
 use Rattle.std.proofs.Common.{◌≡◌, rules, subst, true, ◌∙◌}
 use Rattle.std.specs.Prelude.{IsTrue}
+use Rattle.fr_core.specs.Accounts.{IsHarmless}
 use Rattle.fr_core.specs.Receivers.{Receivers}
 use Rattle.fr_runs.specs.Stepping.{AreStepped}
 use Rattle.fr_threads.proofs.RunLemmas.{settles_same}
@@ -31,6 +32,10 @@ returns g c =
       receivers = subst (λ is. Receivers c.args.cluster.now is c.args.bus.sealed) same_interfaces
           c.in_ok-settled.ensures.receivers;
       one_sender = c.in_ok-settled.ensures.one_sender;
+      cluster = c.in_ok-is_at_end.ensures.cluster at_end;
+      run_is = c.in_ok-is_at_end.ensures.run at_end;
+      harmless = subst (λ is. IsHarmless c.args.cluster.now is c.args.bus.sealed) same_interfaces
+          (c.in_ok-settled.ensures.harmless (c.in_ok-is_at_end.ensures.cluster at_end));
       commits = c.requires;
       finished = c.in_ok-is_at_end.ensures.finished at_end;
       cycles_done = c.in_ok-is_at_end.ensures.cycles at_end;
