@@ -1,5 +1,5 @@
 -- What a schedule guarantees holds in every world.
-use Rattle.std.proofs.Common.{◌≡◌, ℕ, zero, suc, ◌+◌, ◌-◌, ◌%◌, ◌<◌, ◌≤◌, Bool, true, false, cond, ◌&&◌, ◌||◌, ◌×◌, ◌⊎◌}
+use Rattle.std.proofs.Common.{◌≡◌, ℕ, zero, suc, ◌+◌, ◌-◌, ◌%◌, ◌<◌, ◌≤◌, Bool, true, false, cond, ◌&&◌, ◌||◌, ◌⊎◌}
 use Rattle.std.proofs.Common.{inl, inr, List, [], ◌∷◌, ◌++◌, length, map, take, Option, Some, None, refl, sym, ap, subst}
 use Rattle.std.proofs.Common.{◌∙◌, arith, slice_get}
 use Rattle.std.specs.Prelude.{nat_le}
@@ -36,6 +36,7 @@ use Rattle.fr_slots.proofs.PlaceLemmas.{same_some, get-after, AllAfter-cut, each
 use Rattle.fr_slots.specs.declared.channel.Channel.{Channel}
 use Rattle.fr_slots.specs.Faults.{latest_on}
 use Rattle.fr_slots.specs.History.{AllAfter, each_after}
+use Rattle.fr_slots.specs.Parameters.{Parameters}
 use Rattle.fr_slots.specs.Windows.{Opportunity, slot_of, is_static}
 use Rattle.std.proofs.lemmas.Option.{slice_get_within, get_or_from_slice_get}
 
@@ -133,6 +134,21 @@ ahead_next b n (Waits w) InSealed put taken h k run is turn at =
     absurd (let none : ⊥ = cc in none)
 ahead_next b n (Waits w) Finished put taken h k run is turn at = absurd turn
 
+came : (p : Parameters) (counts : List ℕ) (slot : ℕ) → slot ≤ 2047
+    → (slot_after p counts ≤ slot → first_minislot p counts ≤ p.minislots) → has_row_after p counts ≡ false
+    → slot < slot_after p counts
+came p counts slot most always over = by (nat_le (slot_after p counts) slot) refl
+  where
+    by : (b : Bool) → nat_le (slot_after p counts) slot ≡ b → slot < slot_after p counts
+    by false e = leb-false (slot_after p counts) slot e
+    by true e =
+        let not_yet : slot_after p counts ≤ slot = leb-true (slot_after p counts) slot e in
+        let begins : first_minislot p counts ≤ p.minislots = always not_yet in
+        let exists : has_row_after p counts ≡ true = both (nat_le (first_minislot p counts) p.minislots)
+        (nat_le (slot_after p counts) 2047) (le-leb (first_minislot p counts) p.minislots begins)
+        (le-leb (slot_after p counts) 2047 (omega (arith, not_yet, most))) in
+        absurd (let none : ⊥ = cc (exists, over) in none)
+
 module _ (w : WorldState) (head : Headline w) where
   -- a window that a journal fetched follows the windows before it
   fetched_next : (n : ℕ) (s : State) → slice_get w.interfaces n ≡ Some s → (k : ℕ) (h : Handed)
@@ -211,20 +227,9 @@ module _ (w : WorldState) (head : Headline w) where
       (counts_on channel (this_cycle (take k w.bus.sealed)))
       → has_row_after w.bus.cluster.params (counts_on channel (this_cycle (take k w.bus.sealed))) ≡ false
       → slot < slot_after w.bus.cluster.params (counts_on channel (this_cycle (take k w.bus.sealed)))
-  row_came k slot channel most always way over = by (nat_le (slot_after p counts) slot) refl
-    where
-      p = w.bus.cluster.params
-      counts = counts_on channel (this_cycle (take k w.bus.sealed))
-
-      by : (b : Bool) → nat_le (slot_after p counts) slot ≡ b → slot < slot_after p counts
-      by false e = leb-false (slot_after p counts) slot e
-      by true e =
-          let not_yet : slot_after p counts ≤ slot = leb-true (slot_after p counts) slot e in
-          let begins : first_minislot p counts ≤ p.minislots = always counts way not_yet in
-          let exists : has_row_after p counts ≡ true = both (nat_le (first_minislot p counts) p.minislots)
-          (nat_le (slot_after p counts) 2047) (le-leb (first_minislot p counts) p.minislots begins)
-          (le-leb (slot_after p counts) 2047 (omega (arith, not_yet, most))) in
-          absurd (let none : ⊥ = cc (exists, over) in none)
+  row_came k slot channel most always way over =
+      came w.bus.cluster.params (counts_on channel (this_cycle (take k w.bus.sealed))) slot most
+      (always (counts_on channel (this_cycle (take k w.bus.sealed))) way) over
 
   pub guarantees : Guarantees w
   guarantees = record {

@@ -1,11 +1,10 @@
 -- What a node offers in a dynamic window is a frame that can be sent there.
-use Rattle.std.proofs.Common.{◌≡◌, ℕ, ◌+◌, ◌*◌, ◌≤◌, ◌<◌, Bool, true, false, cond, ◌&&◌, ◌||◌, ◌×◌, List, [], ◌∷◌, ◌++◌, length}
+use Rattle.std.proofs.Common.{◌≡◌, ℕ, ◌+◌, ◌*◌, ◌≤◌, ◌<◌, Bool, true, false, cond, ◌&&◌, ◌||◌, List, [], ◌∷◌, ◌++◌, length}
 use Rattle.std.proofs.Common.{Option, Some, None, refl, sym, ap, subst, ◌∙◌, arith, slice_get, length-append, is_some, take}
 use Rattle.std.specs.Prelude.{nat_le, IfSome, IsSomeAnd}
 use Rattle.std.specs.Int.{bytes_high_first}
 use Rattle.std.specs.Option.{option_and_then}
 use Rattle.std.proofs.lemmas.Bool.{eqb-true, leb-true}
-use Rattle.std.proofs.lemmas.Int.{length-bytes_high_first}
 use Rattle.arrayvec.specs.ArrayVec.{ArrayVec}
 use Rattle.fr_core.proofs.CaseLemmas.{both, both_rest, kept_if}
 use Rattle.fr_core.proofs.HandingLemmas.{data_is, offer_is}
@@ -42,6 +41,12 @@ use Rattle.std.proofs.lemmas.Option.{get_or_from_slice_get}
 
 -- ---- the bytes of a frame
 
+five : (n : ℕ) → length (bytes_high_first 5 n) ≡ 5
+five n = refl
+
+three : (n : ℕ) → length (bytes_high_first 3 n) ≡ 3
+three n = refl
+
 length-frame : (f : Fields) (channel : Channel) → length (encoded f channel) ≡ 8 + length f.payload
 unfolding encoded
 length-frame f channel =
@@ -49,8 +54,8 @@ length-frame f channel =
       arith,
       length-append (checked_bytes f) (bytes_high_first 3 (number_of (frame_check channel (checked_bytes f)))),
       length-append (bytes_high_first 5 (number_of (header false f))) f.payload,
-      length-bytes_high_first 5 (number_of (header false f)),
-      length-bytes_high_first 3 (number_of (frame_check channel (checked_bytes f))),
+      five (number_of (header false f)),
+      three (number_of (frame_check channel (checked_bytes f))),
     )
 
 -- ---- the commit

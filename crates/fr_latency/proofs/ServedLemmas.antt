@@ -6,7 +6,7 @@ use Rattle.std.proofs.lemmas.Bool.{eqb-true}
 use Rattle.fr_core.proofs.CaseLemmas.{both_first, both_rest}
 use Rattle.fr_core.proofs.ReadyLemmas.{pending-gone, pending_is_ready}
 use Rattle.fr_core.proofs.SendingLemmas.{sends_on, transmits_there, offers_ready}
-use Rattle.fr_journal.proofs.TallyLemmas.{digit, pending-one}
+use Rattle.fr_journal.proofs.TallyLemmas.{pending-one}
 use Rattle.fr_journal.specs.declared.entry.Entry.TheVariants.{Fetch}
 use Rattle.fr_journal.specs.declared.entry.Offered.{Offered}
 use Rattle.fr_journal.specs.Fate.{sends, takes_back, tally_of}
@@ -61,4 +61,4 @@ module _ (p : Parameters) (plan : Plan) (number : ℕ) (b : Buffer) (at : buffer
       (sends_on commit w x y plan before channel legal.offer_a legal.offer_b
       (offers_ready plan number b at transmitting one before w channel slot commit begins slot_is transmitter_is
       (pending_is_ready b.mode number commit before (unset (is_receive b.mode) transmitting) pending)))) in
-      pending-one number (before ++ Fetch w x y ∷ []) ∙ ap (λ (o : Option ℕ). digit (is_some o)) gone
+      pending-one number (before ++ Fetch w x y ∷ []) ∙ ap (λ (o : Option ℕ). cond {A = ℕ} (is_some o) 1 0) gone

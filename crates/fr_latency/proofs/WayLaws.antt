@@ -1,5 +1,5 @@
 -- Each way of the lanes leads to a minislot at which the next slot can begin.
-use Rattle.std.proofs.Common.{◌≡◌, ℕ, zero, suc, ◌+◌, ◌-◌, ◌*◌, ◌/◌, ◌%◌, ◌<◌, ◌≤◌, Bool, true, false, cond, ◌&&◌, ◌||◌, ◌×◌}
+use Rattle.std.proofs.Common.{◌≡◌, ℕ, zero, suc, ◌+◌, ◌-◌, ◌*◌, ◌/◌, ◌%◌, ◌<◌, ◌≤◌, Bool, true, false, cond, ◌&&◌, ◌||◌}
 use Rattle.std.proofs.Common.{◌⊎◌, inl, inr, List, [], ◌∷◌, ◌++◌, length, length-append, Some, refl, sym, ap, subst, ◌∙◌, arith}
 use Rattle.std.proofs.Common.{slice_get}
 use Rattle.std.specs.Prelude.{◌==◌, nat_le, sum_by, min}
@@ -51,7 +51,7 @@ not_above x y n a low high = by (nat_le y x) refl
         absurd (let none : ⊥ = omega (arith, low, high, more, sum) in none)
 
 twice : (x n : ℕ) → x * (2 * n) ≡ 2 * (x * n)
-twice zero n = refl
+twice zero n = omega arith
 twice (suc x) n = omega (arith, twice x n)
 
 -- halves of two numbers have their quotient, also if it is rounded up

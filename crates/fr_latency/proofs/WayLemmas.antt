@@ -1,6 +1,6 @@
 -- In a run without faults of senders the rows of each cycle are one of the schedule's ways.
 use Rattle.std.proofs.Common.{◌≡◌, ℕ, zero, suc, ◌+◌, ◌-◌, ◌%◌, ◌<◌, ◌≤◌, ◌==◌, Bool, true, false, not, cond, ◌&&◌, ◌||◌}
-use Rattle.std.proofs.Common.{◌×◌, ◌⊎◌, inl, inr, List, [], ◌∷◌, ◌++◌, length, map, take, Option, Some, None, refl, sym, ap}
+use Rattle.std.proofs.Common.{◌⊎◌, inl, inr, List, [], ◌∷◌, ◌++◌, length, map, take, Option, Some, None, refl, sym, ap}
 use Rattle.std.proofs.Common.{subst, ◌∙◌, arith, slice_get, get_or, is_some}
 use Rattle.std.specs.Prelude.{count_by, max, nat_le, nat_lt, slice_index_or}
 use Rattle.std.specs.List.{filter, fold, list_all}
@@ -90,11 +90,13 @@ module _ {X : Type 0} (P : ℕ → Type 0) (size : X → ℕ) (test : X → Bool
       → P (fold max most (map size (filter test xs)))
   most_is most p [] each = p
   most_is most p (x ∷ xs) each = by (test x) refl
+      (λ more q. most_is more q xs (λ k y at through. each (suc k) y at through))
     where
-      by : (b : Bool) → test x ≡ b → P (fold max most (map size (cond b (x ∷ filter test xs) (filter test xs))))
-      by true e = most_is (max most (size x)) (greater most (size x) p (each 0 x refl e)) xs
-          (λ k y at passes. each (suc k) y at passes)
-      by false e = most_is most p xs (λ k y at passes. each (suc k) y at passes)
+      by : (b : Bool) → test x ≡ b
+          → ((more : ℕ) → P more → P (fold max more (map size (filter test xs))))
+          → P (fold max most (map size (cond b (x ∷ filter test xs) (filter test xs))))
+      by true e rest = rest (max most (size x)) (greater most (size x) p (each 0 x refl e))
+      by false e rest = rest most p
 
 -- ---- the offer of a node
 
@@ -102,15 +104,15 @@ module _ {X : Type 0} (P : ℕ → Type 0) (size : X → ℕ) (test : X → Bool
 offer_of_own : (channel : Channel) (n : ℕ) (xs : List Sent) → offer_in channel n xs ≡ offer_in channel n
     (own channel n xs)
 offer_of_own channel n [] = refl
-offer_of_own channel n (t ∷ xs) = by (is_of n t && is_channel t.channel channel) refl
+offer_of_own channel n (t ∷ xs) = by (is_of n t && is_channel t.channel channel) refl (offer_of_own channel n xs)
   where
     by : (b : Bool) → (is_of n t && is_channel t.channel channel) ≡ b
+        → offer_in channel n xs ≡ offer_in channel n (own channel n xs)
         → cond (b && not t.babble) (Some t.bytes) (offer_in channel n xs)
         ≡ offer_in channel n (cond b (t ∷ own channel n xs) (own channel n xs))
-    by true e = ap (λ (b : Bool). cond (b && not t.babble) (Some t.bytes) (offer_in channel n xs)) (sym e)
-        ∙ ap (cond ((is_of n t && is_channel t.channel channel) && not t.babble) (Some t.bytes))
-        (offer_of_own channel n xs)
-    by false e = offer_of_own channel n xs
+    by true e rest = ap (λ (b : Bool). cond (b && not t.babble) (Some t.bytes) (offer_in channel n xs)) (sym e)
+        ∙ ap (cond ((is_of n t && is_channel t.channel channel) && not t.babble) (Some t.bytes)) rest
+    by false e rest = rest
 
 -- what a node sends on a channel without babbling is its offer
 offered_alone : (n : ℕ) (channel : Channel) (fate other : SentFate) (offer babble : Option (ArrayVec ℕ)) (k : ℕ)
@@ -196,10 +198,10 @@ module _ (d : Description) (cycles : ℕ) (interfaces : List State) (rs : List R
       → is_static r.window ≡ false → slot_of r.window channel ≡ Some slot
       → (i : ℕ) (t : Sent) → slice_get r.sent i ≡ Some t → passed_on channel t ≡ true
       → CanSend d r.window.cycle slot channel r.window.minislot (length t.bytes.items)
-  sent_fits k r channel slot at dynamic slot_is i t there passes =
+  sent_fits k r channel slot at dynamic slot_is i t there through =
       let outcome : IsOutcome d r = (recorded_at d cycles rs k r recorded at).1 in
       let count = length outcome.stations in
-      let on = both_first (is_channel t.channel channel) (is_passed t.fate) passes in
+      let on = both_first (is_channel t.channel channel) (is_passed t.fate) through in
       let silent = neither t.babble (is_muted t.fate) (unset (t.babble || is_muted t.fate)
       (all_at is_plain r.sent i t (plain k r at) there)) in
       let known : list_all (λ (u : Sent). nat_lt u.node count) r.sent ≡ true =
@@ -229,7 +231,7 @@ module _ (d : Description) (cycles : ℕ) (interfaces : List State) (rs : List R
   row_fits k r at channel slot dynamic slot_is =
       most_is (λ m. (m ≡ 0) ⊎ CanSend d r.window.cycle slot channel r.window.minislot m)
       (λ (t : Sent). length t.bytes.items) (passed_on channel) 0 (inl refl) r.sent
-      (λ i t there passes. inr (sent_fits k r channel slot at dynamic slot_is i t there passes))
+      (λ i t there through. inr (sent_fits k r channel slot at dynamic slot_is i t there through))
 
 -- ---- one more window
 
