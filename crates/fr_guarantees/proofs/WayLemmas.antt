@@ -31,10 +31,10 @@ use Rattle.fr_guardian.specs.Guarding.{passes}
 use Rattle.fr_interface.specs.State.{State, IsLegalInterface}
 use Rattle.fr_journal.specs.declared.entry.Entry.TheVariants.{Fetch}
 use Rattle.fr_journal.specs.Forms.{Entry}
-use Rattle.fr_latency.specs.Guarantees.{cycle_of, is_plain, ArePlain}
-use Rattle.fr_latency.specs.Ways.{CanSend, IsRow, IsWay}
-use Rattle.fr_latency.proofs.OfferLemmas.{can_send}
-use Rattle.fr_latency.proofs.RowLemmas.{row_is, cycle_is}
+use Rattle.fr_guarantees.specs.Guarantees.{cycle_of, is_plain, ArePlain}
+use Rattle.fr_guarantees.specs.Ways.{CanSend, IsRow, IsWay}
+use Rattle.fr_guarantees.proofs.OfferLemmas.{can_send}
+use Rattle.fr_guarantees.proofs.NextRowLemmas.{row_is, cycle_is}
 use Rattle.fr_minislot.specs.DynamicRows.{first_minislot, slot_after}
 use Rattle.fr_schedule.specs.Descriptions.{Description}
 use Rattle.fr_slots.proofs.HistoryLemmas.{AllAfter-snoc}

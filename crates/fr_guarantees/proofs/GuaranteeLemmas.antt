@@ -24,11 +24,11 @@ use Rattle.fr_journal.specs.Entries.{IsEntry}
 use Rattle.fr_journal.specs.Forms.{Entry}
 use Rattle.fr_journal.specs.Legal.{IsLegal, IsLegalFetch, AreEntries}
 use Rattle.fr_journal.specs.Offers.{may_begin}
-use Rattle.fr_latency.specs.Guarantees.{AlwaysOpens, OpensBy, ArePlain, IsTurn, IsServed, cycle_of, Guarantees}
-use Rattle.fr_latency.specs.Ways.{IsWay}
-use Rattle.fr_latency.proofs.RowLemmas.{row_is, cycle_is}
-use Rattle.fr_latency.proofs.ServedLemmas.{served}
-use Rattle.fr_latency.proofs.WayLemmas.{row_fits, goes_a_way}
+use Rattle.fr_guarantees.specs.Guarantees.{AlwaysOpens, OpensBy, ArePlain, IsTurn, IsServed, cycle_of, Guarantees}
+use Rattle.fr_guarantees.specs.Ways.{IsWay}
+use Rattle.fr_guarantees.proofs.NextRowLemmas.{row_is, cycle_is}
+use Rattle.fr_guarantees.proofs.ServedLemmas.{served}
+use Rattle.fr_guarantees.proofs.WayLemmas.{row_fits, goes_a_way}
 use Rattle.fr_minislot.specs.DynamicRows.{first_minislot, slot_after, has_row_after}
 use Rattle.fr_schedule.specs.Descriptions.{Description}
 use Rattle.fr_slots.proofs.FaultlessLemmas.{faultless}

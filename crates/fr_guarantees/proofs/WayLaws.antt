@@ -10,9 +10,9 @@ use Rattle.std.proofs.lemmas.Grind.{div_ceil_times}
 use Rattle.std.proofs.Math.Nat.{add-mul, mul-le-mul_right}
 use Rattle.std.proofs.lemmas.List.Sums.{sum_by-append}
 use Rattle.fr_core.proofs.CaseLemmas.{both}
-use Rattle.fr_latency.specs.Guarantees.{AlwaysOpens, OpensBy}
+use Rattle.fr_guarantees.specs.Guarantees.{AlwaysOpens, OpensBy}
 use Rattle.fr_latency.specs.Openings.{frame_length, follows_frame, follows_buffer, follows_node, follows, can_begin}
-use Rattle.fr_latency.specs.Ways.{CanSend, IsRow, IsWay}
+use Rattle.fr_guarantees.specs.Ways.{CanSend, IsRow, IsWay}
 use Rattle.fr_minislot.specs.DynamicRows.{first_minislot, minislots_filled_by, row_length, has_row_after, slot_after}
 use Rattle.fr_schedule.specs.Descriptions.{Description}
 use Rattle.fr_slots.proofs.HistoryLemmas.{AllAfter-induction}

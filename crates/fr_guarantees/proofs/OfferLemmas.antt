@@ -26,7 +26,7 @@ use Rattle.fr_journal.specs.Legal.{IsLegal, IsLegalFetch}
 use Rattle.fr_journal.specs.Offers.{transmitter, is_admitting, may_begin, ready, ready_in, commit_offered, owns, data_or}
 use Rattle.fr_journal.specs.Offers.{ownership, line_of, offered_at, offered, payload_in, payload_of, data_frame_of}
 use Rattle.fr_journal.specs.Offers.{frame_of_offer, frame_with, bytes_of}
-use Rattle.fr_latency.specs.Ways.{CanSend}
+use Rattle.fr_guarantees.specs.Ways.{CanSend}
 use Rattle.fr_schedule.specs.Descriptions.{Description}
 use Rattle.fr_slots.proofs.PlaceLemmas.{same_some, get-append, AllAfter-at, AllAfter-cut}
 use Rattle.fr_slots.specs.declared.channel.Channel.{Channel}

@@ -8,7 +8,7 @@ use Rattle.std.proofs.lemmas.Bool.{eqb-true}
 use Rattle.fr_bus.specs.Record.{Recorded}
 use Rattle.fr_bus.specs.Windows.{cycles_begun, this_cycle, counts_on, opened_on, opens_any, window_at, next_dynamic}
 use Rattle.fr_bus.specs.Windows.{statics_of, next_in_cycle, first_of_cycle, following}
-use Rattle.fr_latency.specs.Guarantees.{cycle_of}
+use Rattle.fr_guarantees.specs.Guarantees.{cycle_of}
 use Rattle.fr_minislot.specs.DynamicRows.{first_minislot, slot_after, has_row_after, opened_after}
 use Rattle.fr_slots.proofs.PlaceLemmas.{same_some}
 use Rattle.fr_slots.specs.declared.channel.Channel.{Channel}

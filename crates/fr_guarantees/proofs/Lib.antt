@@ -1,6 +1,7 @@
 pub mod ServedLemmas
-pub mod RowLemmas
+pub mod NextRowLemmas
 pub mod OfferLemmas
 pub mod WayLemmas
 pub mod GuaranteeLemmas
 pub mod WayLaws
+pub mod TableLaws

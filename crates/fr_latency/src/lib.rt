@@ -1,2 +1,0 @@
-//! Where dynamic slots can open, and what a schedule guarantees.
-#![tactic(auto)]
