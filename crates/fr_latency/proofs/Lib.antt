@@ -1,0 +1,4 @@
+pub mod CellLemmas
+pub mod BeginLemmas
+pub mod GreatestLemmas
+pub mod StepLemmas
