@@ -6,7 +6,9 @@ use Rattle.std.specs.Int.{bit_at}
 use Rattle.std.specs.List.{list_any}
 use Rattle.std.proofs.lemmas.List.Folds.{list_any_more}
 use Rattle.std.proofs.lemmas.List.{take_all}
-use Rattle.std.proofs.Common.{take}
+use Rattle.std.proofs.Common.{take, replicate}
+use Rattle.std.proofs.lemmas.Grind.{common_steps}
+use Rattle.std.proofs.lemmas.List.{length-replicate}
 use Rattle.std.specs.Prelude.{bit_and, bit_or, slice_index}
 use Rattle.std.proofs.lemmas.Bool.{cases_lt, cases_eq, eq-eqb, ne_eqb, lt-ltb, le-ltb, le-leb, lt-leb}
 use Rattle.std.proofs.lemmas.Bool.Decides.{nat_tests}
@@ -283,3 +285,21 @@ pub adds_items : {X : Type 0} (earlier : ℕ) (further : X → CycleTest → Cyc
 adds_items {X} earlier further before old new xs i all adds =
     subst (λ (ys : List X). AddsTo earlier (λ test cycle minislot. list_any (λ y. further y test cycle minislot) ys)
     before old new) (take_all i xs all) adds
+
+abbrev zeros_of : ℕ → List ℕ
+zeros_of n = replicate n 0
+
+zero_at : (n i : ℕ) → get_or (zeros_of n) i 0 ≡ 0
+zero_at n i = grind (arith, common_steps)
+
+pub first_set : (cells : List ℕ) (width : ℕ) → cells ≡ replicate width 0 → 1 ≤ width
+    → HasBits 1 (λ cycle minislot. eqb minislot 1) (set cells 0 18446744073709551615)
+first_set cells width zeros some =
+    let full : 2 ^ 64 - 1 ≡ 18446744073709551615 = refl in
+    let there : 0 < length cells = subst (λ (xs : List ℕ). 0 < length xs) (sym zeros)
+    (omega (arith, length-replicate {A = ℕ} width 0, some)) in
+    first_bits (set cells 0 18446744073709551615)
+    (get_or-set_same cells 0 18446744073709551615 0 there ∙ sym full)
+    (λ index more.
+    get_or-set_other cells 0 index 18446744073709551615 0 (λ same. omega (arith, same, more))
+    ∙ ap (λ (xs : List ℕ). get_or xs index 0) zeros ∙ zero_at width index)

@@ -15,7 +15,7 @@ use Rattle.fr_minislot.specs.DynamicRows.{is_row}
 abbrev pub frame_length : Parameters → Buffer → ℕ
 frame_length p b = minislots_filled p (words_of p b) + p.idle
 
--- the buffer is a transmit buffer for the slot on the channel
+-- this is a transmit buffer for the slot on the channel
 abbrev pub is_for : ℕ → Channel → Buffer → Bool
 is_for slot channel b = transmits b && (b.filter.slot == slot && includes b.filter.channels channel)
 
@@ -81,3 +81,7 @@ last_begin d channel cycle earlier = greatest (can_begin d channel cycle earlier
 -- the last minislot at which it can open, or 0 if it never opens
 abbrev pub last_opening : Description → Channel → ℕ → ℕ → ℕ
 last_opening d channel cycle earlier = greatest (can_begin d channel cycle earlier) d.params.minislots
+
+-- a node has a transmit buffer for the slot on the channel
+abbrev pub is_used : List Plan → ℕ → Channel → Bool
+is_used plans slot channel = list_any (λ plan. list_any (is_for slot channel) plan.buffers) plans

@@ -13,4 +13,5 @@
 #![tactic(auto)]
 
 mod cells;
+pub mod latency;
 pub mod openings;
