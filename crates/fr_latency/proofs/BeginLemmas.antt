@@ -27,8 +27,8 @@ pub any_gives : {X : Type 0} (P : Type 0) (test : X → Bool) → ((x : X) → t
 any_gives P test gives [] some = absurd (true≢false (sym some))
 any_gives P test gives (x ∷ xs) some =
     elim (or_cases (test x) (list_any test xs) some) as (λ _. P) [
-      inl here ↦ gives x here
-    | inr later ↦ any_gives P test gives xs later
+      | inl here ↦ gives x here
+      | inr later ↦ any_gives P test gives xs later
     ]
 
 -- ---- the length of a frame

@@ -1,9 +1,9 @@
 -- One more number, for the words on the numbers below a number.
-use Rattle.std.proofs.Common.{◌≡◌, ℕ, zero, suc, ◌+◌, ◌-◌, ◌<◌, ◌≤◌, max, Bool, true, false, ◌&&◌, ◌||◌, cond, refl, sym, ap, ◌∙◌}
+use Rattle.std.proofs.Common.{◌≡◌, ℕ, zero, suc, ◌+◌, ◌-◌, ◌<◌, ◌≤◌, min, max, Bool, true, false, ◌&&◌, ◌||◌, cond, refl, sym, ap, ◌∙◌}
 use Rattle.std.proofs.Common.{subst, arith, add-one}
 use Rattle.std.proofs.lemmas.Bool.{cond-true, cond-false}
 use Rattle.std.specs.Prelude.{if◌then◌else◌}
-use Rattle.fr_latency.specs.Below.{all_below, any_below, count_below, most_below}
+use Rattle.fr_latency.specs.Below.{all_below, any_below, count_below, least_below, most_below, sum_below}
 use Rattle.fr_latency.specs.Latencies.{first_from}
 
 pub all_more : (test : ℕ → Bool) (n : ℕ) → all_below test (n + 1) ≡ (all_below test n && test n)
@@ -56,3 +56,20 @@ count_none test = refl
 pub most_none : (value : ℕ → ℕ) → most_below value 0 ≡ 0
 unfolding most_below
 most_none value = refl
+
+pub least_more : (most : ℕ) (value : ℕ → ℕ) (n : ℕ)
+    → least_below most value (n + 1) ≡ min (least_below most value n) (value n)
+unfolding least_below
+least_more most value n = ap (least_below most value) (add-one n)
+
+pub least_none : (most : ℕ) (value : ℕ → ℕ) → least_below most value 0 ≡ most
+unfolding least_below
+least_none most value = refl
+
+pub sum_more : (value : ℕ → ℕ) (n : ℕ) → sum_below value (n + 1) ≡ sum_below value n + value n
+unfolding sum_below
+sum_more value n = ap (sum_below value) (add-one n)
+
+pub sum_none : (value : ℕ → ℕ) → sum_below value 0 ≡ 0
+unfolding sum_below
+sum_none value = refl

@@ -52,13 +52,13 @@ added_here from shift count mask old cells within is index less =
     elim (cases_lt index count) as (λ _. get_or (set cells (count + shift)
     (bit_or (get_or cells (count + shift) 0) (bit_and (get_or from count 0) mask))) (index + shift) 0
     ≡ bit_or (get_or old (index + shift) 0) (bit_and (get_or from index 0) mask)) [
-      inl before ↦
-      let apart : index + shift ≢ count + shift = omega arith in
-      rw get_or-set_other (is.added index before)
-    | inr after ↦
-      let same : index ≡ count = omega arith in
-      let kept : get_or cells (count + shift) 0 ≡ get_or old (count + shift) 0 = is.above (count + shift) (omega arith) in
-      rw same (rw get_or-set_same (rw kept refl))
+      | inl before ↦
+          let apart : index + shift ≢ count + shift = omega arith in
+          rw get_or-set_other (is.added index before)
+      | inr after ↦
+          let same : index ≡ count = omega arith in
+          let kept : get_or cells (count + shift) 0 ≡ get_or old (count + shift) 0 = is.above (count + shift) (omega arith) in
+          rw same (rw get_or-set_same (rw kept refl))
     ]
 
 pub added_more : (from : List ℕ) (shift count mask : ℕ) (old cells : List ℕ) → count + shift < length cells
@@ -84,15 +84,15 @@ set_bit : (mask k cycle : ℕ) → k < 64
 set_bit mask k cycle less =
     elim (cases_eq cycle k) as (λ _. has_bit (bit_or mask (1 * 2 ^ k % 2 ^ 64)) cycle
     ≡ (eqb cycle k || has_bit mask cycle)) [
-      inl same ↦
-      let on : eqb cycle k ≡ true = eq-eqb cycle k same in
-      let set : has_bit (bit_or mask (1 * 2 ^ k % 2 ^ 64)) k ≡ true =
-      ap (λ n. eqb n 1) (bit_at_set_same w64 mask k less) in
-      subst (λ (c : ℕ). has_bit (bit_or mask (1 * 2 ^ k % 2 ^ 64)) c ≡ true) (sym same) set
-      ∙ ap (λ b. b || has_bit mask cycle) (sym on)
-    | inr other ↦
-      ap (λ n. eqb n 1) (bit_at_set_other w64 mask k less cycle other)
-      ∙ ap (λ b. b || has_bit mask cycle) (sym (ne_eqb cycle k other))
+      | inl same ↦
+          let on : eqb cycle k ≡ true = eq-eqb cycle k same in
+          let set : has_bit (bit_or mask (1 * 2 ^ k % 2 ^ 64)) k ≡ true =
+          ap (λ n. eqb n 1) (bit_at_set_same w64 mask k less) in
+          subst (λ (c : ℕ). has_bit (bit_or mask (1 * 2 ^ k % 2 ^ 64)) c ≡ true) (sym same) set
+          ∙ ap (λ b. b || has_bit mask cycle) (sym on)
+      | inr other ↦
+          ap (λ n. eqb n 1) (bit_at_set_other w64 mask k less cycle other)
+          ∙ ap (λ b. b || has_bit mask cycle) (sym (ne_eqb cycle k other))
     ]
 
 admitted_more : (bit admitted : Bool) (k cycle : ℕ) → bit ≡ (ltb cycle k && admitted) → (cycle ≡ k → admitted ≡ true)
@@ -135,13 +135,13 @@ pub first_bits : (cells : List ℕ) → get_or cells 0 0 ≡ 2 ^ 64 - 1
     → HasBits 1 (λ cycle minislot. eqb minislot 1) cells
 first_bits cells full empty = λ index cycle less within.
     elim (cases_eq index 0) as (λ _. has_bit (get_or cells index 0) cycle ≡ eqb (1 + index) 1) [
-      inl same ↦
-      let set : has_bit (get_or cells 0 0) cycle ≡ true = ap (λ n. has_bit n cycle) full
-      ∙ ap (λ n. eqb n 1) (bit_at_ones 64 cycle within) in
-      subst (λ (i : ℕ). has_bit (get_or cells i 0) cycle ≡ eqb (1 + i) 1) (sym same) set
-    | inr other ↦
-      ap (λ n. has_bit n cycle) (empty index (omega arith)) ∙ no_bit cycle
-      ∙ sym (ne_eqb (1 + index) 1 (omega arith))
+      | inl same ↦
+          let set : has_bit (get_or cells 0 0) cycle ≡ true = ap (λ n. has_bit n cycle) full
+          ∙ ap (λ n. eqb n 1) (bit_at_ones 64 cycle within) in
+          subst (λ (i : ℕ). has_bit (get_or cells i 0) cycle ≡ eqb (1 + i) 1) (sym same) set
+      | inr other ↦
+          ap (λ n. has_bit n cycle) (empty index (omega arith)) ∙ no_bit cycle
+          ∙ sym (ne_eqb (1 + index) 1 (omega arith))
     ]
 
 -- ---- a frame
@@ -174,38 +174,38 @@ frame_at earlier latest size shift count mask cycles before old new test kept is
     let m : ℕ = earlier + 2 + index in
     elim (cases_lt index shift) as (λ _. has_bit (get_or new index 0) cycle
     ≡ (kept cycle m || after_frame latest size cycles test cycle m)) [
-      inl before_shift ↦
-      ap (λ n. has_bit n cycle) (is.below index before_shift) ∙ into index cycle less within
-      ∙ too_early (kept cycle m) (cycle_admitted cycles cycle) (leb (m - size) latest) (test cycle (m - size))
-      (above cycle (m - size) (omega arith))
-    | inr from_shift ↦
-      elim (cases_lt index (shift + count)) as (λ _. has_bit (get_or new index 0) cycle
-      ≡ (kept cycle m || after_frame latest size cycles test cycle m)) [
-        inl inside ↦
-        let place : ℕ = index - shift in
-        let at : place + shift ≡ index = omega arith in
-        let begin : earlier + 1 + place ≡ m - size = omega arith in
-        let cell : get_or new index 0 ≡ bit_or (get_or old index 0) (bit_and (get_or before place 0) mask) =
-        subst (λ (i : ℕ). get_or new i 0 ≡ bit_or (get_or old i 0) (bit_and (get_or before place 0) mask)) at
-        (is.added place (omega arith)) in
-        let began : has_bit (get_or before place 0) cycle ≡ test cycle (m - size) =
-        from place cycle (omega arith) within ∙ ap (test cycle) begin in
-        let both : has_bit (bit_and (get_or before place 0) mask) cycle
-        ≡ (test cycle (m - size) && cycle_admitted cycles cycle) =
-        and_bit (get_or before place 0) mask cycle
-        ∙ ap (λ b. b && has_bit mask cycle) began
-        ∙ ap (λ b. test cycle (m - size) && b) (masks cycle within) in
-        ap (λ n. has_bit n cycle) cell
-        ∙ or_bit (get_or old index 0) (bit_and (get_or before place 0) mask) cycle
-        ∙ ap (λ b. b || has_bit (bit_and (get_or before place 0) mask) cycle) (into index cycle less within)
-        ∙ ap (λ b. kept cycle m || b) both
-        ∙ in_time (kept cycle m) (cycle_admitted cycles cycle) (leb (m - size) latest) (test cycle (m - size))
-        (le-leb (m - size) latest (omega arith))
-      | inr behind ↦
-        ap (λ n. has_bit n cycle) (is.above index behind) ∙ into index cycle less within
-        ∙ too_late (kept cycle m) (cycle_admitted cycles cycle) (leb (m - size) latest) (test cycle (m - size))
-        (lt-leb (m - size) latest (omega arith))
-      ]
+      | inl before_shift ↦
+          ap (λ n. has_bit n cycle) (is.below index before_shift) ∙ into index cycle less within
+          ∙ too_early (kept cycle m) (cycle_admitted cycles cycle) (leb (m - size) latest) (test cycle (m - size))
+          (above cycle (m - size) (omega arith))
+      | inr from_shift ↦
+          elim (cases_lt index (shift + count)) as (λ _. has_bit (get_or new index 0) cycle
+          ≡ (kept cycle m || after_frame latest size cycles test cycle m)) [
+            | inl inside ↦
+                let place : ℕ = index - shift in
+                let at : place + shift ≡ index = omega arith in
+                let begin : earlier + 1 + place ≡ m - size = omega arith in
+                let cell : get_or new index 0 ≡ bit_or (get_or old index 0) (bit_and (get_or before place 0) mask) =
+                subst (λ (i : ℕ). get_or new i 0 ≡ bit_or (get_or old i 0) (bit_and (get_or before place 0) mask)) at
+                (is.added place (omega arith)) in
+                let began : has_bit (get_or before place 0) cycle ≡ test cycle (m - size) =
+                from place cycle (omega arith) within ∙ ap (test cycle) begin in
+                let both : has_bit (bit_and (get_or before place 0) mask) cycle
+                ≡ (test cycle (m - size) && cycle_admitted cycles cycle) =
+                and_bit (get_or before place 0) mask cycle
+                ∙ ap (λ b. b && has_bit mask cycle) began
+                ∙ ap (λ b. test cycle (m - size) && b) (masks cycle within) in
+                ap (λ n. has_bit n cycle) cell
+                ∙ or_bit (get_or old index 0) (bit_and (get_or before place 0) mask) cycle
+                ∙ ap (λ b. b || has_bit (bit_and (get_or before place 0) mask) cycle) (into index cycle less within)
+                ∙ ap (λ b. kept cycle m || b) both
+                ∙ in_time (kept cycle m) (cycle_admitted cycles cycle) (leb (m - size) latest) (test cycle (m - size))
+                (le-leb (m - size) latest (omega arith))
+            | inr behind ↦
+                ap (λ n. has_bit n cycle) (is.above index behind) ∙ into index cycle less within
+                ∙ too_late (kept cycle m) (cycle_admitted cycles cycle) (leb (m - size) latest) (test cycle (m - size))
+                (lt-leb (m - size) latest (omega arith))
+          ]
     ]
 
 pub frame_added : (earlier latest size shift count mask : ℕ) (cycles : CycleClass) (before old new : List ℕ)

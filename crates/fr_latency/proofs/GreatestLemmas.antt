@@ -36,8 +36,8 @@ unfolding greatest
 greatest_most test zero = omega arith
 greatest_most test (suc n) =
     elim (cases_Bool (test (suc n))) as (λ _. greatest test (suc n) ≤ suc n) [
-      inl passes ↦ omega (arith, cond-true (test (suc n)) (suc n) (greatest test n) passes)
-    | inr fails ↦ omega (arith, cond-false (test (suc n)) (suc n) (greatest test n) fails, greatest_most test n)
+      | inl passes ↦ omega (arith, cond-true (test (suc n)) (suc n) (greatest test n) passes)
+      | inr fails ↦ omega (arith, cond-false (test (suc n)) (suc n) (greatest test n) fails, greatest_most test n)
     ]
 
 -- no number that passes is greater
@@ -46,13 +46,16 @@ unfolding greatest
 greatest_bounds test zero m less passes = omega (arith, less)
 greatest_bounds test (suc n) m less passes =
     elim (cases_Bool (test (suc n))) as (λ _. m ≤ greatest test (suc n)) [
-      inl here ↦ omega (arith, cond-true (test (suc n)) (suc n) (greatest test n) here, less)
-    | inr fails ↦
-      elim (cases_eq m (suc n)) as (λ _. m ≤ greatest test (suc n)) [
-        inl same ↦ absurd (true≢false (sym passes ∙ ap test same ∙ fails))
-      | inr other ↦ omega (arith, cond-false (test (suc n)) (suc n) (greatest test n) fails,
-      greatest_bounds test n m (omega arith) passes)
-      ]
+      | inl here ↦ omega (arith, cond-true (test (suc n)) (suc n) (greatest test n) here, less)
+      | inr fails ↦
+          elim (cases_eq m (suc n)) as (λ _. m ≤ greatest test (suc n)) [
+            | inl same ↦ absurd (true≢false (sym passes ∙ ap test same ∙ fails))
+            | inr other ↦ omega (
+              arith,
+              cond-false (test (suc n)) (suc n) (greatest test n) fails,
+              greatest_bounds test n m (omega arith) passes,
+            )
+          ]
     ]
 
 -- it passes, if it isn't 0
@@ -61,10 +64,10 @@ unfolding greatest
 greatest_passes test zero some = absurd (omega (arith, some))
 greatest_passes test (suc n) some =
     elim (cases_Bool (test (suc n))) as (λ _. test (greatest test (suc n)) ≡ true) [
-      inl here ↦ ap test (cond-true (test (suc n)) (suc n) (greatest test n) here) ∙ here
-    | inr fails ↦
-      let down : greatest test (suc n) ≡ greatest test n = cond-false (test (suc n)) (suc n) (greatest test n) fails in
-      ap test down ∙ greatest_passes test n (omega (arith, down, some))
+      | inl here ↦ ap test (cond-true (test (suc n)) (suc n) (greatest test n) here) ∙ here
+      | inr fails ↦
+          let down : greatest test (suc n) ≡ greatest test n = cond-false (test (suc n)) (suc n) (greatest test n) fails in
+          ap test down ∙ greatest_passes test n (omega (arith, down, some))
     ]
 
 -- The greatest number from a first one on that passes a test, by the test of the distance from the first, which passes.
@@ -77,14 +80,14 @@ greatest_moved test near first zero some passes same =
     ∙ omega (arith, greatest_zero near)
 greatest_moved test near first (suc n) some passes same =
     elim (cases_Bool (near (suc n))) as (λ _. greatest test (first + suc n) ≡ first + greatest near (suc n)) [
-      inl here ↦
-      greatest_here test (first + suc n) (omega arith) (sym (same (suc n) (omega arith)) ∙ here)
-      ∙ ap (λ k. first + k) (sym (greatest_here near (suc n) (omega arith) here))
-    | inr fails ↦
-      let less : first + suc n - 1 ≡ first + n = omega arith in
-      let near_less : suc n - 1 ≡ n = omega arith in
-      greatest_down test (first + suc n) (omega arith) (sym (same (suc n) (omega arith)) ∙ fails)
-      ∙ ap (greatest test) less
-      ∙ greatest_moved test near first n some passes (λ i few. same i (omega arith))
-      ∙ ap (λ k. first + k) (sym (greatest_down near (suc n) (omega arith) fails ∙ ap (greatest near) near_less))
+      | inl here ↦
+          greatest_here test (first + suc n) (omega arith) (sym (same (suc n) (omega arith)) ∙ here)
+          ∙ ap (λ k. first + k) (sym (greatest_here near (suc n) (omega arith) here))
+      | inr fails ↦
+          let less : first + suc n - 1 ≡ first + n = omega arith in
+          let near_less : suc n - 1 ≡ n = omega arith in
+          greatest_down test (first + suc n) (omega arith) (sym (same (suc n) (omega arith)) ∙ fails)
+          ∙ ap (greatest test) less
+          ∙ greatest_moved test near first n some passes (λ i few. same i (omega arith))
+          ∙ ap (λ k. first + k) (sym (greatest_down near (suc n) (omega arith) fails ∙ ap (greatest near) near_less))
     ]

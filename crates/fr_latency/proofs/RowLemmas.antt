@@ -77,12 +77,12 @@ pub begins_in_time : (d : Description) (channel : Channel) (cycle earlier latest
 begins_in_time d channel cycle earlier latest is =
     let test = can_begin d channel cycle earlier in
     elim (cases_lt earlier latest) as (λ _. ltb earlier latest ≡ leb 1 (greatest test latest)) [
-      inl less ↦
-      let bound : earlier + 1 ≤ greatest test latest =
-      greatest_bounds test latest (earlier + 1) (omega arith) (starts_first d channel cycle earlier) in
-      lt-ltb earlier latest less ∙ sym (le-leb 1 (greatest test latest) (omega arith))
-    | inr more ↦
-      let none : greatest test latest ≡ 0 = greatest_none test latest
-      (λ m few. starts_after d channel cycle earlier m (frames_have_lengths d.params is.params_are) (omega arith)) in
-      le-ltb earlier latest more ∙ sym (ap (leb 1) none)
+      | inl less ↦
+          let bound : earlier + 1 ≤ greatest test latest =
+          greatest_bounds test latest (earlier + 1) (omega arith) (starts_first d channel cycle earlier) in
+          lt-ltb earlier latest less ∙ sym (le-leb 1 (greatest test latest) (omega arith))
+      | inr more ↦
+          let none : greatest test latest ≡ 0 = greatest_none test latest
+          (λ m few. starts_after d channel cycle earlier m (frames_have_lengths d.params is.params_are) (omega arith)) in
+          le-ltb earlier latest more ∙ sym (ap (leb 1) none)
     ]

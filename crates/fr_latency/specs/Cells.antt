@@ -2,7 +2,6 @@
 -- with a bit for each cycle.
 use Rattle.std.specs.Prelude.{◌≡◌, ℕ, ◌+◌, ◌==◌, ◌<◌, ◌≤◌, Bool, false, ◌||◌, List, length, slice_index, bit_and, bit_or}
 use Rattle.std.specs.Int.{bit_at}
-
 use Rattle.fr_slots.specs.Admission.{CycleClass, cycle_admitted}
 use Rattle.fr_slots.specs.Numbers.{cycle_count}
 

@@ -117,8 +117,8 @@ abbrev pub latest_end : Description → Buffer → ℕ → ℕ
 latest_end d b cycle =
     if is_static_slot d.params b.filter.slot then b.filter.slot * d.params.static_mt
     else
-      dynamic_start d.params
-      + (last_begin_of d b cycle - 1 + minislots_filled d.params (words_of d.params b)) * d.params.minislot_mt
+    dynamic_start d.params
+    + (last_begin_of d b cycle - 1 + minislots_filled d.params (words_of d.params b)) * d.params.minislot_mt
 
 -- ---- the worst case
 

@@ -4,3 +4,6 @@ pub mod Rows
 pub mod Below
 pub mod Latencies
 pub mod Tables
+pub mod Loads
+pub mod LatencyText
+pub mod Commands

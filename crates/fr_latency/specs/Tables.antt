@@ -2,6 +2,7 @@
 use Rattle.std.specs.Prelude.{◌≡◌, ℕ, ◌<◌, Bool, true, false, List, slice_index, slice_index_or}
 use Rattle.fr_slots.specs.declared.channel.Channel.TheVariants.{A, B}
 use Rattle.fr_slots.specs.declared.plan.Buffer.{Buffer}
+use Rattle.fr_slots.specs.Faults.{transmits}
 use Rattle.fr_slots.specs.Numbers.{IsSlot, cycle_count}
 use Rattle.fr_slots.specs.Parameters.{is_static_slot}
 use Rattle.fr_schedule.specs.Descriptions.{Description}
@@ -26,6 +27,7 @@ pub record AreOpenings (d : Description) (o : Openings) : Type 0 where
 abbrev pub HasRow : Description → Buffer → Row → Type 0
 HasRow d b row = is_static_slot d.params b.filter.slot ≡ false → IsRow d (channel_of b.filter.channels) (before_slot d b) row
 
--- a node has a transmit buffer for the slot of this one, on its channel
-abbrev pub IsUsedFor : Description → Buffer → Type 0
-IsUsedFor d b = IsSlot b.filter.slot × (is_used d.plans b.filter.slot (channel_of b.filter.channels) ≡ true)
+-- this is a buffer of a node: if it transmits, its slot is used on its channel
+pub record IsUsedFor (d : Description) (b : Buffer) : Type 0 where
+  pub slot_is : IsSlot b.filter.slot
+  pub used : transmits b ≡ true → is_used d.plans b.filter.slot (channel_of b.filter.channels) ≡ true

@@ -53,7 +53,7 @@ pub struct Latency {
 }
 
 /// Returns the channel of a dynamic transmit buffer, which is never for both.
-fn channel_of(buffer: &Buffer) -> Channel
+pub(crate) fn channel_of(buffer: &Buffer) -> Channel
     ensures { result ≡ channel_of buffer.now.filter.channels }
 {
     match buffer.filter.channels {
@@ -145,13 +145,7 @@ fn distance(answers: &[bool; 64], cycle: usize) -> usize
 /// Returns the number of macroticks from just after the start in this cycle to the end in the next one.
 ///
 /// It is 0 for a cycle with the answer `false`.
-fn wait_if(
-    params: &Params,
-    answers: &[bool; 64],
-    start: u32,
-    ends: &[u32; 64],
-    cycle: usize,
-) -> u64
+fn wait_if(params: &Params, answers: &[bool; 64], start: u32, ends: &[u32; 64], cycle: usize) -> u64
     requires { cycle < cycle_count }
     ensures { (test : ℕ → Bool) (end : ℕ → ℕ) → AreAnswers test answers.now → AreNumbers end ends.now
         → result ≡ wait_if params.now.cycle_mt test start end cycle }
@@ -293,14 +287,20 @@ fn worst_latency(
         return None;
     }
     let start = earliest_start(cluster, buffer);
-    let worst = worst(cluster.params(), answers, start, &ends(cluster, buffer, row));
+    let worst = worst(
+        cluster.params(),
+        answers,
+        start,
+        &ends(cluster, buffer, row),
+    );
     if worst == 0 { None } else { Some(worst) }
 }
 
 /// Returns the row of the buffer's slot, or an unused one for a static buffer.
-fn row_of(openings: &Openings, cluster: &Cluster, buffer: &Buffer) -> Row
+pub(crate) fn row_of(openings: &Openings, cluster: &Cluster, buffer: &Buffer) -> Row
     requires openings { AreOpenings cluster.now openings.now }
     requires used { IsUsedFor cluster.now buffer.now }
+    requires transmits { transmits buffer.now ≡ true }
     ensures { HasRow cluster.now buffer.now result }
 {
     if cluster.params().is_static(buffer.filter.slot) {
@@ -314,15 +314,25 @@ fn row_of(openings: &Openings, cluster: &Cluster, buffer: &Buffer) -> Row
 }
 
 /// Returns the latency of a transmit buffer of the node.
-pub fn latency_of(openings: &Openings, cluster: &Cluster, plan: &NodePlan, buffer: &Buffer) -> Latency
+pub fn latency_of(
+    openings: &Openings,
+    cluster: &Cluster,
+    plan: &NodePlan,
+    buffer: &Buffer,
+) -> Latency
     requires openings { AreOpenings cluster.now openings.now }
     requires used { IsUsedFor cluster.now buffer.now }
+    requires transmits { transmits buffer.now ≡ true }
     ensures { result ≡ latency_of cluster.now plan.now buffer.now }
 {
     let row = row_of(openings, cluster, buffer);
     let answers = guaranteed(cluster, plan, buffer, &row);
     let state = state_of(cluster, plan, buffer, &answers);
-    let cycles = if plan.tasks() == 0 { 0 } else { count(&answers) };
+    let cycles = if plan.tasks() == 0 {
+        0
+    } else {
+        count(&answers)
+    };
     let worst = worst_latency(cluster, plan, buffer, &row, &answers);
     if cluster.params().is_static(buffer.filter.slot) {
         return Latency {

@@ -14,4 +14,6 @@
 
 mod cells;
 pub mod latency;
+pub mod load;
 pub mod openings;
+pub mod text;

@@ -45,7 +45,7 @@ pub(crate) const UNUSED: Row = Row {
 };
 
 /// Returns the minislots that a frame of the buffer takes, with those that stay idle after it.
-fn frame_length(params: &Params, buffer: &Buffer) -> u16
+pub(crate) fn frame_length(params: &Params, buffer: &Buffer) -> u16
     ensures value { result ≡ frame_length params.now buffer.now }
     ensures some { 1 ≤ result }
     ensures few { result ≤ 300 }
@@ -131,7 +131,15 @@ fn add_nodes(
         before.now after.old after.new }
 {
     for plan in cluster.plans() {
-        add_node(after, before, cluster.params(), plan, slot, channel, earlier);
+        add_node(
+            after,
+            before,
+            cluster.params(),
+            plan,
+            slot,
+            channel,
+            earlier,
+        );
     }
 }
 
@@ -210,13 +218,7 @@ fn is_used(cluster: &Cluster, slot: SlotId, channel: Channel) -> bool
 }
 
 /// Returns the row of a slot, from the minislots at which it can begin.
-fn row_at(
-    cells: &[u64],
-    cluster: &Cluster,
-    slot: SlotId,
-    channel: Channel,
-    earlier: u16,
-) -> Row
+fn row_at(cells: &[u64], cluster: &Cluster, slot: SlotId, channel: Channel, earlier: u16) -> Row
     requires lawful { IsCluster cluster.now }
     requires few { earlier ≤ last_slot }
     requires room { length cells.now ≡ cluster.now.params.minislots + 300 }

@@ -14,13 +14,13 @@ loop-number-preserved c =
     let answer : c.admits.result ≡ cycle_admitted cycles number = c.admits.ensures
     ∙ ap (cycle_admitted cycles) c.from_bits.ensures in
     elim c.if-admits.branch [
-      then-admits w ↦
-      subst (λ (mask : ℕ). IsMaskBelow cycles (number + 1) mask) (sym w.mask-is)
-      (mask_with cycles c.loop-number.mask number c.loop-number-test.true (sym answer ∙ w.if-admits.true)
-      c.loop-number.invariant)
-    | else-admits w ↦
-      subst (λ (mask : ℕ). IsMaskBelow cycles (number + 1) mask) (sym w.mask-is)
-      (mask_without cycles c.loop-number.mask number (sym answer ∙ w.if-admits.false) c.loop-number.invariant)
+      | then-admits w ↦
+          subst (λ (mask : ℕ). IsMaskBelow cycles (number + 1) mask) (sym w.mask-is)
+          (mask_with cycles c.loop-number.mask number c.loop-number-test.true (sym answer ∙ w.if-admits.true)
+          c.loop-number.invariant)
+      | else-admits w ↦
+          subst (λ (mask : ℕ). IsMaskBelow cycles (number + 1) mask) (sym w.mask-is)
+          (mask_without cycles c.loop-number.mask number (sym answer ∙ w.if-admits.false) c.loop-number.invariant)
     ]
 
 pub returns : goal.returns

@@ -19,9 +19,9 @@ loop-number-preserved c = λ test are.
     let so_far = c.loop-number.invariant test are in
     let more = all_more (λ cycle. not (cycle_admitted c.args.cycles cycle) || test cycle) number in
     elim c.if-all.branch [
-      then-all+then-not-admitted w ↦ grind (arith, common_steps)
-    | then-all+else-not-admitted w ↦ grind (arith, common_steps)
-    | else-all w ↦ grind (arith, common_steps)
+      | then-all+then-not-admitted w ↦ grind (arith, common_steps)
+      | then-all+else-not-admitted w ↦ grind (arith, common_steps)
+      | else-all w ↦ grind (arith, common_steps)
     ]
 
 pub returns : goal.returns

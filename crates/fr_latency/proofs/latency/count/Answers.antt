@@ -11,20 +11,20 @@ pub loop-number-preserved : goal.loop-number-preserved
 loop-number-preserved c =
     let number = c.loop-number.number in
     elim c.if-answers-from.branch [
-      then-answers-from w ↦
-      record {
-        few = omega arith;
-        same = λ test are.
-            let answer = are number (omega arith) in
-            let so_far = c.loop-number.invariant.same test are in
-            grind (arith, common_steps, count_more test number);
-      }
-    | else-answers-from w ↦
-      record {
-        few = omega arith;
-        same = λ test are.
-            let answer = are number (omega arith) in
-            let so_far = c.loop-number.invariant.same test are in
-            grind (arith, common_steps, count_more test number);
-      }
+      | then-answers-from w ↦
+          record {
+            few = omega arith;
+            same = λ test are.
+                let answer = are number (omega arith) in
+                let so_far = c.loop-number.invariant.same test are in
+                grind (arith, common_steps, count_more test number);
+          }
+      | else-answers-from w ↦
+          record {
+            few = omega arith;
+            same = λ test are.
+                let answer = are number (omega arith) in
+                let so_far = c.loop-number.invariant.same test are in
+                grind (arith, common_steps, count_more test number);
+          }
     ]

@@ -28,16 +28,16 @@ loop-number-preserved c =
     any_more (is_possible d plan b) number ∙ ap (λ x. x || is_possible d plan b number) (sym so_far)
     ∙ ap (λ x. c.loop-number.ever || x) here in
     elim c.if-ever.branch [
-      then-ever w ↦
-      w.ever-is ∙ w.if-ever.true
-      ∙ sym (more ∙ ap (λ x. x || (c.admits-admitted.result && c.is_ever_in_time-in_time.result)) w.if-ever.true)
-    | else-ever+then-admitted w ↦
-      w.ever-is ∙ sym (more ∙ ap (λ x. x || (c.admits-admitted.result && c.is_ever_in_time-in_time.result)) w.if-ever.false
-      ∙ ap (λ x. x && c.is_ever_in_time-in_time.result) w.if-admitted.true)
-    | else-ever+else-admitted w ↦
-      w.ever-is ∙ w.if-admitted.false
-      ∙ sym (more ∙ ap (λ x. x || (c.admits-admitted.result && c.is_ever_in_time-in_time.result)) w.if-ever.false
-      ∙ ap (λ x. x && c.is_ever_in_time-in_time.result) w.if-admitted.false)
+      | then-ever w ↦
+          w.ever-is ∙ w.if-ever.true
+          ∙ sym (more ∙ ap (λ x. x || (c.admits-admitted.result && c.is_ever_in_time-in_time.result)) w.if-ever.true)
+      | else-ever+then-admitted w ↦
+          w.ever-is ∙ sym (more ∙ ap (λ x. x || (c.admits-admitted.result && c.is_ever_in_time-in_time.result)) w.if-ever.false
+          ∙ ap (λ x. x && c.is_ever_in_time-in_time.result) w.if-admitted.true)
+      | else-ever+else-admitted w ↦
+          w.ever-is ∙ w.if-admitted.false
+          ∙ sym (more ∙ ap (λ x. x || (c.admits-admitted.result && c.is_ever_in_time-in_time.result)) w.if-ever.false
+          ∙ ap (λ x. x && c.is_ever_in_time-in_time.result) w.if-admitted.false)
     ]
 
 pub returns : goal.returns

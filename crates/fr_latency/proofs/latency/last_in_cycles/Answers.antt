@@ -25,6 +25,6 @@ loop-number-preserved c =
     let so_far : c.loop-number.most ≡ most_below value number = c.loop-number.invariant in
     let more = most_more value number in
     elim c.if-admits.branch [
-      then-admits w ↦ grind (arith, common_steps)
-    | else-admits w ↦ grind (arith, common_steps)
+      | then-admits w ↦ grind (arith, common_steps)
+      | else-admits w ↦ grind (arith, common_steps)
     ]
