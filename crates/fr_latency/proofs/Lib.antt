@@ -5,3 +5,4 @@ pub mod StepLemmas
 pub mod RowLemmas
 pub mod BelowLemmas
 pub mod StateLemmas
+pub mod UsedLemmas

@@ -55,7 +55,8 @@ fn owned_cycles(cluster: &Cluster, channel: Channel, slot: SlotId) -> u8
 
 /// Returns the number of cycles in which a node owns the static slot after so many others.
 fn owned_after(cluster: &Cluster, channel: Channel, earlier: u16) -> u8
-    requires { earlier < cluster.now.params.static_slots }
+    requires is_static { earlier < cluster.now.params.static_slots }
+    requires few { earlier < 1023 }
     ensures value { result ≡ owned_cycles cluster.now channel (earlier + 1) }
     ensures few { result ≤ 64 }
 {

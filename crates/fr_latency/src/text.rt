@@ -5,7 +5,7 @@ ghost use Rattle.std.specs.Io.KnownBytes.{Appends};
 ghost use Rattle.fr_files.specs.NodeTexts.{of_nodes};
 ghost use Rattle.fr_lines.specs.Parts.{optional_number};
 ghost use Rattle.fr_text.specs.Writing.{Writes};
-ghost use Rattle.fr_slots.specs.Faults.{transmits};
+ghost use Rattle.fr_schedule.specs.Clusters.{IsCluster};
 ghost use Rattle.fr_latency.specs.Commands.{ShowsLatencies};
 ghost use Rattle.fr_latency.specs.LatencyText.{buffer_text, channel_text, latency_line, latency_text, load_line};
 ghost use Rattle.fr_latency.specs.LatencyText.{minislots_text, node_text, place_text, state_word, worst_text};
@@ -127,6 +127,7 @@ fn write_node<W: Write>(
     node: usize,
     plan: &NodePlan,
 ) -> io::Result<()>
+    requires lawful { IsCluster cluster.now }
     requires openings { AreOpenings cluster.now openings.now }
     requires node { slice_get cluster.now.plans node ≡ Some plan.now }
     ensures { Writes W.contents writer.old writer.new result (node_text cluster.now node plan.now) }
