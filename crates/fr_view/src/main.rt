@@ -7,6 +7,7 @@
 //!
 //! ```text
 //! fr_view schedule cluster.toml > cycle.svg          a picture of a cycle: senders, and open intervals of guardians
+//! fr_view latency cluster.toml                       the worst latency of each transmit buffer
 //! fr_view capture < node.trace > node.pcap           the observations of a controller, as a capture for Wireshark
 //! fr_view frames < node.trace                        the same as a table
 //! fr_view why < node.trace                           the line of a trace at fault, and the reason
@@ -39,6 +40,7 @@ use fr_cli::waiting::{WaitingReader, WaitingWriter};
 use fr_cli::words::{texts_of, words_given};
 use fr_files::cluster_file::cluster_of;
 use fr_files::named::file_named;
+use fr_latency::text::show_latencies;
 use fr_matrix::view::View;
 use fr_picture::picture::show_schedule;
 use fr_showing::show::show_run;
@@ -55,6 +57,8 @@ use std::time::Clock;
 /// The help of the program.
 const HELP: &str = "fr_view schedule FILE [--cycle N] > SVG
     a picture of a cycle of the cluster, 0 unless another is named
+fr_view latency FILE [--slot SLOT [--channel A|B]]
+    the worst latency of each transmit buffer; with --slot the frames before the latest start of a slot
 fr_view capture [--own] [--until-fault] < TRACE > CAPTURE
     what a controller saw, as a capture that Wireshark opens; with --own also what it sent
 fr_view frames [--all] [--until-fault] < TRACE
@@ -192,6 +196,18 @@ fn show_cycle<R: Files + Print + AllocGlobal + Clock>(
     Ok(show_schedule(rt.alloc(), &mut file, cycle, &mut output)?)
 }
 
+/// Writes the latencies of the cluster in the file.
+fn show_worst<R: Files + Print + AllocGlobal + Clock>(
+    rt: &R,
+    file: &str,
+) -> Result<(), ViewFailure> {
+    let (mut file, mut output) = (
+        file_named(rt, file)?,
+        WaitingWriter::new(rt, io::writer(rt)),
+    );
+    Ok(show_latencies(rt.alloc(), &mut file, &mut output)?)
+}
+
 /// Writes the list of commands.
 fn show_help<R: Print + Clock>(rt: &R) -> Result<(), ViewFailure> {
     match io::Write::write_all(&mut WaitingWriter::new(rt, io::writer(rt)), HELP.as_bytes()) {
@@ -207,6 +223,7 @@ fn carry_out<R: Files + Input + Print + Eprint + AllocGlobal + Clock>(
 ) -> Result<ExitCode, ViewFailure> {
     match order {
         ViewOrder::Schedule { file, cycle } => show_cycle(rt, file, cycle)?,
+        ViewOrder::Latency { file, way: _ } => show_worst(rt, file)?,
         ViewOrder::Capture { until_fault, own } => show_seen(
             rt,
             Form::Capture { own },
