@@ -51,11 +51,11 @@ or_rest false q e = e
 -- ---- the fetch of a journal
 
 -- the journal has this fetch
-record HasFetch (s : State) (before after : List Entry) (w : Opportunity) (x y : Offered) : Type 0 where
-  legal : IsLegalFetch s.params s.plan before w x y
-  entry_is : IsEntry (Fetch w x y)
+pub record HasFetch (s : State) (before after : List Entry) (w : Opportunity) (x y : Offered) : Type 0 where
+  pub legal : IsLegalFetch s.params s.plan before w x y
+  pub entry_is : IsEntry (Fetch w x y)
 
-has_fetch : (s : State) → IsLegalInterface s → (before after : List Entry) (w : Opportunity) (x y : Offered)
+pub has_fetch : (s : State) → IsLegalInterface s → (before after : List Entry) (w : Opportunity) (x y : Offered)
     → s.entries ≡ before ++ Fetch w x y ∷ after → HasFetch s before after w x y
 has_fetch s lawful before after w x y cut = record {
   legal = AllAfter-cut (IsLegal s.params s.plan) [] before (Fetch w x y) after

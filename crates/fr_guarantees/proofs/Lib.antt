@@ -5,3 +5,4 @@ pub mod WayLemmas
 pub mod GuaranteeLemmas
 pub mod WayLaws
 pub mod TableLaws
+pub mod HeldTableLaws

@@ -25,7 +25,7 @@ use Rattle.fr_slots.specs.Plans.{Plan}
 
 -- ---- lists and numbers
 
-or_first : (p q : Bool) → p ≡ true → (p || q) ≡ true
+pub or_first : (p q : Bool) → p ≡ true → (p || q) ≡ true
 or_first true q e = refl
 or_first false q e = absurd (let none : ⊥ = cc in none)
 
@@ -39,7 +39,7 @@ any_at test [] k x at passes = absurd (let none : ⊥ = cc in none)
 any_at test (y ∷ xs) zero x at passes = or_first (test y) (list_any test xs) (ap test (same_some y x at) ∙ passes)
 any_at test (y ∷ xs) (suc k) x at passes = or_rest (test y) (list_any test xs) (any_at test xs k x at passes)
 
-not_above : (x y n a : ℕ) → a ≤ x * n → y * n < a + n → y ≤ x
+pub not_above : (x y n a : ℕ) → a ≤ x * n → y * n < a + n → y ≤ x
 not_above x y n a low high = by (nat_le y x) refl
   where
     by : (b : Bool) → nat_le y x ≡ b → y ≤ x
@@ -69,7 +69,7 @@ div_ceil-halves a n some =
     omega (arith, up, down)
 
 -- the row of a frame is as long as the frame and the minislots that stay idle after it
-row_is_frame : (p : Parameters) (b : Buffer) (bytes : ℕ) → 0 < p.words_per_minislot → bytes ≡ 8 + 2 * words_of p b
+pub row_is_frame : (p : Parameters) (b : Buffer) (bytes : ℕ) → 0 < p.words_per_minislot → bytes ≡ 8 + 2 * words_of p b
     → row_length p bytes ≡ frame_length p b
 row_is_frame p b bytes some is =
     let double : bytes ≡ 2 * (words_of p b + 4) = omega (arith, is) in
@@ -80,7 +80,7 @@ row_is_frame p b bytes some is =
 
 -- ---- one more row
 
-first_more : (p : Parameters) (counts : List ℕ) (bytes : ℕ)
+pub first_more : (p : Parameters) (counts : List ℕ) (bytes : ℕ)
     → first_minislot p (counts ++ bytes ∷ []) ≡ first_minislot p counts + row_length p bytes
 first_more p counts bytes = omega (arith, sum_by-append (row_length p) counts (bytes ∷ []))
 

@@ -13,6 +13,7 @@ use Rattle.fr_journal.specs.declared.entry.Offered.{Offered}
 use Rattle.fr_journal.specs.Fate.{tally_of}
 use Rattle.fr_journal.specs.Forms.{Entry}
 use Rattle.fr_guarantees.specs.Ways.{IsWay}
+use Rattle.fr_latency.specs.Latencies.{is_guaranteed}
 use Rattle.fr_minislot.specs.DynamicRows.{first_minislot, slot_after, has_row_after}
 use Rattle.fr_schedule.specs.Descriptions.{Description}
 use Rattle.fr_slots.specs.declared.channel.Channel.{Channel}
@@ -80,3 +81,11 @@ pub record Guarantees (w : WorldState) : Type 0 where
       → AlwaysOpens w.bus.cluster (cycle_of (take k w.bus.sealed)) channel slot
       → has_row_after w.bus.cluster.params (counts_on channel (this_cycle (take k w.bus.sealed))) ≡ false
       → slot < slot_after w.bus.cluster.params (counts_on channel (this_cycle (take k w.bus.sealed)))
+
+-- ---- the table of latencies
+
+-- Without faults of senders, a window of a cycle that the table calls guaranteed leaves no commit pending on its buffer.
+abbrev pub TableHolds : WorldState → Type 0
+TableHolds w = ArePlain w.bus.sealed → (n number slot : ℕ) (s : State) (window : Opportunity) (channel : Channel)
+    → slice_get w.interfaces n ≡ Some s → (turn : IsTurn s number window channel slot)
+    → is_guaranteed w.bus.cluster s.plan turn.buffer window.cycle ≡ true → IsServed s number window
