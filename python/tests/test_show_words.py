@@ -163,19 +163,24 @@ class Statuses(Shows):
         run = self.run_of()
         for words, told in (
             (("comits",), "musmyrtle: there is no command comits; did you mean commits?"),
-            (("log", *run, "--in-cycles", "0-2"), "musmyrtle log: error: the run has no cycle 2: it has 2 cycles"),
-            (("log", *run[:2]), "musmyrtle log: error: the following arguments are required: --cycles"),
-            (("log", *run, "--json", "--csv"),
-             "musmyrtle log: error: argument --csv: not allowed with argument --json"),
+            (("log", *run, "--in-cycles", "0-2"), "musmyrtle log: the run has no cycle 2: it has 2 cycles"),
+            (("log", *run[:2]), "musmyrtle log: the following arguments are required: --cycles"),
+            (("log", *run, "--json", "--csv"), "musmyrtle log: argument --csv: not allowed with argument --json"),
             (("log", *run, "--node", "2"), "musmyrtle: the cluster has 2 nodes, and none is 2; names: pedal, brake"),
-            (("lint",), "musmyrtle lint: error: the following arguments are required: CLUSTER"),
-            (("faults", *run, "--nodes", "9"),
-             "musmyrtle faults: error: the cluster has no node 9: its nodes are 0 to 1"),
+            (("log", *run, "--nodes", "1"), "musmyrtle log: unknown words: --nodes 1; did you mean --node?\n"),
+            (("lint", *run, "c"), "musmyrtle lint: unknown words: c; musmyrtle lint --help describes the words\n"),
+            (("version",), "musmyrtle: there is no command version; did you mean --version?\n"),
+            (("--version", "x"), "musmyrtle: --version stands alone; musmyrtle COMMAND --help describes a command\n"),
+            (("",), "musmyrtle: there is no command without a name; the commands are lint, faults, check, "),
+            (("lint",), "musmyrtle lint: the following arguments are required: CLUSTER"),
+            (("faults", *run, "--nodes", "9"), "musmyrtle faults: the cluster has no node 9: its nodes are 0 to 1"),
         ):
             with self.subTest(words[0]):
                 status, output, error = self.asked(*words)
                 self.assertEqual((status, output), (2, ""))
-                self.assertIn(told, error.splitlines())
+                # The line of a fault without effect stands before.
+                self.assertTrue(error.split("\n")[-2].startswith(told.rstrip("\n")), error)
+                self.assertNotIn("usage: ", error)
 
     def test_a_name_that_two_nodes_have(self) -> None:
         status, _, told = self.asked("log", *self.run_of(NETWORK.replace('"brake"', '"pedal"')), "--node", "pedal")
@@ -252,6 +257,7 @@ class Terminals(Shows):
     def test_colours_come_on_a_terminal_alone(self) -> None:
         self.assertTrue(self.on_terminal().startswith("\x1b[1mParameters; guardians on A\x1b[0m\r\n"))
         self.assertNotIn("\x1b", self.on_terminal(NO_COLOR="1"))
+        self.assertIn("\x1b", self.on_terminal(NO_COLOR=""))
         ran = subprocess.run([sys.executable, "-B", str(TOP / "musmyrtle"), "check", THREE[0]], capture_output=True)
         self.assertNotIn(b"\x1b", ran.stdout)
 

@@ -40,6 +40,10 @@ SILENCED = """warnings: each ends with its name, as `[sync-nodes]`. `--allow NAM
 """
 
 
+UNCLEAR = "unrecognized arguments: ", "the following arguments are required: "
+"""The beginnings of messages of `argparse` that don't say what to write."""
+
+
 class PrintVersion(argparse.Action):
     """Prints the command's name and version, and ends."""
 
@@ -60,13 +64,12 @@ class Parser(argparse.ArgumentParser):
 
     def error(self, message: str) -> NoReturn:
         """Ends the command with one line that says what to write. Its words are escaped, since they may be anything."""
-        unknown = message.removeprefix("unrecognized arguments: ")
-        meant = None
+        more = f"; {self.prog} --help describes the words" if message.startswith(UNCLEAR) else ""
+        unknown = message.removeprefix(UNCLEAR[0])
         if unknown != message:
             meant = nearest(unknown.partition(" ")[0], list(self._option_string_actions))
-            message = f"unknown words: {unknown}"
-        more = f"did you mean {meant}?" if meant else f"{self.prog} --help describes the words"
-        self.exit(USAGE, f"{self.prog}: {visible(cut(message, MOST_REPEATED))}; {more}\n")
+            message, more = f"unknown words: {unknown}", f"; did you mean {meant}?" if meant else more
+        self.exit(USAGE, f"{self.prog}: {visible(cut(message, MOST_REPEATED))}{more}\n")
 
 
 def shown_examples(examples: Iterable[str]) -> str:
@@ -103,7 +106,7 @@ def arguments() -> Parser:
     parser.add_argument("--allow", metavar="NAME", action="append", default=[], type=allowed_name,
                         help="print no warning of this name; it may be given several times")
     parser.add_argument("--program", metavar="FILE",
-                        help="the fr_bench to ask, or for a trace the fr_view, instead of the one that `musmyrtle` finds")
+                        help="the fr_bench to ask, or the fr_view for a trace, instead of that which `musmyrtle` finds")
     add_forms(parser)
     return parser
 
