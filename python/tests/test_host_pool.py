@@ -2,11 +2,14 @@
 import os
 import signal
 import struct
+import subprocess
+import sys
 import time
 import unittest
 from collections.abc import Collection
 from multiprocessing import active_children
 from multiprocessing.connection import Connection
+from pathlib import Path
 from unittest.mock import patch
 
 from musmyrtle.cluster import Cluster, Parameters
@@ -37,6 +40,22 @@ def half(_: HostJob, pipe: Connection, __: Collection[Connection]) -> None:
     os._exit(0)
 
 
+STARTING = """
+import os, time
+from musmyrtle.breaking import breaking_off
+from musmyrtle.faults import host_pool
+
+forks = []
+os.register_at_fork(before=lambda: forks.append(1), after_in_child=lambda: time.sleep(10 * (len(forks) == 4)))
+host_pool.host_run = lambda number: number
+with breaking_off():
+    ends = host_pool.Pool(4).all(range(4))
+    print(*(next(ends) for _ in range(3)))
+    ends.close()
+"""
+"""Leaves a pool whose fourth process is still in what Python does after a fork, where exceptions are dropped."""
+
+
 class HostPool(unittest.TestCase):
     def tearDown(self) -> None:
         self.assertEqual(active_children(), [])
@@ -65,8 +84,13 @@ class HostPool(unittest.TestCase):
         with patch.object(host_pool, "work", half):
             self.assertEqual(list(Pool(2).all(map(job, "abc"))), [DIED] * 3)
 
+    def test_a_process_that_is_still_starting_keeps_no_pool(self) -> None:
+        ran = subprocess.run([sys.executable, "-B", "-c", STARTING], capture_output=True, text=True, timeout=8,
+                             cwd=Path(__file__).resolve().parents[1])
+        self.assertEqual((ran.stdout, ran.stderr, ran.returncode), ("0 1 2\n", "", 0))
+
     def test_a_pool_that_is_left_ends_its_processes(self) -> None:
-        """Far more processes than runs have ended are just starting, and have seen no signal yet."""
+        """Most processes have just started, and have seen no signal yet."""
         began = time.monotonic()
         for _ in range(20):
             with patch.object(host_pool, "host_run", played):

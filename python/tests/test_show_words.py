@@ -297,14 +297,14 @@ class Help(Shows):
                 self.assertIn(f"the variable {variable} (", text)
 
     def test_each_command_has_examples(self) -> None:
-        for it in COMMANDS:
+        for it in EVERY:
             with self.subTest(it.name):
-                text = self.printed("help", it.name) if it.name in ("lint", "faults") else self.printed(
-                    it.name, "--help")
+                text = self.printed(it.name, "--help")
+                self.assertEqual(self.printed("help", it.name), text)
                 self.assertIn(f"usage: musmyrtle {it.name} ", text)
                 self.assertTrue(it.examples)
-                if it.name not in ("lint", "faults"):
-                    self.assertIn(f"musmyrtle {it.examples[0]}", text)
+                for example in it.examples:
+                    self.assertIn(f" musmyrtle {example}\n", text)
 
     def printed(self, *words: str) -> str:
         """Returns the output; the help of a command ends it by an exit with status 0."""
@@ -322,6 +322,8 @@ class Help(Shows):
 
     def test_version(self) -> None:
         self.assertEqual(self.printed("--version"), f"musmyrtle {version()}\n")
+        for it in EVERY:
+            self.assertEqual(self.printed(it.name, "--version"), f"musmyrtle {it.name} {version()}\n")
 
     @unittest.skipUnless(shutil.which("bash"), "there is no bash")
     def test_completion_for_bash(self) -> None:
