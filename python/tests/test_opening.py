@@ -98,8 +98,8 @@ class TestNoProgram(Folders):
                  PROGRAM]
         none = self.folder / "none"
         told = f"musmyrtle faults: {none} can't be run: No such file or directory\n"
-        other = ("musmyrtle faults: fr_world can't be run: No such file or directory; name another fr_world by --world "
-                 "FILE\n")
+        other = ("musmyrtle faults: fr_world can't be run: No such file or directory; name one by --world FILE or by "
+                 "the variable MUSMYRTLE_WORLD, or put it on PATH\n")
         cases: tuple[tuple[list[str], str], ...] = (["--world", str(none)], told), ([], other)
         for more, line in cases:
             with redirect_stderr(io.StringIO()) as error, redirect_stdout(io.StringIO()) as output:

@@ -30,7 +30,7 @@ from musmyrtle.faults.whole_files import Unusable, replace_file, spare_inputs
 from musmyrtle.findings import counted
 from musmyrtle.lint.command import FINE, USAGE, formed
 from musmyrtle.output import Stop, write
-from musmyrtle.program import is_launcher, itself
+from musmyrtle.program import by_option, is_launcher, itself
 from musmyrtle.visible import visible
 from musmyrtle.world.refusals import NotStarted, SessionOver
 from musmyrtle.world.world_program import usual_world
@@ -135,7 +135,7 @@ def with_scenario(given: argparse.Namespace, folder: Path) -> tuple[Campaign, In
     try:
         return Campaign(inputs.cluster, inputs.scenario, files, means), inputs, selection
     except NotStarted as error:
-        other = "" if given.world else "; name another fr_world by --world FILE"
+        other = "" if given.world else f"; {by_option('fr_world', '--world')}"
         raise Stop(USAGE, f"{error.filename} can't be run: {os.strerror(error.errno or 0)}{other}") from None
 
 

@@ -9,7 +9,7 @@ from musmyrtle.faults.listing import ALL, ALL_STATIC, KINDS
 from musmyrtle.faults.runs import OUTCOME
 from musmyrtle.findings import counted
 from musmyrtle.lint.command import Parser, add_forms, cycles_of, shown_examples
-from musmyrtle.program import usual_program
+from musmyrtle.program import by_option, usual_program
 
 COMMAND = "musmyrtle faults"
 FAIL_ON = ("lost", "older", "changed", "worse")
@@ -123,5 +123,5 @@ def parsed(words: list[str]) -> argparse.Namespace:
         parser.error("--fail-on worse wants --against TABLE")
     given.program = given.program or usual_program(OUTCOME[0])
     if given.program is None:
-        parser.error(f"there is no {OUTCOME[0]}: name one by --program FILE")
+        parser.error(f"there is no {OUTCOME[0]}: {by_option(OUTCOME[0])}")
     return given

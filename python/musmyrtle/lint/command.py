@@ -17,7 +17,7 @@ from musmyrtle.lint.rows import sections
 from musmyrtle.lint.runs import MOST_CYCLES
 from musmyrtle.lint.trace_why import MAGIC, NoAnswer, TraceFile, ask_why, finding_of, is_trace
 from musmyrtle.output import Stop, write
-from musmyrtle.program import Answer, ask, no_answer, usual_program
+from musmyrtle.program import Answer, ask, by_option, no_answer, usual_program
 from musmyrtle.show.tables import Section, as_csv, as_json
 from musmyrtle.version import version
 from musmyrtle.visible import cut, visible
@@ -138,7 +138,7 @@ def parsed(words: list[str]) -> argparse.Namespace:
         parser.error("a scenario wants --cycles N")
     given.named, given.program = given.program, given.program or usual_program()
     if given.program is None:
-        parser.error("there is no fr_bench: name one by --program FILE")
+        parser.error(f"there is no fr_bench: {by_option('fr_bench')}")
     return given
 
 
@@ -235,7 +235,7 @@ def traced(given: argparse.Namespace, task: Task) -> int:
         raise Stop(USAGE, f"{task.cluster} is a trace, and takes no scenario and no cycles")
     program, file = given.named or usual_program("fr_view"), task.file(task.cluster)
     if program is None:
-        raise Stop(USAGE, "there is no fr_view: name one by --program FILE")
+        raise Stop(USAGE, f"there is no fr_view: {by_option('fr_view')}")
     try:
         why, found = ask_why(program, file), Lint()
         lines = ["fr_view: accepted\n"]
