@@ -169,6 +169,8 @@ class Statuses(Shows):
             (("log", *run, "--node", "2"), "musmyrtle: the cluster has 2 nodes, and none is 2; names: pedal, brake"),
             (("log", *run, "--nodes", "1"), "musmyrtle log: unknown words: --nodes 1; did you mean --node?\n"),
             (("lint", *run, "c"), "musmyrtle lint: unknown words: c; musmyrtle lint --help describes the words\n"),
+            (("log", *run, "--slot"),
+             "musmyrtle log: argument --slot: expected one argument; musmyrtle log --help describes the words\n"),
             (("version",), "musmyrtle: there is no command version; did you mean --version?\n"),
             (("--version", "x"), "musmyrtle: --version stands alone; musmyrtle COMMAND --help describes a command\n"),
             (("",), "musmyrtle: there is no command without a name; the commands are lint, faults, check, "),

@@ -40,8 +40,8 @@ SILENCED = """warnings: each ends with its name, as `[sync-nodes]`. `--allow NAM
 """
 
 
-UNCLEAR = "unrecognized arguments: ", "the following arguments are required: "
-"""The beginnings of messages of `argparse` that don't say what to write."""
+UNCLEAR, VALUE_MISSING = ("unrecognized arguments: ", "the following arguments are required: "), "expected one argument"
+"""The beginnings and the end of messages of `argparse` that don't say what to write."""
 
 
 class PrintVersion(argparse.Action):
@@ -64,7 +64,8 @@ class Parser(argparse.ArgumentParser):
 
     def error(self, message: str) -> NoReturn:
         """Ends the command with one line that says what to write. Its words are escaped, since they may be anything."""
-        more = f"; {self.prog} --help describes the words" if message.startswith(UNCLEAR) else ""
+        is_unclear = message.startswith(UNCLEAR) or message.endswith(VALUE_MISSING)
+        more = f"; {self.prog} --help describes the words" if is_unclear else ""
         unknown = message.removeprefix(UNCLEAR[0])
         if unknown != message:
             meant = nearest(unknown.partition(" ")[0], list(self._option_string_actions))
