@@ -69,7 +69,8 @@ class Command(Cases):
         cluster, refused = self.written("cluster.toml", CLUSTER), self.written("refused.toml",
                                                                                CLUSTER.replace("idle = 0", "idle = 3"))
         status, output, _ = self.run_with(refused, "--program", self.stub())
-        self.assertEqual((status, "refused" in output), (0, False))
+        told = "fr_bench decides, although musmyrtle lint finds a reason to refuse the input: Params OutOfRange idle."
+        self.assertEqual((status, output), (0, f"fr_bench: accepted\n\n{told}\n"))
         status, output, _ = self.run_with(cluster, "--program", self.stub("Memory"))
         self.assertEqual((status, output.splitlines()[2]), (1, "No reason is known for `Memory`."))
 
