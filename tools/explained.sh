@@ -130,6 +130,6 @@ hint() {
     case $name-$command in
     fr_bench-audit | fr_view-capture | fr_view-frames) say './fr_view why < TRACE says why' ;;
     fr_bench-midpoint | fr_view-why | fr_world-* | *-) ;;
-    *) say './fr_lint FILE [SCENARIO --cycles N] says why' ;;
+    *) say './musmyrtle lint FILE [SCENARIO --cycles N] says why' ;;
     esac
 }

@@ -1,4 +1,4 @@
-"""Host programs in a proved world, scenarios made by a program, and the programs `fr_lint` and `fr_faults`.
+"""Host programs in a proved world, scenarios made by a program, and the command `musmyrtle`.
 
     from musmyrtle import World
 

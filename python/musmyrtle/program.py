@@ -75,6 +75,11 @@ def places(name: str) -> str:
     return "; ".join([*found, f"{name} on PATH ({shutil.which(name) or 'not there'})"])
 
 
+def by_option(name: str, option: str = "--program") -> str:
+    """Returns a clause that says how to name the program."""
+    return f"name one by {option} FILE or by the variable {VARIABLES[name]}, or put it on PATH"
+
+
 def itself(program: str) -> str:
     """Returns the program that a launcher of the checkout has just run, or otherwise the one that is named.
 

@@ -70,8 +70,7 @@ class Build(unittest.TestCase):
         found = configparser.ConfigParser()
         found.read_string(text)
         self.assertEqual({name: dict(found[name]) for name in found.sections()}, {
-            "console_scripts": {"musmyrtle": "musmyrtle.show.main:main", "fr_lint": "musmyrtle.lint.command:main",
-                                "fr_faults": "musmyrtle.faults.command:main"},
+            "console_scripts": {"musmyrtle": "musmyrtle.show.main:main"},
             "pytest11": {"musmyrtle": "musmyrtle.pytest_plugin"}})
         self.assertIn(f"\nVersion: {version()}\n", metadata)
 

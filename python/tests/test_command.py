@@ -12,8 +12,8 @@ from unittest import mock
 from musmyrtle.lint import command
 from tests.cases import CLUSTER, SCENARIO, Cases
 
-FR_LINT = Path(__file__).resolve().parents[2] / "fr_lint"
-UNWRITTEN = "fr_lint: the output can't be written: "
+LINT = [sys.executable, "-B", str(Path(__file__).resolve().parents[2] / "musmyrtle"), "lint"]
+UNWRITTEN = "musmyrtle lint: the output can't be written: "
 COPYING = """#!/bin/sh
 for word; do if [ -f "$word" ]; then cat "$word"; fi; done >'{}'
 """
@@ -31,7 +31,7 @@ class Command(Cases):
     def launch(self, *words: str, **streams: Any) -> tuple[int, str]:
         """Returns the status and standard error of the command as a process of its own."""
         streams = {"stderr": subprocess.PIPE, **streams}
-        ran = subprocess.run([sys.executable, "-B", str(FR_LINT), *words], **streams)
+        ran = subprocess.run([*LINT, *words], **streams)
         return ran.returncode, (ran.stderr or b"").decode()
 
     def copying(self) -> tuple[str, Path]:
@@ -69,7 +69,8 @@ class Command(Cases):
         cluster, refused = self.written("cluster.toml", CLUSTER), self.written("refused.toml",
                                                                                CLUSTER.replace("idle = 0", "idle = 3"))
         status, output, _ = self.run_with(refused, "--program", self.stub())
-        self.assertEqual((status, "refused" in output), (0, False))
+        told = "fr_bench decides, although musmyrtle lint finds a reason to refuse the input: Params OutOfRange idle."
+        self.assertEqual((status, output), (0, f"fr_bench: accepted\n\n{told}\n"))
         status, output, _ = self.run_with(cluster, "--program", self.stub("Memory"))
         self.assertEqual((status, output.splitlines()[2]), (1, "No reason is known for `Memory`."))
 
@@ -101,14 +102,14 @@ class Command(Cases):
             with self.subTest(lines=lines):
                 status, output, error = self.run_with(cluster, "--program", program)
                 self.assertEqual((status, output), (2, ""))
-                self.assertEqual(error.splitlines()[-1], f"fr_lint: {program} check -- {cluster} {ended}")
+                self.assertEqual(error.splitlines()[-1], f"musmyrtle lint: {program} check -- {cluster} {ended}")
 
     def test_a_program_that_cannot_be_started(self):
         cluster = self.written("cluster.toml", CLUSTER)
         for program, why in ((self.written("none", ""), "Permission denied"), (str(self.folder), "Permission denied"),
                              (str(self.folder / "missing"), "No such file or directory")):
             status, output, error = self.run_with(cluster, "--program", program)
-            self.assertEqual((status, output, error), (2, "", f"fr_lint: {program} can't be run: {why}\n"))
+            self.assertEqual((status, output, error), (2, "", f"musmyrtle lint: {program} can't be run: {why}\n"))
 
     def test_a_program_that_says_much(self):
         """The messages are passed on, and their end is repeated."""
@@ -136,13 +137,13 @@ class Command(Cases):
         os.close(source)
         with open("/dev/full", "wb") as full:
             for how in ({"stderr": full}, {"stderr": end}, {"stderr": None, "preexec_fn": lambda: os.close(2)}):
-                ran = subprocess.run([sys.executable, "-B", FR_LINT, *taken, "--strict"], stdout=subprocess.PIPE, **how)
+                ran = subprocess.run([*LINT, *taken, "--strict"], stdout=subprocess.PIPE, **how)
                 self.assertEqual((ran.returncode, ran.stdout[:19]), (4, b"fr_bench: accepted\n"))
         os.close(end)
 
     def test_a_signal(self):
         """An interrupt ends the command without a traceback."""
-        words = [sys.executable, "-B", FR_LINT, self.written("cluster.toml", CLUSTER), "--program",
+        words = [*LINT, self.written("cluster.toml", CLUSTER), "--program",
                  self.failing("echo begun >&2; exec sleep 3")]
         with subprocess.Popen(words, stdout=subprocess.PIPE, stderr=subprocess.PIPE, process_group=0) as running:
             self.assertEqual(running.stderr.readline(), b"begun\n")
@@ -247,4 +248,4 @@ class Command(Cases):
         with mock.patch.object(tempfile, "NamedTemporaryFile", side_effect=OSError(28, "No space left on device")):
             status, output, error = self.run_with(name, "--program", self.stub())
         self.assertEqual((status, output), (2, ""))
-        self.assertEqual(error, f"fr_lint: {name} can't be copied: No space left on device\n")
+        self.assertEqual(error, f"musmyrtle lint: {name} can't be copied: No space left on device\n")

@@ -1,4 +1,4 @@
-"""The command `fr_faults`: a failure of a file or a program is one line and a status, and no traceback."""
+"""The command `musmyrtle faults`: a failure of a file or a program is one line and a status, and no traceback."""
 import contextlib
 import io
 import os
@@ -20,6 +20,7 @@ from tests.campaigns import PROGRAM
 from tests.two_nodes import SCENE, TWO_NODES
 
 TOP = Path(__file__).resolve().parents[2]
+FAULTS = [sys.executable, "-B", str(TOP / "musmyrtle"), "faults"]
 SECONDS = 20
 FAULTY = "grep -q '^mute' \"$last\" &&"
 """The front of words for a run with a fault alone."""
@@ -51,7 +52,7 @@ class Command(unittest.TestCase):
         return output.getvalue(), told.getvalue(), status
 
     def stopped(self, told: str, status: int, *more: str) -> None:
-        self.assertEqual(self.asked(*more), ("", f"fr_faults: {told}\n", status))
+        self.assertEqual(self.asked(*more), ("", f"musmyrtle faults: {told}\n", status))
 
     def program(self, does: str) -> str:
         """Returns a program that does this, and then its usual task."""
@@ -176,10 +177,10 @@ class TestFiles(Command):
         earlier = self.folder / "earlier"
         heading, line, *_ = self.asked()[0].splitlines(True)
         words = line.split("\t")
-        for data, why in ((b"\xff\xfe", "isn't a table of fr_faults: it is no UTF-8"),
-                          (b"", "isn't a table of fr_faults that is whole"),
-                          (b"name,cost\n", "isn't a table of fr_faults that is whole"),
-                          ((heading + line[:-5]).encode(), "isn't a table of fr_faults that is whole"),
+        for data, why in ((b"\xff\xfe", "isn't a table of faults: it is no UTF-8"),
+                          (b"", "isn't a whole table of faults"),
+                          (b"name,cost\n", "isn't a whole table of faults"),
+                          ((heading + line[:-5]).encode(), "isn't a whole table of faults"),
                           ((heading + "\t".join(words[:-1]) + "\n").encode(), "has no fault in line 2")):
             earlier.write_bytes(data)
             self.stopped(f"--against {earlier}: {why}", 2, "--against", str(earlier))
@@ -199,7 +200,7 @@ class TestFiles(Command):
                                   (["--list"], 150, "the temporary folder .* can't be written: File too large"),
                                   (["--list"], 0, "No usable temporary directory found in .*")):
             _, got, status = self.apart(more, limit)
-            self.assertRegex(got.splitlines()[-1], f"^fr_faults: {told}$")
+            self.assertRegex(got.splitlines()[-1], f"^musmyrtle faults: {told}$")
             self.assertEqual((got.count("\n") == 1, status), (more[0] != "--html", 2))
         self.assertEqual(page.read_text(), "old")
         self.assertEqual(sorted(it.name for it in self.folder.iterdir()), ["cluster", "page", "scenario", "temporary"])
@@ -208,7 +209,7 @@ class TestFiles(Command):
         """The entries noted by then stay, and the log goes on once there is room."""
         right, log = self.asked()[0], self.folder / "log"
         output, told, status = self.apart(["--joblog", str(log)], len(TWO_NODES))
-        self.assertEqual((output, told, status), ("", f"fr_faults: --joblog {log}: File too large\n", 2))
+        self.assertEqual((output, told, status), ("", f"musmyrtle faults: --joblog {log}: File too large\n", 2))
         self.assertEqual((log.stat().st_size, log.read_bytes().count(b"\n")), (len(TWO_NODES), 2))
         self.assertEqual(self.asked("--joblog", str(log), "--resume")[::2], (right, 0))
         self.assertEqual(log.read_bytes().count(b"\n"), 3)
@@ -217,7 +218,7 @@ class TestFiles(Command):
         """Runs the command as a process of its own, in which no file has more bytes than this."""
         def before() -> None:
             resource.setrlimit(resource.RLIMIT_FSIZE, (limit, limit))
-        words = [sys.executable, "-B", str(TOP / "fr_faults"), *self.words(*more)]
+        words = [*FAULTS, *self.words(*more)]
         environment = {**os.environ, "TMPDIR": str(self.folder / "temporary")}
         ran = subprocess.run(words, capture_output=True, text=True, env=environment, timeout=SECONDS, preexec_fn=before)
         return ran.stdout, ran.stderr, ran.returncode
@@ -225,7 +226,7 @@ class TestFiles(Command):
     def test_folders_that_are_gone(self):
         gone = self.folder / "gone"
         gone.mkdir()
-        words = [sys.executable, "-B", str(TOP / "fr_faults"), *self.words("--joblog", "log")]
+        words = [*FAULTS, *self.words("--joblog", "log")]
         ran = subprocess.run(words, capture_output=True, text=True, cwd=gone, timeout=SECONDS,
                              preexec_fn=lambda: os.rmdir(gone))
         self.assertEqual((ran.stdout, ran.stderr.count("\n"), ran.returncode), ("", 1, 2), ran.stderr)
@@ -234,10 +235,10 @@ class TestFiles(Command):
         page.parent.mkdir()
         program = self.program(f"{FAULTY} rmdir '{page.parent}' 2>/dev/null")
         output, told, status = self.asked("--program", program, "--html", str(page))
-        self.assertEqual(told.splitlines()[-1], f"fr_faults: --html {page}: No such file or directory")
+        self.assertEqual(told.splitlines()[-1], f"musmyrtle faults: --html {page}: No such file or directory")
         self.assertEqual((output.count("\n") > 1, status), (True, 2))
         # The temporary folder.
-        program = self.program(f"{FAULTY} rm -rf '{self.folder}'/temporary/fr_faults-*")
+        program = self.program(f"{FAULTY} rm -rf '{self.folder}'/temporary/musmyrtle-faults-*")
         output, told, status = self.asked("--program", program, "--cores", "1")
         self.assertEqual((told.count("\n") if status == 2 else 1, status in (2, 4)), (1, True))
 
@@ -249,7 +250,7 @@ class TestSignals(Command):
         noted = self.folder / "noted"
         waits = f"sleep {SECONDS} & echo $! $$ >>'{noted}'; wait"
         program = self.program(does.replace("WAIT", waits))
-        words = [sys.executable, "-B", str(TOP / "fr_faults"), *self.words("--program", program, *more)]
+        words = [*FAULTS, *self.words("--program", program, *more)]
         path = f"{self.folder}{os.pathsep}{os.environ['PATH']}"
         environment = {**os.environ, "TMPDIR": str(self.folder / "temporary"), "PATH": path}
         # A test in the background may have SIGINT ignored, which a child would inherit.
@@ -259,7 +260,7 @@ class TestSignals(Command):
             running.send_signal(number)
             output, told = running.communicate(timeout=SECONDS)
         how = f"; --joblog {self.folder / 'log'} --resume goes on" if "--joblog" in more else ""
-        self.assertEqual((output, told, running.returncode), ("", f"fr_faults: broken off{how}\n", 128 + number))
+        self.assertEqual((output, told, running.returncode), ("", f"musmyrtle faults: broken off{how}\n", 128 + number))
         self.assertEqual(os.listdir(self.folder / "temporary"), [])
         for started in noted.read_text().split():
             self.wait_for(lambda: not is_alive(int(started)))

@@ -64,7 +64,7 @@ class TestJobs(unittest.TestCase):
                     self.assertEqual(self.done(self.sent("touch ran"), f"{harm}; chmod +x program")[0], [])
                     self.assertFalse((self.folder / "sent/ran").exists())
         self.assertEqual(self.done(self.sent(), "echo '# longer' >>script"), ([], 1))
-        self.assertEqual(self.told, "fr_faults: this machine: what was sent isn't here whole\n")
+        self.assertEqual(self.told, "musmyrtle faults: this machine: what was sent isn't here whole\n")
 
     def test_no_digests(self):
         tool = "mkdir bin; printf '#!/bin/sh\\nexit 127\\n' >bin/sha256sum; chmod +x bin/sha256sum; PATH=$PWD/bin:$PATH"
@@ -119,4 +119,4 @@ class TestJobs(unittest.TestCase):
     def test_one_run_of_a_job_fails(self):
         harm = f"grep -qF {shlex.quote(FAULTS[0].lines[0])} \"$scenario\" && exit 127"
         self.assertEqual(self.done(self.sent(harm)), (RIGHT[1:], 1))
-        self.assertEqual(self.told, "fr_faults: this machine: no answer: status 127 \n")
+        self.assertEqual(self.told, "musmyrtle faults: this machine: no answer: status 127 \n")

@@ -19,7 +19,7 @@ pop 1 0 1
 end
 """
 HOSTS = f"""
-import os, signal, time
+import os, signal, threading, time
 FIRST, SECOND = bytes.fromhex({FIRST[1:]!r}), bytes.fromhex({SECOND[1:]!r})
 
 def calls(world):
@@ -53,6 +53,25 @@ def dies(world):
     world.cycle()
     if not world["brake"]["position"].read():
         os.kill(os.getpid(), signal.SIGKILL)
+
+def forks_and_dies(world):
+    if not os.fork():
+        os.close(2)
+        end = time.monotonic() + 60
+        while os.path.exists("hosts_of_test.py") and time.monotonic() < end:
+            time.sleep(0.1)
+        os._exit(0)
+    dies(world)
+
+def leaves_a_thread(world):
+    threading.Thread(target=time.sleep, args=(60,)).start()
+    calls(world)
+
+def remembers(world):
+    runs.append(world)
+    world["pedal"]["position"].commit(bytes([0, len(runs)]))
+
+runs = []
 
 def random(world):
     world["pedal"]["position"].commit(os.urandom(2))
@@ -119,6 +138,20 @@ class HostFaults(Shows):
         self.assertIn(["lost", "0", "AB", "*", "all", "-", "-", "killed", "1", "-",
                        "the process of the host program died"], died)
         self.assertFalse([words for words in died if words[2] != "AB"])
+
+    def test_what_holds_no_run_up(self) -> None:
+        """A process that a dead one forked still has its pipes, and a thread that is left goes on."""
+        began = time.monotonic()
+        words = "--kinds", "lost", "--nodes", "0", "--cores", "3"
+        self.assertEqual(self.host("forks_and_dies", *words), self.host("dies", *words))
+        self.assertEqual(self.host("leaves_a_thread", *words), self.host("calls", *words))
+        self.assertLess(time.monotonic() - began, 40)
+
+    def test_each_run_has_its_own_variables(self) -> None:
+        status, output, _ = self.host("remembers", "--kinds", "noise", "--nodes", "1", "--cores", "1")
+        self.assertEqual(status, 0)
+        self.assertGreater(output.count("\n"), 1)
+        self.assertNotIn("x0002", output)
 
     def test_host_programs_that_cannot_be_compared(self) -> None:
         for name, told, status in (

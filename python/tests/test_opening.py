@@ -93,19 +93,20 @@ class TestNoProgram(Folders):
         self.assertEqual(str(raised.exception), f"{self.folder}/w can't be started: Too many open files")
         self.assertEqual(raised.exception.errno, errno.EMFILE)
 
-    def test_fr_faults_ends_as_where_a_file_cannot_be_used(self) -> None:
+    def test_faults_ends_as_where_a_file_cannot_be_used(self) -> None:
         words = [str(self.written(TWO_NODES)), str(self.written(SCENE, "scenario")), "--cycles", "2", "--program",
                  PROGRAM]
         none = self.folder / "none"
-        told = f"fr_faults: {none} can't be run: No such file or directory\n"
-        other = "fr_faults: fr_world can't be run: No such file or directory; name another fr_world by --world FILE\n"
+        told = f"musmyrtle faults: {none} can't be run: No such file or directory\n"
+        other = ("musmyrtle faults: fr_world can't be run: No such file or directory; name one by --world FILE or by "
+                 "the variable MUSMYRTLE_WORLD, or put it on PATH\n")
         cases: tuple[tuple[list[str], str], ...] = (["--world", str(none)], told), ([], other)
         for more, line in cases:
             with redirect_stderr(io.StringIO()) as error, redirect_stdout(io.StringIO()) as output:
                 self.assertEqual(command.main(words + more), 2)
             self.assertEqual((error.getvalue(), output.getvalue()), (line, ""))
 
-    def test_fr_faults_has_no_answer_of_a_session_that_cannot_be_started(self) -> None:
+    def test_faults_has_no_answer_of_a_session_that_cannot_be_started(self) -> None:
         """The program is there for the run without a fault, and gone for those with one."""
         gone = self.written(f"#!/bin/sh\n/bin/rm -- \"$0\"\nexec '{WORLD}' \"$@\"\n", "gone")
         gone.chmod(0o755)

@@ -30,11 +30,9 @@ class TestOldPython(unittest.TestCase):
         return ran.returncode, ran.stderr.splitlines()
 
     def test_commands(self) -> None:
-        for name in ("fr_lint", "fr_faults"):
-            text = f"import runpy\nsys.argv = ['{name}', '--help']\nrunpy.run_path('{name}', run_name='__main__')\n"
-            self.assertEqual(self.ran(text), (2, [f"{name}: {NEEDS}"]))
-        text = "import runpy\nsys.argv = ['musmyrtle']\nrunpy.run_path('musmyrtle', run_name='__main__')\n"
-        self.assertEqual(self.ran(text), (2, [NEEDS]))
+        for words in ([], ["lint", "--help"], ["faults", "--help"]):
+            given = f"import runpy\nsys.argv = {['musmyrtle', *words]}\n"
+            self.assertEqual(self.ran(f"{given}runpy.run_path('musmyrtle', run_name='__main__')\n"), (2, [NEEDS]))
 
     def test_the_package(self) -> None:
         status, lines = self.ran("import musmyrtle\n")
@@ -45,7 +43,7 @@ class TestOldPython(unittest.TestCase):
     def test_an_older_python_can_read_that_far(self) -> None:
         """A whole file is read before its first line is executed, so these files may have no form of a later version.
         """
-        for name in ("musmyrtle", "fr_lint", "fr_faults", "python/musmyrtle/__init__.py"):
+        for name in ("musmyrtle", "python/musmyrtle/__init__.py"):
             ast.parse((TOP / name).read_text(), name, feature_version=(3, 7))
 
 

@@ -163,19 +163,26 @@ class Statuses(Shows):
         run = self.run_of()
         for words, told in (
             (("comits",), "musmyrtle: there is no command comits; did you mean commits?"),
-            (("log", *run, "--in-cycles", "0-2"), "musmyrtle log: error: the run has no cycle 2: it has 2 cycles"),
-            (("log", *run[:2]), "musmyrtle log: error: the following arguments are required: --cycles"),
-            (("log", *run, "--json", "--csv"),
-             "musmyrtle log: error: argument --csv: not allowed with argument --json"),
+            (("log", *run, "--in-cycles", "0-2"), "musmyrtle log: the run has no cycle 2: it has 2 cycles"),
+            (("log", *run[:2]), "musmyrtle log: the following arguments are required: --cycles"),
+            (("log", *run, "--json", "--csv"), "musmyrtle log: argument --csv: not allowed with argument --json"),
             (("log", *run, "--node", "2"), "musmyrtle: the cluster has 2 nodes, and none is 2; names: pedal, brake"),
-            (("lint",), "musmyrtle lint: error: the following arguments are required: CLUSTER"),
-            (("faults", *run, "--nodes", "9"),
-             "musmyrtle faults: error: the cluster has no node 9: its nodes are 0 to 1"),
+            (("log", *run, "--nodes", "1"), "musmyrtle log: unknown words: --nodes 1; did you mean --node?\n"),
+            (("lint", *run, "c"), "musmyrtle lint: unknown words: c; musmyrtle lint --help describes the words\n"),
+            (("log", *run, "--slot"),
+             "musmyrtle log: argument --slot: expected one argument; musmyrtle log --help describes the words\n"),
+            (("version",), "musmyrtle: there is no command version; did you mean --version?\n"),
+            (("--version", "x"), "musmyrtle: --version stands alone; musmyrtle COMMAND --help describes a command\n"),
+            (("",), "musmyrtle: there is no command without a name; the commands are lint, faults, check, "),
+            (("lint",), "musmyrtle lint: the following arguments are required: CLUSTER"),
+            (("faults", *run, "--nodes", "9"), "musmyrtle faults: the cluster has no node 9: its nodes are 0 to 1"),
         ):
             with self.subTest(words[0]):
                 status, output, error = self.asked(*words)
                 self.assertEqual((status, output), (2, ""))
-                self.assertIn(told, error.splitlines())
+                # The line of a fault without effect stands before.
+                self.assertTrue(error.split("\n")[-2].startswith(told.rstrip("\n")), error)
+                self.assertNotIn("usage: ", error)
 
     def test_a_name_that_two_nodes_have(self) -> None:
         status, _, told = self.asked("log", *self.run_of(NETWORK.replace('"brake"', '"pedal"')), "--node", "pedal")
@@ -252,6 +259,7 @@ class Terminals(Shows):
     def test_colours_come_on_a_terminal_alone(self) -> None:
         self.assertTrue(self.on_terminal().startswith("\x1b[1mParameters; guardians on A\x1b[0m\r\n"))
         self.assertNotIn("\x1b", self.on_terminal(NO_COLOR="1"))
+        self.assertIn("\x1b", self.on_terminal(NO_COLOR=""))
         ran = subprocess.run([sys.executable, "-B", str(TOP / "musmyrtle"), "check", THREE[0]], capture_output=True)
         self.assertNotIn(b"\x1b", ran.stdout)
 
@@ -291,14 +299,14 @@ class Help(Shows):
                 self.assertIn(f"the variable {variable} (", text)
 
     def test_each_command_has_examples(self) -> None:
-        for it in COMMANDS:
+        for it in EVERY:
             with self.subTest(it.name):
-                text = self.printed("help", it.name) if it.name in ("lint", "faults") else self.printed(
-                    it.name, "--help")
+                text = self.printed(it.name, "--help")
+                self.assertEqual(self.printed("help", it.name), text)
                 self.assertIn(f"usage: musmyrtle {it.name} ", text)
                 self.assertTrue(it.examples)
-                if it.name not in ("lint", "faults"):
-                    self.assertIn(f"musmyrtle {it.examples[0]}", text)
+                for example in it.examples:
+                    self.assertIn(f" musmyrtle {example}\n", text)
 
     def printed(self, *words: str) -> str:
         """Returns the output; the help of a command ends it by an exit with status 0."""
@@ -316,6 +324,8 @@ class Help(Shows):
 
     def test_version(self) -> None:
         self.assertEqual(self.printed("--version"), f"musmyrtle {version()}\n")
+        for it in EVERY:
+            self.assertEqual(self.printed(it.name, "--version"), f"musmyrtle {it.name} {version()}\n")
 
     @unittest.skipUnless(shutil.which("bash"), "there is no bash")
     def test_completion_for_bash(self) -> None:

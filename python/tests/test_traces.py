@@ -1,4 +1,4 @@
-"""Traces given to `fr_lint`: the line, the column and the words of the reason, each slip by hand."""
+"""Traces given to `musmyrtle lint`: the line, the column and the words of the reason, each slip by hand."""
 import os
 from threading import Thread
 

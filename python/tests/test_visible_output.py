@@ -1,4 +1,4 @@
-"""Tests that control characters leave `fr_lint` and `fr_faults` as escapes: from files, names, words and programs."""
+"""Tests that control characters leave `lint` and `faults` as escapes: from files, names, words and programs."""
 import os
 import stat
 import subprocess
@@ -26,7 +26,8 @@ class VisibleOutput(Cases):
     def launch(self, command: str, *words: str | bytes) -> str:
         """Returns the whole output of the command. Nothing but its line ends is unprintable in it."""
         environment = {**os.environ, "PYTHONIOENCODING": "utf-8:surrogateescape", "COLUMNS": "200"}
-        ran = subprocess.run([sys.executable, "-B", TOP / command, *words], capture_output=True, env=environment)
+        words = sys.executable, "-B", str(TOP / "musmyrtle"), command, *words
+        ran = subprocess.run(words, capture_output=True, env=environment)
         text = (ran.stdout + ran.stderr).decode(errors="surrogateescape")
         self.assertEqual([it for it in text if not it.isprintable() and it != "\n"], [], text)
         return text
@@ -41,12 +42,12 @@ class VisibleOutput(Cases):
             with self.subTest(new=new):
                 program = self.stub(f"refused {refusal}", 1) if refusal else self.stub("", 0)
                 cluster = self.written("cluster.toml", self.changed(CLUSTER, (old, new)))
-                self.assertIn(word, self.launch("fr_lint", cluster, "--program", program))
+                self.assertIn(word, self.launch("lint", cluster, "--program", program))
 
     def test_a_scenario(self):
         cluster, program = self.written("cluster.toml", CLUSTER), self.stub("refused BadLine 2", 1)
         scenario = self.written("scenario", SCENARIO.replace("commit 0", f"{OBEYED} 0", 1))
-        said = self.launch("fr_lint", cluster, scenario, "--cycles", "4", "--program", program)
+        said = self.launch("lint", cluster, scenario, "--cycles", "4", "--program", program)
         self.assertIn(f"no line begins with `{SPELLED}`", said)
         self.assertIn("2 | " + SPELLED[:20], said)
 
@@ -55,26 +56,26 @@ class VisibleOutput(Cases):
         name = os.fsencode(self.folder) + b"/" + OBEYED.encode() + b"\n\xff"
         Path(os.fsdecode(name)).write_text("a =")
         program = self.stub("refused Toml", 1)
-        for words in (["fr_lint", name], ["fr_faults", name, name, "--cycles", "4"]):
+        for words in (["lint", name], ["faults", name, name, "--cycles", "4"]):
             place = SPELLED + r"\x0a\udcff:1:4: refused Toml: the value is missing"
             self.assertIn(place, self.launch(*words, "--program", program))
             self.assertIn(SPELLED + r"\x0a\udcff can't be run", self.launch(*words, "--program", name))
 
     def test_words(self):
-        for command in ("fr_lint", "fr_faults"):
+        for command in ("lint", "faults"):
             for words in ([f"--{OBEYED}"], ["a", "b", "--cycles", OBEYED], ["a", "b", "c", f"\n{OBEYED}"]):
                 with self.subTest(command=command, words=words):
-                    self.assertIn(f"{command}: error: ", self.launch(command, *words).splitlines()[-1])
+                    self.assertIn(f"musmyrtle {command}: ", self.launch(command, *words).splitlines()[-1])
 
     def test_files_of_campaigns(self):
         cluster, scenario = self.written("cluster.toml", CLUSTER), self.written("scenario", SCENARIO)
         for option in ("--html", "--against"):
-            said = self.launch("fr_faults", cluster, scenario, "--cycles", "4", option, f"none/{OBEYED}\n")
+            said = self.launch("faults", cluster, scenario, "--cycles", "4", option, f"none/{OBEYED}\n")
             self.assertIn(f"{option} none/{SPELLED}", said)
 
     def test_what_programs_say(self):
         cluster = self.written("cluster.toml", CLUSTER)
         for text, status in ((OBEYED, 0), (OBEYED, 3), (f"refused Toml {OBEYED}", 1), (f"refused Toml {OBEYED}", 3)):
             with self.subTest(text=text, status=status):
-                said = self.launch("fr_lint", cluster, "--program", self.stub(text, status))
+                said = self.launch("lint", cluster, "--program", self.stub(text, status))
                 self.assertIn(SPELLED, said)

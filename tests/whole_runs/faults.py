@@ -1,4 +1,4 @@
-"""Runs of `fr_faults` whole: its words, its statuses, its table, and runs that are interrupted or go to `parallel`."""
+"""Runs of `faults` whole: its words, its statuses, its table, and runs that are interrupted or go to `parallel`."""
 import os
 import re
 import shutil
@@ -25,12 +25,12 @@ SLOW = "#!/bin/sh\nsleep 0.02\nexec '{}' \"$@\"\n"
 
 
 class Faults:
-    """Runs of the tool over the built programs: the one that prints outcomes, the one whose refusals `fr_lint`
+    """Runs of the tool over the built programs: the one that prints outcomes, the one whose refusals `lint`
     explains, and the one for sessions."""
 
     def __init__(self, runs, bench, world, folder):
         self.runs, self.bench, self.folder = runs, bench, folder
-        self.front = [sys.executable, "-B", TOP / "fr_faults", "--program", runs.program, "--world", world]
+        self.front = [sys.executable, "-B", TOP / "musmyrtle", "faults", "--program", runs.program, "--world", world]
 
     def ask(self, *words):
         """Returns output, standard error and status."""
@@ -107,13 +107,13 @@ class Faults:
             self.runs.compare(f"babbles on both channels in {words[0]}", (wanted in told, status), (True, 0))
 
     def refused(self):
-        """Checks that a refusal is reported once, as `fr_lint` reports it, and that nothing is printed."""
+        """Checks that a refusal is reported once, as `lint` reports it, and that nothing is printed."""
         bad = self.folder / "bad"
         text = (EXAMPLES / "three-nodes/scenario").read_text()
         bad.write_text(text.replace("commit 1 0 0 0", "commit 1 0 9 0"))
         for words in (["three-nodes/scenario", *THREE_NODES[1:]], [THREE_NODES[0], bad, *THREE_NODES[2:]],
                       ["missing", *THREE_NODES[1:]], [THREE_NODES[0], "missing", "--cycles", "4"]):
-            lint = run([sys.executable, "-B", TOP / "fr_lint", "--program", self.bench, *words])
+            lint = run([sys.executable, "-B", TOP / "musmyrtle", "lint", "--program", self.bench, *words])
             self.runs.compare(f"what is refused of {words[:2]}", self.ask(*words), ("", lint[0].decode(), 1))
         no_words = (["--kinds", "mutes"], ["--nodes", "x"], ["--in-cycle", "4"], ["--resume"], ["--fail-on", "worse"],
                     ["--sshlogin", "a"], ["--against", "missing"], ["--against", EXAMPLES / "three-nodes/plan"],
@@ -131,7 +131,7 @@ class Faults:
                             (["--in-cycle", "9"], "run has no cycle 9: it has 4 cycles")):
             for more in ([], ["--list"]):
                 output, error, status = self.ask(*THREE_NODES, *words, *more)
-                wanted = "", f"fr_faults: error: the {told}", 2
+                wanted = "", f"musmyrtle faults: the {told}", 2
                 self.runs.compare(f"the words {words + more}", (output, error.splitlines()[-1], status), wanted)
         empty = self.ask(*THREE_NODES, "--kinds", "mute", "--slots", "all", "--list")
         self.runs.compare("a place that no fault of the kind has", empty, ("", "", 0))
@@ -142,10 +142,10 @@ class Faults:
         for words in ([*THREE_NODES, "--kinds", "mute"], [*THREE_NODES, "--list"], ["--help"]):
             with open("/dev/full", "wb") as full:
                 got = run([*self.front, *words], output=full)
-            wanted = b"", b"fr_faults: the output can't be written: No space left on device\n", 2
+            wanted = b"", b"musmyrtle faults: the output can't be written: No space left on device\n", 2
             self.runs.compare(f"{words} to a full device", got, wanted)
             got = run([*self.front, *words], closed=(1,))
-            wanted = b"", b"fr_faults: the output can't be written: it is closed\n", 2
+            wanted = b"", b"musmyrtle faults: the output can't be written: it is closed\n", 2
             self.runs.compare(f"{words} to a closed output", got, wanted)
             source, end = os.pipe()
             os.close(source)
@@ -161,13 +161,13 @@ class Faults:
                 ("--program", f"{program} doesn't answer as fr_view does: the last line has no line feed", 4),
                 ("--world", f"{program}: the program has ended", 4)):
             got = self.ask(*THREE_NODES, word, program)
-            self.runs.compare(f"{word} of another program", got, ("", f"fr_faults: {told}\n", status))
-        told = "fr_faults: missing can't be run: No such file or directory\n"
+            self.runs.compare(f"{word} of another program", got, ("", f"musmyrtle faults: {told}\n", status))
+        told = "musmyrtle faults: missing can't be run: No such file or directory\n"
         for word in ("--program", "--world"):
             self.runs.compare(f"{word} that isn't there", self.ask(*THREE_NODES, word, "missing"), ("", told, 2))
         noted.unlink()
         page = self.folder / "no folder/page.html"
-        told = f"fr_faults: --html {page}: No such file or directory\n"
+        told = f"musmyrtle faults: --html {page}: No such file or directory\n"
         got = self.ask(*THREE_NODES, "--html", page, "--program", program)
         self.runs.compare("a page that can't be written", (got, noted.exists()), (("", told, 2), False))
         page = self.folder / "unwritten.html"

@@ -211,10 +211,11 @@ class Slips:
         for program in self.programs:
             self.runs.compare(f"the version of {program}", self.call(program, ("--version",)),
                               (f"{program} {version}", "", 0))
-        for tool in ("fr_lint", "fr_faults", "musmyrtle"):
-            ran = subprocess.run([TOP / tool, "--version"], capture_output=True, text=True, timeout=SECONDS)
-            self.runs.compare(f"the version of {tool}", (ran.stdout, ran.stderr, ran.returncode),
-                              (f"{tool} {version}", "", 0))
+        for words in (["musmyrtle"], ["musmyrtle", "lint"], ["musmyrtle", "faults"]):
+            ran = subprocess.run([TOP / words[0], *words[1:], "--version"], capture_output=True, text=True,
+                                 timeout=SECONDS)
+            self.runs.compare(f"the version of {words}", (ran.stdout, ran.stderr, ran.returncode),
+                              (f"{' '.join(words)} {version}", "", 0))
 
     def agreement(self) -> None:
         """Checks that words have a slip exactly if the program ends with status 2."""

@@ -1,1 +1,1 @@
-"""Every single fault of a network, each in a run of its own: the command `fr_faults`."""
+"""Every single fault of a network, each in a run of its own: the command `musmyrtle faults`."""

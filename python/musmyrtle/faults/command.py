@@ -1,4 +1,4 @@
-"""The command `fr_faults`."""
+"""The command `musmyrtle faults`."""
 import argparse
 import os
 import sys
@@ -18,7 +18,7 @@ from musmyrtle.faults.inputs import Inputs, accepted, accepted_host
 from musmyrtle.faults.labels import Labels, fault_label
 from musmyrtle.faults.listing import Selection, SingleFault
 from musmyrtle.faults.log import Log, already, is_begun
-from musmyrtle.faults.options import arguments, parsed
+from musmyrtle.faults.options import COMMAND, arguments, parsed
 from musmyrtle.faults.page import Subject, page
 from musmyrtle.faults.runs import CLUSTER_FILE, Folder
 from musmyrtle.faults.table import (
@@ -30,7 +30,7 @@ from musmyrtle.faults.whole_files import Unusable, replace_file, spare_inputs
 from musmyrtle.findings import counted
 from musmyrtle.lint.command import FINE, USAGE, formed
 from musmyrtle.output import Stop, write
-from musmyrtle.program import is_launcher, itself
+from musmyrtle.program import by_option, is_launcher, itself
 from musmyrtle.visible import visible
 from musmyrtle.world.refusals import NotStarted, SessionOver
 from musmyrtle.world.world_program import usual_world
@@ -51,7 +51,7 @@ def ranks_before(file: str | None) -> Ranks | None:
     except OSError as error:
         raise Stop(USAGE, f"--against {file}: {error.strerror}") from None
     except ValueError as error:
-        why = error if isinstance(error, BadTable) else "isn't a table of fr_faults: it is no UTF-8"
+        why = error if isinstance(error, BadTable) else "isn't a table of faults: it is no UTF-8"
         raise Stop(USAGE, f"--against {file}: {why}") from None
 
 
@@ -122,7 +122,7 @@ def selected(given: argparse.Namespace, cluster: Cluster) -> Selection:
     selection = Selection(given.kinds, given.nodes, given.slots, given.in_cycle)
     missing = selection.missing(cluster)
     if missing:
-        arguments(given.command).error(f"the cluster has no {missing}")
+        arguments().error(f"the cluster has no {missing}")
     return selection
 
 
@@ -135,7 +135,7 @@ def with_scenario(given: argparse.Namespace, folder: Path) -> tuple[Campaign, In
     try:
         return Campaign(inputs.cluster, inputs.scenario, files, means), inputs, selection
     except NotStarted as error:
-        other = "" if given.world else "; name another fr_world by --world FILE"
+        other = "" if given.world else f"; {by_option('fr_world', '--world')}"
         raise Stop(USAGE, f"{error.filename} can't be run: {os.strerror(error.errno or 0)}{other}") from None
 
 
@@ -205,7 +205,7 @@ def ran(given: argparse.Namespace) -> int:
     try:
         before = ranks_before(given.against)
         try_outputs(given)
-        with temporary_folder("fr_faults-") as folder:
+        with temporary_folder("musmyrtle-faults-") as folder:
             found = measured(given, folder)
             return FINE if found is None else concluded(given, found, before)
     except (NoReference, NoParallel, SessionOver) as error:
@@ -222,18 +222,14 @@ def ran(given: argparse.Namespace) -> int:
         raise Stop(signal.status, f"broken off{how}") from None
 
 
-def main(words: list[str] | None = None, name: str = "fr_faults") -> int:
-    """Does the command. NAME is what its messages begin with."""
+def main(words: list[str]) -> int:
+    """Does the command, and returns the status."""
     try:
         with breaking_off():
-            return ran(parsed(words, name))
+            return ran(parsed(words))
     except Stop as stop:
-        return stop.tell(name)
+        return stop.tell(COMMAND)
     except BrokenOff as signal:
         return signal.status
     except BrokenPipeError:
         return FINE
-
-
-if __name__ == "__main__":
-    sys.exit(main())

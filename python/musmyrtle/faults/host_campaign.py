@@ -1,80 +1,18 @@
-"""All faults of a list beside a host program, each in a run of its own, in a pool of processes."""
-import multiprocessing
-import os
-import signal
-from collections.abc import Callable, Collection, Generator, Iterable
-from concurrent.futures import ProcessPoolExecutor
-from concurrent.futures.process import BrokenProcessPool
+"""All faults of a list beside a host program, each in a run of its own."""
+from collections.abc import Callable, Collection
 from contextlib import closing
 from dataclasses import replace
 
-from musmyrtle.breaking import SIGNALS
 from musmyrtle.faults.campaign import NoReference, failed, misplaced
 from musmyrtle.faults.costs import IDLE, Calendar, Difference, Ended, differences
-from musmyrtle.faults.host_runs import Forgery, HostJob, HostRan, Loss, host_run
+from musmyrtle.faults.host_pool import Pool
+from musmyrtle.faults.host_runs import Forgery, HostJob, HostRan, Loss
 from musmyrtle.faults.listing import Listing, Selection, SingleFault
 from musmyrtle.faults.log import Log
 from musmyrtle.faults.played import Begun, Occasion
 from musmyrtle.faults.table import Done
 from musmyrtle.outcomes import Known, read_outcome
 from musmyrtle.scenario import Line, Scenario
-
-DIED = HostRan(failure=("killed", "the process of the host program died"))
-
-
-def start_quietly() -> None:
-    """Prepares a process of the pool: signals have their usual effect, and its output doesn't come into the table."""
-    for number in SIGNALS:
-        signal.signal(number, signal.SIG_DFL)
-    signal.signal(signal.SIGINT, signal.SIG_IGN)
-    os.dup2(os.open(os.devnull, os.O_WRONLY), 1)
-
-
-class Pool:
-    """Processes that do runs. Each is forked from this one, in which the module of the host program is loaded."""
-
-    def __init__(self, cores: int) -> None:
-        self.cores = cores
-
-    def started(self, cores: int) -> ProcessPoolExecutor:
-        """Returns so many processes."""
-        return ProcessPoolExecutor(cores, multiprocessing.get_context("fork"), start_quietly)
-
-    def one(self, job: HostJob) -> HostRan:
-        """Does one run. A process that dies is a failure of its run."""
-        with self.started(1) as pool:
-            try:
-                return pool.submit(host_run, job).result()
-            except BrokenProcessPool:
-                return DIED
-            except BaseException:
-                end(pool)
-                raise
-
-    def all(self, jobs: Iterable[HostJob]) -> Generator[HostRan, None, None]:
-        """Yields the ends of all runs, in their order."""
-        todo = list(jobs)
-        done = 0
-        with self.started(self.cores) as pool:
-            try:
-                for found in pool.map(host_run, todo):
-                    done += 1
-                    yield found
-            except BrokenProcessPool:
-                # Any of the runs that were going on may have ended its process.
-                pass
-            except BaseException:
-                end(pool)
-                raise
-        for job in todo[done:]:
-            yield self.one(job)
-
-
-def end(pool: ProcessPoolExecutor) -> None:
-    """Ends the processes of a pool. The programs that they started end with them, since their inputs end."""
-    pool.shutdown(wait=False, cancel_futures=True)
-    for process in multiprocessing.active_children():
-        process.terminate()
 
 
 class HostCampaign:

@@ -34,7 +34,7 @@ class Inputs:
 def accepted(given: argparse.Namespace, folder: Path, children: Children) -> Inputs:
     """Reads the inputs, and does the run without a fault.
 
-    Reports a refusal as `fr_lint` does. Raises `Stop` for that, and `NoReference` where the program failed.
+    Reports a refusal as `lint` does. Raises `Stop` for that, and `NoReference` where the program failed.
     """
     task, data = copied(given, folder)
     files = task.file(given.cluster), task.file(given.scenario)
@@ -59,7 +59,7 @@ def accepted(given: argparse.Namespace, folder: Path, children: Children) -> Inp
 def accepted_host(given: argparse.Namespace, folder: Path) -> Inputs:
     """Reads the cluster file, and loads the host program.
 
-    Reports a refusal of the file as `fr_lint` does. Raises `Stop` for that, and where there is no such host program.
+    Reports a refusal of the file as `lint` does. Raises `Stop` for that, and where there is no such host program.
     """
     data = read_bytes(given.cluster)
     copy = folder / CLUSTER_FILE

@@ -27,7 +27,7 @@ SCRIPT = """#!/bin/sh
 # digest of its scenario. The status is 1 where a run has no answer, so that another machine does the job.
 
 fail() {
-    echo "fr_faults: ${PARALLEL_SSHHOST:-this machine}: $*" >&2
+    echo "musmyrtle faults: ${PARALLEL_SSHHOST:-this machine}: $*" >&2
     failed=1
 }
 

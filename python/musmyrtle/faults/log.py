@@ -35,7 +35,7 @@ class Log:
         digest = hashlib.sha256()
         for data in inputs:
             digest.update(len(data).to_bytes(8, "big") + data)
-        self.head = {"fr_faults": LOG_VERSION, "of": digest.hexdigest()}
+        self.head = {"musmyrtle faults": LOG_VERSION, "of": digest.hexdigest()}
         self.done: dict[str, list[Difference]] = {}
         if file is None:
             return
@@ -72,10 +72,10 @@ class Log:
         return len(whole)
 
     def check_head(self, entry: Any) -> None:
-        if not isinstance(entry, dict) or "fr_faults" not in entry:
+        if not isinstance(entry, dict) or "musmyrtle faults" not in entry:
             raise self.bad("line 1 isn't the first line of a job log")
-        if entry["fr_faults"] != LOG_VERSION:
-            raise self.bad("is of another version of fr_faults")
+        if entry["musmyrtle faults"] != LOG_VERSION:
+            raise self.bad("is of another version of musmyrtle")
         if entry != self.head:
             raise self.bad("is of another program, cluster, scenario or number of cycles")
 

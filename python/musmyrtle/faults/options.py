@@ -1,4 +1,4 @@
-"""The words of `fr_faults`."""
+"""The words of `musmyrtle faults`."""
 import argparse
 import os
 import re
@@ -8,14 +8,17 @@ from musmyrtle.faults.hosts import SSH_OPTIONS
 from musmyrtle.faults.listing import ALL, ALL_STATIC, KINDS
 from musmyrtle.faults.runs import OUTCOME
 from musmyrtle.findings import counted
-from musmyrtle.lint.command import Parser, add_forms, cycles_of
-from musmyrtle.program import usual_program
+from musmyrtle.lint.command import Parser, add_forms, cycles_of, shown_examples
+from musmyrtle.program import by_option, usual_program
 
+COMMAND = "musmyrtle faults"
 FAIL_ON = ("lost", "older", "changed", "worse")
 ABOUT = """Prints the costs of each single fault of a network: a run for each, compared with the run without it.
 
 The table goes to standard output: a line for each fault and each thing of a node that it changes. The summary goes to
 standard error. docs/FAULTS.md describes the faults and the words."""
+RUN = "examples/three-nodes/cluster.toml examples/three-nodes/scenario --cycles 4"
+EXAMPLES = (f"faults {RUN} --html faults.html > faults", f"faults {RUN} --kinds mute,lost --nodes 0")
 STATUSES = """status: 0 if no other status applies, 1 if the cluster or the scenario is refused, 2 if the words are no
 command, a file can't be used or the output can't be written, 3 if --fail-on found a cost, 4 if a run was refused or
 killed or has no outcome, 130, 143 or 129 if SIGINT, SIGTERM or SIGHUP broke it off"""
@@ -69,9 +72,9 @@ def cores_of(word: str) -> int:
     return int(word)
 
 
-def arguments(name: str = "fr_faults") -> argparse.ArgumentParser:
-    parser = Parser(prog=name, description=ABOUT, epilog=STATUSES, allow_abbrev=False,
-                    formatter_class=argparse.RawDescriptionHelpFormatter)
+def arguments() -> argparse.ArgumentParser:
+    parser = Parser(prog=COMMAND, description=ABOUT, epilog=f"{shown_examples(EXAMPLES)}\n{STATUSES}",
+                    allow_abbrev=False, formatter_class=argparse.RawDescriptionHelpFormatter)
     add = parser.add_argument
     add("cluster", metavar="CLUSTER", help="a cluster file")
     add("scenario", metavar="SCENARIO", nargs="?", help="a scenario, beside which each fault comes")
@@ -98,15 +101,14 @@ def arguments(name: str = "fr_faults") -> argparse.ArgumentParser:
     add("--sshlogin", "-S", metavar="HOST", action="append", default=[], help=SSHLOGIN)
     add("--sshloginfile", metavar="FILE", action="append", default=[],
         help="a file of such lines; trust it as a shell script, since it can run commands")
-    add("--program", metavar="FILE", help=f"the {OUTCOME[0]} to run, instead of the one beside fr_faults")
-    add("--world", metavar="FILE", help="the fr_world to ask, instead of the one beside fr_faults")
+    add("--program", metavar="FILE", help=f"the {OUTCOME[0]} to run, instead of the one that `musmyrtle` finds")
+    add("--world", metavar="FILE", help="the fr_world to ask, instead of the one that `musmyrtle` finds")
     return parser
 
 
-def parsed(words: list[str] | None, name: str) -> argparse.Namespace:
-    parser = arguments(name)
+def parsed(words: list[str]) -> argparse.Namespace:
+    parser = arguments()
     given = parser.parse_args(words)
-    given.command = name
     if given.in_cycle is not None and given.in_cycle >= given.cycles:
         parser.error(f"the run has no cycle {given.in_cycle}: it has {counted(given.cycles, 'cycle')}")
     if (given.scenario is None) == (given.host is None):
@@ -121,5 +123,5 @@ def parsed(words: list[str] | None, name: str) -> argparse.Namespace:
         parser.error("--fail-on worse wants --against TABLE")
     given.program = given.program or usual_program(OUTCOME[0])
     if given.program is None:
-        parser.error(f"there is no {OUTCOME[0]}: name one by --program FILE")
+        parser.error(f"there is no {OUTCOME[0]}: {by_option(OUTCOME[0])}")
     return given

@@ -105,7 +105,7 @@ class Ranks:
 def read_ranks(text: str) -> Ranks:
     lines = text.split("\n")
     if lines[0] + "\n" not in (HEADING, HEADING_OF_ONE_CHANNEL) or lines[-1]:
-        raise BadTable("isn't a table of fr_faults that is whole")
+        raise BadTable("isn't a whole table of faults")
     ranks: dict[tuple[str, ...], tuple[int, int]] = {}
     for number, line in enumerate(lines[1:-1], 2):
         words = line.split("\t")

@@ -51,7 +51,7 @@ def replace_file(name: str, data: bytes) -> None:
     if os.path.exists(name) and not (os.path.isfile(name) and os.access(file.parent, os.W_OK)):
         Path(name).write_bytes(data)
         return
-    beside = file.with_name(f".fr_faults-{os.getpid()}")
+    beside = file.with_name(f".musmyrtle-{os.getpid()}")
     try:
         beside.write_bytes(data)
         if file.exists():

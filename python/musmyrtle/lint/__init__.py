@@ -1,1 +1,1 @@
-"""The findings about a cluster file, a scenario or a trace: the command `fr_lint`."""
+"""The findings about a cluster file, a scenario or a trace: the command `musmyrtle lint`."""

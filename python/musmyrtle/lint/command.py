@@ -1,4 +1,4 @@
-"""The command `fr_lint`."""
+"""The command `musmyrtle lint`."""
 import argparse
 import io
 import os
@@ -9,7 +9,7 @@ from contextlib import ExitStack, contextmanager, suppress
 from dataclasses import replace
 from typing import Any, NoReturn, TextIO
 
-from musmyrtle.findings import MOST_REASONS, block, counted
+from musmyrtle.findings import MOST_REASONS, block, counted, nearest
 from musmyrtle.lint.allows import NAMES, expected_name
 from musmyrtle.lint.lint import Lint, Task, lint, read_bytes
 from musmyrtle.lint.overwriting import Overwritten
@@ -17,17 +17,20 @@ from musmyrtle.lint.rows import sections
 from musmyrtle.lint.runs import MOST_CYCLES
 from musmyrtle.lint.trace_why import MAGIC, NoAnswer, TraceFile, ask_why, finding_of, is_trace
 from musmyrtle.output import Stop, write
-from musmyrtle.program import Answer, ask, no_answer, usual_program
+from musmyrtle.program import Answer, ask, by_option, no_answer, usual_program
 from musmyrtle.show.tables import Section, as_csv, as_json
 from musmyrtle.version import version
 from musmyrtle.visible import cut, visible
 
+COMMAND = "musmyrtle lint"
 FINE, REFUSED, USAGE, WARNED, BROKEN_OFF = 0, 1, 2, 4, 130
 MOST_WARNINGS, MOST_REPEATED = 40, 200
 ABOUT = """Explains the faults of a cluster file, and of a scenario for it: place, reason, and expected form.
 
 fr_bench runs first, by `check CLUSTER` or by `run CLUSTER SCENARIO --cycles N`, and decides what is refused. An
 accepted input that can't work, or breaks a rule of the standard that the bench doesn't check, has a warning."""
+EXAMPLES = ("lint examples/three-nodes/cluster.toml",
+            "lint examples/three-nodes/cluster.toml examples/three-nodes/scenario --cycles 4 --strict")
 STATUSES = """status: 0 if fr_bench accepts the input, with warnings or without, 1 if it refuses it, 2 if the words are
 no command, fr_bench can't be run or fails, or the output can't be written, 4 if there are warnings and --strict is
 given, 130 if SIGINT broke it off"""
@@ -35,6 +38,10 @@ SILENCED = """warnings: each ends with its name, as `[sync-nodes]`. `--allow NAM
 `# lint: allow NAME: why` at the end of the line of its place in the cluster file, or alone in the line before. Names:
 
 """
+
+
+UNCLEAR, VALUE_MISSING = ("unrecognized arguments: ", "the following arguments are required: "), "expected one argument"
+"""The beginnings and the end of messages of `argparse` that don't say what to write."""
 
 
 class PrintVersion(argparse.Action):
@@ -56,8 +63,19 @@ class Parser(argparse.ArgumentParser):
         write(file or sys.stdout, [self.format_help()])
 
     def error(self, message: str) -> NoReturn:
-        """Writes the error with the words of the command escaped, since they may be anything."""
-        super().error(visible(message))
+        """Ends the command with one line that says what to write. Its words are escaped, since they may be anything."""
+        is_unclear = message.startswith(UNCLEAR) or message.endswith(VALUE_MISSING)
+        more = f"; {self.prog} --help describes the words" if is_unclear else ""
+        unknown = message.removeprefix(UNCLEAR[0])
+        if unknown != message:
+            meant = nearest(unknown.partition(" ")[0], list(self._option_string_actions))
+            message, more = f"unknown words: {unknown}", f"; did you mean {meant}?" if meant else more
+        self.exit(USAGE, f"{self.prog}: {visible(cut(message, MOST_REPEATED))}{more}\n")
+
+
+def shown_examples(examples: Iterable[str]) -> str:
+    """Returns the lines of a help that have the examples of a command."""
+    return "".join(["examples:\n", *(f"  musmyrtle {it}\n" for it in examples)])
 
 
 def cycles_of(word: str) -> int:
@@ -77,9 +95,10 @@ def allowed_name(word: str) -> str:
     return word
 
 
-def arguments(name: str = "fr_lint") -> Parser:
-    parser = Parser(prog=name, description=ABOUT, epilog=f"{STATUSES}\n\n{SILENCED}{listed_names()}",
-                    allow_abbrev=False, formatter_class=argparse.RawDescriptionHelpFormatter)
+def arguments() -> Parser:
+    parser = Parser(prog=COMMAND, description=ABOUT, allow_abbrev=False,
+                    epilog=f"{shown_examples(EXAMPLES)}\n{STATUSES}\n\n{SILENCED}{listed_names()}",
+                    formatter_class=argparse.RawDescriptionHelpFormatter)
     parser.add_argument("cluster", metavar="CLUSTER",
                         help="a cluster file, or a refused trace, which fr_view explains")
     parser.add_argument("scenario", metavar="SCENARIO", nargs="?", help="a scenario; it wants --cycles as well")
@@ -88,7 +107,7 @@ def arguments(name: str = "fr_lint") -> Parser:
     parser.add_argument("--allow", metavar="NAME", action="append", default=[], type=allowed_name,
                         help="print no warning of this name; it may be given several times")
     parser.add_argument("--program", metavar="FILE",
-                        help="the fr_bench to ask, or for a trace the fr_view, instead of the one beside fr_lint")
+                        help="the fr_bench to ask, or the fr_view for a trace, instead of that which `musmyrtle` finds")
     add_forms(parser)
     return parser
 
@@ -113,14 +132,14 @@ def printed(texts: Iterable[str]) -> None:
         write(sys.stdout, texts)
 
 
-def parsed(words: list[str] | None, name: str) -> argparse.Namespace:
-    parser = arguments(name)
+def parsed(words: list[str]) -> argparse.Namespace:
+    parser = arguments()
     given = parser.parse_args(words)
     if given.scenario is not None and given.cycles is None:
         parser.error("a scenario wants --cycles N")
     given.named, given.program = given.program, given.program or usual_program()
     if given.program is None:
-        parser.error("there is no fr_bench: name one by --program FILE")
+        parser.error(f"there is no fr_bench: {by_option('fr_bench')}")
     return given
 
 
@@ -171,7 +190,7 @@ def told(answer: Answer, found: Lint, is_bold: bool = False) -> Iterator[str]:
         return
     yield f"fr_bench: refused {refusal}\n" if answer.status else "fr_bench: accepted\n"
     if answer.refusal is None and found.refusals:
-        yield f"No more can be said: fr_lint takes the input for {found.refusals[0][0]}, and fr_bench decides.\n"
+        yield f"fr_bench decides, although {COMMAND} finds a reason to refuse the input: {found.refusals[0][0]}.\n"
         return
     if answer.refusal is not None:
         yield from told_reasons(answer, found, is_bold)
@@ -200,7 +219,7 @@ def is_explained(answer: Answer, found: Lint) -> bool:
 
 
 def is_bold_on(stream: TextIO | None) -> bool:
-    return stream is not None and stream.isatty() and "NO_COLOR" not in os.environ
+    return stream is not None and stream.isatty() and not os.environ.get("NO_COLOR")
 
 
 def is_trace_file(file: str) -> bool:
@@ -217,7 +236,7 @@ def traced(given: argparse.Namespace, task: Task) -> int:
         raise Stop(USAGE, f"{task.cluster} is a trace, and takes no scenario and no cycles")
     program, file = given.named or usual_program("fr_view"), task.file(task.cluster)
     if program is None:
-        raise Stop(USAGE, "there is no fr_view: name one by --program FILE")
+        raise Stop(USAGE, f"there is no fr_view: {by_option('fr_view')}")
     try:
         why, found = ask_why(program, file), Lint()
         lines = ["fr_view: accepted\n"]
@@ -257,17 +276,13 @@ def linted(given: argparse.Namespace) -> int:
     return WARNED if given.strict and found.warnings else FINE
 
 
-def main(words: list[str] | None = None, name: str = "fr_lint") -> int:
-    """Does the command. NAME is what its messages begin with."""
+def main(words: list[str]) -> int:
+    """Does the command, and returns the status."""
     try:
-        return linted(parsed(words, name))
+        return linted(parsed(words))
     except Stop as stop:
-        return stop.tell(name)
+        return stop.tell(COMMAND)
     except BrokenPipeError:
         return FINE
     except KeyboardInterrupt:
         return BROKEN_OFF
-
-
-if __name__ == "__main__":
-    sys.exit(main())

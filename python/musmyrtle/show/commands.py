@@ -26,6 +26,7 @@ from musmyrtle.show.tables import Section, as_text
 Main = Callable[[list[str]], int]
 THREE = "examples/three-nodes/cluster.toml"
 RUN = f"{THREE} examples/three-nodes/scenario --cycles 4"
+RUN_EXAMPLE = f"run {RUN}"
 
 
 @dataclass(frozen=True)
@@ -87,16 +88,6 @@ def selected(make: Callable[[Facts, Selection], list[Section]]
     return sections
 
 
-def lint_main(words: list[str]) -> int:
-    """Does the command `lint`, and returns the status."""
-    return musmyrtle.lint.command.main(words, f"{COMMAND} lint")
-
-
-def faults_main(words: list[str]) -> int:
-    """Does the command `faults`, and returns the status."""
-    return musmyrtle.faults.command.main(words, f"{COMMAND} faults")
-
-
 TABLES = (
     table("check", "Prints the parameters and the nodes of a cluster file.", Words(), (f"check {THREE}",),
           of_cluster(check)),
@@ -104,7 +95,7 @@ TABLES = (
           (f"plan {THREE}", f"plan {THREE} --json"), of_cluster(plan)),
     table("run", "Runs a scenario, and prints what went wrong: commits that no node received and why, receive buffers\n"
           "that hold nothing, FIFOs that overwrote frames, errors with their slots, faults without effect.",
-          Words(has_run=True), (f"run {RUN}",), lambda inputs, _: run(Facts(inputs))),
+          Words(has_run=True), (RUN_EXAMPLE,), lambda inputs, _: run(Facts(inputs))),
     table("log", "Prints all transmissions of a run and their fates.", Words(True, True),
           (f"log {RUN} --slot 1 --channel B", f"log {RUN} --errors --csv"), selected(log)),
     table("commits", "Prints what came of each commit of a run: when it was sent, its latency and its receivers.",
@@ -114,10 +105,9 @@ TABLES = (
 )
 COMMANDS = (
     Command("lint", "Explains the faults of a cluster file, a scenario or a trace.",
-            (f"lint {THREE}",), lambda: musmyrtle.lint.command.arguments(f"{COMMAND} lint"), lint_main),
+            musmyrtle.lint.command.EXAMPLES, musmyrtle.lint.command.arguments, musmyrtle.lint.command.main),
     Command("faults", "Runs a scenario once for each single fault, and prints what each receiver loses.",
-            (f"faults {RUN} --html faults.html > faults",),
-            lambda: musmyrtle.faults.options.arguments(f"{COMMAND} faults"), faults_main),
+            musmyrtle.faults.options.EXAMPLES, musmyrtle.faults.options.arguments, musmyrtle.faults.command.main),
     *TABLES,
     Command("page", page.PURPOSE, page.EXAMPLE, page.arguments, page.main),
 )

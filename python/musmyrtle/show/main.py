@@ -3,12 +3,13 @@ import argparse
 import sys
 from collections.abc import Callable, Iterator
 from contextlib import suppress
+from textwrap import fill
 
 from musmyrtle.findings import nearest
 from musmyrtle.lint.command import FINE, USAGE, Parser
-from musmyrtle.output import Stop, pass_on, write
+from musmyrtle.output import Stop, write
 from musmyrtle.program import VARIABLES, places
-from musmyrtle.show.commands import COMMANDS, Command
+from musmyrtle.show.commands import COMMANDS, RUN_EXAMPLE, Command
 from musmyrtle.show.completion import bash, first_line, zsh
 from musmyrtle.show.engines import COMMAND
 from musmyrtle.show.manual import manual
@@ -16,7 +17,8 @@ from musmyrtle.version import version
 from musmyrtle.visible import cut, visible
 
 SHELLS = {"bash": bash, "zsh": zsh}
-HELP = ("help", "--help", "-h")
+HELP, VERSION = ("help", "--help", "-h"), ("--version", "-V")
+WIDTH = 110
 
 
 def texts(name: str, purpose: str, example: str, adding: Callable[[argparse.ArgumentParser], None],
@@ -58,8 +60,10 @@ def overview() -> Iterator[str]:
     yield f"usage: {COMMAND} COMMAND [ARGUMENT ..]\n\ncommands:\n"
     width = max(len(it.name) for it in EVERY)
     for it in EVERY:
-        yield f"  {it.name:{width}}  {first_line(it.purpose)}\n"
+        yield fill(first_line(it.purpose), WIDTH, initial_indent=f"  {it.name:{width}}  ",
+                   subsequent_indent=" " * (width + 4)) + "\n"
     yield f"\n`{COMMAND} COMMAND --help` describes the arguments of a command, with examples.\n"
+    yield f"`{COMMAND} --version` prints the version.\n\nexample: {COMMAND} {RUN_EXAMPLE}\n\n"
     yield "The programs are looked for in this order:\n"
     for name in VARIABLES:
         yield f"  {name}: {visible(places(name))}\n"
@@ -69,18 +73,19 @@ def done(words: list[str]) -> int:
     """Does the command of some words, and returns the status."""
     if not words or words[0] in HELP and len(words) == 1:
         return printed("".join(overview()))
-    if words in (["--version"], ["-V"]):
+    if words[0] in VERSION:
+        if len(words) > 1:
+            raise Stop(USAGE, f"{words[0]} stands alone; {COMMAND} COMMAND --help describes a command")
         return printed(f"{COMMAND} {version()}\n")
     if words[0] in HELP:
         words = [words[1], "--help"]
     for command in EVERY:
         if command.name == words[0]:
             return command.main(words[1:])
-    meant = nearest(words[0], [it.name for it in EVERY])
-    more = f"; did you mean {meant}?" if meant else ""
-    pass_on(f"{COMMAND}: there is no command {cut(words[0])}{more}")
-    pass_on(f"{COMMAND}: the commands are {', '.join(it.name for it in EVERY)}")
-    return USAGE
+    names = [it.name for it in EVERY]
+    meant = nearest(words[0], [*names, *HELP, *VERSION])
+    more = f"did you mean {meant}?" if meant else f"the commands are {', '.join(names)}"
+    raise Stop(USAGE, f"there is no command {cut(words[0]) or 'without a name'}; {more}")
 
 
 def main(words: list[str] | None = None) -> int:

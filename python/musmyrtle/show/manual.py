@@ -36,7 +36,7 @@ def manual(commands: Sequence[Command]) -> str:
         ".SH EXIT STATUS", *(line for status, text in STATUSES for line in tagged(status, text)),
         ".SH ENVIRONMENT", *(line for name, variable in VARIABLES.items()
                              for line in tagged(variable, f"the program {name} to run")),
-        *tagged("NO_COLOR", "if it is set, terminals get no colours"), "",
+        *tagged("NO_COLOR", "if it is set and not empty, terminals get no colours"), "",
     ])
 
 

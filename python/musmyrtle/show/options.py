@@ -4,7 +4,7 @@ from dataclasses import dataclass
 
 from musmyrtle.faults.options import numbers_of
 from musmyrtle.findings import counted
-from musmyrtle.lint.command import Parser, add_forms, cycles_of
+from musmyrtle.lint.command import Parser, add_forms, cycles_of, shown_examples
 
 STATUSES = """status: 0 if it is done, 1 if the cluster file, the scenario or the run is refused, with the reason as by
 `musmyrtle lint`, 2 if the words are no command, a program can't be run or fails, or the output can't be written, 130,
@@ -22,9 +22,9 @@ class Words:
 
 def arguments(name: str, purpose: str, words: Words, examples: tuple[str, ...]) -> argparse.ArgumentParser:
     """Returns the parser of a command that prints tables."""
-    shown = "\n".join(f"  musmyrtle {it}" for it in examples)
-    parser = Parser(prog=f"musmyrtle {name}", description=purpose, epilog=f"examples:\n{shown}\n\n{STATUSES}",
-                    allow_abbrev=False, formatter_class=argparse.RawDescriptionHelpFormatter)
+    parser = Parser(prog=f"musmyrtle {name}", description=purpose, allow_abbrev=False,
+                    epilog=f"{shown_examples(examples)}\n{STATUSES}",
+                    formatter_class=argparse.RawDescriptionHelpFormatter)
     add = parser.add_argument
     add("cluster", metavar=CLUSTER, help="a cluster file")
     if words.has_run:

@@ -8,7 +8,7 @@ from html import escape
 from pathlib import Path
 
 from musmyrtle.breaking import BrokenOff, breaking_off
-from musmyrtle.lint.command import FINE, Parser, cycles_of
+from musmyrtle.lint.command import FINE, Parser, cycles_of, shown_examples
 from musmyrtle.output import Stop, write
 from musmyrtle.show.engines import COMMAND, opened
 from musmyrtle.show.facts import Facts
@@ -60,8 +60,7 @@ def script(names: tuple[str, ...]) -> str:
 
 def arguments() -> argparse.ArgumentParser:
     """Returns the parser of the command's words."""
-    examples = "\n".join(f"  {COMMAND} {it}" for it in EXAMPLE)
-    parser = Parser(prog=f"{COMMAND} page", description=PURPOSE, epilog=f"examples:\n{examples}\n\n{STATUSES}",
+    parser = Parser(prog=f"{COMMAND} page", description=PURPOSE, epilog=f"{shown_examples(EXAMPLE)}\n{STATUSES}",
                     allow_abbrev=False, formatter_class=argparse.RawDescriptionHelpFormatter)
     parser.add_argument("cluster", metavar=CLUSTER, help="a cluster file")
     parser.add_argument("scenario", metavar=SCENARIO, help="a scenario of this cluster")

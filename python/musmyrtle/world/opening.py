@@ -1,4 +1,4 @@
-"""The reason why a world isn't opened: the refusal of the program, and the explanation by `fr_lint`."""
+"""The reason why a world isn't opened: the refusal of the program, and the explanation by `musmyrtle lint`."""
 import os
 
 from musmyrtle.visible import visible

@@ -24,7 +24,7 @@ class BadCycles(SessionOver, ValueError):
 class ClusterRefused(SessionOver):
     """The program refuses the cluster file, so the world isn't opened.
 
-    `refusal` has the words after `refused`, as `Overlap 1 A 0`, and `reason` the explanation by `fr_lint`, with line
+    `refusal` has the words after `refused`, as `Overlap 1 A 0`, and `reason` the explanation by `lint`, with line
     and column. The reason is empty where none is known.
     """
 
