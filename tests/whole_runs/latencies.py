@@ -69,7 +69,7 @@ WAYS = {
 """By slot and channel: the cycle and the minislot of the latest start, and the frames before it. Slot 2 is static."""
 
 SILENT = "channel A 0 192 0 0 10\nchannel B 0 192 0 0 10\n"
-"""Three static slots and ten minislots that nobody uses."""
+"""Three static slots and ten minislots without a buffer."""
 
 
 class Latencies:
