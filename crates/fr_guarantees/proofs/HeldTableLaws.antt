@@ -1,4 +1,4 @@
--- What the table of latencies calls guaranteed is served in every world.
+-- In every world a buffer is served in each cycle in which the table of latencies calls it guaranteed.
 use Rattle.std.proofs.Common.{◌≡◌, ℕ, ◌≤◌, Bool, true, false, not, cond, ◌&&◌, ◌||◌, List, [], ◌∷◌, ◌++◌, Option, Some}
 use Rattle.std.proofs.Common.{refl, sym, ap, subst, ◌∙◌, slice_get}
 use Rattle.std.specs.Prelude.{◌==◌, nat_le}

@@ -1,4 +1,4 @@
--- What a node offers in a dynamic window is a frame that can be sent there.
+-- A node's offer in a dynamic window is a frame that can be sent there.
 use Rattle.std.proofs.Common.{◌≡◌, ℕ, ◌+◌, ◌*◌, ◌≤◌, ◌<◌, Bool, true, false, cond, ◌&&◌, ◌||◌, List, [], ◌∷◌, ◌++◌, length}
 use Rattle.std.proofs.Common.{Option, Some, None, refl, sym, ap, subst, ◌∙◌, arith, slice_get, length-append, is_some, take}
 use Rattle.std.specs.Prelude.{nat_le, IfSome, IsSomeAnd}

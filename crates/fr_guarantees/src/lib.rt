@@ -1,4 +1,4 @@
-//! What a schedule guarantees, as laws on every world: the slots of `fr_latency` and the frames of hosts. The crate has
+//! The guarantees of a schedule, as laws on every world: the slots of `fr_latency` and the frames of hosts. The crate has
 //! no code.
 //!
 //! *(project-defined)* marks a rule of this project, and makes no claim about the standard.
