@@ -17,7 +17,7 @@ use Rattle.fr_cli.specs.declared.view.Asked.{Asked}
 use Rattle.fr_cli.specs.declared.view.Asked.TheVariants.{Outcome, Answers, Commits, Record, Heard, Trace}
 use Rattle.fr_cli.specs.ViewOrders.{IsAnswerTo, IsOrder, IsScheduleBy, IsShowBy, asked_by, asks, channel_asked}
 use Rattle.fr_cli.specs.ViewOrders.{cycle_asked, drawn_by, from_asked, has_schedule_by, has_show_by, matrix_of}
-use Rattle.fr_cli.specs.ViewOrders.{node_asked, the_commands, viewer_asked}
+use Rattle.fr_cli.specs.ViewOrders.{IsLatencyBy, has_latency_by, node_asked, the_commands, viewer_asked, way_asked}
 use Rattle.fr_cli.proofs.CommandLemmas.{has_run_alike}
 use Rattle.fr_cli.specs.Commands.{IsNamed, cycles_in, order_error_of, word_in}
 
@@ -61,6 +61,7 @@ schedule_alike f g same (the_order.Capture until_fault own) is = is
 schedule_alike f g same (the_order.Frames until_fault all) is = is
 schedule_alike f g same the_order.Why is = is
 schedule_alike f g same the_order.Help is = is
+schedule_alike f g same (the_order.Latency file way) is = is
 schedule_alike f g same (the_order.Show asked cluster scenario cycles) is = is
 schedule_alike f g same (the_order.Schedule file cycle) is =
     (sym (same (codes "FILE")) ∙ is.0, ap cycle_asked (sym (same (codes "cycle"))) ∙ is.1)
@@ -76,6 +77,7 @@ schedule_told entered look (Some o) named same told = by o (schedule_alike look 
     by (the_order.Frames until_fault all) is = absurd is
     by the_order.Why is = absurd is
     by the_order.Help is = absurd is
+    by (the_order.Latency file way) is = absurd is
     by (the_order.Show asked cluster scenario cycles) is = absurd is
     by (the_order.Schedule file cycle) is = (named, is)
 
@@ -84,7 +86,7 @@ asks_nothing : (entered : Option (Text × List Row)) → IsNamed (codes "schedul
 asks_nothing None named lacks = cc named
 asks_nothing (Some (name, rows)) named lacks =
     let is : name ≡ codes "schedule" = cc named in
-    subst (λ (n : Text). asks (Some (n, rows)) ≡ false) (sym is) lacks
+    subst (λ (n : Text). asks (Some (n, rows)) ≡ false) (sym is) (ap (λ b. b || false) lacks)
 
 pub schedule_lacks : (entered : Option (Text × List Row)) (look : Text → Option Text) (found : Option ViewOrder)
     → IsNamed (codes "schedule") entered
@@ -93,6 +95,56 @@ pub schedule_lacks : (entered : Option (Text × List Row)) (look : Text → Opti
 schedule_lacks entered look (Some o) named same lacks = tt
 schedule_lacks entered look None named same lacks = asks_nothing entered named
     (sym (has_alike look (word_in entered) same) ∙ lacks)
+
+-- ---- latencies
+
+-- two ways to the same words ask for latencies alike
+pub latency_has_alike : (f g : Text → Option Text) → ((id : Text) → f id ≡ g id) → has_latency_by f ≡ has_latency_by g
+latency_has_alike f g same =
+    ap₂ (λ a b. a && b) (ap is_some (same (codes "FILE")))
+    (ap₂ (λ s c. is_some (way_asked s c)) (same (codes "slot")) (same (codes "channel")))
+
+latency_alike : (f g : Text → Option Text) → ((id : Text) → f id ≡ g id) → (o : ViewOrder) → IsLatencyBy f o
+    → IsLatencyBy g o
+latency_alike f g same (the_order.Capture until_fault own) is = is
+latency_alike f g same (the_order.Frames until_fault all) is = is
+latency_alike f g same the_order.Why is = is
+latency_alike f g same the_order.Help is = is
+latency_alike f g same (the_order.Schedule file cycle) is = is
+latency_alike f g same (the_order.Show asked cluster scenario cycles) is = is
+latency_alike f g same (the_order.Latency file way) is =
+    (sym (same (codes "FILE")) ∙ is.0,
+    ap₂ (λ s c. way_asked s c) (sym (same (codes "slot"))) (sym (same (codes "channel"))) ∙ is.1)
+
+pub latency_told : (entered : Option (Text × List Row)) (look : Text → Option Text) (found : Option ViewOrder)
+    → IsNamed (codes "latency") entered
+    → ((id : Text) → look id ≡ word_in entered id) → IfSome found (IsLatencyBy look) → IfSome found (IsOrder entered)
+latency_told entered look None named same told = tt
+latency_told entered look (Some o) named same told = by o (latency_alike look (word_in entered) same o told)
+  where
+    by : (o : ViewOrder) → IsLatencyBy (word_in entered) o → IsOrder entered o
+    by (the_order.Capture until_fault own) is = absurd is
+    by (the_order.Frames until_fault all) is = absurd is
+    by the_order.Why is = absurd is
+    by the_order.Help is = absurd is
+    by (the_order.Schedule file cycle) is = absurd is
+    by (the_order.Show asked cluster scenario cycles) is = absurd is
+    by (the_order.Latency file way) is = (named, is)
+
+asks_no_latency : (entered : Option (Text × List Row)) → IsNamed (codes "latency") entered
+    → has_latency_by (word_in entered) ≡ false → asks entered ≡ false
+asks_no_latency None named lacks = cc named
+asks_no_latency (Some (name, rows)) named lacks =
+    let is : name ≡ codes "latency" = cc named in
+    subst (λ (n : Text). asks (Some (n, rows)) ≡ false) (sym is) lacks
+
+pub latency_lacks : (entered : Option (Text × List Row)) (look : Text → Option Text) (found : Option ViewOrder)
+    → IsNamed (codes "latency") entered
+    → ((id : Text) → look id ≡ word_in entered id) → IfNone found (has_latency_by look ≡ false)
+    → IfNone found (asks entered ≡ false)
+latency_lacks entered look (Some o) named same lacks = tt
+latency_lacks entered look None named same lacks = asks_no_latency entered named
+    (sym (latency_has_alike look (word_in entered) same) ∙ lacks)
 
 -- ---- views of a run
 
@@ -123,6 +175,7 @@ show_alike name f g same (the_order.Capture until_fault own) is = is
 show_alike name f g same (the_order.Frames until_fault all) is = is
 show_alike name f g same the_order.Why is = is
 show_alike name f g same the_order.Help is = is
+show_alike name f g same (the_order.Latency file way) is = is
 show_alike name f g same (the_order.Schedule file cycle) is = is
 show_alike name f g same (the_order.Show asked cluster scenario cycles) is = (
   sym (asked_alike name f g same) ∙ is.0,
@@ -148,6 +201,7 @@ show_told (Some (entered, rows)) name look (Some o) named same told =
     by (the_order.Frames until_fault all) is = absurd is
     by the_order.Why is = absurd is
     by the_order.Help is = absurd is
+    by (the_order.Latency file way) is = absurd is
     by (the_order.Schedule file cycle) is = absurd is
     by (the_order.Show asked cluster scenario cycles) is = is
 
@@ -155,17 +209,18 @@ pub show_lacks : (entered : Option (Text × List Row)) (name : Text) (look : Tex
     (found : Option ViewOrder) → IsNamed name entered
     → bytes_eq name (codes "capture") ≡ false → bytes_eq name (codes "frames") ≡ false
     → bytes_eq name (codes "why") ≡ false
-    → bytes_eq name (codes "schedule") ≡ false
+    → bytes_eq name (codes "schedule") ≡ false → bytes_eq name (codes "latency") ≡ false
     → ((id : Text) → look id ≡ word_in entered id) → IfNone found (has_show_by name look ≡ false)
     → IfNone found (asks entered ≡ false)
-show_lacks entered name look (Some o) named capture frames why schedule same lacks = tt
-show_lacks None name look None named capture frames why schedule same lacks = cc named
-show_lacks (Some (entered, rows)) name look None named capture frames why schedule same lacks =
+show_lacks entered name look (Some o) named capture frames why schedule latency same lacks = tt
+show_lacks None name look None named capture frames why schedule latency same lacks = cc named
+show_lacks (Some (entered, rows)) name look None named capture frames why schedule latency same lacks =
     let is : entered ≡ name = cc named in
     let words = λ (id : Text). first_of id rows in
     let alike : has_show_by name look ≡ has_show_by name words =
     ap₂ (λ a b. is_some a && b) (asked_alike name look words same) (has_run_alike look words same) in
     subst (λ (n : Text). asks (Some (n, rows)) ≡ false) (sym is)
-    (ap₂ (λ a b. a || b)
+    (ap₂ (λ a b. a || b) (ap₂ (λ a b. a || b)
     (ap₂ (λ a b. a || b) (ap₂ (λ a b. a || b) (ap₂ (λ a b. a || b) (sym alike ∙ lacks) capture) frames) why)
     (ap (λ b. b && has_schedule_by (word_in (Some (name, rows)))) schedule))
+    (ap (λ b. b && has_latency_by (word_in (Some (name, rows)))) latency))

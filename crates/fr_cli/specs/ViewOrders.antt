@@ -1,6 +1,6 @@
 -- The words that are an order of `fr_view`, by the rules of `clap`, and the refusals that follow from its errors.
 use Rattle.std.specs.Prelude.{◌≡◌, ◌⊎◌, ◌<◌, ℕ, List, [], ◌∷◌, length, Option, Some, None, Result, Ok, Err, true, false}
-use Rattle.std.specs.Prelude.{codes, option_map, option_and_then, Bool, ◌&&◌, ◌||◌, is_some, if◌then◌else◌}
+use Rattle.std.specs.Prelude.{codes, option_map, option_and_then, Bool, ◌&&◌, ◌||◌, ◌==◌, is_some, if◌then◌else◌}
 use Rattle.fr_text.specs.Reading.{number_in}
 use Rattle.std.specs.Str.{bytes_eq}
 use Rattle.clap.specs.Words.{App, Row, Rule, Text, fault_of, first_of, new_app, new_rule, subcommand_of}
@@ -10,6 +10,7 @@ use Rattle.fr_cli.specs.declared.view.Asked.TheVariants.{Outcome, Answers, Commi
 use Rattle.fr_slots.specs.declared.channel.Channel.{Channel}
 use Rattle.fr_slots.specs.declared.channel.Channel.TheVariants.{A, B}
 use Rattle.clap.specs.declared.builder.action.ArgAction.TheVariants.{SetTrue}
+use Rattle.fr_cli.specs.declared.view.SlotAsked.{SlotAsked}
 use Rattle.fr_cli.specs.declared.view.ViewOrder.{ViewOrder}
 use Rattle.fr_cli.specs.declared.view.ViewOrder.TheVariants as the_order
 use Rattle.fr_cli.specs.declared.error.OrderError.{OrderError}
@@ -31,6 +32,15 @@ the_cycle = record (new_rule (codes "cycle")) { long = Some (codes "cycle") }
 abbrev pub schedule_command : App
 schedule_command = with_rule (with_file (codes "schedule")) the_cycle
 
+-- an option of this name, with a value
+abbrev pub option_named : Text → Rule
+option_named name = record (new_rule name) { long = Some name }
+
+-- the command of the latencies of a cluster file, with a slot and a channel that aren't required
+abbrev pub latency_command : App
+latency_command =
+    with_rule (with_rule (with_file (codes "latency")) (option_named (codes "slot"))) (option_named (codes "channel"))
+
 -- the program with the commands that read one file
 abbrev pub one_command : App
 one_command = with_subcommand (bare (codes "fr_view")) (of_trace (codes "capture") (codes "own")).top
@@ -41,8 +51,11 @@ two_commands = with_subcommand one_command (of_trace (codes "frames") (codes "al
 abbrev pub three_commands : App
 three_commands = with_subcommand two_commands (named (codes "why"))
 
+abbrev pub four_commands : App
+four_commands = with_subcommand three_commands schedule_command.top
+
 abbrev pub file_commands : App
-file_commands = with_subcommand three_commands schedule_command.top
+file_commands = with_subcommand four_commands latency_command.top
 
 -- a command of a run, with its two files and its number of cycles
 abbrev pub with_run : App → App
@@ -58,9 +71,6 @@ abbrev pub trace_command : App
 trace_command = with_run (with_rule (new_app (codes "trace")) the_node)
 
 -- the command of the picture of a run, with its options
-abbrev pub option_named : Text → Rule
-option_named name = record (new_rule name) { long = Some name }
-
 abbrev pub matrix_drawn : App
 matrix_drawn =
     with_rule (with_rule (with_rule (new_app (codes "matrix")) (option_named (codes "channel")))
@@ -114,6 +124,7 @@ IsScheduleBy first_word (the_order.Capture until_fault own) = ⊥
 IsScheduleBy first_word (the_order.Frames until_fault all) = ⊥
 IsScheduleBy first_word the_order.Why = ⊥
 IsScheduleBy first_word the_order.Help = ⊥
+IsScheduleBy first_word (the_order.Latency file way) = ⊥
 IsScheduleBy first_word (the_order.Show asked cluster scenario cycles) = ⊥
 IsScheduleBy first_word (the_order.Schedule file cycle) =
     (first_word (codes "FILE") ≡ Some file.now) × (cycle_asked (first_word (codes "cycle")) ≡ Some cycle)
@@ -174,6 +185,7 @@ IsShowBy name first_word (the_order.Capture until_fault own) = ⊥
 IsShowBy name first_word (the_order.Frames until_fault all) = ⊥
 IsShowBy name first_word the_order.Why = ⊥
 IsShowBy name first_word the_order.Help = ⊥
+IsShowBy name first_word (the_order.Latency file way) = ⊥
 IsShowBy name first_word (the_order.Schedule file cycle) = ⊥
 IsShowBy name first_word (the_order.Show asked cluster scenario cycles) =
     (asked_by name first_word ≡ Some asked)
@@ -189,6 +201,41 @@ has_show (Some (name, rows)) = has_show_by name (λ id. first_of id rows)
 abbrev pub IsShow : Option (Text × List Row) → ViewOrder → Type 0
 IsShow None order = ⊥
 IsShow (Some (name, rows)) order = IsShowBy name (λ id. first_of id rows) order
+
+-- ---- latencies
+
+-- the slot that a word spells: 1 to 2047, without a leading zero
+abbrev pub slot_in : Text → Option ℕ
+slot_in word = option_and_then (λ n. if n == 0 then None else Some n) (number_in 2048 word)
+
+-- the slot on the channel, and none without a word for the slot; a channel without a slot is wrong
+abbrev pub way_of : Option ℕ → Option Channel → Option (Option SlotAsked)
+way_of None channel = None
+way_of (Some slot) None = None
+way_of (Some slot) (Some channel) = Some (Some (record { slot = slot; channel = channel }))
+
+abbrev pub way_asked : Option Text → Option Text → Option (Option SlotAsked)
+way_asked None None = Some None
+way_asked None (Some channel) = None
+way_asked (Some slot) channel = way_of (slot_in slot) (channel_asked channel)
+
+-- the first words of these arguments ask for the latencies of a cluster
+abbrev pub has_latency_by : (Text → Option Text) → Bool
+has_latency_by first_word =
+    is_some (first_word (codes "FILE"))
+    && is_some (way_asked (first_word (codes "slot")) (first_word (codes "channel")))
+
+-- the order has the file and the slot of these arguments
+abbrev pub IsLatencyBy : (Text → Option Text) → ViewOrder → Type 0
+IsLatencyBy first_word (the_order.Capture until_fault own) = ⊥
+IsLatencyBy first_word (the_order.Frames until_fault all) = ⊥
+IsLatencyBy first_word the_order.Why = ⊥
+IsLatencyBy first_word the_order.Help = ⊥
+IsLatencyBy first_word (the_order.Schedule file cycle) = ⊥
+IsLatencyBy first_word (the_order.Show asked cluster scenario cycles) = ⊥
+IsLatencyBy first_word (the_order.Latency file way) =
+    (first_word (codes "FILE") ≡ Some file.now)
+    × (way_asked (first_word (codes "slot")) (first_word (codes "channel")) ≡ Some way)
 
 -- ---- a trace
 
@@ -209,6 +256,7 @@ abbrev pub asks : Option (Text × List Row) → Bool
 asks entered =
     has_show entered || is_named (codes "capture") entered || is_named (codes "frames") entered
     || is_named (codes "why") entered || (is_named (codes "schedule") entered && has_schedule_by (word_in entered))
+    || (is_named (codes "latency") entered && has_latency_by (word_in entered))
 
 -- the order is that of the entered command, with its arguments
 abbrev pub IsOrder : Option (Text × List Row) → ViewOrder → Type 0
@@ -218,6 +266,8 @@ IsOrder entered the_order.Why = IsNamed (codes "why") entered
 IsOrder entered the_order.Help = ⊥
 IsOrder entered (the_order.Schedule file cycle) =
     IsNamed (codes "schedule") entered × IsScheduleBy (word_in entered) (the_order.Schedule file cycle)
+IsOrder entered (the_order.Latency file way) =
+    IsNamed (codes "latency") entered × IsLatencyBy (word_in entered) (the_order.Latency file way)
 IsOrder entered (the_order.Show asked cluster scenario cycles) =
     IsShow entered (the_order.Show asked cluster scenario cycles)
 

@@ -7,6 +7,7 @@ ghost use Rattle.fr_text.specs.Reading.{number_in};
 ghost use Rattle.fr_cli.specs.Commands.{is_true};
 ghost use Rattle.fr_cli.specs.ViewOrders.{IsAnswer, IsOrder, IsScheduleBy, IsShowBy, asked_by, asks, channel_asked};
 ghost use Rattle.fr_cli.specs.ViewOrders.{drawn_by, file_commands, flag_named, from_asked, has_schedule_by};
+ghost use Rattle.fr_cli.specs.ViewOrders.{IsLatencyBy, has_latency_by, latency_command, slot_in, way_asked};
 ghost use Rattle.fr_cli.specs.ViewOrders.{has_show_by, is_help, line_commands, matrix_command, of_trace};
 ghost use Rattle.fr_cli.specs.ViewOrders.{schedule_command, the_commands, trace_command, viewer_asked, with_run};
 
@@ -43,6 +44,15 @@ pub enum Asked {
     },
 }
 
+/// A slot on a channel (project-defined).
+#[derive(Clone, Copy, PartialEq, Eq)]
+pub struct SlotAsked {
+    /// The number of the slot, 1 to 2047.
+    pub slot: u16,
+    /// The channel.
+    pub channel: Channel,
+}
+
 /// A command of `fr_view` (project-defined).
 #[derive(Clone, Copy, PartialEq, Eq)]
 pub enum ViewOrder<'a> {
@@ -52,6 +62,13 @@ pub enum ViewOrder<'a> {
         file: &'a str,
         /// The cycle, 0 to 63, and 0 where none is named.
         cycle: u8,
+    },
+    /// Read the cluster file of this name and print the worst latencies of its transmit buffers.
+    Latency {
+        /// The name of the cluster file.
+        file: &'a str,
+        /// The slot whose latest start is explained, if one is named.
+        way: Option<SlotAsked>,
     },
     /// Read the trace of one controller on standard input and print a capture of its observations.
     Capture {
@@ -146,6 +163,16 @@ fn matrix_command<'a>(alloc: Global) -> Result<Command<'a>, AllocError>
     of_run(alloc, drawn)
 }
 
+/// Returns the command `latency`, with its file, a slot and a channel.
+fn latency_command<'a>(alloc: Global) -> Result<Command<'a>, AllocError>
+    ensures app { IfOk result (λ c. app_of c ≡ latency_command) }
+    ensures local { IfOk result (λ c. (out-Command c).has_globals ≡ false) }
+{
+    let slot = Arg::new(alloc, "slot").long("slot");
+    let channel = Arg::new(alloc, "channel").long("channel");
+    of_file(alloc, "latency")?.arg(slot)?.arg(channel)
+}
+
 /// Returns the program with the commands that read one file.
 fn file_commands<'a>(alloc: Global) -> Result<Command<'a>, AllocError>
     ensures { IfOk result (λ c. app_of c ≡ file_commands) }
@@ -153,7 +180,8 @@ fn file_commands<'a>(alloc: Global) -> Result<Command<'a>, AllocError>
     let first = program(alloc, "fr_view").subcommand(of_trace(alloc, "capture", "own")?)?;
     let second = first.subcommand(of_trace(alloc, "frames", "all")?)?;
     let third = second.subcommand(Command::new(alloc, "why"))?;
-    third.subcommand(schedule_command(alloc)?)
+    let fourth = third.subcommand(schedule_command(alloc)?)?;
+    fourth.subcommand(latency_command(alloc)?)
 }
 
 /// Adds the commands that show a run as lines.
@@ -223,6 +251,42 @@ fn channel_in(arguments: &ArgMatches<'_>) -> Option<Channel>
         Some("B") => Some(Channel::B),
         Some(_) => None,
     }
+}
+
+/// Returns the slot that a word spells: 1 to 2047, without a leading zero.
+fn slot_of(word: &str) -> Option<u16>
+    ensures { result ≡ slot_in word.now }
+{
+    match number_of(word.as_bytes(), 2048) {
+        Some(0) | None => None,
+        Some(number) => Some(number as u16),
+    }
+}
+
+/// Returns the slot whose latest start is explained, or `Some(None)` if no slot and no channel is named.
+fn way_in(arguments: &ArgMatches<'_>) -> Option<Option<SlotAsked>>
+    ensures { result ≡ way_asked (first_value (found_of arguments.now) (codes "slot"))
+        (first_value (found_of arguments.now) (codes "channel")) }
+{
+    let Some(word) = arguments.get_str("slot") else {
+        return match arguments.get_str("channel") {
+            None => Some(None),
+            Some(_) => None,
+        };
+    };
+    let slot = slot_of(word)?;
+    let channel = channel_in(arguments)?;
+    Some(Some(SlotAsked { slot, channel }))
+}
+
+/// Returns the order for the latencies of a cluster, if the arguments have a file and no wrong slot or channel.
+fn latency_in<'a>(arguments: &ArgMatches<'a>) -> Option<ViewOrder<'a>>
+    ensures told { IfSome result (IsLatencyBy (first_value (found_of arguments.now))) }
+    ensures nothing { IfNone result (has_latency_by (first_value (found_of arguments.now)) ≡ false) }
+{
+    let file = arguments.get_str("FILE")?;
+    let way = way_in(arguments)?;
+    Some(ViewOrder::Latency { file, way })
 }
 
 /// Returns the node whose observations are drawn, or `Some(None)` if no node is named.
@@ -323,6 +387,7 @@ fn order_in<'a>(matches: &ArgMatches<'a>) -> Option<ViewOrder<'a>>
     let (name, arguments) = matches.subcommand()?;
     match name {
         "schedule" => schedule_in(arguments),
+        "latency" => latency_in(arguments),
         "capture" => {
             let (until_fault, own) = flags_in(arguments, "own");
             Some(ViewOrder::Capture { until_fault, own })

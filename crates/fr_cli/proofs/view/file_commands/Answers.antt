@@ -1,7 +1,7 @@
 use Rattle.std.proofs.Common.{rules, ap, ap₂, codes, ◌≡◌, ◌∙◌}
 use Rattle.std.proofs.lemmas.Result.{IfOk-weaker}
 use Rattle.clap.specs.Words.{App, app_of, with_subcommand}
-use Rattle.fr_cli.specs.ViewOrders.{of_trace, one_command, schedule_command, three_commands, two_commands}
+use Rattle.fr_cli.specs.ViewOrders.{four_commands, latency_command, of_trace, one_command, schedule_command, three_commands, two_commands}
 use Rattle.fr_cli.proofs.view.file_commands.Goals as goal
 
 pub returns : goal.returns
@@ -19,5 +19,8 @@ returns c =
     c.in_ok-third.ensures.shape (search rules) ∙ ap₂ with_subcommand second (ap top c.new.ensures.app) in
     let schedule_is : app_of c.in_ok-schedule_command.field-0 ≡ schedule_command =
     c.in_ok-schedule_command.ensures.app in
-    IfOk-weaker c.subcommand-4.result _ _ (λ m h. h.shape (search rules) ∙ ap₂ with_subcommand third
-    (ap top schedule_is)) c.subcommand-4.ensures
+    let latency_is : app_of c.in_ok-latency_command.field-0 ≡ latency_command = c.in_ok-latency_command.ensures.app in
+    let fourth : app_of c.in_ok-fourth.fourth ≡ four_commands =
+    c.in_ok-fourth.ensures.shape (search rules) ∙ ap₂ with_subcommand third (ap top schedule_is) in
+    IfOk-weaker c.subcommand-5.result _ _ (λ m h. h.shape (search rules) ∙ ap₂ with_subcommand fourth
+    (ap top latency_is)) c.subcommand-5.ensures

@@ -1,0 +1,9 @@
+pub mod Openings
+pub mod Cells
+pub mod Rows
+pub mod Below
+pub mod Latencies
+pub mod Tables
+pub mod Loads
+pub mod LatencyText
+pub mod Commands
