@@ -1,0 +1,57 @@
+"""The command `latency`: the transmit buffers and the channels of a cluster, in runs without faults."""
+from musmyrtle.latencies import Latency, Load, read_latencies
+from musmyrtle.lint.command import USAGE
+from musmyrtle.output import Stop
+from musmyrtle.show.engines import Inputs
+from musmyrtle.show.network import Network
+from musmyrtle.show.selection import Selection
+from musmyrtle.show.tables import Column, Row, Section
+
+LOADS = (Column("channel", "channel"), Column("owned", "owned static slots"), Column("static", "of"),
+         Column("least", "least minislots"), Column("most", "most minislots"), Column("slack", "slack"))
+
+
+def latencies(inputs: Inputs) -> tuple[list[Latency], list[Load]]:
+    """Returns what `fr_view latency` prints. Raises `Stop` for another output."""
+    try:
+        return read_latencies(inputs.of_cluster("fr_view", "latency").lines)
+    except ValueError as error:
+        raise Stop(USAGE, f"{inputs.program('fr_view')} prints no latencies: {error}") from None
+
+
+def latency(network: Network, found: list[Latency], loads: list[Load], selection: Selection) -> list[Section]:
+    """Returns the tables of `latency`. All numbers are those that `fr_view latency` prints."""
+    rows = [row_of(network, it) for it in found if is_selected(it, selection)]
+    shown = [load_row(it) for it in loads if selection.channels is None or it.channel in selection.channels]
+    return [Section("latency", "Transmit buffers in runs without faults", columns(network), rows,
+                    "No transmit buffer is selected."),
+            Section("load", "Channels: static slots of 64 cycles, dynamic minislots of a cycle", LOADS, shown)]
+
+
+def is_selected(it: Latency, selection: Selection) -> bool:
+    """Returns whether the row of a buffer is printed, which may be for both channels."""
+    return selection.has_node(it.node) and any(selection.has_place(it.slot, channel) for channel in it.channels)
+
+
+def columns(network: Network) -> tuple[Column, ...]:
+    """Returns the columns of transmit buffers."""
+    return (Column("node", "node", "name"), Column("buffer", "buffer", "name"), Column("slot", "slot"),
+            Column("channels", "channels"), Column("base", ""), Column("repetition", ""), Column("cycles", "cycles"),
+            Column("first", "first"), Column("last", "last"), Column("latest", "latest"), Column("state", "state"),
+            Column("guaranteed", "sure cycles"), network.column("worst", "worst"))
+
+
+def row_of(network: Network, it: Latency) -> Row:
+    """Returns the row of a transmit buffer."""
+    return Row({
+        "node": network.node(it.node), "buffer": network.buffer(it.node, it.buffer), "slot": it.slot,
+        "channels": it.channels, "base": it.cycles.base, "repetition": it.cycles.repetition, "cycles": str(it.cycles),
+        "first": it.first, "last": it.last, "latest": it.latest, "state": it.state, "guaranteed": it.guaranteed,
+        "worst": None if it.worst is None else network.time(it.worst),
+    }, it.is_starving)
+
+
+def load_row(it: Load) -> Row:
+    """Returns the row of a channel."""
+    return Row({"channel": it.channel, "owned": it.owned, "static": it.static, "least": it.least, "most": it.most,
+                "slack": it.slack})
