@@ -1,14 +1,12 @@
 """The command `latency`: the transmit buffers and the channels of a cluster, in runs without faults."""
 from musmyrtle.latencies import Latency, Load, read_latencies
 from musmyrtle.lint.command import USAGE
+from musmyrtle.lint.guarantees import load_section
 from musmyrtle.output import Stop
 from musmyrtle.show.engines import Inputs
 from musmyrtle.show.network import Network
 from musmyrtle.show.selection import Selection
 from musmyrtle.show.tables import Column, Row, Section
-
-LOADS = (Column("channel", "channel"), Column("owned", "owned static slots"), Column("static", "of"),
-         Column("least", "least minislots"), Column("most", "most minislots"), Column("slack", "slack"))
 
 
 def latencies(inputs: Inputs) -> tuple[list[Latency], list[Load]]:
@@ -22,10 +20,10 @@ def latencies(inputs: Inputs) -> tuple[list[Latency], list[Load]]:
 def latency(network: Network, found: list[Latency], loads: list[Load], selection: Selection) -> list[Section]:
     """Returns the tables of `latency`. All numbers are those that `fr_view latency` prints."""
     rows = [row_of(network, it) for it in found if is_selected(it, selection)]
-    shown = [load_row(it) for it in loads if selection.channels is None or it.channel in selection.channels]
+    shown = [it for it in loads if selection.channels is None or it.channel in selection.channels]
     return [Section("latency", "Transmit buffers in runs without faults", columns(network), rows,
                     "No transmit buffer is selected."),
-            Section("load", "Channels: static slots of 64 cycles, dynamic minislots of a cycle", LOADS, shown)]
+            load_section(shown)]
 
 
 def is_selected(it: Latency, selection: Selection) -> bool:
@@ -49,9 +47,3 @@ def row_of(network: Network, it: Latency) -> Row:
         "first": it.first, "last": it.last, "latest": it.latest, "state": it.state, "guaranteed": it.guaranteed,
         "worst": None if it.worst is None else network.time(it.worst),
     }, it.is_starving)
-
-
-def load_row(it: Load) -> Row:
-    """Returns the row of a channel."""
-    return Row({"channel": it.channel, "owned": it.owned, "static": it.static, "least": it.least, "most": it.most,
-                "slack": it.slack})
