@@ -37,6 +37,7 @@ find_command() {
     fr_bench-check | fr_bench-plan) places=FILE ;;
     fr_bench-run) places='FILE SCENARIO' options=--cycles flags=--free ;;
     fr_view-schedule) places=FILE options=--cycle ;;
+    fr_view-latency) places=FILE options='--slot --channel' ;;
     fr_view-capture) flags='--own --until-fault' input=TRACE ;;
     fr_view-frames) flags='--all --until-fault' input=TRACE ;;
     fr_view-outcome | fr_view-answers | fr_view-commits | fr_view-record | fr_view-bus)
@@ -52,6 +53,7 @@ is_in_range() {
     case $1 in
     --cycles) least=1 most=1024 ;;
     --cycle) least=0 most=63 ;;
+    --slot) least=1 most=2047 ;;
     --node | NODE) least=0 most=15 ;;
     --from) least=0 most=1023 ;;
     --channel)

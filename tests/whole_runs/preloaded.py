@@ -90,6 +90,7 @@ def views():
     run = [CLUSTER, str(FOLDER / "scenario"), "--cycles", "4"]
     return {
         "schedule": (["schedule", CLUSTER], b""),
+        "latency": (["latency", CLUSTER], b""),
         "capture": (["capture"], trace()),
         "frames": (["frames"], trace()),
         "frames until the fault": (["frames", "--until-fault"], trace()[:-4]),

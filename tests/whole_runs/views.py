@@ -99,7 +99,7 @@ OWN = {
 }
 """The records of captures that have the controller's own frames."""
 
-HELP = [b"fr_view schedule FILE", b"fr_view capture", b"fr_view frames", b"fr_view --help"]
+HELP = [b"fr_view schedule FILE", b"fr_view latency FILE", b"fr_view capture", b"fr_view frames", b"fr_view --help"]
 
 
 def local(name):
@@ -184,7 +184,8 @@ class Views:
         long.write_bytes(b"#" * 1_048_577)
         for name, error in {"missing.toml": "Read", ".": "Read", "": "Read", str(long): "TooLong",
                             "receive-buffer/trace": "Toml"}.items():
-            self.runs.check(f"schedule {name!r}", ["schedule", name], refused(error))
+            for command in ("schedule", "latency"):
+                self.runs.check(f"{command} {name!r}", [command, name], refused(error))
 
     def words(self):
         lists = [[], ["audit"], ["plan", "a"], ["help"], ["-h"], ["-V"], ["--help", "--help"], ["capture", "--help"],
@@ -192,10 +193,14 @@ class Views:
                  ["schedule", "a", "--cycle"],
                  *(["schedule", "a", "--cycle", number] for number in ("64", "00", "04", "+4", "-1", "x", "", "4 ")),
                  ["schedule", "a", "--cycle", "1", "--cycle", "1"], ["schedule", "a", "--free"],
-                 ["schedule", "--cycle", "1"]]
+                 ["schedule", "--cycle", "1"], ["latency"], ["latency", "a", "b"], ["latency", "a", "--slot"],
+                 *(["latency", "a", "--slot", number] for number in ("2048", "0", "01", "+4", "-1", "x", "", "4 ")),
+                 ["latency", "a", "--slot", "4", "--channel", "AB"], ["latency", "a", "--channel", "A"],
+                 ["latency", "--slot", "1"]]
         for given in lists:
             self.runs.check(f"the words {given}", given, USAGE)
-        for given in (["schedule", "a", "--cycle", "63"], ["schedule", "--cycle=0", "a"], ["schedule", "--", "a"]):
+        for given in (["schedule", "a", "--cycle", "63"], ["schedule", "--cycle=0", "a"], ["schedule", "--", "a"],
+                      ["latency", "a", "--slot", "2047", "--channel", "B"], ["latency", "--slot=1", "a"]):
             self.runs.check(f"the words {given}", given, refused("Read"))
         text, errors, status = run([self.runs.program, "--help"])
         told = [any(line.startswith(word) for line in text.splitlines()) for word in HELP]
@@ -203,7 +208,8 @@ class Views:
 
     def outputs(self):
         given = (EXAMPLES / "receive-buffer/trace").read_bytes()
-        for words in (["capture"], ["frames"], ["schedule", "three-nodes/cluster.toml"], ["--help"]):
+        for words in (["capture"], ["frames"], ["schedule", "three-nodes/cluster.toml"],
+                      ["latency", "three-nodes/cluster.toml"], ["--help"]):
             with open("/dev/full", "wb") as full:
                 self.runs.check(f"{words} to a full device", words, refused("Write"), given=given, output=full)
             reading, writing = os.pipe()

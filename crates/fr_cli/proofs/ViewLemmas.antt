@@ -112,9 +112,10 @@ latency_alike f g same the_order.Why is = is
 latency_alike f g same the_order.Help is = is
 latency_alike f g same (the_order.Schedule file cycle) is = is
 latency_alike f g same (the_order.Show asked cluster scenario cycles) is = is
-latency_alike f g same (the_order.Latency file way) is =
-    (sym (same (codes "FILE")) ∙ is.0,
-    ap₂ (λ s c. way_asked s c) (sym (same (codes "slot"))) (sym (same (codes "channel"))) ∙ is.1)
+latency_alike f g same (the_order.Latency file way) is = (
+  sym (same (codes "FILE")) ∙ is.0,
+  ap₂ (λ s c. way_asked s c) (sym (same (codes "slot"))) (sym (same (codes "channel"))) ∙ is.1,
+)
 
 pub latency_told : (entered : Option (Text × List Row)) (look : Text → Option Text) (found : Option ViewOrder)
     → IsNamed (codes "latency") entered

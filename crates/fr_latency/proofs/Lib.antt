@@ -6,3 +6,5 @@ pub mod RowLemmas
 pub mod BelowLemmas
 pub mod StateLemmas
 pub mod UsedLemmas
+pub mod WayLemmas
+pub mod LaneLemmas

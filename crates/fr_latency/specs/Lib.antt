@@ -7,3 +7,8 @@ pub mod Tables
 pub mod Loads
 pub mod LatencyText
 pub mod Commands
+pub mod Ways
+pub mod Marks
+pub mod WayText
+pub mod Lanes
+pub mod Exact

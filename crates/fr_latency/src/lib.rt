@@ -17,3 +17,5 @@ pub mod latency;
 pub mod load;
 pub mod openings;
 pub mod text;
+pub mod way;
+pub mod way_text;

@@ -6,6 +6,7 @@ ghost use Rattle.fr_schedule.specs.Clusters.{IsCluster};
 ghost use Rattle.fr_slots.specs.Faults.{latest_on};
 ghost use Rattle.fr_slots.specs.Numbers.{cycle_count, last_slot};
 ghost use Rattle.fr_latency.specs.Cells.{AddsTo, CycleTest, HasBits, has_bit};
+ghost use Rattle.fr_latency.specs.Exact.{AreExact, AreExactRows};
 ghost use Rattle.fr_latency.specs.Tables.{AreOpenings};
 ghost use Rattle.fr_latency.specs.Rows.{AreLast, AreRows, BeginsRightAfter, IsRow};
 ghost use Rattle.fr_latency.specs.Openings.{frame_length, is_for, follows_buffer, follows_node, can_begin, slot_after};
@@ -20,7 +21,7 @@ use fr_slots::plan::{Buffer, NodePlan};
 use std::alloc::{AllocError, Global};
 
 /// The number of minislots that no frame fills, with those that stay idle after it.
-const LONGEST: u16 = 300;
+pub(crate) const LONGEST: u16 = 300;
 
 /// The last minislots of a dynamic slot, for each cycle.
 #[derive(Clone, Copy)]
@@ -144,7 +145,7 @@ fn add_nodes(
 }
 
 /// Turns the minislots of this slot into those of the next one.
-fn step(
+pub(crate) fn step(
     before: &mut [u64],
     after: &mut [u64],
     cluster: &Cluster,
@@ -181,7 +182,7 @@ fn last_up_to(cells: &[u64], earlier: u16, cycle: u8, most: u16) -> u16
 }
 
 /// Returns for each cycle the last minislot up to this one at which the slot can begin, or 0.
-fn lasts(cells: &[u64], earlier: u16, most: u16) -> [u16; 64]
+pub(crate) fn lasts(cells: &[u64], earlier: u16, most: u16) -> [u16; 64]
     requires { most ≤ earlier + length cells.now }
     ensures { (test : CycleTest) → BeginsRightAfter earlier test → HasBits (earlier + 1) test cells.now
         → AreLast test most result }
@@ -237,7 +238,7 @@ fn row_at(cells: &[u64], cluster: &Cluster, slot: SlotId, channel: Channel, earl
 }
 
 /// Returns the slot that comes after so many dynamic slots.
-fn slot_after(params: &Params, earlier: u16) -> SlotId
+pub(crate) fn slot_after(params: &Params, earlier: u16) -> SlotId
     requires { params.now.static_slots + earlier < last_slot }
     ensures { result ≡ slot_after params.now earlier }
 {
@@ -248,7 +249,7 @@ fn slot_after(params: &Params, earlier: u16) -> SlotId
 }
 
 /// Returns the cells of the first dynamic slot, which begins at minislot 1 in every cycle.
-fn first_cells(alloc: Global, width: usize) -> Result<Vec<u64>, AllocError>
+pub(crate) fn first_cells(alloc: Global, width: usize) -> Result<Vec<u64>, AllocError>
     requires { 1 ≤ width }
     ensures size { IfOk result (λ cells. length cells.items ≡ width) }
     ensures bits { IfOk result (λ cells. HasBits 1 (λ cycle minislot. minislot == 1) cells.items) }
@@ -286,7 +287,8 @@ fn rows_from(
 ///
 /// Fails if an allocation fails.
 pub fn rows_on(alloc: Global, cluster: &Cluster, channel: Channel) -> Result<Vec<Row>, AllocError>
-    ensures { IfOk result (λ rows. AreRows cluster.now channel rows.items) }
+    ensures rows { IfOk result (λ rows. AreRows cluster.now channel rows.items) }
+    ensures exact { IfOk result (λ rows. AreExactRows cluster.now channel rows.items) }
 {
     let width = usize::from(cluster.params().minislots + LONGEST);
     let mut before = first_cells(alloc, width)?;
@@ -304,7 +306,8 @@ pub fn rows_on(alloc: Global, cluster: &Cluster, channel: Channel) -> Result<Vec
 ///
 /// Fails if an allocation fails.
 pub fn openings_of(alloc: Global, cluster: &Cluster) -> Result<Openings, AllocError>
-    ensures { IfOk result (AreOpenings cluster.now) }
+    ensures rows { IfOk result (AreOpenings cluster.now) }
+    ensures exact { IfOk result (AreExact cluster.now) }
 {
     let a = rows_on(alloc, cluster, Channel::A)?;
     let b = rows_on(alloc, cluster, Channel::B)?;

@@ -7,6 +7,7 @@
 //!
 //! ```text
 //! fr_view schedule cluster.toml > cycle.svg          a picture of a cycle: senders, and open intervals of guardians
+//! fr_view latency cluster.toml                       the worst latency of each transmit buffer
 //! fr_view capture < node.trace > node.pcap           the observations of a controller, as a capture for Wireshark
 //! fr_view frames < node.trace                        the same as a table
 //! fr_view why < node.trace                           the line of a trace at fault, and the reason
@@ -34,16 +35,18 @@ use failure::ViewFailure;
 use fr_capture::form::Form;
 use fr_capture::show::show_trace;
 use fr_cli::error::OrderError;
-use fr_cli::view::{Asked, ViewOrder, order};
+use fr_cli::view::{Asked, SlotAsked, ViewOrder, order};
 use fr_cli::waiting::{WaitingReader, WaitingWriter};
 use fr_cli::words::{texts_of, words_given};
 use fr_files::cluster_file::cluster_of;
 use fr_files::named::file_named;
+use fr_latency::text::show_latencies;
+use fr_latency::way_text::show_way;
 use fr_matrix::view::View;
 use fr_picture::picture::show_schedule;
 use fr_showing::show::show_run;
 use fr_showing::shown::Shown;
-use fr_slots::numbers::{Cycle, NodeId};
+use fr_slots::numbers::{Cycle, NodeId, SlotId};
 use fr_why::explain::explain_trace;
 use fr_why::until_fault::show_until_fault;
 use fr_why::verdict::Verdict;
@@ -55,6 +58,8 @@ use std::time::Clock;
 /// The help of the program.
 const HELP: &str = "fr_view schedule FILE [--cycle N] > SVG
     a picture of a cycle of the cluster, 0 unless another is named
+fr_view latency FILE [--slot SLOT [--channel A|B]]
+    the worst latency of each transmit buffer; with --slot the frames before the latest start of a slot
 fr_view capture [--own] [--until-fault] < TRACE > CAPTURE
     what a controller saw, as a capture that Wireshark opens; with --own also what it sent
 fr_view frames [--all] [--until-fault] < TRACE
@@ -192,6 +197,26 @@ fn show_cycle<R: Files + Print + AllocGlobal + Clock>(
     Ok(show_schedule(rt.alloc(), &mut file, cycle, &mut output)?)
 }
 
+/// Writes the latencies of the cluster in the file, or a way to the latest start of a slot.
+fn show_worst<R: Files + Print + AllocGlobal + Clock>(
+    rt: &R,
+    file: &str,
+    way: Option<SlotAsked>,
+) -> Result<(), ViewFailure> {
+    let alloc = rt.alloc();
+    let (mut file, mut output) = (
+        file_named(rt, file)?,
+        WaitingWriter::new(rt, io::writer(rt)),
+    );
+    let Some(asked) = way else {
+        return Ok(show_latencies(alloc, &mut file, &mut output)?);
+    };
+    let Some(slot) = SlotId::new(asked.slot) else {
+        return Err(ViewFailure::Words(OrderError::Usage));
+    };
+    Ok(show_way(alloc, &mut file, slot, asked.channel, &mut output)?)
+}
+
 /// Writes the list of commands.
 fn show_help<R: Print + Clock>(rt: &R) -> Result<(), ViewFailure> {
     match io::Write::write_all(&mut WaitingWriter::new(rt, io::writer(rt)), HELP.as_bytes()) {
@@ -207,6 +232,7 @@ fn carry_out<R: Files + Input + Print + Eprint + AllocGlobal + Clock>(
 ) -> Result<ExitCode, ViewFailure> {
     match order {
         ViewOrder::Schedule { file, cycle } => show_cycle(rt, file, cycle)?,
+        ViewOrder::Latency { file, way } => show_worst(rt, file, way)?,
         ViewOrder::Capture { until_fault, own } => show_seen(
             rt,
             Form::Capture { own },

@@ -22,4 +22,4 @@ loop-number-preserved c =
     let most : c.loop-number.most ≡ most_below value number = c.loop-number.invariant.most in
     let less = least_more (value 0) value number in
     let more = most_more value number in
-    record { fewest = omega (arith, here, fewest, less); most = omega (arith, here, most, more); }
+    record { fewest = omega (arith, here, fewest, less); most = omega (arith, here, most, more) }

@@ -19,6 +19,6 @@ loop-number-preserved c =
     let so_far = c.loop-number.invariant.same in
     let more = count_more test number in
     elim c.if-has_owner.branch [
-      then-has_owner w ↦ record { few = omega arith; same = grind (arith, common_steps); }
-    | else-has_owner w ↦ record { few = omega arith; same = grind (arith, common_steps); }
+      | then-has_owner w ↦ record { few = omega arith; same = grind (arith, common_steps) }
+      | else-has_owner w ↦ record { few = omega arith; same = grind (arith, common_steps) }
     ]

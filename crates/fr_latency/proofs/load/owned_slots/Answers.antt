@@ -15,4 +15,4 @@ loop-earlier-preserved c =
     let here : c.owned_after.result ≡ value c.loop-earlier.earlier = c.owned_after.ensures.value in
     let more = sum_more value c.loop-earlier.earlier in
     let so_far = c.loop-earlier.invariant.same in
-    record { few = omega arith; same = omega (arith, here, more, so_far); }
+    record { few = omega arith; same = omega (arith, here, more, so_far) }
