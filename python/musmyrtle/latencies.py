@@ -1,5 +1,5 @@
 """The output of `fr_view latency`: what a schedule guarantees each transmit buffer, and the load of each channel."""
-from collections.abc import Iterable
+from collections.abc import Iterable, Sequence
 from dataclasses import dataclass
 
 from musmyrtle.cluster import Cycles
@@ -44,6 +44,25 @@ class Load:
     slack: int
 
 
+@dataclass(frozen=True)
+class Frame:
+    """A frame that is sent before a slot: its sender, its slot, and the minislot at which it begins."""
+
+    node: int
+    buffer: int
+    slot: int
+    minislot: int
+
+
+@dataclass(frozen=True)
+class Way:
+    """The latest start of a dynamic slot, with the frames that are sent before it then."""
+
+    cycle: int
+    minislot: int
+    frames: tuple[Frame, ...]
+
+
 def number(word: str) -> int | None:
     """Returns the number of a word, or None for `-`."""
     return None if word == "-" else int(word)
@@ -77,3 +96,20 @@ def read_latencies(lines: Iterable[str]) -> tuple[list[Latency], list[Load]]:
     if [it.channel for it in loads] != ["A", "B"]:
         raise ValueError("expected a line for each channel")
     return found, loads
+
+
+def words_for_way(slot: int, channel: str) -> list[str]:
+    """Returns the words by which `fr_view` is asked for the way to the latest start of a slot."""
+    return ["latency", "--slot", str(slot), "--channel", channel]
+
+
+def read_way(lines: Sequence[str]) -> Way | None:
+    """Returns the way of the output, or None for a static slot. Raises `ValueError` for another text."""
+    if not lines:
+        return None
+    cycle, minislot = map(int, lines[0].split(" "))
+    frames = []
+    for line in lines[1:]:
+        node, buffer, slot, begin = map(int, line.split(" "))
+        frames.append(Frame(node, buffer, slot, begin))
+    return Way(cycle, minislot, tuple(frames))

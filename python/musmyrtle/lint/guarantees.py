@@ -4,7 +4,8 @@ from typing import IO
 
 from musmyrtle.cluster import Buffer, Cluster
 from musmyrtle.findings import Finding, counted, joined
-from musmyrtle.latencies import BLOCKED, GUARANTEED, IDLE, POSSIBLE, Latency, Load, read_latencies
+from musmyrtle.latencies import (BLOCKED, GUARANTEED, IDLE, POSSIBLE, Latency, Load, Way, read_latencies, read_way,
+                                 words_for_way)
 from musmyrtle.names import tables_of
 from musmyrtle.output import CANNOT_BE_USED, Stop, pass_on
 from musmyrtle.program import VARIABLES, ask, no_answer, usual_program
@@ -14,8 +15,10 @@ from musmyrtle.visible import cut
 
 LOADS = (Column("channel", "channel"), Column("owned", "owned static slots"), Column("static", "of"),
          Column("least", "least minislots"), Column("most", "most minislots"), Column("slack", "slack"))
-MOST_LINES, LONGEST_LINE = 2000, 4096
-"""The lines and the characters of a line that are read; a cluster has at most 1,026 lines."""
+MOST_LINES, LONGEST_LINE = 2500, 4096
+"""The lines and the characters of a line that are read: at most 1,026 of latencies, and 2,046 of a way."""
+MOST_WAYS, MOST_FRAMES = 20, 8
+"""The notes that have a way to the latest start, each of which asks the program, and the frames named of a way."""
 FRONT = "musmyrtle lint: no latencies: "
 
 
@@ -30,9 +33,9 @@ def load_section(loads: Iterable[Load]) -> Section:
     return Section("load", "Channels: static slots of 64 cycles, dynamic minislots of a cycle", LOADS, rows)
 
 
-def latencies_of(file: str) -> tuple[list[Latency], list[Load]]:
-    """Returns what `fr_view latency` prints about a cluster file. Raises `NoLatencies` where it prints none."""
-    program, words, lines = usual_program("fr_view"), ["latency", "--", file], list[str]()
+def lines_of(words: list[str]) -> list[str]:
+    """Returns what `fr_view` prints for these words. Raises `NoLatencies` if it refuses or fails."""
+    program, lines = usual_program("fr_view"), list[str]()
     if program is None:
         raise NoLatencies(f"there is no fr_view: name one by the variable {VARIABLES['fr_view']}, or put it on PATH")
 
@@ -46,10 +49,25 @@ def latencies_of(file: str) -> tuple[list[Latency], list[Load]]:
         raise NoLatencies(f"{program} can't be run: {error.strerror}") from None
     if answer.status:
         raise NoLatencies(no_answer(program, words, answer))
+    return lines
+
+
+def latencies_of(file: str) -> tuple[list[Latency], list[Load]]:
+    """Returns the latencies of a cluster file. Raises `NoLatencies` if there is no such answer."""
     try:
-        return read_latencies(lines)
+        return read_latencies(lines_of(["latency", "--", file]))
     except ValueError as error:
-        raise NoLatencies(f"{program} prints other lines: {error}") from None
+        raise NoLatencies(f"fr_view prints other lines: {error}") from None
+
+
+def way_of(file: str, it: Latency) -> Way | None:
+    """Returns the way to the latest start of a buffer's slot, if that is in one of its cycles."""
+    try:
+        way = read_way(lines_of([*words_for_way(it.slot, it.channels), "--", file]))
+    except (ValueError, NoLatencies) as error:
+        pass_on(f"{FRONT}{error}")
+        return None
+    return way if way and it.cycles.admit(way.cycle) else None
 
 
 class Guarantees:
@@ -82,11 +100,18 @@ class Guarantees:
         errors = [it for it in wanted if by_place[it.node, it.number].state != GUARANTEED]
         weak = [it for it in cluster.buffers() if it not in errors
                 and it.transmits and by_place[it.node, it.number].state == POSSIBLE]
-        return ([finding_of(cluster, text, it, by_place[it.node, it.number]) for it in weak],
-                [finding_of(cluster, text, it, by_place[it.node, it.number]) for it in errors])
+        return ([self.finding(cluster, text, it, by_place, place < MOST_WAYS) for place, it in enumerate(weak)],
+                [self.finding(cluster, text, it, by_place) for it in errors])
+
+    def finding(self, cluster: Cluster, text: Text, buffer: Buffer, by_place: dict[tuple[int, int], Latency],
+                has_way: bool = True) -> Finding:
+        """Returns why a buffer isn't guaranteed, with the way to its latest start if that is asked for."""
+        it = by_place[buffer.node, buffer.number]
+        return finding_of(cluster, text, buffer, it,
+                          way_of(self.file, it) if has_way and it.state == POSSIBLE else None)
 
 
-def finding_of(cluster: Cluster, text: Text, buffer: Buffer, it: Latency) -> Finding:
+def finding_of(cluster: Cluster, text: Text, buffer: Buffer, it: Latency, way: Way | None) -> Finding:
     """Returns why a buffer isn't guaranteed."""
     node, slot = cluster.nodes[buffer.node], f"slot {buffer.slot}"
     headline, path, notes = f"{buffer} isn't guaranteed: ", (*buffer.path, "slot"), []
@@ -100,13 +125,21 @@ def finding_of(cluster: Cluster, text: Text, buffer: Buffer, it: Latency) -> Fin
         reason = "It is never sent. The warning `never-sends` has the reason."
         return text.finding(f"{headline}{slot} never opens in time", reason, path, notes)
     admitted = 64 // it.cycles.repetition
-    share = "every" if not it.guaranteed else f"{admitted - it.guaranteed} of its {admitted}"
-    headline += f"its slot can open too late in {share} cycle{'s' if it.guaranteed else ''}"
-    reason = (f"{slot.capitalize()} opens at minislot {it.first} if nothing is sent in the slots before it. Frames in "
-              f"these slots can move it beyond minislot {it.latest}, the `{key}` of node {node.number}: it opens at "
-              f"minislot {it.last}, later, or in no minislot of the cycle. Then the frame waits, and it may wait for "
-              "ever. Expected a lower slot, shorter frames before it, or frames in other cycles.")
-    return text.finding(headline, reason, path, notes)
+    share = f"{admitted - it.guaranteed} of its {admitted} cycles" if it.guaranteed else "each of its cycles"
+    reason = (f"{slot.capitalize()} opens at minislot {it.first} if nothing is sent before it, and `{key}` of node "
+              f"{node.number} is {it.latest}. ")
+    reason += moved_by(way, it) if way else "Frames in the slots before it can move it beyond that minislot. "
+    reason += "Expected a lower slot, shorter frames before it, or frames in other cycles."
+    return text.finding(f"{headline}its slot can open too late in {share}", reason, path, notes)
+
+
+def moved_by(way: Way, it: Latency) -> str:
+    """Returns which frames move a slot beyond the latest minislot of its node."""
+    missing = way.minislot - (it.latest or 0)
+    sent = [f"slot {frame.slot} by buffer {frame.buffer} of node {frame.node}" for frame in way.frames[:MOST_FRAMES]]
+    more = len(way.frames) - len(sent)
+    return (f"In cycle {way.cycle} frames before it can move it to minislot {way.minislot}, {counted(missing, 'minislot')} "
+            f"too late: {joined(sent + [counted(more, 'more frame')] * (more > 0))}. ")
 
 
 def names_in(document: object) -> list[str | None]:

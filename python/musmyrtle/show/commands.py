@@ -14,7 +14,7 @@ from musmyrtle.show import options, page
 from musmyrtle.show.commits import commits
 from musmyrtle.show.engines import COMMAND, Inputs, opened
 from musmyrtle.show.facts import Facts
-from musmyrtle.show.latency import latencies, latency
+from musmyrtle.show.latency import latencies, latency, way
 from musmyrtle.show.log import log
 from musmyrtle.show.options import Words
 from musmyrtle.show.parameters import check
@@ -93,7 +93,8 @@ def selected(make: Callable[[Facts, Selection], list[Section]]
 def guarantees(inputs: Inputs, given: argparse.Namespace) -> list[Section]:
     """Returns the tables of `latency`. The program comes first, since only an accepted cluster has names."""
     answer = latencies(inputs)
-    return latency(inputs.network, *answer, selection_of(given, inputs))
+    tables = latency(inputs.network, *answer, selection_of(given, inputs))
+    return tables + way(inputs, given.slot, given.channel)
 
 
 TABLES = (
@@ -102,8 +103,8 @@ TABLES = (
     table("plan", "Prints who sends in which slot, who is to receive it, and when bus guardians are open.", Words(),
           (f"plan {THREE}", f"plan {THREE} --json"), of_cluster(plan)),
     table("latency", "Prints which transmit buffers the schedule guarantees, their worst latencies, and the load of each\n"
-          "channel.", Words(has_places=True),
-          (f"latency {TEN}", f"latency {TEN} --slot 110 --channel A"), guarantees),
+          "channel. With one --slot and --channel it also prints the frames that come before its latest start.", Words(has_places=True),
+          (f"latency {TEN}", f"latency {TEN} --slot 67 --channel A"), guarantees),
     table("run", "Runs a scenario, and prints what went wrong: commits that no node received and why, receive buffers\n"
           "that hold nothing, FIFOs that overwrote frames, errors with their slots, faults without effect.",
           Words(has_run=True), (RUN_EXAMPLE,), lambda inputs, _: run(Facts(inputs))),

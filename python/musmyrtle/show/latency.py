@@ -1,5 +1,7 @@
 """The command `latency`: the transmit buffers and the channels of a cluster, in runs without faults."""
-from musmyrtle.latencies import Latency, Load, read_latencies
+from musmyrtle.cluster import LAST_SLOT
+from musmyrtle.findings import counted
+from musmyrtle.latencies import Latency, Load, read_latencies, read_way, words_for_way
 from musmyrtle.lint.command import USAGE
 from musmyrtle.lint.guarantees import load_section
 from musmyrtle.output import Stop
@@ -8,6 +10,9 @@ from musmyrtle.show.network import Network
 from musmyrtle.show.selection import Selection
 from musmyrtle.show.tables import Column, Row, Section
 
+WAYS = (Column("cycle", "cycle"), Column("minislot", "minislot"), Column("slot", "slot"),
+        Column("node", "node", "name"), Column("buffer", "buffer", "name"))
+
 
 def latencies(inputs: Inputs) -> tuple[list[Latency], list[Load]]:
     """Returns what `fr_view latency` prints. Raises `Stop` for another output."""
@@ -15,6 +20,25 @@ def latencies(inputs: Inputs) -> tuple[list[Latency], list[Load]]:
         return read_latencies(inputs.of_cluster("fr_view", "latency").lines)
     except ValueError as error:
         raise Stop(USAGE, f"{inputs.program('fr_view')} prints no latencies: {error}") from None
+
+
+def way(inputs: Inputs, slots: frozenset[int] | None, channel: str | None) -> list[Section]:
+    """Returns the way to the latest start of a slot, if one slot and a channel are given."""
+    if slots is None or len(slots) != 1 or channel is None or not slots <= set(range(1, LAST_SLOT + 1)):
+        return []
+    slot, network = min(slots), inputs.network
+    words = [*words_for_way(slot, channel), "--", inputs.task.file(inputs.task.cluster)]
+    try:
+        found = read_way(inputs.ask("fr_view", words).lines)
+    except ValueError as error:
+        raise Stop(USAGE, f"{inputs.program('fr_view')} prints no way: {error}") from None
+    if found is None:
+        return [Section("way", "", WAYS, [], f"Slot {slot} is static: it begins at the same macrotick of each cycle.")]
+    rows = [Row({"cycle": found.cycle, "minislot": it.minislot, "slot": it.slot, "node": network.node(it.node),
+                 "buffer": network.buffer(it.node, it.buffer)}) for it in found.frames]
+    rows.append(Row({"cycle": found.cycle, "minislot": found.minislot, "slot": slot}))
+    return [Section("way", f"Slot {slot} on {channel} begins at minislot {found.minislot} of cycle {found.cycle} at the "
+                    f"latest, after {counted(len(found.frames), 'frame')}", WAYS, rows)]
 
 
 def latency(network: Network, found: list[Latency], loads: list[Load], selection: Selection) -> list[Section]:
