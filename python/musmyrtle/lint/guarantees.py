@@ -138,8 +138,8 @@ def moved_by(way: Way, it: Latency) -> str:
     missing = way.minislot - (it.latest or 0)
     sent = [f"slot {frame.slot} by buffer {frame.buffer} of node {frame.node}" for frame in way.frames[:MOST_FRAMES]]
     more = len(way.frames) - len(sent)
-    return (f"In cycle {way.cycle} frames before it can move it to minislot {way.minislot}, {counted(missing, 'minislot')} "
-            f"too late: {joined(sent + [counted(more, 'more frame')] * (more > 0))}. ")
+    return (f"In cycle {way.cycle} frames before it can move it to minislot {way.minislot}, "
+            f"{counted(missing, 'minislot')} too late: {joined(sent + [counted(more, 'more frame')] * (more > 0))}. ")
 
 
 def names_in(document: object) -> list[str | None]:

@@ -37,8 +37,9 @@ def way(inputs: Inputs, slots: frozenset[int] | None, channel: str | None) -> li
     rows = [Row({"cycle": found.cycle, "minislot": it.minislot, "slot": it.slot, "node": network.node(it.node),
                  "buffer": network.buffer(it.node, it.buffer)}) for it in found.frames]
     rows.append(Row({"cycle": found.cycle, "minislot": found.minislot, "slot": slot}))
-    return [Section("way", f"Slot {slot} on {channel} begins at minislot {found.minislot} of cycle {found.cycle} at the "
-                    f"latest, after {counted(len(found.frames), 'frame')}", WAYS, rows)]
+    title = (f"Slot {slot} on {channel} begins at minislot {found.minislot} of cycle {found.cycle} at the latest, after "
+             f"{counted(len(found.frames), 'frame')}")
+    return [Section("way", title, WAYS, rows)]
 
 
 def latency(network: Network, found: list[Latency], loads: list[Load], selection: Selection) -> list[Section]:
