@@ -36,7 +36,10 @@ WARNINGS = {
     "idle-fault": "a fault of the scenario has no effect",
     "unknown-allow": "a comment allows a name that no warning has",
 }
-NOTES = {"fault-tolerance": "2 nodes have a startup slot, and none may fail"}
+NOTES = {
+    "fault-tolerance": "2 nodes have a startup slot, and none may fail",
+    "not-guaranteed": "frames in the slots before it can keep a transmit buffer from sending",
+}
 NAMES = {**WARNINGS, **NOTES}
 MOST_UNKNOWN = 20
 """The number of unknown names that have a warning each; the others are counted."""

@@ -11,6 +11,7 @@ from typing import Any, NoReturn, TextIO
 
 from musmyrtle.findings import MOST_REASONS, block, counted, nearest
 from musmyrtle.lint.allows import NAMES, expected_name
+from musmyrtle.lint.guarantees import Guarantees, load_section
 from musmyrtle.lint.lint import Lint, Task, lint, read_bytes
 from musmyrtle.lint.overwriting import Overwritten
 from musmyrtle.lint.rows import sections
@@ -18,7 +19,7 @@ from musmyrtle.lint.runs import MOST_CYCLES
 from musmyrtle.lint.trace_why import MAGIC, NoAnswer, TraceFile, ask_why, finding_of, is_trace
 from musmyrtle.output import Stop, write
 from musmyrtle.program import Answer, ask, by_option, no_answer, usual_program
-from musmyrtle.show.tables import Section, as_csv, as_json
+from musmyrtle.show.tables import Section, as_csv, as_json, as_text
 from musmyrtle.version import version
 from musmyrtle.visible import cut, visible
 
@@ -31,7 +32,8 @@ fr_bench runs first, by `check CLUSTER` or by `run CLUSTER SCENARIO --cycles N`,
 accepted input that can't work, or breaks a rule of the standard that the bench doesn't check, has a warning."""
 EXAMPLES = ("lint examples/three-nodes/cluster.toml",
             "lint examples/three-nodes/cluster.toml examples/three-nodes/scenario --cycles 4 --strict")
-STATUSES = """status: 0 if fr_bench accepts the input, with warnings or without, 1 if it refuses it, 2 if the words are
+STATUSES = """status: 0 if fr_bench accepts the input, with warnings or without, 1 if it refuses it, or if a buffer of
+--guaranteed isn't guaranteed, 2 if the words are
 no command, fr_bench can't be run or fails, or the output can't be written, 4 if there are warnings and --strict is
 given, 130 if SIGINT broke it off"""
 SILENCED = """warnings: each ends with its name, as `[sync-nodes]`. `--allow NAME` silences it, and so does a comment
@@ -106,6 +108,10 @@ def arguments() -> Parser:
     parser.add_argument("--strict", action="store_true", help="end with status 4 where there are warnings")
     parser.add_argument("--allow", metavar="NAME", action="append", default=[], type=allowed_name,
                         help="print no warning of this name; it may be given several times")
+    parser.add_argument("--guaranteed", metavar=("NODE", "BUFFER"), nargs=2, action="append", default=[],
+                        help="end with status 1 unless this transmit buffer, by its name or number, is sent in each of "
+                             "its cycles whatever other nodes send; it may be given several times")
+    parser.add_argument("--load", action="store_true", help="print the bus load and the slack of each channel too")
     parser.add_argument("--program", metavar="FILE",
                         help="the fr_bench to ask, or the fr_view for a trace, instead of that which `musmyrtle` finds")
     add_forms(parser)
@@ -198,6 +204,8 @@ def told(answer: Answer, found: Lint, is_bold: bool = False) -> Iterator[str]:
         yield block("warning", finding, is_bold)
     for finding in found.notes[:MOST_WARNINGS]:
         yield block("note", finding, is_bold)
+    for finding in found.errors:
+        yield block("error", finding, is_bold)
     more = len(found.warnings[MOST_WARNINGS:]) + found.further_warnings
     if more:
         yield f"and {counted(more, 'more warning')}\n"
@@ -267,12 +275,16 @@ def linted(given: argparse.Namespace) -> int:
             raise Stop(USAGE, f"{given.program} can't be run: {error.strerror}") from None
         if not answer.is_one:
             raise Stop(USAGE, no_answer(given.program, words_for(task), answer))
-        found = lint(task, overwritten)
+        guarantees = Guarantees(task.file(task.cluster), map(tuple, given.guaranteed), given.load)
+        found = lint(task, overwritten, None if answer.status else guarantees)
     known = found if is_explained(answer, found) else Lint()
-    text = "\n".join(told(answer, found, is_bold_on(sys.stdout)))
-    printed(formed(given, sections("fr_bench", answer.refusal, known), [text]))
+    loads = [load_section(guarantees.loads)] if guarantees.loads else []
+    text = "\n".join([*told(answer, found, is_bold_on(sys.stdout)), *as_text(loads)])
+    printed(formed(given, [*sections("fr_bench", answer.refusal, known), *loads], [text]))
     if answer.status:
         return USAGE if answer.status == USAGE else REFUSED
+    if found.errors:
+        return REFUSED
     return WARNED if given.strict and found.warnings else FINE
 
 

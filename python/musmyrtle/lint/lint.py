@@ -9,6 +9,7 @@ from musmyrtle.findings import Finding
 from musmyrtle.lint import physical, ranges, receiving, sending, unread
 from musmyrtle.lint.allows import NOTES, Allows
 from musmyrtle.lint.clashes import clashes
+from musmyrtle.lint.guarantees import Guarantees
 from musmyrtle.lint.overwriting import overwriting_fifos
 from musmyrtle.lint.runs import Run
 from musmyrtle.lint.strikes import Strikes, small_journals
@@ -51,6 +52,8 @@ class Lint:
     """The number of warnings beside those in `warnings`."""
     notes: list[Finding] = field(default_factory=list)
     """Findings that are no mistakes, and still worth knowing."""
+    errors: list[Finding] = field(default_factory=list)
+    """The transmit buffers that have to be guaranteed, and aren't."""
     allowed: frozenset[str] = frozenset()
     """The names of warnings that are silenced everywhere."""
     allows: Allows | None = None
@@ -103,8 +106,11 @@ def unreadable(file: str, what: str) -> Finding:
     return Finding(f"{what} {file!r} {found}", "Expected the name of a file that can be read.")
 
 
-def lint(task: Task, overwritten: dict[int, int] | None = None) -> Lint:
-    """Returns the findings. OVERWRITTEN has the frames that the FIFO of each node overwrote in the run."""
+def lint(task: Task, overwritten: dict[int, int] | None = None, guarantees: Guarantees | None = None) -> Lint:
+    """Returns the findings. OVERWRITTEN has the frames that the FIFO of each node overwrote in the run.
+
+    GUARANTEES finds the buffers that the schedule doesn't guarantee.
+    """
     found = Lint(allowed=task.allowed)
     data = read_bytes(task.file(task.cluster))
     if data is None:
@@ -116,6 +122,9 @@ def lint(task: Task, overwritten: dict[int, int] | None = None) -> Lint:
         found.refuse(error.refusal, error.why)
         return found
     cluster = lint_cluster(text, found)
+    if cluster and guarantees:
+        notes, found.errors = guarantees.notes_and_errors(cluster, text)
+        found.warn("not-guaranteed", notes)
     if cluster and task.scenario is not None:
         lint_scenario(task, cluster, text, found, overwritten or {})
     elif cluster:

@@ -16,7 +16,8 @@ def sections(program: str, refusal: str | None, found: Lint) -> list[Section]:
     return [Section("answer", "", ANSWER, [answer]),
             Section("refused", "", FINDING, [row_of(finding, words) for words, finding in found.refusals]),
             Section("warning", "", FINDING, rows_of(found.warnings)),
-            Section("note", "", FINDING, rows_of(found.notes))]
+            Section("note", "", FINDING, rows_of(found.notes)),
+            Section("error", "", FINDING, rows_of(found.errors))]
 
 
 def rows_of(findings: Iterable[Finding]) -> list[Row]:

@@ -14,6 +14,7 @@ from musmyrtle.show import options, page
 from musmyrtle.show.commits import commits
 from musmyrtle.show.engines import COMMAND, Inputs, opened
 from musmyrtle.show.facts import Facts
+from musmyrtle.show.latency import latencies, latency, way
 from musmyrtle.show.log import log
 from musmyrtle.show.options import Words
 from musmyrtle.show.parameters import check
@@ -24,7 +25,7 @@ from musmyrtle.show.summary import run
 from musmyrtle.show.tables import Section, as_text
 
 Main = Callable[[list[str]], int]
-THREE = "examples/three-nodes/cluster.toml"
+THREE, TEN = "examples/three-nodes/cluster.toml", "examples/ten-nodes/cluster.toml"
 RUN = f"{THREE} examples/three-nodes/scenario --cycles 4"
 RUN_EXAMPLE = f"run {RUN}"
 
@@ -43,7 +44,8 @@ class Command:
 def selection_of(given: argparse.Namespace, inputs: Inputs) -> Selection:
     """Returns the rows that the words select."""
     channels = None if given.channel is None else frozenset(given.channel)
-    return Selection(numbers_of_nodes(given.node, inputs.network), given.slot, channels, given.in_cycles, given.errors)
+    cycles, is_errors = getattr(given, "in_cycles", None), getattr(given, "errors", False)
+    return Selection(numbers_of_nodes(given.node, inputs.network), given.slot, channels, cycles, is_errors)
 
 
 def table(name: str, purpose: str, words: Words, examples: tuple[str, ...],
@@ -88,20 +90,30 @@ def selected(make: Callable[[Facts, Selection], list[Section]]
     return sections
 
 
+def guarantees(inputs: Inputs, given: argparse.Namespace) -> list[Section]:
+    """Returns the tables of `latency`. The program comes first, since only an accepted cluster has names."""
+    answer = latencies(inputs)
+    tables = latency(inputs.network, *answer, selection_of(given, inputs))
+    return tables + way(inputs, given.slot, given.channel)
+
+
 TABLES = (
     table("check", "Prints the parameters and the nodes of a cluster file.", Words(), (f"check {THREE}",),
           of_cluster(check)),
     table("plan", "Prints who sends in which slot, who is to receive it, and when bus guardians are open.", Words(),
           (f"plan {THREE}", f"plan {THREE} --json"), of_cluster(plan)),
+    table("latency", "Prints which transmit buffers the schedule guarantees, their worst latencies, and the load of each\n"
+          "channel. With one --slot and --channel it also prints the frames that come before its latest start.",
+          Words(has_places=True), (f"latency {TEN}", f"latency {TEN} --slot 67 --channel A"), guarantees),
     table("run", "Runs a scenario, and prints what went wrong: commits that no node received and why, receive buffers\n"
           "that hold nothing, FIFOs that overwrote frames, errors with their slots, faults without effect.",
           Words(has_run=True), (RUN_EXAMPLE,), lambda inputs, _: run(Facts(inputs))),
-    table("log", "Prints all transmissions of a run and their fates.", Words(True, True),
+    table("log", "Prints all transmissions of a run and their fates.", Words(True, True, True),
           (f"log {RUN} --slot 1 --channel B", f"log {RUN} --errors --csv"), selected(log)),
     table("commits", "Prints what came of each commit of a run: when it was sent, its latency and its receivers.",
-          Words(True, True), (f"commits {RUN} --node 0 --in-cycles 2",), selected(commits)),
+          Words(True, True, True), (f"commits {RUN} --node 0 --in-cycles 2",), selected(commits)),
     table("reads", "Prints what tasks read and popped in a run, and what each receive FIFO holds and lost.",
-          Words(True, True), (f"reads {RUN} --node 1",), selected(reads)),
+          Words(True, True, True), (f"reads {RUN} --node 1",), selected(reads)),
 )
 COMMANDS = (
     Command("lint", "Explains the faults of a cluster file, a scenario or a trace.",

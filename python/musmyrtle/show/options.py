@@ -14,10 +14,11 @@ CLUSTER, SCENARIO = "CLUSTER", "SCENARIO"
 
 @dataclass(frozen=True)
 class Words:
-    """The words of a command: whether it takes a run, and whether its rows can be selected."""
+    """The words of a command: whether it takes a run, and whether its rows can be selected by place and by cycle."""
 
     has_run: bool = False
-    has_selection: bool = False
+    has_places: bool = False
+    has_cycles: bool = False
 
 
 def arguments(name: str, purpose: str, words: Words, examples: tuple[str, ...]) -> argparse.ArgumentParser:
@@ -30,21 +31,22 @@ def arguments(name: str, purpose: str, words: Words, examples: tuple[str, ...]) 
     if words.has_run:
         add("scenario", metavar=SCENARIO, help="a scenario of this cluster")
         add("--cycles", metavar="N", type=cycles_of, required=True, help="the cycles of the run, 1 to 1024")
-    if words.has_selection:
-        add_selection(parser)
+    if words.has_places:
+        add_places(parser)
+    if words.has_cycles:
+        add("--in-cycles", metavar="CYCLE,..", type=numbers_of, help="only rows of these cycles of the run, as 0,3-5")
+        add("--errors", action="store_true", help="only rows with an error")
     add_forms(parser)
     return parser
 
 
-def add_selection(parser: argparse.ArgumentParser) -> None:
-    """Adds the options that select rows."""
+def add_places(parser: argparse.ArgumentParser) -> None:
+    """Adds the options that select rows by their node, slot and channel."""
     add = parser.add_argument
     add("--node", metavar="NODE", action="append", default=[],
         help="only rows of this node, by its name or number; it may be given several times")
     add("--slot", metavar="SLOT,..", type=numbers_of, help="only rows of these slots, as 1,3-5")
     add("--channel", choices=("A", "B"), help="only rows of this channel")
-    add("--in-cycles", metavar="CYCLE,..", type=numbers_of, help="only rows of these cycles of the run, as 0,3-5")
-    add("--errors", action="store_true", help="only rows with an error")
 
 
 def parsed(parser: argparse.ArgumentParser, words: list[str]) -> argparse.Namespace:
