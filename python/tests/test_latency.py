@@ -6,6 +6,7 @@ fetch at macrotick 40 waits for one cycle: 100 + 60 - 40 = 120 macroticks, each 
 """
 import contextlib
 import io
+from unittest.mock import patch
 
 from musmyrtle.lint import command
 from tests.shows import EXAMPLES, NETWORK, Shows
@@ -138,18 +139,11 @@ class Guarantees(Shows):
 
     def test_no_program(self) -> None:
         """The note is left out with a line on standard error; what the words want isn't."""
-        with self.without_view():
+        with patch.dict("os.environ", {"MUSMYRTLE_VIEW": str(self.folder / "missing")}):
             status, _, told = self.linted(NETWORK)
             self.assertEqual((status, told.startswith("musmyrtle lint: no latencies: ")), (0, True))
             self.assertEqual(self.linted(static_network())[2], "")
             self.assertEqual(self.linted(NETWORK, "--load")[:2], (2, ""))
-
-    @contextlib.contextmanager
-    def without_view(self):
-        """Lets the variable for `fr_view` name a file that isn't there."""
-        from unittest.mock import patch
-        with patch.dict("os.environ", {"MUSMYRTLE_VIEW": str(self.folder / "missing")}):
-            yield
 
     def test_a_file_with_nothing_of_the_kind(self) -> None:
         for example in ("three-nodes", "vehicle", "ten-nodes"):

@@ -275,7 +275,8 @@ def linted(given: argparse.Namespace) -> int:
             raise Stop(USAGE, f"{given.program} can't be run: {error.strerror}") from None
         if not answer.is_one:
             raise Stop(USAGE, no_answer(given.program, words_for(task), answer))
-        guarantees = Guarantees(task.file(task.cluster), map(tuple, given.guaranteed), given.load)
+        wanted = [(node, buffer) for node, buffer in given.guaranteed]
+        guarantees = Guarantees(task.file(task.cluster), wanted, given.load)
         found = lint(task, overwritten, None if answer.status else guarantees)
     known = found if is_explained(answer, found) else Lint()
     loads = [load_section(guarantees.loads)] if guarantees.loads else []

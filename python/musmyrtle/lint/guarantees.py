@@ -9,6 +9,7 @@ from musmyrtle.latencies import (BLOCKED, GUARANTEED, IDLE, POSSIBLE, Latency, L
 from musmyrtle.names import tables_of
 from musmyrtle.output import CANNOT_BE_USED, Stop, pass_on
 from musmyrtle.program import VARIABLES, ask, no_answer, usual_program
+from musmyrtle.show.network import name_in
 from musmyrtle.show.tables import Column, Row, Section
 from musmyrtle.texts import Text
 from musmyrtle.visible import cut
@@ -17,7 +18,7 @@ LOADS = (Column("channel", "channel"), Column("owned", "owned static slots"), Co
          Column("least", "least minislots"), Column("most", "most minislots"), Column("slack", "slack"))
 MOST_LINES, LONGEST_LINE = 2500, 4096
 """The lines and the characters of a line that are read: at most 1,026 of latencies, and 2,046 of a way."""
-MOST_WAYS, MOST_FRAMES = 20, 8
+MOST_WAYS, MOST_FRAMES = 8, 8
 """The notes that have a way to the latest start, each of which asks the program, and the frames named of a way."""
 FRONT = "musmyrtle lint: no latencies: "
 
@@ -114,13 +115,13 @@ class Guarantees:
 def finding_of(cluster: Cluster, text: Text, buffer: Buffer, it: Latency, way: Way | None) -> Finding:
     """Returns why a buffer isn't guaranteed."""
     node, slot = cluster.nodes[buffer.node], f"slot {buffer.slot}"
-    headline, path, notes = f"{buffer} isn't guaranteed: ", (*buffer.path, "slot"), []
+    headline, path = f"{buffer} isn't guaranteed: ", (*buffer.path, "slot")
     if it.state == IDLE:
         reason = f"Its host has no task that could commit. Expected `tasks = 1` or more at node {node.number}."
         return text.finding(f"{headline}node {node.number} has no task", reason, (*node.path, "tasks"))
     key = f"latest_{buffer.channels.lower()}"
-    if key in text.document["node"][node.number]:
-        notes = [(f"`{key}` of node {node.number}", (*node.path, key))]
+    is_there = key in text.document["node"][node.number]
+    notes = [(f"`{key}` of node {node.number}", (*node.path, key))] if is_there else []
     if it.state == BLOCKED:
         reason = "It is never sent. The warning `never-sends` has the reason."
         return text.finding(f"{headline}{slot} never opens in time", reason, path, notes)
@@ -142,9 +143,9 @@ def moved_by(way: Way, it: Latency) -> str:
             f"{counted(missing, 'minislot')} too late: {joined(sent + [counted(more, 'more frame')] * (more > 0))}. ")
 
 
-def names_in(document: object) -> list[str | None]:
+def names_in(tables: object) -> list[str | None]:
     """Returns the keys `name` of the tables of an array, each None where it is no string."""
-    return [it["name"] if isinstance(it.get("name"), str) else None for it in tables_of(document)]
+    return [name_in(table) for table in tables_of(tables)]
 
 
 def buffer_of(cluster: Cluster, text: Text, node: str, buffer: str) -> Buffer:
