@@ -88,6 +88,27 @@ class Latencies(Shows):
         self.assertEqual((status, output, "refused Read" in told), (1, "", True))
 
 
+class Ways(Shows):
+    def test_the_way_in_a_run(self) -> None:
+        """In a run with the commits of the way each frame begins at its minislot, and the last slot doesn't open."""
+        text = (EXAMPLES / "ten-nodes/cluster.toml").read_text()
+        line = next(it for it in text.splitlines() if '"picture"' in it)
+        text = text.replace(line, line.replace("repetition = 2", "repetition = 1"))
+        cluster = self.written("cluster.toml", text)
+        *frames, last = self.rows("way", "latency", cluster, "--slot", "67", "--channel", "A")
+        words = {row["slot"]: row["words"] for row in self.rows("sender", "plan", cluster) if row["channel"] == "A"}
+        commits = [(row["node"], row["buffer"], row["slot"]) for row in frames] + [(8, 7, 67)]
+        lines = [f"commit {node} 0 {last['cycle']} {buffer} x{'00' * 2 * words[slot]}\n"
+                 for node, buffer, slot in commits]
+        run = [cluster, self.written("scenario", f"frscenario 1\n{''.join(lines)}end\n"), "--cycles",
+               str(last["cycle"] + 1)]
+        sent = self.values("transmission", "cycle minislot slot node", "log", *run, "--slot", "61-67", "--channel", "A")
+        self.assertEqual(sent, [(row["cycle"], row["minislot"], row["slot"], row["node"]) for row in frames])
+        self.assertEqual(self.values("commit", "fate", "commits", *run, "--node", "airbags"), [("pending",)])
+        earlier = [run[0], self.written("scenario", f"frscenario 1\n{lines[-1]}end\n"), *run[2:]]
+        self.assertEqual(self.values("commit", "fate", "commits", *earlier), [("sent",)])
+
+
 class Guarantees(Shows):
     def linted(self, network: str, *words: str) -> tuple[int | str | None, str, str]:
         """Returns the status of `lint`, its output, and its standard error."""
