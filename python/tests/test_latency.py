@@ -166,6 +166,18 @@ class Guarantees(Shows):
             self.assertEqual(self.linted(static_network())[2], "")
             self.assertEqual(self.linted(NETWORK, "--load")[:2], (2, ""))
 
+    def test_a_trace_has_no_guarantees(self) -> None:
+        trace = str(EXAMPLES / "three-commits/trace")
+        for words in (["--load"], ["--guaranteed", "0", "0"]):
+            told = io.StringIO()
+            with contextlib.redirect_stderr(told):
+                self.assertEqual(command.main([trace, *words]), 2)
+            self.assertIn("is a trace, and has no guarantees", told.getvalue())
+
+    def test_a_refused_cluster(self) -> None:
+        status, output, _ = self.linted(NETWORK.replace("cycle_mt = 100", "cycle_mt = 99"), "--guaranteed", "0", "9")
+        self.assertEqual((status, "refused Params CycleSum" in output), (1, True))
+
     def test_a_file_with_nothing_of_the_kind(self) -> None:
         for example in ("three-nodes", "vehicle", "ten-nodes"):
             text = (EXAMPLES / example / "cluster.toml").read_text()

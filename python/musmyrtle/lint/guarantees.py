@@ -8,7 +8,7 @@ from musmyrtle.latencies import (BLOCKED, GUARANTEED, IDLE, POSSIBLE, Latency, L
                                  words_for_way)
 from musmyrtle.names import tables_of
 from musmyrtle.output import CANNOT_BE_USED, Stop, pass_on
-from musmyrtle.program import VARIABLES, ask, no_answer, usual_program
+from musmyrtle.program import VARIABLES, ask, itself, no_answer, usual_program
 from musmyrtle.show.network import name_in
 from musmyrtle.show.tables import Column, Row, Section
 from musmyrtle.texts import Text
@@ -34,9 +34,14 @@ def load_section(loads: Iterable[Load]) -> Section:
     return Section("load", "Channels: static slots of 64 cycles, dynamic minislots of a cycle", LOADS, rows)
 
 
-def lines_of(words: list[str]) -> list[str]:
-    """Returns what `fr_view` prints for these words. Raises `NoLatencies` if it refuses or fails."""
+def lines_of(words: list[str], is_checked: bool = False) -> list[str]:
+    """Returns what `fr_view` prints for these words. Raises `NoLatencies` if it refuses or fails.
+
+    IS_CHECKED is true after a call of the launcher, which then needn't check the sources again.
+    """
     program, lines = usual_program("fr_view"), list[str]()
+    if program and is_checked:
+        program = itself(program)
     if program is None:
         raise NoLatencies(f"there is no fr_view: name one by the variable {VARIABLES['fr_view']}, or put it on PATH")
 
@@ -64,7 +69,7 @@ def latencies_of(file: str) -> tuple[list[Latency], list[Load]]:
 def way_of(file: str, it: Latency) -> Way | None:
     """Returns the way to the latest start of a buffer's slot, if that is in one of its cycles."""
     try:
-        way = read_way(lines_of([*words_for_way(it.slot, it.channels), "--", file]))
+        way = read_way(lines_of([*words_for_way(it.slot, it.channels), "--", file], True))
     except (ValueError, NoLatencies) as error:
         pass_on(f"{FRONT}{error}")
         return None
@@ -79,6 +84,7 @@ class Guarantees:
         """FILE is the cluster file. WANTED has a node and a buffer for each buffer that has to be guaranteed."""
         self.file, self.wanted, self.has_load = file, tuple(wanted), has_load
         self.loads: list[Load] = []
+        self.is_wanted, self.is_done = bool(self.wanted) or has_load, False
 
     def notes_and_errors(self, cluster: Cluster, text: Text) -> tuple[list[Finding], list[Finding]]:
         """Returns the notes of buffers that can be kept from sending, and the errors of those that mustn't be.
@@ -86,13 +92,13 @@ class Guarantees:
         Raises `Stop` if the words want something that the program or the cluster doesn't have.
         """
         wanted = [buffer_of(cluster, text, *words) for words in self.wanted]
-        is_required = bool(wanted) or self.has_load
-        if not is_required and not any(it.transmits and not cluster.is_static(it.slot) for it in cluster.buffers()):
+        self.is_done = True
+        if not self.is_wanted and not any(it.transmits and not cluster.is_static(it.slot) for it in cluster.buffers()):
             return [], []
         try:
             found, loads = latencies_of(self.file)
         except NoLatencies as error:
-            if is_required:
+            if self.is_wanted:
                 raise Stop(CANNOT_BE_USED, str(error)) from None
             pass_on(f"{FRONT}{error}")
             return [], []
