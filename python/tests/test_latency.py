@@ -6,6 +6,7 @@ fetch at macrotick 40 waits for one cycle: 100 + 60 - 40 = 120 macroticks, each 
 """
 import contextlib
 import io
+from unittest.mock import patch
 
 from musmyrtle.lint import command
 from tests.shows import EXAMPLES, NETWORK, Shows
@@ -87,6 +88,27 @@ class Latencies(Shows):
         self.assertEqual((status, output, "refused Read" in told), (1, "", True))
 
 
+class Ways(Shows):
+    def test_the_way_in_a_run(self) -> None:
+        """In a run with the commits of the way each frame begins at its minislot, and the last slot doesn't open."""
+        text = (EXAMPLES / "ten-nodes/cluster.toml").read_text()
+        line = next(it for it in text.splitlines() if '"picture"' in it)
+        text = text.replace(line, line.replace("repetition = 2", "repetition = 1"))
+        cluster = self.written("cluster.toml", text)
+        *frames, last = self.rows("way", "latency", cluster, "--slot", "67", "--channel", "A")
+        words = {row["slot"]: row["words"] for row in self.rows("sender", "plan", cluster) if row["channel"] == "A"}
+        commits = [(row["node"], row["buffer"], row["slot"]) for row in frames] + [(8, 7, 67)]
+        lines = [f"commit {node} 0 {last['cycle']} {buffer} x{'00' * 2 * words[slot]}\n"
+                 for node, buffer, slot in commits]
+        run = [cluster, self.written("scenario", f"frscenario 1\n{''.join(lines)}end\n"), "--cycles",
+               str(last["cycle"] + 1)]
+        sent = self.values("transmission", "cycle minislot slot node", "log", *run, "--slot", "61-67", "--channel", "A")
+        self.assertEqual(sent, [(row["cycle"], row["minislot"], row["slot"], row["node"]) for row in frames])
+        self.assertEqual(self.values("commit", "fate", "commits", *run, "--node", "airbags"), [("pending",)])
+        earlier = [run[0], self.written("scenario", f"frscenario 1\n{lines[-1]}end\n"), *run[2:]]
+        self.assertEqual(self.values("commit", "fate", "commits", *earlier), [("sent",)])
+
+
 class Guarantees(Shows):
     def linted(self, network: str, *words: str) -> tuple[int | str | None, str, str]:
         """Returns the status of `lint`, its output, and its standard error."""
@@ -138,18 +160,23 @@ class Guarantees(Shows):
 
     def test_no_program(self) -> None:
         """The note is left out with a line on standard error; what the words want isn't."""
-        with self.without_view():
+        with patch.dict("os.environ", {"MUSMYRTLE_VIEW": str(self.folder / "missing")}):
             status, _, told = self.linted(NETWORK)
             self.assertEqual((status, told.startswith("musmyrtle lint: no latencies: ")), (0, True))
             self.assertEqual(self.linted(static_network())[2], "")
             self.assertEqual(self.linted(NETWORK, "--load")[:2], (2, ""))
 
-    @contextlib.contextmanager
-    def without_view(self):
-        """Lets the variable for `fr_view` name a file that isn't there."""
-        from unittest.mock import patch
-        with patch.dict("os.environ", {"MUSMYRTLE_VIEW": str(self.folder / "missing")}):
-            yield
+    def test_a_trace_has_no_guarantees(self) -> None:
+        trace = str(EXAMPLES / "three-commits/trace")
+        for words in (["--load"], ["--guaranteed", "0", "0"]):
+            told = io.StringIO()
+            with contextlib.redirect_stderr(told):
+                self.assertEqual(command.main([trace, *words]), 2)
+            self.assertIn("is a trace, and has no guarantees", told.getvalue())
+
+    def test_a_refused_cluster(self) -> None:
+        status, output, _ = self.linted(NETWORK.replace("cycle_mt = 100", "cycle_mt = 99"), "--guaranteed", "0", "9")
+        self.assertEqual((status, "refused Params CycleSum" in output), (1, True))
 
     def test_a_file_with_nothing_of_the_kind(self) -> None:
         for example in ("three-nodes", "vehicle", "ten-nodes"):

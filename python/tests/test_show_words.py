@@ -89,7 +89,8 @@ class Keys(Shows):
             ("lint", [guarded]), ("lint", [guarded, past, "--cycles", "2"]), ("lint", [THREE[0]]),
             ("lint", [self.written("two.toml", TWO_STARTUP_NODES)]),
             ("faults", [*run, "--kinds", "lost"]), ("faults --list", [*run, "--kinds", "lost"]),
-            ("check", [guarded]), ("plan", [guarded]), *((it, run) for it in ("run", "log", "commits", "reads")),
+            ("lint", [guarded, "--load"]), ("lint", [guarded, "--guaranteed", "brake", "state"]),
+            ("latency", [guarded, "--slot", "4", "--channel", "A"]), ("check", [guarded]), ("plan", [guarded]), *((it, run) for it in ("run", "log", "commits", "reads")),
         ):
             for line in self.asked(*command.split(), *words, "--json")[1].splitlines():
                 row = json.loads(line)

@@ -143,6 +143,9 @@ class Views:
             self.runs.check(f"schedule of {picture.parent.name}", words, (picture.read_bytes(), b"", 0))
             self.runs.check(f"schedule of {picture.parent.name}, cycle 0", [*words, "--cycle", "0"],
                             (picture.read_bytes(), b"", 0))
+        for latencies in sorted(EXAMPLES.glob("*/latency")):
+            self.runs.check(f"latency of {latencies.parent.name}", ["latency", latencies.with_name("cluster.toml")],
+                            (latencies.read_bytes(), b"", 0))
 
     def owners(self):
         """Checks that a picture names the owners of the plan's lines `slot` for its cycle, in their order."""

@@ -242,6 +242,8 @@ def traced(given: argparse.Namespace, task: Task) -> int:
     """Asks `fr_view why` about a trace, prints the reason in words, and returns the status."""
     if given.scenario is not None or given.cycles is not None:
         raise Stop(USAGE, f"{task.cluster} is a trace, and takes no scenario and no cycles")
+    if given.guaranteed or given.load:
+        raise Stop(USAGE, f"{task.cluster} is a trace, and has no guarantees and no load")
     program, file = given.named or usual_program("fr_view"), task.file(task.cluster)
     if program is None:
         raise Stop(USAGE, f"there is no fr_view: {by_option('fr_view')}")
@@ -275,8 +277,11 @@ def linted(given: argparse.Namespace) -> int:
             raise Stop(USAGE, f"{given.program} can't be run: {error.strerror}") from None
         if not answer.is_one:
             raise Stop(USAGE, no_answer(given.program, words_for(task), answer))
-        guarantees = Guarantees(task.file(task.cluster), map(tuple, given.guaranteed), given.load)
+        wanted = [(node, buffer) for node, buffer in given.guaranteed]
+        guarantees = Guarantees(task.file(task.cluster), wanted, given.load)
         found = lint(task, overwritten, None if answer.status else guarantees)
+    if guarantees.is_wanted and not guarantees.is_done and not answer.status:
+        raise Stop(USAGE, f"{COMMAND} can't read {given.cluster}, so that it finds no guarantees and no load")
     known = found if is_explained(answer, found) else Lint()
     loads = [load_section(guarantees.loads)] if guarantees.loads else []
     text = "\n".join([*told(answer, found, is_bold_on(sys.stdout)), *as_text(loads)])

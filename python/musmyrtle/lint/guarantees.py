@@ -8,7 +8,8 @@ from musmyrtle.latencies import (BLOCKED, GUARANTEED, IDLE, POSSIBLE, Latency, L
                                  words_for_way)
 from musmyrtle.names import tables_of
 from musmyrtle.output import CANNOT_BE_USED, Stop, pass_on
-from musmyrtle.program import VARIABLES, ask, no_answer, usual_program
+from musmyrtle.program import VARIABLES, ask, itself, no_answer, usual_program
+from musmyrtle.show.network import name_in
 from musmyrtle.show.tables import Column, Row, Section
 from musmyrtle.texts import Text
 from musmyrtle.visible import cut
@@ -17,7 +18,7 @@ LOADS = (Column("channel", "channel"), Column("owned", "owned static slots"), Co
          Column("least", "least minislots"), Column("most", "most minislots"), Column("slack", "slack"))
 MOST_LINES, LONGEST_LINE = 2500, 4096
 """The lines and the characters of a line that are read: at most 1,026 of latencies, and 2,046 of a way."""
-MOST_WAYS, MOST_FRAMES = 20, 8
+MOST_WAYS, MOST_FRAMES = 8, 8
 """The notes that have a way to the latest start, each of which asks the program, and the frames named of a way."""
 FRONT = "musmyrtle lint: no latencies: "
 
@@ -33,9 +34,14 @@ def load_section(loads: Iterable[Load]) -> Section:
     return Section("load", "Channels: static slots of 64 cycles, dynamic minislots of a cycle", LOADS, rows)
 
 
-def lines_of(words: list[str]) -> list[str]:
-    """Returns what `fr_view` prints for these words. Raises `NoLatencies` if it refuses or fails."""
+def lines_of(words: list[str], is_checked: bool = False) -> list[str]:
+    """Returns what `fr_view` prints for these words. Raises `NoLatencies` if it refuses or fails.
+
+    IS_CHECKED is true after a call of the launcher, which then needn't check the sources again.
+    """
     program, lines = usual_program("fr_view"), list[str]()
+    if program and is_checked:
+        program = itself(program)
     if program is None:
         raise NoLatencies(f"there is no fr_view: name one by the variable {VARIABLES['fr_view']}, or put it on PATH")
 
@@ -63,7 +69,7 @@ def latencies_of(file: str) -> tuple[list[Latency], list[Load]]:
 def way_of(file: str, it: Latency) -> Way | None:
     """Returns the way to the latest start of a buffer's slot, if that is in one of its cycles."""
     try:
-        way = read_way(lines_of([*words_for_way(it.slot, it.channels), "--", file]))
+        way = read_way(lines_of([*words_for_way(it.slot, it.channels), "--", file], True))
     except (ValueError, NoLatencies) as error:
         pass_on(f"{FRONT}{error}")
         return None
@@ -78,6 +84,7 @@ class Guarantees:
         """FILE is the cluster file. WANTED has a node and a buffer for each buffer that has to be guaranteed."""
         self.file, self.wanted, self.has_load = file, tuple(wanted), has_load
         self.loads: list[Load] = []
+        self.is_wanted, self.is_done = bool(self.wanted) or has_load, False
 
     def notes_and_errors(self, cluster: Cluster, text: Text) -> tuple[list[Finding], list[Finding]]:
         """Returns the notes of buffers that can be kept from sending, and the errors of those that mustn't be.
@@ -85,13 +92,13 @@ class Guarantees:
         Raises `Stop` if the words want something that the program or the cluster doesn't have.
         """
         wanted = [buffer_of(cluster, text, *words) for words in self.wanted]
-        is_required = bool(wanted) or self.has_load
-        if not is_required and not any(it.transmits and not cluster.is_static(it.slot) for it in cluster.buffers()):
+        self.is_done = True
+        if not self.is_wanted and not any(it.transmits and not cluster.is_static(it.slot) for it in cluster.buffers()):
             return [], []
         try:
             found, loads = latencies_of(self.file)
         except NoLatencies as error:
-            if is_required:
+            if self.is_wanted:
                 raise Stop(CANNOT_BE_USED, str(error)) from None
             pass_on(f"{FRONT}{error}")
             return [], []
@@ -114,13 +121,13 @@ class Guarantees:
 def finding_of(cluster: Cluster, text: Text, buffer: Buffer, it: Latency, way: Way | None) -> Finding:
     """Returns why a buffer isn't guaranteed."""
     node, slot = cluster.nodes[buffer.node], f"slot {buffer.slot}"
-    headline, path, notes = f"{buffer} isn't guaranteed: ", (*buffer.path, "slot"), []
+    headline, path = f"{buffer} isn't guaranteed: ", (*buffer.path, "slot")
     if it.state == IDLE:
         reason = f"Its host has no task that could commit. Expected `tasks = 1` or more at node {node.number}."
         return text.finding(f"{headline}node {node.number} has no task", reason, (*node.path, "tasks"))
     key = f"latest_{buffer.channels.lower()}"
-    if key in text.document["node"][node.number]:
-        notes = [(f"`{key}` of node {node.number}", (*node.path, key))]
+    is_there = key in text.document["node"][node.number]
+    notes = [(f"`{key}` of node {node.number}", (*node.path, key))] if is_there else []
     if it.state == BLOCKED:
         reason = "It is never sent. The warning `never-sends` has the reason."
         return text.finding(f"{headline}{slot} never opens in time", reason, path, notes)
@@ -142,9 +149,9 @@ def moved_by(way: Way, it: Latency) -> str:
             f"{counted(missing, 'minislot')} too late: {joined(sent + [counted(more, 'more frame')] * (more > 0))}. ")
 
 
-def names_in(document: object) -> list[str | None]:
+def names_in(tables: object) -> list[str | None]:
     """Returns the keys `name` of the tables of an array, each None where it is no string."""
-    return [it["name"] if isinstance(it.get("name"), str) else None for it in tables_of(document)]
+    return [name_in(table) for table in tables_of(tables)]
 
 
 def buffer_of(cluster: Cluster, text: Text, node: str, buffer: str) -> Buffer:

@@ -33,7 +33,7 @@ def arguments_of(parser: argparse.ArgumentParser) -> Iterator[Argument]:
     """Yields the arguments of a parser, in their order."""
     for action in parser._actions:
         takes_value = action.nargs != 0
-        value = action.metavar if isinstance(action.metavar, str) else None
+        value = " ".join(action.metavar) if isinstance(action.metavar, tuple) else action.metavar
         if takes_value and value is None and not action.choices:
             value = action.dest.upper()
         choices = tuple(map(str, action.choices or ()))

@@ -102,8 +102,8 @@ TABLES = (
           of_cluster(check)),
     table("plan", "Prints who sends in which slot, who is to receive it, and when bus guardians are open.", Words(),
           (f"plan {THREE}", f"plan {THREE} --json"), of_cluster(plan)),
-    table("latency", "Prints which transmit buffers the schedule guarantees, their worst latencies, and the load of each\n"
-          "channel. With one --slot and --channel it also prints the frames that come before its latest start.",
+    table("latency", "Prints which transmit buffers the schedule guarantees, their worst latencies, and the load of\n"
+          "each channel. With one slot and its channel it also prints the frames before the slot's latest start.",
           Words(has_places=True), (f"latency {TEN}", f"latency {TEN} --slot 67 --channel A"), guarantees),
     table("run", "Runs a scenario, and prints what went wrong: commits that no node received and why, receive buffers\n"
           "that hold nothing, FIFOs that overwrote frames, errors with their slots, faults without effect.",

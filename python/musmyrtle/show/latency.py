@@ -37,8 +37,8 @@ def way(inputs: Inputs, slots: frozenset[int] | None, channel: str | None) -> li
     rows = [Row({"cycle": found.cycle, "minislot": it.minislot, "slot": it.slot, "node": network.node(it.node),
                  "buffer": network.buffer(it.node, it.buffer)}) for it in found.frames]
     rows.append(Row({"cycle": found.cycle, "minislot": found.minislot, "slot": slot}))
-    title = (f"Slot {slot} on {channel} begins at minislot {found.minislot} of cycle {found.cycle} at the latest, after "
-             f"{counted(len(found.frames), 'frame')}")
+    title = (f"Slot {slot} on {channel} begins at minislot {found.minislot} of cycle {found.cycle} at the latest, "
+             f"after {counted(len(found.frames), 'frame')}")
     return [Section("way", title, WAYS, rows)]
 
 
