@@ -1,6 +1,7 @@
 -- The guarantees of a schedule hold in every world.
 use Rattle.std.proofs.Common.{◌≡◌, ℕ, zero, suc, ◌+◌, ◌-◌, ◌%◌, ◌<◌, ◌≤◌, Bool, true, false, cond, ◌&&◌, ◌||◌, ◌⊎◌}
-use Rattle.std.proofs.Common.{inl, inr, List, [], ◌∷◌, ◌++◌, length, map, take, Option, Some, None, refl, sym, ap, subst}
+use Rattle.std.proofs.Common.{inl, inr, List, [], ◌∷◌, ◌++◌, length, map, take, Option, Some, None, refl, sym, ap}
+use Rattle.std.proofs.Common.{subst}
 use Rattle.std.proofs.Common.{◌∙◌, arith, slice_get}
 use Rattle.std.specs.Prelude.{nat_le}
 use Rattle.std.proofs.lemmas.Bool.{le-leb, leb-false, leb-true}
@@ -32,7 +33,8 @@ use Rattle.fr_guarantees.proofs.WayLemmas.{row_fits, goes_a_way}
 use Rattle.fr_minislot.specs.DynamicRows.{first_minislot, slot_after, has_row_after}
 use Rattle.fr_schedule.specs.Descriptions.{Description}
 use Rattle.fr_slots.proofs.FaultlessLemmas.{faultless}
-use Rattle.fr_slots.proofs.PlaceLemmas.{same_some, get-after, AllAfter-cut, each_after-cut, IsInSecond, place-append, get-map}
+use Rattle.fr_slots.proofs.PlaceLemmas.{same_some, get-after, AllAfter-cut, each_after-cut, IsInSecond, place-append}
+use Rattle.fr_slots.proofs.PlaceLemmas.{get-map}
 use Rattle.fr_slots.specs.declared.channel.Channel.{Channel}
 use Rattle.fr_slots.specs.Faults.{latest_on}
 use Rattle.fr_slots.specs.History.{AllAfter, each_after}
@@ -171,7 +173,8 @@ module _ (w : WorldState) (head : Headline w) where
                 ∙ ap (λ (x : Handed). Some x.window) m.value;
           }
 
-      by : Turn (carried_at w n) w.bus.phase w.bus.opened (view_for w.bus n).station.put (view_for w.bus n).station.taken
+      by : Turn (carried_at w n) w.bus.phase w.bus.opened (view_for w.bus n).station.put
+          (view_for w.bus n).station.taken
           → ((slice_get (map (offers_of n) w.bus.sealed) k ≡ Some h)
           ⊎ IsInSecond (map (offers_of n) w.bus.sealed) (ahead (carried_at w n) (view_for w.bus n)) k h)
           → IsNext w h.window

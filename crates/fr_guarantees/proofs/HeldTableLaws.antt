@@ -35,7 +35,8 @@ unset true e = absurd (let none : ⊥ = cc in none)
 unset false e = refl
 
 -- the channel of a buffer that is for one
-only_channel : (cs : Channels) (channel : Channel) → includes cs channel ≡ true → list_all (includes cs) channels ≡ false
+only_channel : (cs : Channels) (channel : Channel) → includes cs channel ≡ true → list_all (includes cs) channels
+    ≡ false
     → channel_of cs ≡ channel
 only_channel lines.A A e one = refl
 only_channel lines.A B e one = absurd (let none : ⊥ = cc in none)

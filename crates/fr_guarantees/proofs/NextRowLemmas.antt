@@ -49,7 +49,8 @@ in_cycle : (p : Parameters) (number cycle : ℕ) (rows : List Recorded) (w : Opp
     → window_at p number cycle rows w.minislot ≡ w
 in_cycle p number cycle rows w e dynamic = by (nat_lt (statics_of rows) p.static_slots) e
   where
-    by : (b : Bool) → cond b (Some (static_window number cycle (statics_of rows + 1))) (next_dynamic p number cycle rows) ≡
+    by : (b : Bool) → cond b (Some (static_window number cycle (statics_of rows + 1)))
+        (next_dynamic p number cycle rows) ≡
         Some w → window_at p number cycle rows w.minislot ≡ w
     by true f = not_static number cycle (statics_of rows + 1) w f dynamic
     by false f = at_minislot p number cycle rows (find (opens_any p rows) (range_with_len 1 p.minislots)) w f

@@ -1,6 +1,8 @@
 -- A node's offer in a dynamic window is a frame that can be sent there.
-use Rattle.std.proofs.Common.{◌≡◌, ℕ, ◌+◌, ◌*◌, ◌≤◌, ◌<◌, Bool, true, false, cond, ◌&&◌, ◌||◌, List, [], ◌∷◌, ◌++◌, length}
-use Rattle.std.proofs.Common.{Option, Some, None, refl, sym, ap, subst, ◌∙◌, arith, slice_get, length-append, is_some, take}
+use Rattle.std.proofs.Common.{◌≡◌, ℕ, ◌+◌, ◌*◌, ◌≤◌, ◌<◌, Bool, true, false, cond, ◌&&◌, ◌||◌, List, [], ◌∷◌, ◌++◌}
+use Rattle.std.proofs.Common.{length}
+use Rattle.std.proofs.Common.{Option, Some, None, refl, sym, ap, subst, ◌∙◌, arith, slice_get, length-append, is_some}
+use Rattle.std.proofs.Common.{take}
 use Rattle.std.specs.Prelude.{nat_le, IfSome, IsSomeAnd}
 use Rattle.std.specs.Int.{bytes_high_first}
 use Rattle.std.specs.Option.{option_and_then}
@@ -23,7 +25,8 @@ use Rattle.fr_journal.specs.declared.entry.Offered.TheVariants.{Nothing, Null, D
 use Rattle.fr_journal.specs.Fate.{is_commit_on, last_commit}
 use Rattle.fr_journal.specs.Forms.{Entry}
 use Rattle.fr_journal.specs.Legal.{IsLegal, IsLegalFetch}
-use Rattle.fr_journal.specs.Offers.{transmitter, is_admitting, may_begin, ready, ready_in, commit_offered, owns, data_or}
+use Rattle.fr_journal.specs.Offers.{transmitter, is_admitting, may_begin, ready, ready_in, commit_offered, owns}
+use Rattle.fr_journal.specs.Offers.{data_or}
 use Rattle.fr_journal.specs.Offers.{ownership, line_of, offered_at, offered, payload_in, payload_of, data_frame_of}
 use Rattle.fr_journal.specs.Offers.{frame_of_offer, frame_with, bytes_of}
 use Rattle.fr_guarantees.specs.Ways.{CanSend}

@@ -1,5 +1,6 @@
 -- A slot that the table of latencies calls guaranteed opens in time on each way.
-use Rattle.std.proofs.Common.{◌≡◌, ℕ, zero, suc, ◌+◌, ◌-◌, ◌*◌, ◌<◌, ◌≤◌, Bool, true, false, cond, ◌&&◌, ◌||◌, ◌⊎◌, inl, inr}
+use Rattle.std.proofs.Common.{◌≡◌, ℕ, zero, suc, ◌+◌, ◌-◌, ◌*◌, ◌<◌, ◌≤◌, Bool, true, false, cond, ◌&&◌, ◌||◌, ◌⊎◌}
+use Rattle.std.proofs.Common.{inl, inr}
 use Rattle.std.proofs.Common.{List, [], ◌∷◌, ◌++◌, length, length-append, Option, Some, None, refl, sym, ap, subst, ◌∙◌}
 use Rattle.std.proofs.Common.{arith, slice_get}
 use Rattle.std.specs.Prelude.{nat_le, ◌==◌}
@@ -113,7 +114,8 @@ module _ (d : Description) (cluster : IsCluster d) (cycle : ℕ) (channel : Chan
   silent earlier minislot zero can =
       let slots : earlier + 0 ≡ earlier = omega arith in
       let place : minislot + 0 ≡ minislot = omega arith in
-      ap (λ (n : ℕ). can_begin d channel cycle n (minislot + 0)) slots ∙ ap (can_begin d channel cycle earlier) place ∙ can
+      ap (λ (n : ℕ). can_begin d channel cycle n (minislot + 0)) slots
+      ∙ ap (can_begin d channel cycle earlier) place ∙ can
   silent earlier minislot (suc more) can =
       let before = silent earlier minislot more can in
       let slots : earlier + suc more ≡ (earlier + more) + 1 = omega arith in

@@ -1,6 +1,7 @@
 -- Each way of the lanes leads to a minislot at which the next slot can begin.
 use Rattle.std.proofs.Common.{◌≡◌, ℕ, zero, suc, ◌+◌, ◌-◌, ◌*◌, ◌/◌, ◌%◌, ◌<◌, ◌≤◌, Bool, true, false, cond, ◌&&◌, ◌||◌}
-use Rattle.std.proofs.Common.{◌⊎◌, inl, inr, List, [], ◌∷◌, ◌++◌, length, length-append, Some, refl, sym, ap, subst, ◌∙◌, arith}
+use Rattle.std.proofs.Common.{◌⊎◌, inl, inr, List, [], ◌∷◌, ◌++◌, length, length-append, Some, refl, sym, ap, subst}
+use Rattle.std.proofs.Common.{◌∙◌, arith}
 use Rattle.std.proofs.Common.{slice_get}
 use Rattle.std.specs.Prelude.{◌==◌, nat_le, sum_by, min}
 use Rattle.std.specs.Int.{div_ceil}
@@ -113,7 +114,8 @@ module _ (d : Description) (some : 0 < d.params.words_per_minislot) (cycle : ℕ
       let long : row_length p bytes ≡ frame_length p s.buffer = row_is_frame p s.buffer bytes some s.bytes_are in
       let back : begins - frame_length p s.buffer ≡ first = omega (arith, is, long) in
       let frame : follows_frame p channel here begins s.plan s.buffer ≡ true =
-      both (nat_le (begins - frame_length p s.buffer) (latest_on s.plan channel)) (here (begins - frame_length p s.buffer))
+      both (nat_le (begins - frame_length p s.buffer) (latest_on s.plan channel)) (here
+      (begins - frame_length p s.buffer))
       (ap (λ (n : ℕ). nat_le n (latest_on s.plan channel)) back ∙ le-leb first (latest_on s.plan channel) s.in_time)
       (ap here back ∙ can) in
       let buffer : follows_buffer p slot channel cycle here begins s.plan s.buffer ≡ true =

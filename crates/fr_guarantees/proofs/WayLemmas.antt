@@ -1,5 +1,6 @@
 -- In a run without faults of senders the rows of each cycle are one of the schedule's ways.
-use Rattle.std.proofs.Common.{◌≡◌, ℕ, zero, suc, ◌+◌, ◌-◌, ◌%◌, ◌<◌, ◌≤◌, ◌==◌, Bool, true, false, not, cond, ◌&&◌, ◌||◌}
+use Rattle.std.proofs.Common.{◌≡◌, ℕ, zero, suc, ◌+◌, ◌-◌, ◌%◌, ◌<◌, ◌≤◌, ◌==◌, Bool, true, false, not, cond, ◌&&◌}
+use Rattle.std.proofs.Common.{◌||◌}
 use Rattle.std.proofs.Common.{◌⊎◌, inl, inr, List, [], ◌∷◌, ◌++◌, length, map, take, Option, Some, None, refl, sym, ap}
 use Rattle.std.proofs.Common.{subst, ◌∙◌, arith, slice_get, get_or, is_some}
 use Rattle.std.specs.Prelude.{count_by, max, nat_le, nat_lt, slice_index_or}
@@ -15,7 +16,8 @@ use Rattle.fr_bus.specs.declared.outcome.SentFate.{SentFate}
 use Rattle.fr_bus.specs.Outcome.{transmission, sent_in, is_of, passed_on, all_passed, longest, fate_of, is_passed}
 use Rattle.fr_bus.specs.Record.{Recorded, IsOutcome, is_offer_of, offer_in, side_on}
 use Rattle.fr_bus.specs.States.{IsRecorded, idle_station}
-use Rattle.fr_bus.specs.Windows.{begins_cycle, is_first_slot, cycles_begun, with_window, this_cycle, is_row_of, counts_on}
+use Rattle.fr_bus.specs.Windows.{begins_cycle, is_first_slot, cycles_begun, with_window, this_cycle, is_row_of}
+use Rattle.fr_bus.specs.Windows.{counts_on}
 use Rattle.fr_core.proofs.CaseLemmas.{both_first, both_rest, both}
 use Rattle.fr_core.proofs.HandingLemmas.{fetch_of, bytes_on, handed_on}
 use Rattle.fr_core.proofs.OwnLemmas.{own_from}
@@ -116,7 +118,8 @@ offer_of_own channel n (t ∷ xs) = by (is_of n t && is_channel t.channel channe
 
 -- what a node sends on a channel without babbling is its offer
 offered_alone : (n : ℕ) (channel : Channel) (fate other : SentFate) (offer babble : Option (ArrayVec ℕ)) (k : ℕ)
-    (t : Sent) → slice_get (transmission n channel false fate offer ++ transmission n channel true other babble) k ≡ Some t
+    (t : Sent) → slice_get (transmission n channel false fate offer ++ transmission n channel true other babble) k
+    ≡ Some t
     → t.babble ≡ false
     → offer_in channel n (transmission n channel false fate offer ++ transmission n channel true other babble)
     ≡ Some t.bytes
@@ -279,8 +282,10 @@ module _ (d : Description) (cycles : ℕ) where
             (λ (c : ℕ). CanSend d c (slot_after d.params (counts_on channel (this_cycle before))) channel
             (first_minislot d.params (counts_on channel (this_cycle before))) (longest channel r.sent)) cycle
             (subst (λ (k : ℕ). CanSend d r.window.cycle k channel
-            (first_minislot d.params (counts_on channel (this_cycle before))) (longest channel r.sent)) (sym row.slot_is)
-            (subst (λ (m : ℕ). CanSend d r.window.cycle s.slot channel m (longest channel r.sent)) (sym row.begins) can))),
+            (first_minislot d.params (counts_on channel (this_cycle before))) (longest channel r.sent))
+            (sym row.slot_is)
+            (subst (λ (m : ℕ). CanSend d r.window.cycle s.slot channel m (longest channel r.sent))
+            (sym row.begins) can))),
       )
     where
       either : {X Y Z : Type 0} → X ⊎ Y → (Y → Z) → X ⊎ Z

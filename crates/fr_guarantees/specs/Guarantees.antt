@@ -1,5 +1,6 @@
 -- Slots that open in time whatever the hosts do, and what follows from it in every world (project-defined).
-use Rattle.std.specs.Prelude.{◌≡◌, ℕ, ◌-◌, ◌%◌, ◌<◌, ◌≤◌, not, Bool, true, false, ◌||◌, List, [], ◌∷◌, ◌++◌, take, slice_get}
+use Rattle.std.specs.Prelude.{◌≡◌, ℕ, ◌-◌, ◌%◌, ◌<◌, ◌≤◌, not, Bool, true, false, ◌||◌, List, [], ◌∷◌, ◌++◌, take}
+use Rattle.std.specs.Prelude.{slice_get}
 use Rattle.std.specs.Prelude.{Some}
 use Rattle.std.specs.List.{list_all}
 use Rattle.fr_bus.specs.declared.outcome.Sent.{Sent}
@@ -74,7 +75,8 @@ pub record Guarantees (w : WorldState) : Type 0 where
       → OpensBy w.bus.cluster window.cycle channel slot (latest_on s.plan channel) → IsServed s number window
   -- Without faults of senders, the rows of each cycle are one of the schedule's ways.
   pub ways : ArePlain w.bus.sealed → (k : ℕ) (channel : Channel)
-      → IsWay w.bus.cluster (cycle_of (take k w.bus.sealed)) channel (counts_on channel (this_cycle (take k w.bus.sealed)))
+      → IsWay w.bus.cluster (cycle_of (take k w.bus.sealed)) channel (counts_on channel (this_cycle
+      (take k w.bus.sealed)))
   -- Without faults of senders, a slot that always opens has had its row once the channel has no further row in the
   -- cycle.
   pub opened : ArePlain w.bus.sealed → (k slot : ℕ) (channel : Channel) → slot ≤ 2047
@@ -84,7 +86,8 @@ pub record Guarantees (w : WorldState) : Type 0 where
 
 -- ---- the table of latencies
 
--- Without faults of senders, a window of a cycle that the table calls guaranteed leaves no commit pending on its buffer.
+-- Without faults of senders, a window of a cycle that the table calls guaranteed leaves no commit pending on its
+-- buffer.
 abbrev pub TableHolds : WorldState → Type 0
 TableHolds w = ArePlain w.bus.sealed → (n number slot : ℕ) (s : State) (window : Opportunity) (channel : Channel)
     → slice_get w.interfaces n ≡ Some s → (turn : IsTurn s number window channel slot)

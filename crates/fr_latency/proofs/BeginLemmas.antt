@@ -1,9 +1,12 @@
--- Where slots can begin: not before the first minislot that is left, always there, and not long after the segment.
-use Rattle.std.proofs.Common.{◌≡◌, ℕ, zero, suc, ◌+◌, ◌-◌, ◌*◌, ◌<◌, ◌≤◌, ◌⊎◌, Bool, true, false, ◌&&◌, ◌||◌, leb, eqb, List, [], ◌∷◌}
+-- The minislots at which slots can begin: none before the first that is left, always that one, and none long after the
+-- segment.
+use Rattle.std.proofs.Common.{◌≡◌, ℕ, zero, suc, ◌+◌, ◌-◌, ◌*◌, ◌<◌, ◌≤◌, ◌⊎◌, Bool, true, false, ◌&&◌, ◌||◌, leb}
+use Rattle.std.proofs.Common.{eqb, List, [], ◌∷◌}
 use Rattle.std.proofs.Common.{refl, sym, ap, ◌∙◌, subst, inl, inr, arith, add-one}
 use Rattle.std.specs.List.{list_any}
 use Rattle.std.specs.Int.{div_ceil}
-use Rattle.std.proofs.lemmas.Bool.{cases_Bool, and_parts, and_left, and_right, or_cases, or_from, or_left, true≢false, leb-true}
+use Rattle.std.proofs.lemmas.Bool.{cases_Bool, and_parts, and_left, and_right, or_cases, or_from, or_left, true≢false}
+use Rattle.std.proofs.lemmas.Bool.{leb-true}
 use Rattle.std.proofs.lemmas.Bool.{ne_eqb, eqb-true}
 use Rattle.std.proofs.lemmas.Grind.{div_ceil_times}
 use Rattle.fr_slots.specs.declared.channel.Channel.{Channel}
@@ -43,7 +46,8 @@ some_filled (suc q) words n few = omega arith
 pub frames_have_lengths : (p : Parameters) → IsParameters p → HasLengths p
 frames_have_lengths p is = λ b.
     let filled = minislots_filled p (words_of p b) in
-    let times = div_ceil_times (words_of p b + 4) p.words_per_minislot (omega (arith, is.words_per_minislot_fit.from_least)) in
+    let times = div_ceil_times (words_of p b + 4) p.words_per_minislot (omega
+    (arith, is.words_per_minislot_fit.from_least)) in
     let some = some_filled filled (words_of p b) p.words_per_minislot times.0 in
     omega (arith, some)
 

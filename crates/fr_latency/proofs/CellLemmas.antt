@@ -1,6 +1,8 @@
 -- The bits of cells, after cells were added to them.
-use Rattle.std.proofs.Common.{◌≡◌, ℕ, ◌+◌, ◌*◌, ◌-◌, ◌^◌, ◌%◌, ◌<◌, ◌≤◌, ◌≢◌, max, min, Bool, true, false, ◌&&◌, ◌||◌, eqb, leb, ltb}
-use Rattle.std.proofs.Common.{List, length, get_or, set, get_or-set_other, get_or-set_same, refl, sym, ap, ◌∙◌, arith, inl, inr}
+use Rattle.std.proofs.Common.{◌≡◌, ℕ, ◌+◌, ◌*◌, ◌-◌, ◌^◌, ◌%◌, ◌<◌, ◌≤◌, ◌≢◌, max, min, Bool, true, false, ◌&&◌, ◌||◌}
+use Rattle.std.proofs.Common.{eqb, leb, ltb}
+use Rattle.std.proofs.Common.{List, length, get_or, set, get_or-set_other, get_or-set_same, refl, sym, ap, ◌∙◌, arith}
+use Rattle.std.proofs.Common.{inl, inr}
 use Rattle.std.proofs.Common.{w64, subst}
 use Rattle.std.specs.Int.{bit_at}
 use Rattle.std.specs.List.{list_any}
@@ -12,7 +14,8 @@ use Rattle.std.proofs.lemmas.List.{length-replicate}
 use Rattle.std.specs.Prelude.{bit_and, bit_or, slice_index}
 use Rattle.std.proofs.lemmas.Bool.{cases_lt, cases_eq, eq-eqb, ne_eqb, lt-ltb, le-ltb, le-leb, lt-leb}
 use Rattle.std.proofs.lemmas.Bool.Decides.{nat_tests}
-use Rattle.std.proofs.lemmas.Nat.Bits.{bit_at_or, bit_at_and, bit_at-lt, bit_at_set_same, bit_at_set_other, bit_at-zero, bit_at_ones}
+use Rattle.std.proofs.lemmas.Nat.Bits.{bit_at_or, bit_at_and, bit_at-lt, bit_at_set_same, bit_at_set_other}
+use Rattle.std.proofs.lemmas.Nat.Bits.{bit_at-zero, bit_at_ones}
 use Rattle.fr_slots.specs.Admission.{CycleClass, cycle_admitted}
 use Rattle.fr_slots.specs.Numbers.{cycle_count}
 use Rattle.fr_latency.specs.Cells.{has_bit, IsMask, HasBits, IsAdded, BeginsAbove, AddsTo, CycleTest}
@@ -57,7 +60,8 @@ added_here from shift count mask old cells within is index less =
           rw get_or-set_other (is.added index before)
       | inr after ↦
           let same : index ≡ count = omega arith in
-          let kept : get_or cells (count + shift) 0 ≡ get_or old (count + shift) 0 = is.above (count + shift) (omega arith) in
+          let kept : get_or cells (count + shift) 0 ≡ get_or old (count + shift) 0 = is.above (count + shift)
+          (omega arith) in
           rw same (rw get_or-set_same (rw kept refl))
     ]
 
@@ -121,7 +125,8 @@ no_bit : (cycle : ℕ) → has_bit 0 cycle ≡ false
 no_bit cycle = ap (λ n. eqb n 1) (bit_at-zero cycle)
 
 pub mask_none : (cycles : CycleClass) → IsMaskBelow cycles 0 0
-mask_none cycles = λ cycle within. no_bit cycle ∙ sym (ap (λ b. b && cycle_admitted cycles cycle) (le-ltb cycle 0 (omega arith)))
+mask_none cycles = λ cycle within. no_bit cycle ∙ sym (ap (λ b. b && cycle_admitted cycles cycle) (le-ltb cycle 0
+    (omega arith)))
 
 pub mask_whole : (cycles : CycleClass) (mask : ℕ) → IsMaskBelow cycles 64 mask → IsMask cycles mask
 mask_whole cycles mask is = λ cycle within.
@@ -157,7 +162,8 @@ too_early kept admitted fits began none = grind arith
 too_late : (kept admitted fits began : Bool) → fits ≡ false → kept ≡ (kept || (admitted && (fits && began)))
 too_late kept admitted fits began none = grind arith
 
-in_time : (kept admitted fits began : Bool) → fits ≡ true → (kept || (began && admitted)) ≡ (kept || (admitted && (fits && began)))
+in_time : (kept admitted fits began : Bool) → fits ≡ true → (kept || (began && admitted))
+    ≡ (kept || (admitted && (fits && began)))
 in_time kept admitted fits began all = grind arith
 
 -- the cell of each minislot, after the cells before a frame were added to those of the next slot

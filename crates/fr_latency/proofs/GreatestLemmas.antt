@@ -66,7 +66,8 @@ greatest_passes test (suc n) some =
     elim (cases_Bool (test (suc n))) as (λ _. test (greatest test (suc n)) ≡ true) [
       | inl here ↦ ap test (cond-true (test (suc n)) (suc n) (greatest test n) here) ∙ here
       | inr fails ↦
-          let down : greatest test (suc n) ≡ greatest test n = cond-false (test (suc n)) (suc n) (greatest test n) fails in
+          let down : greatest test (suc n) ≡ greatest test n = cond-false (test (suc n)) (suc n)
+          (greatest test n) fails in
           ap test down ∙ greatest_passes test n (omega (arith, down, some))
     ]
 

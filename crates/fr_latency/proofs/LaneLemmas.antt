@@ -1,10 +1,13 @@
 -- The lanes that a run can have come to the minislots at which slots can begin, and to no others.
-use Rattle.std.proofs.Common.{◌≡◌, ℕ, zero, suc, ◌+◌, ◌-◌, ◌*◌, ◌/◌, ◌%◌, ◌<◌, ◌≤◌, ◌⊎◌, min, Bool, true, false, ◌&&◌, ◌||◌, eqb, leb}
-use Rattle.std.proofs.Common.{List, [], ◌∷◌, ◌++◌, length, refl, sym, ap, ap₂, ◌∙◌, subst, arith, inl, inr, Some, slice_get, cond}
+use Rattle.std.proofs.Common.{◌≡◌, ℕ, zero, suc, ◌+◌, ◌-◌, ◌*◌, ◌/◌, ◌%◌, ◌<◌, ◌≤◌, ◌⊎◌, min, Bool, true, false, ◌&&◌}
+use Rattle.std.proofs.Common.{◌||◌, eqb, leb}
+use Rattle.std.proofs.Common.{List, [], ◌∷◌, ◌++◌, length, refl, sym, ap, ap₂, ◌∙◌, subst, arith, inl, inr, Some}
+use Rattle.std.proofs.Common.{slice_get, cond}
 use Rattle.std.specs.Int.{div_ceil}
 use Rattle.std.specs.List.{list_any, sum_by}
 use Rattle.std.proofs.Math.Nat.{mul-div-mul_left, mod-eq-sub-mul-div}
-use Rattle.std.proofs.lemmas.Bool.{and_from, and_parts, cond-false, eqb-true, leb-true, le-leb, ne_eqb, or_cases, or_left, or_right}
+use Rattle.std.proofs.lemmas.Bool.{and_from, and_parts, cond-false, eqb-true, leb-true, le-leb, ne_eqb, or_cases}
+use Rattle.std.proofs.lemmas.Bool.{or_left, or_right}
 use Rattle.std.proofs.lemmas.Bool.{true≢false}
 use Rattle.std.proofs.lemmas.List.{length_push}
 use Rattle.std.proofs.lemmas.List.Sums.{sum_by_push}
@@ -26,7 +29,8 @@ use Rattle.fr_latency.specs.declared.openings.Row.{Row}
 use Rattle.fr_latency.specs.Exact.{AreExactRows}
 use Rattle.fr_latency.specs.Rows.{AreRows}
 use Rattle.fr_latency.specs.Lanes.{CanSend, IsLane, IsLaneTo, IsLatest, frame_bytes}
-use Rattle.fr_latency.specs.Openings.{can_begin, follows_buffer, follows_frame, follows_node, frame_length, horizon, last_begin}
+use Rattle.fr_latency.specs.Openings.{can_begin, follows_buffer, follows_frame, follows_node, frame_length, horizon}
+use Rattle.fr_latency.specs.Openings.{last_begin}
 use Rattle.fr_latency.specs.Openings.{slot_after}
 use Rattle.fr_latency.proofs.BeginLemmas.{begins_more, begins_none}
 use Rattle.fr_latency.proofs.GreatestLemmas.{greatest_bounds}
@@ -93,7 +97,8 @@ after_frame d on cycle counts bytes comes can =
     ap (λ n. leb n (latest_on can.plan on)) less ∙ le-leb m (latest_on can.plan on) can.in_time in
     let follows : follows_buffer p slot on cycle test (m + size) can.plan can.buffer ≡ true =
     and_from (sends_at slot on cycle can.buffer) _ can.sends
-    (and_from (leb (m + size - size) (latest_on can.plan on)) (test (m + size - size)) in_time (ap test less ∙ comes)) in
+    (and_from (leb (m + size - size) (latest_on can.plan on)) (test (m + size - size)) in_time (ap test less
+    ∙ comes)) in
     let of_node : follows_node p slot on cycle test (m + size) can.plan ≡ true =
     and_from (leb 1 can.plan.tasks) _ (le-leb 1 can.plan.tasks can.has_tasks)
     (any_at (follows_buffer p slot on cycle test (m + size) can.plan) can.plan.buffers can.number can.buffer can.of_plan
@@ -154,7 +159,8 @@ lane_more d on cycle earlier minislot begin bytes lane step next = record {
     AllAfter-snoc (λ before bytes. (bytes ≡ 0)
         ⊎ CanSend d on cycle (rows.slot_after d.params before) (first_minislot d.params before) bytes)
         lane.counts bytes lane.is_lane.0
-        (subst (λ (m : ℕ). (bytes ≡ 0) ⊎ CanSend d on cycle (rows.slot_after d.params lane.counts) m bytes) (sym lane.at)
+        (subst (λ (m : ℕ). (bytes ≡ 0) ⊎ CanSend d on cycle (rows.slot_after d.params lane.counts) m bytes)
+        (sym lane.at)
         (subst (λ (n : ℕ). (bytes ≡ 0) ⊎ CanSend d on cycle (slot_after d.params n) begin bytes) (sym lane.is_lane.1)
         step)),
     length_push lane.counts bytes ∙ ap (λ n. n + 1) lane.is_lane.1,
@@ -222,7 +228,8 @@ minislots_reached d is on cycle (suc earlier) minislot begins =
 pub latest_is : (d : Description) → IsCluster d → (on : Channel) (cycle earlier : ℕ)
     → IsLatest d on cycle earlier (last_begin d on cycle earlier)
 latest_is d is on cycle earlier =
-    let lane = minislots_reached d is on cycle earlier (last_begin d on cycle earlier) (begins_last d on cycle earlier) in
+    let lane = minislots_reached d is on cycle earlier (last_begin d on cycle earlier)
+    (begins_last d on cycle earlier) in
     record {
       counts = lane.counts;
       is_lane = lane.is_lane;

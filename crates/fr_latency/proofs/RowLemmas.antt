@@ -1,5 +1,6 @@
 -- The rows of slots, from the minislots at which each slot can begin.
-use Rattle.std.proofs.Common.{◌≡◌, ℕ, zero, suc, ◌+◌, ◌-◌, ◌*◌, ◌<◌, ◌≤◌, Bool, true, false, eqb, List, [], ◌∷◌, ◌++◌, length, get_or}
+use Rattle.std.proofs.Common.{◌≡◌, ℕ, zero, suc, ◌+◌, ◌-◌, ◌*◌, ◌<◌, ◌≤◌, Bool, true, false, eqb, List, [], ◌∷◌, ◌++◌}
+use Rattle.std.proofs.Common.{length, get_or}
 use Rattle.std.proofs.Common.{refl, sym, ap, ◌∙◌, subst, arith, Some, None, slice_get}
 use Rattle.fr_slots.specs.declared.channel.Channel.{Channel}
 use Rattle.fr_slots.specs.Numbers.{cycle_count}
@@ -83,6 +84,7 @@ begins_in_time d channel cycle earlier latest is =
           lt-ltb earlier latest less ∙ sym (le-leb 1 (greatest test latest) (omega arith))
       | inr more ↦
           let none : greatest test latest ≡ 0 = greatest_none test latest
-          (λ m few. starts_after d channel cycle earlier m (frames_have_lengths d.params is.params_are) (omega arith)) in
+          (λ m few. starts_after d channel cycle earlier m (frames_have_lengths d.params is.params_are)
+          (omega arith)) in
           le-ltb earlier latest more ∙ sym (ap (leb 1) none)
     ]

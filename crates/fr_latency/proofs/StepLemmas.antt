@@ -1,5 +1,6 @@
 -- From the minislots of a slot to those of the next one.
-use Rattle.std.proofs.Common.{◌≡◌, ℕ, zero, suc, ◌+◌, ◌-◌, ◌<◌, ◌≤◌, Bool, true, false, ◌&&◌, ◌||◌, eqb, leb, List, [], ◌∷◌, length, get_or}
+use Rattle.std.proofs.Common.{◌≡◌, ℕ, zero, suc, ◌+◌, ◌-◌, ◌<◌, ◌≤◌, Bool, true, false, ◌&&◌, ◌||◌, eqb, leb, List}
+use Rattle.std.proofs.Common.{[], ◌∷◌, length, get_or}
 use Rattle.std.proofs.Common.{refl, sym, ap, ◌∙◌, subst, arith, Some, None, Option, slice_get}
 use Rattle.std.specs.List.{list_any}
 use Rattle.fr_slots.specs.declared.channel.Channel.{Channel}
@@ -12,7 +13,8 @@ use Rattle.fr_slots.specs.Plans.{Plan, Each}
 use Rattle.fr_schedule.specs.Clusters.{IsCluster, IsNode}
 use Rattle.fr_schedule.specs.Descriptions.{Description}
 use Rattle.fr_latency.specs.Cells.{HasBits, BeginsAbove, AddsTo, CycleTest, has_bit}
-use Rattle.fr_latency.specs.Openings.{frame_length, is_for, follows_frame, follows_buffer, follows_node, follows, slot_after}
+use Rattle.fr_latency.specs.Openings.{frame_length, is_for, follows_frame, follows_buffer, follows_node, follows}
+use Rattle.fr_latency.specs.Openings.{slot_after}
 use Rattle.fr_latency.specs.Openings.{can_begin}
 use Rattle.fr_latency.proofs.BeginLemmas.{HasLengths, frames_have_lengths, starts_after, begins_more}
 use Rattle.fr_latency.proofs.CellLemmas.{bits_same, after_frame}
@@ -29,7 +31,8 @@ sends_in_cycles slot channel cycle b is =
     its_cycles (transmits b) (eqb b.filter.slot slot) (includes b.filter.channels channel)
     (cycle_admitted b.filter.cycles cycle) is
 
-pub frame_follows : (p : Parameters) (slot : ℕ) (channel : Channel) (plan : Plan) (b : Buffer) → is_for slot channel b ≡ true
+pub frame_follows : (p : Parameters) (slot : ℕ) (channel : Channel) (plan : Plan) (b : Buffer)
+    → is_for slot channel b ≡ true
     → (test : CycleTest) (cycle minislot : ℕ)
     → after_frame (latest_on plan channel) (frame_length p b) b.filter.cycles test cycle minislot
     ≡ follows_buffer p slot channel cycle (test cycle) minislot plan b

@@ -1,7 +1,10 @@
 -- The buffers of a cluster's nodes, and the owners of its static slots.
-use Rattle.std.proofs.Common.{◌≡◌, ℕ, zero, suc, ◌+◌, ◌-◌, ◌*◌, ◌/◌, ◌<◌, ◌≤◌, min, Bool, true, false, ◌&&◌, ◌||◌, eqb, leb, List, [], ◌∷◌, length, get_or}
+use Rattle.std.proofs.Common.{◌≡◌, ℕ, zero, suc, ◌+◌, ◌-◌, ◌*◌, ◌/◌, ◌<◌, ◌≤◌, min, Bool, true, false, ◌&&◌, ◌||◌}
+use Rattle.std.proofs.Common.{eqb, leb, List, [], ◌∷◌, length, get_or}
 use Rattle.std.proofs.Common.{refl, sym, ap, ◌∙◌, subst, arith, Some, None, Option, slice_get}
-use Rattle.std.proofs.lemmas.Bool.{and_from, and_parts, eq-eqb, or_parts, or_from, or_left, or_right, cond-true, cond-false, false_from_ne_true, cases_Bool, true≢false, leb-true, lt-leb, ne_eqb, cond_both, and_left, and_right}
+use Rattle.std.proofs.lemmas.Bool.{and_from, and_parts, eq-eqb, or_parts, or_from, or_left, or_right, cond-true}
+use Rattle.std.proofs.lemmas.Bool.{cond-false, false_from_ne_true, cases_Bool, true≢false, leb-true, lt-leb, ne_eqb}
+use Rattle.std.proofs.lemmas.Bool.{cond_both, and_left, and_right}
 use Rattle.std.proofs.Math.Nat.{div-le_self}
 use Rattle.std.proofs.lemmas.Bool.Decides.{nat_tests}
 use Rattle.std.proofs.lemmas.Option.{slice_get_within, get_or_from_slice_get, same_Some}
@@ -24,7 +27,8 @@ use Rattle.fr_schedule.specs.SenderTable.{IsSender, may_send}
 use Rattle.fr_latency.specs.Below.{least_below}
 use Rattle.fr_latency.specs.Latencies.{channel_of}
 use Rattle.fr_latency.specs.Loads.{has_owner}
-use Rattle.fr_latency.specs.Openings.{is_for, is_used, can_begin, follows_buffer, follows_frame, follows_node, frame_length}
+use Rattle.fr_latency.specs.Openings.{is_for, is_used, can_begin, follows_buffer, follows_frame, follows_node}
+use Rattle.fr_latency.specs.Openings.{frame_length}
 use Rattle.fr_latency.specs.Openings.{horizon, slot_after}
 use Rattle.fr_latency.specs.Tables.{IsUsedFor}
 use Rattle.fr_latency.proofs.BelowLemmas.{least_more, least_none}

@@ -1,9 +1,12 @@
 -- Ways to the minislots at which a slot can begin, and the marks of these minislots.
-use Rattle.std.proofs.Common.{◌≡◌, ℕ, zero, suc, ◌+◌, ◌-◌, ◌<◌, ◌≤◌, Bool, true, false, ◌&&◌, ◌||◌, ltb, List, [], ◌∷◌, ◌++◌, length, get_or, map}
-use Rattle.std.proofs.Common.{refl, sym, ap, ◌∙◌, subst, arith, inl, inr, add-one, append_assoc, Some, None, slice_get, cond}
+use Rattle.std.proofs.Common.{◌≡◌, ℕ, zero, suc, ◌+◌, ◌-◌, ◌<◌, ◌≤◌, Bool, true, false, ◌&&◌, ◌||◌, ltb, List, []}
+use Rattle.std.proofs.Common.{◌∷◌, ◌++◌, length, get_or, map}
+use Rattle.std.proofs.Common.{refl, sym, ap, ◌∙◌, subst, arith, inl, inr, add-one, append_assoc, Some, None}
+use Rattle.std.proofs.Common.{slice_get, cond}
 use Rattle.std.specs.List.{list_any}
 use Rattle.std.specs.Prelude.{slice_index_or}
-use Rattle.std.proofs.lemmas.Bool.{cases_lt, cases_Bool, cond-true, cond-false, ltb-true, ltb-false, true≢false, or_from, eqb-true}
+use Rattle.std.proofs.lemmas.Bool.{cases_lt, cases_Bool, cond-true, cond-false, ltb-true, ltb-false, true≢false}
+use Rattle.std.proofs.lemmas.Bool.{or_from, eqb-true}
 use Rattle.std.proofs.lemmas.Grind.{common_steps}
 use Rattle.std.proofs.lemmas.List.{length-map, get_or-map}
 use Rattle.std.proofs.lemmas.Option.{slice_get_read}
@@ -33,7 +36,8 @@ pub marks_right : (d : Description) (on : Channel) (cycle earlier : ℕ) (cells 
     → marks ≡ map (λ cell. has_bit cell cycle) cells
     → AreMarksOf earlier (can_begin d on cycle earlier) marks
 marks_right d on cycle earlier cells marks is within room bits made =
-    let size : length marks ≡ length cells = ap (λ (xs : List Bool). length xs) made ∙ length-map cells (λ cell. has_bit cell cycle) in
+    let size : length marks ≡ length cells = ap (λ (xs : List Bool). length xs) made
+    ∙ length-map cells (λ cell. has_bit cell cycle) in
     record {
       above = λ minislot few. starts_after d on cycle earlier minislot (frames_have_lengths d.params is.params_are) few;
       each = λ index less.

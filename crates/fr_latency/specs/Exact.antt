@@ -1,4 +1,5 @@
--- The rows of a cluster are exact: each start is reached by a lane that a run without faults can have, and none is later.
+-- The rows of a cluster are exact: each start is reached by a lane that a run without faults can have, and none is
+-- later.
 use Rattle.std.specs.Prelude.{◌≡◌, ℕ, ◌+◌, ◌<◌, true, List, slice_get, slice_index, Some}
 use Rattle.fr_slots.specs.declared.channel.Channel.{Channel}
 use Rattle.fr_slots.specs.declared.channel.Channel.TheVariants.{A, B}

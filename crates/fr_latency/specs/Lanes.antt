@@ -15,7 +15,8 @@ use Rattle.fr_schedule.specs.Descriptions.{Description}
 abbrev pub frame_bytes : Parameters → Buffer → ℕ
 frame_bytes p b = 2 * (words_of p b + 4)
 
--- A node with tasks has a transmit buffer that admits the slot, and its frame has so many bytes. The slot begins up to the
+-- A node with tasks has a transmit buffer that admits the slot, and its frame has so many bytes. The slot begins up to
+-- the
 -- latest minislot of the node.
 pub record CanSend (d : Description) (channel : Channel) (cycle slot minislot bytes : ℕ) : Type 0 where
   pub node : ℕ

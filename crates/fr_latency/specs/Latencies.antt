@@ -1,6 +1,7 @@
 -- The transmit buffers whose frames always get through, and the greatest time from a commit to the end of its frame, in
 -- runs without faults (project-defined).
-use Rattle.std.specs.Prelude.{ℕ, suc, zero, ◌+◌, ◌-◌, ◌*◌, ◌%◌, ◌==◌, nat_le, not, Bool, ◌&&◌, ◌||◌, Option, Some, None, if◌then◌else◌}
+use Rattle.std.specs.Prelude.{ℕ, suc, zero, ◌+◌, ◌-◌, ◌*◌, ◌%◌, ◌==◌, nat_le, not, Bool, ◌&&◌, ◌||◌, Option, Some}
+use Rattle.std.specs.Prelude.{None, if◌then◌else◌}
 use Rattle.fr_slots.specs.declared.channel.Channel.{Channel}
 use Rattle.fr_slots.specs.declared.channel.Channel.TheVariants as channel
 use Rattle.fr_slots.specs.declared.channel.Channels.{Channels}
@@ -89,7 +90,8 @@ guaranteed_cycles d plan b = if has_tasks plan then count_below (is_guaranteed d
 abbrev pub unless_zero : ℕ → Option ℕ
 unless_zero n = if n == 0 then None else Some n
 
--- The first minislot at which the slot of a dynamic buffer opens. Before it comes one minislot for each dynamic slot, if
+-- The first minislot at which the slot of a dynamic buffer opens. Before it comes one minislot for each dynamic slot,
+-- if
 -- nothing is sent.
 abbrev pub first_opening_of : Description → Buffer → ℕ
 first_opening_of d b =
@@ -134,7 +136,8 @@ first_from test least (suc more) = if test least then least else first_from test
 abbrev pub distance : (ℕ → Bool) → ℕ → ℕ
 distance test cycle = first_from (is_after test cycle) 1 last_cycle
 
--- A commit comes just after the fetch in a cycle that passes, as early as that can be. It is sent in the next cycle that
+-- A commit comes just after the fetch in a cycle that passes, as early as that can be. It is sent in the next cycle
+-- that
 -- passes, as late as that can be.
 abbrev pub wait_from : ℕ → (ℕ → Bool) → ℕ → (ℕ → ℕ) → ℕ → ℕ
 wait_from cycle_mt test start end cycle =

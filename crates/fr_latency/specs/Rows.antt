@@ -19,7 +19,8 @@ AreLast test most lasts = (cycle : ℕ) → cycle < cycle_count → slice_index 
 -- the last minislots at which the slot after so many dynamic slots can begin, and at which it can open
 pub record IsRow (d : Description) (channel : Channel) (earlier : ℕ) (row : Row) : Type 0 where
   pub begins : (cycle : ℕ) → cycle < cycle_count → slice_index row.begin cycle ≡ last_begin d channel cycle earlier
-  pub openings : (cycle : ℕ) → cycle < cycle_count → slice_index row.opening cycle ≡ last_opening d channel cycle earlier
+  pub openings : (cycle : ℕ) → cycle < cycle_count → slice_index row.opening cycle
+      ≡ last_opening d channel cycle earlier
 
 -- a row for each dynamic slot; only those of slots with a transmit buffer count
 pub record AreRows (d : Description) (channel : Channel) (rows : List Row) : Type 0 where

@@ -37,7 +37,8 @@ pub record IsSent (d : Description) (channel : Channel) (cycle slot : ℕ) (IsBe
   pub frames_are : frames ≡ others ++ frame ∷ []
   pub before : IsBefore frame.minislot others
 
--- If these frames are sent, in order of their slots, the slot after so many dynamic slots begins at this minislot, if the
+-- If these frames are sent, in order of their slots, the slot after so many dynamic slots begins at this minislot, if
+-- the
 -- segment has it.
 unfoldable pub IsWay : Description → Channel → ℕ → ℕ → ℕ → List Frame → Type 0
 IsWay d channel cycle zero minislot frames = (minislot ≡ 1) × (frames ≡ [])

@@ -1,6 +1,7 @@
 //! The latency of a transmit buffer: from a commit to the end of its frame, in the worst case.
 
-ghost use Rattle.std.specs.Prelude.{◌≡◌, ◌≤◌, ◌<◌, ◌+◌, ◌-◌, ◌*◌, ◌%◌, ◌&&◌, ◌||◌, if◌then◌else◌, not, length, slice_index, ℕ};
+ghost use Rattle.std.specs.Prelude.{◌≡◌, ◌≤◌, ◌<◌, ◌+◌, ◌-◌, ◌*◌, ◌%◌, ◌&&◌, ◌||◌, if◌then◌else◌, not, length};
+ghost use Rattle.std.specs.Prelude.{slice_index, ℕ};
 ghost use Rattle.std.specs.Prelude.{Bool, true, false};
 ghost use Rattle.fr_schedule.specs.Clusters.{IsCluster};
 ghost use Rattle.fr_slots.specs.Admission.{cycle_admitted};
@@ -9,8 +10,10 @@ ghost use Rattle.fr_slots.specs.Numbers.{cycle_count};
 ghost use Rattle.fr_slots.specs.Parameters.{is_static_slot};
 ghost use Rattle.fr_latency.specs.Below.{all_below, any_below, count_below, most_below};
 ghost use Rattle.fr_latency.specs.Latencies.{channel_of, before_slot, distance, earliest_start, first_opening_of};
-ghost use Rattle.fr_latency.specs.Latencies.{guaranteed_cycles, if_dynamic, is_ever_in_time, is_guaranteed, is_possible, last_in_cycles};
-ghost use Rattle.fr_latency.specs.Latencies.{latency_of, latest_end, latest_for, state_of, unless_zero, wait_if, worst_latency};
+ghost use Rattle.fr_latency.specs.Latencies.{guaranteed_cycles, if_dynamic, is_ever_in_time, is_guaranteed};
+ghost use Rattle.fr_latency.specs.Latencies.{is_possible, last_in_cycles};
+ghost use Rattle.fr_latency.specs.Latencies.{latency_of, latest_end, latest_for, state_of, unless_zero, wait_if};
+ghost use Rattle.fr_latency.specs.Latencies.{worst_latency};
 ghost use Rattle.fr_latency.specs.Tables.{AreAnswers, AreNumbers, AreOpenings, HasRow, IsUsedFor};
 
 use crate::openings::{Openings, Row, UNUSED};

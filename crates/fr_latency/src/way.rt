@@ -1,6 +1,7 @@
 //! A way to the latest start of a slot: the frames that have to be sent before it.
 
-ghost use Rattle.std.specs.Prelude.{◌≡◌, ◌≤◌, ◌<◌, ◌+◌, ◌++◌, ◌==◌, List, IfOk, IfSome, IfNone, OnOk, true, false, ℕ, Bool, length, map};
+ghost use Rattle.std.specs.Prelude.{◌≡◌, ◌≤◌, ◌<◌, ◌+◌, ◌++◌, ◌==◌, List, IfOk, IfSome, IfNone, OnOk, true, false, ℕ};
+ghost use Rattle.std.specs.Prelude.{Bool, length, map};
 ghost use Rattle.std.specs.Prelude.{slice_index};
 ghost use Rattle.std.specs.List.{list_any};
 ghost use Rattle.fr_schedule.specs.Clusters.{IsCluster};
@@ -119,7 +120,8 @@ fn sends_at(slot: SlotId, channel: Channel, cycle: Cycle, buffer: &Buffer) -> bo
     buffer.transmits() && buffer.filter.admits(cycle, slot, channel)
 }
 
-/// Returns the minislot at which a frame of the buffer begins in the slot, if the next slot begins at `minislot` after it.
+/// Returns the minislot at which a frame of the buffer begins in the slot, if the next slot begins at `minislot` after
+/// it.
 fn begin_of(
     params: &Params,
     plan: &NodePlan,

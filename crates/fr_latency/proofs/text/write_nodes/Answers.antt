@@ -6,7 +6,8 @@ use Rattle.fr_latency.specs.LatencyText.{node_text}
 use Rattle.fr_latency.proofs.text.write_nodes.Goals as goal
 
 pub loop-node-init : goal.loop-node-init
-loop-node-init g c = no_node (node_text c.args.cluster.now) c.args.cluster.now.plans (g.W.Write.contents c.args.writer.now)
+loop-node-init g c = no_node (node_text c.args.cluster.now) c.args.cluster.now.plans
+    (g.W.Write.contents c.args.writer.now)
 
 pub write_node-requires-clause-node : goal.write_node-requires-clause-node
 write_node-requires-clause-node g c =

@@ -1,4 +1,5 @@
-use Rattle.std.proofs.Common.{◌≡◌, ℕ, ◌+◌, ◌-◌, ◌<◌, ◌≤◌, ◌++◌, ◌∷◌, [], List, true, false, length, sym, ap, ◌∙◌, subst, arith}
+use Rattle.std.proofs.Common.{◌≡◌, ℕ, ◌+◌, ◌-◌, ◌<◌, ◌≤◌, ◌++◌, ◌∷◌, [], List, true, false, length, sym, ap, ◌∙◌}
+use Rattle.std.proofs.Common.{subst, arith}
 use Rattle.std.proofs.Common.{append-nil, append_assoc, Result, Ok, Err}
 use Rattle.std.specs.List.{list_any}
 use Rattle.std.specs.Prelude.{OnOk}
@@ -17,7 +18,8 @@ on_ok (Err e) f a = tt
 pub returns-then-earlier-eq0 : goal.returns-then-earlier-eq0
 returns-then-earlier-eq0 t c =
     let d = c.args.cluster.now in
-    let first = subst (λ (n : ℕ). can_begin d c.args.channel c.args.cycle n c.args.minislot ≡ true) c.if-earlier-eq0.true
+    let first = subst (λ (n : ℕ). can_begin d c.args.channel c.args.cycle n c.args.minislot
+    ≡ true) c.if-earlier-eq0.true
     c.requires.begins in (
       [],
       subst (λ (n : ℕ). IsWay d c.args.channel c.args.cycle n c.args.minislot []) (sym c.if-earlier-eq0.true)
