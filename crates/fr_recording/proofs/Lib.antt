@@ -1,1 +1,2 @@
 mod PartLemmas
+mod ReadLemmas

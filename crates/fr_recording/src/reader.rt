@@ -4,6 +4,7 @@ ghost use Rattle.std.specs.Prelude.{◌≡◌, ◌+◌, ◌<◌, ◌≤◌, ◌�
 ghost use Rattle.std.specs.Prelude.{option_to_list, ◌==◌, IsSome, if◌then◌else◌};
 ghost use Rattle.fr_recording.specs.Stream.{fresh, take_bytes, records_from, told_of, refusal_of, record_of, needed};
 ghost use Rattle.fr_recording.specs.Stream.{is_refused};
+ghost use Rattle.fr_recording.specs.Numbers.{most_captured};
 ghost use Rattle.fr_recording.specs.Steps.{Steps};
 
 use crate::course::{Course, needed};
@@ -46,6 +47,7 @@ impl Reader {
     /// Takes bytes of a part with this length, up to its end, and returns their number.
     fn fill(&mut self, whole: usize, bytes: &[u8]) -> usize
         requires length { whole ≡ max 1 (needed self.old.state.phase) }
+        requires few { whole ≤ most_captured }
         requires some { 0 < length bytes.now }
         ensures some { 0 < result }
         ensures within { result ≤ length bytes.now }
