@@ -1,5 +1,5 @@
 -- Times of records in nanoseconds. What is finer is cut off (project-defined).
-use Rattle.std.specs.Prelude.{ℕ, ◌+◌, ◌-◌, ◌*◌, ◌/◌, ◌^◌, nat_le, ℤ, pos, ◌+ℤ◌, ◌*ℤ◌, if◌then◌else◌}
+use Rattle.std.specs.Prelude.{ℕ, ◌+◌, ◌-◌, ◌*◌, ◌/◌, ◌^◌, nat_le, ℤ, pos, ◌+ℤ◌, ◌*ℤ◌, ◌≤ℤ◌, ◌<ℤ◌, neg_ℤ, if◌then◌else◌}
 use Rattle.std.specs.Prelude.{Option}
 use Rattle.std.specs.Option.{unwrap_or}
 use Rattle.fr_recording.specs.declared.source.Source.{Source}
@@ -19,3 +19,8 @@ seconds_of i = unwrap_or i.offset (pos 0)
 abbrev pub time_of : Source → ℕ → ℤ
 time_of i units =
     pos (units * 10 ^ 9 / units_of (resolution_of i)) +ℤ seconds_of i *ℤ pos (10 ^ 9)
+
+-- the times that a record can have
+pub record IsMoment (t : ℤ) : Type 0 where
+  pub from_least : neg_ℤ (pos (2 ^ 94)) ≤ℤ t
+  pub below : t <ℤ pos (2 ^ 95)

@@ -5,7 +5,7 @@ ghost use Rattle.fr_recording.specs.Captures.{magic_in, link_in, record_head, is
 ghost use Rattle.fr_recording.specs.Captures.{with_option, packet_head, is_bad_front, simple_head, is_captured_in};
 ghost use Rattle.fr_recording.specs.Captures.{source_number, captured_of};
 
-use crate::numbers::{CapturedLength, MOST_CAPTURED, Order, long, longer, padded, short};
+use crate::numbers::{CapturedLength, MOST_CAPTURED, Moment, Order, long, longer, padded, short};
 use crate::phase::Head;
 use crate::source::{Source, time_of};
 
@@ -62,7 +62,7 @@ pub(crate) fn record_head(order: Order, scale: u32, link: u16, bytes: &[u8]) -> 
     let seconds = u128::from(long(order, bytes, 0)) * 1_000_000_000;
     let parts = u128::from(long(order, bytes, 4)) * u128::from(scale);
     Some(Head {
-        time: Some((seconds + parts) as i128),
+        time: Some(Moment::new((seconds + parts) as i128)),
         link,
         captured,
         original: long(order, bytes, 12),

@@ -60,6 +60,43 @@ impl CapturedLength {
     }
 }
 
+/// A time in nanoseconds, which an interface's clock and offset can give: from -2^94 to below 2^95 (project-defined).
+#[derive(Clone, Copy, Debug, PartialEq, Eq)]
+pub struct Moment(i128);
+
+impl Model for Moment {
+    ghost use Rattle.std.specs.Prelude.{ℤ};
+    ghost use Rattle.fr_recording.specs.Times.{IsMoment};
+
+    ghost Value = { ℤ };
+
+    ghost view = { λ m. m.0 };
+
+    ghost invariant = { λ m. IsMoment m.0 };
+
+    ghost inverse = { λ n. record { 0 = n } };
+}
+
+impl Moment {
+    ghost use Rattle.fr_recording.specs.Times.{IsMoment};
+
+    /// Returns the moment of so many nanoseconds.
+    pub(crate) fn new(nanoseconds: i128) -> Moment
+        requires { IsMoment nanoseconds }
+        ensures { result ≡ nanoseconds }
+    {
+        Moment(nanoseconds)
+    }
+
+    /// Returns the nanoseconds.
+    pub fn nanoseconds(self) -> i128
+        ensures value { result ≡ self }
+        ensures fits { IsMoment self }
+    {
+        self.0
+    }
+}
+
 /// Returns the number of two bytes at a place.
 pub(crate) fn short(order: Order, bytes: &[u8], place: usize) -> u16
     requires { place + 2 ≤ length bytes.now }

@@ -1,6 +1,6 @@
 //! The parts of a capture file that may come next.
 
-use crate::numbers::CapturedLength;
+use crate::numbers::{CapturedLength, Moment};
 use crate::source::Source;
 
 /// Reasons to refuse a capture file, with the place of the record or block at fault (project-defined).
@@ -18,7 +18,7 @@ pub enum Refusal {
 #[derive(Clone, Copy)]
 pub struct Head {
     /// The time in nanoseconds, if it is known.
-    pub time: Option<i128>,
+    pub time: Option<Moment>,
     /// The link type.
     pub link: u16,
     /// The number of bytes that were captured.

@@ -3,6 +3,8 @@
 ghost use Rattle.std.specs.Prelude.{◌≡◌, ◌+◌, ◌*◌, ◌/◌, ◌^◌, ◌<◌, pos, ◌+ℤ◌, ◌*ℤ◌};
 ghost use Rattle.fr_recording.specs.Times.{time_of, units_of};
 
+use crate::numbers::Moment;
+
 /// A source of records: an interface at which a logger captured.
 #[derive(Clone, Copy)]
 pub struct Source {
@@ -32,10 +34,10 @@ fn nanoseconds(units: u64, resolution: u8) -> u128
 }
 
 /// Returns the time in nanoseconds of so many units on the source's clock.
-pub(crate) fn time_of(source: &Source, units: u64) -> i128
+pub(crate) fn time_of(source: &Source, units: u64) -> Moment
     ensures { result ≡ time_of source.now units }
 {
     let since = nanoseconds(units, source.resolution.unwrap_or(6));
     let start = i128::from(source.offset.unwrap_or(0)) * 1_000_000_000;
-    since as i128 + start
+    Moment::new(since as i128 + start)
 }
