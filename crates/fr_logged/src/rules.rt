@@ -158,14 +158,14 @@ pub fn dynamic_finding(due: &Option<Due>, frame: &LentFrame<'_>) -> Option<Findi
 }
 
 /// Returns the finding of a dynamic slot that opens at this minislot, of so many, with the sender's latest one.
-pub fn minislot_finding(minislots: u16, latest: u16, opens: u32) -> Option<Finding>
+pub fn minislot_finding(minislots: u16, latest: u16, opens: u64) -> Option<Finding>
     ensures { result ≡ minislot_finding minislots latest opens }
 {
-    if opens > u32::from(minislots) {
-        return Some(Finding::with_numbers(Name::Closed, u64::from(minislots), u64::from(opens)));
+    if opens > u64::from(minislots) {
+        return Some(Finding::with_numbers(Name::Closed, u64::from(minislots), opens));
     }
-    if opens > u32::from(latest) {
-        return Some(Finding::with_numbers(Name::Late, u64::from(latest), u64::from(opens)));
+    if opens > u64::from(latest) {
+        return Some(Finding::with_numbers(Name::Late, u64::from(latest), opens));
     }
     None
 }
