@@ -89,8 +89,8 @@ fn with_frame(frame: &LentFrame<'_>, tally: SlotTally) -> SlotTally
 
 impl Judge {
     /// Counts a slot that came back, and adds its line.
-    fn add_back(&mut self, line: Line)
-        ensures { self.new ≡ add_back self.old line }
+    fn add_back(&mut self, line: &Line)
+        ensures { self.new ≡ add_back self.old line.now }
     {
         self.backs = self.backs.saturating_add(1);
         if self.backs <= self.rules.most {
@@ -99,15 +99,15 @@ impl Judge {
     }
 
     /// Tells a slot that came back for its owner.
-    fn back(&mut self, frame: &LentFrame<'_>, at: At, due: Option<Due>)
-        ensures { self.new ≡ back self.old frame.now at due }
+    fn back(&mut self, frame: &LentFrame<'_>, at: &At, due: Option<Due>)
+        ensures { self.new ≡ back self.old frame.now at.now due }
     {
         if let Some(due) = due {
             let times = self.away_at(frame.id, due.node);
             if times != 0 {
                 self.with_away(frame.id, due.node, 0);
                 let place = place_of(self.channel, frame);
-                self.add_back(Line::Back(at, place, due.node, times));
+                self.add_back(&Line::Back(*at, place, due.node, times));
             }
         }
     }
@@ -166,8 +166,8 @@ impl Judge {
     }
 
     /// Returns the span of a slot's times, with the time since its frame in the due cycle before.
-    fn span_since(&self, frame: &LentFrame<'_>, at: At, tally: &SlotTally) -> Option<Span>
-        ensures { result ≡ span_since self.now frame.now at tally.now tally.now.latest }
+    fn span_since(&self, frame: &LentFrame<'_>, at: &At, tally: &SlotTally) -> Option<Span>
+        ensures { result ≡ span_since self.now frame.now at.now tally.now tally.now.latest }
     {
         let Some(came) = tally.latest else {
             return tally.span;
@@ -181,14 +181,14 @@ impl Judge {
     }
 
     /// Returns the counts of a slot with the time of its frame, if one was due.
-    fn with_time(&self, frame: &LentFrame<'_>, at: At, tally: SlotTally) -> SlotTally
-        ensures { result ≡ with_time self.now frame.now at tally }
+    fn with_time(&self, frame: &LentFrame<'_>, at: &At, tally: &SlotTally) -> SlotTally
+        ensures { result ≡ with_time self.now frame.now at.now tally.now }
     {
         if !self.rules.is_sent(frame.id, self.channel, frame.cycle) {
-            return tally;
+            return *tally;
         }
-        let mut timed = tally;
-        timed.span = self.span_since(frame, at, &tally);
+        let mut timed = *tally;
+        timed.span = self.span_since(frame, at, tally);
         timed.latest = Some(Came {
             number: self.mine.number,
             cycle: frame.cycle,
@@ -198,28 +198,28 @@ impl Judge {
     }
 
     /// Counts the frame of a slot.
-    fn count_frame(&mut self, frame: &LentFrame<'_>, at: At)
-        ensures { self.new ≡ count_frame self.old frame.now at }
+    fn count_frame(&mut self, frame: &LentFrame<'_>, at: &At)
+        ensures { self.new ≡ count_frame self.old frame.now at.now }
     {
         let slot = u32::from(frame.id);
         let tally = with_frame(frame, self.tally_at(slot, self.channel));
-        let timed = self.with_time(frame, at, tally);
+        let timed = self.with_time(frame, at, &tally);
         self.with_tally(slot, self.channel, timed);
     }
 
     /// Keeps the frame of a slot, and tells its finding.
-    fn keep_frame(&mut self, frame: &LentFrame<'_>, at: At, finding: Option<Finding>)
-        ensures { self.new ≡ keep_frame self.old frame.now at finding }
+    fn keep_frame(&mut self, frame: &LentFrame<'_>, at: &At, finding: Option<Finding>)
+        ensures { self.new ≡ keep_frame self.old frame.now at.now finding }
     {
         self.mine.last = frame.id;
         self.mine.ill = 0;
         self.count_frame(frame, at);
-        self.find_some(Some(at), place_of(self.channel, frame), finding);
+        self.find_some(&Some(*at), &place_of(self.channel, frame), finding);
     }
 
     /// Takes the frame of a static slot.
-    fn static_came(&mut self, frame: &LentFrame<'_>, at: At, due: Option<Due>)
-        ensures { self.new ≡ static_came self.old frame.now at due }
+    fn static_came(&mut self, frame: &LentFrame<'_>, at: &At, due: Option<Due>)
+        ensures { self.new ≡ static_came self.old frame.now at.now due }
     {
         let finding = match static_finding(&due, frame) {
             Some(finding) => Some(finding),
@@ -228,7 +228,8 @@ impl Judge {
         let wrong = time_finding(&self.rules, &self.mine, frame.id, at.time, finding);
         self.back(frame, at, due);
         self.show(frame, due);
-        self.mine.fixed = fixed_after(&self.rules, &self.mine, frame.id, at.time, wrong);
+        let fixed = fixed_after(&self.rules, &self.mine, frame.id, at.time, wrong);
+        self.mine.fixed = fixed;
         let finding = match finding {
             Some(finding) => Some(finding),
             None => wrong,
@@ -249,8 +250,8 @@ impl Judge {
     }
 
     /// Takes the frame of a dynamic slot.
-    fn dynamic_came(&mut self, frame: &LentFrame<'_>, at: At, due: Option<Due>)
-        ensures { self.new ≡ dynamic_came self.old frame.now at due }
+    fn dynamic_came(&mut self, frame: &LentFrame<'_>, at: &At, due: Option<Due>)
+        ensures { self.new ≡ dynamic_came self.old frame.now at.now due }
     {
         let finding = match dynamic_finding(&due, frame) {
             Some(finding) => Some(finding),
@@ -262,8 +263,8 @@ impl Judge {
     }
 
     /// Takes the frame of a slot of the open cycle.
-    pub(crate) fn came(&mut self, frame: &LentFrame<'_>, at: At)
-        ensures { self.new ≡ came self.old frame.now at }
+    pub(crate) fn came(&mut self, frame: &LentFrame<'_>, at: &At)
+        ensures { self.new ≡ came self.old frame.now at.now }
     {
         let due = self
             .rules

@@ -24,7 +24,8 @@ impl Judge {
         ensures { self.new ≡ tell_nothing self.old }
     {
         if self.rules.has_sender(self.channel) && self.says_nothing() {
-            self.find(None, self.symbol_place(), Finding::bare(Name::Nothing));
+            let place = self.symbol_place();
+            self.find(&None, &place, Finding::bare(Name::Nothing));
         }
     }
 
@@ -33,7 +34,7 @@ impl Judge {
         ensures { self.new ≡ tell_end self.old }
     {
         if self.rules.whole {
-            self.end_cycle(None);
+            self.end_cycle(&None);
         }
         self.tell_nothing();
     }

@@ -25,11 +25,11 @@ impl Judge {
     }
 
     /// Adds a line of the record.
-    pub(crate) fn add_line(&mut self, line: Line)
-        ensures { self.new ≡ add_line self.old line }
+    pub(crate) fn add_line(&mut self, line: &Line)
+        ensures { self.new ≡ add_line self.old line.now }
     {
         if self.lines.len() < MOST_LINES {
-            self.lines.push_reserved(line);
+            self.lines.push_reserved(*line);
         }
     }
 
@@ -65,8 +65,8 @@ impl Judge {
     }
 
     /// Counts a finding at its slot, if it has one.
-    fn count_place(&mut self, name: Name, place: Place)
-        ensures { self.new ≡ count_place self.old name place place.slot }
+    fn count_place(&mut self, name: Name, place: &Place)
+        ensures { self.new ≡ count_place self.old name place.now place.now.slot }
     {
         if let Some(slot) = place.slot {
             if !is_missing(name) {
@@ -76,8 +76,8 @@ impl Judge {
     }
 
     /// Adds the line of a finding, if not too many of its name were told.
-    fn tell_line(&mut self, name: Name, line: Line)
-        ensures { self.new ≡ tell_line self.old name line }
+    fn tell_line(&mut self, name: Name, line: &Line)
+        ensures { self.new ≡ tell_line self.old name line.now }
     {
         if self.found[index_of(name)] <= self.rules.most {
             self.add_line(line);
@@ -85,17 +85,17 @@ impl Judge {
     }
 
     /// Counts a finding, and tells it.
-    pub(crate) fn find(&mut self, at: Option<At>, place: Place, finding: Finding)
-        ensures { self.new ≡ find self.old at place finding }
+    pub(crate) fn find(&mut self, at: &Option<At>, place: &Place, finding: Finding)
+        ensures { self.new ≡ find self.old at.now place.now finding }
     {
         self.count_name(finding.name);
         self.count_place(finding.name, place);
-        self.tell_line(finding.name, Line::Finding(at, place, finding));
+        self.tell_line(finding.name, &Line::Finding(*at, *place, finding));
     }
 
     /// Counts and tells a finding, if there is one.
-    pub(crate) fn find_some(&mut self, at: Option<At>, place: Place, finding: Option<Finding>)
-        ensures { self.new ≡ find_some self.old at place finding }
+    pub(crate) fn find_some(&mut self, at: &Option<At>, place: &Place, finding: Option<Finding>)
+        ensures { self.new ≡ find_some self.old at.now place.now finding }
     {
         if let Some(finding) = finding {
             self.find(at, place, finding);

@@ -47,18 +47,19 @@ impl Judge {
     }
 
     /// Tells a slot that is missing for the first time.
-    fn tell_missing(&mut self, at: Option<At>, cycle: Cycle, slot: u16, node: u8)
-        ensures { self.new ≡ tell_missing self.old at cycle slot node }
+    fn tell_missing(&mut self, at: &Option<At>, cycle: Cycle, slot: u16, node: u8)
+        ensures { self.new ≡ tell_missing self.old at.now cycle slot node }
     {
         if self.away_at(slot, node) == 1 {
             let finding = Finding::with_numbers(Name::Missing, u64::from(node), self.mine.ill);
-            self.find(at, self.slot_place(cycle, slot), finding);
+            let place = self.slot_place(cycle, slot);
+            self.find(at, &place, finding);
         }
     }
 
     /// Counts and tells a slot that is missing for a node.
-    fn miss_of(&mut self, at: Option<At>, cycle: Cycle, slot: u16, node: u8)
-        ensures { self.new ≡ miss_of self.old at cycle slot node }
+    fn miss_of(&mut self, at: &Option<At>, cycle: Cycle, slot: u16, node: u8)
+        ensures { self.new ≡ miss_of self.old at.now cycle slot node }
     {
         let times = self.away_at(slot, node).saturating_add(1);
         self.with_away(slot, node, times);
@@ -66,8 +67,8 @@ impl Judge {
     }
 
     /// Counts and tells a slot without a frame, if a frame was due.
-    fn miss_due(&mut self, at: Option<At>, cycle: Cycle, slot: u16, due: Option<Due>)
-        ensures { self.new ≡ miss_due self.old at cycle slot due }
+    fn miss_due(&mut self, at: &Option<At>, cycle: Cycle, slot: u16, due: Option<Due>)
+        ensures { self.new ≡ miss_due self.old at.now cycle slot due }
     {
         if let Some(due) = due {
             self.count_missing(slot);
@@ -76,16 +77,16 @@ impl Judge {
     }
 
     /// Counts and tells a static slot without a frame.
-    fn miss(&mut self, at: Option<At>, cycle: Cycle, slot: u16)
-        ensures { self.new ≡ miss self.old at cycle slot }
+    fn miss(&mut self, at: &Option<At>, cycle: Cycle, slot: u16)
+        ensures { self.new ≡ miss self.old at.now cycle slot }
     {
         let due = self.rules.due(u32::from(slot), self.channel, cycle);
         self.miss_due(at, cycle, slot, due);
     }
 
     /// Counts and tells the static slots without a frame from one on, and before another.
-    fn skip_to(&mut self, at: Option<At>, cycle: Cycle, from: u16, end: u16)
-        ensures { self.new ≡ skip_to self.old at cycle from end }
+    fn skip_to(&mut self, at: &Option<At>, cycle: Cycle, from: u16, end: u16)
+        ensures { self.new ≡ skip_to self.old at.now cycle from end }
     {
         for slot in from..end {
             self.miss(at, cycle, slot);
@@ -100,17 +101,17 @@ impl Judge {
     }
 
     /// Counts and tells the static slots without a frame before this one.
-    pub(crate) fn skip_before(&mut self, frame: &LentFrame<'_>, at: At)
-        ensures { self.new ≡ skip_before self.old frame.now at }
+    pub(crate) fn skip_before(&mut self, frame: &LentFrame<'_>, at: &At)
+        ensures { self.new ≡ skip_before self.old frame.now at.now }
     {
         let end = frame.id.min(self.static_end());
         let from = self.mine.last.saturating_add(1);
-        self.skip_to(Some(at), frame.cycle, from, end);
+        self.skip_to(&Some(*at), frame.cycle, from, end);
     }
 
     /// Counts and tells the static slots without a frame up to the end of the open cycle.
-    pub(crate) fn end_cycle(&mut self, at: Option<At>)
-        ensures { self.new ≡ end_cycle self.old at }
+    pub(crate) fn end_cycle(&mut self, at: &Option<At>)
+        ensures { self.new ≡ end_cycle self.old at.now }
     {
         if let Some(cycle) = self.mine.current {
             let from = self.mine.last.saturating_add(1);

@@ -20,8 +20,8 @@ use fr_slots::numbers::Cycle;
 use fr_slots::params::Params;
 
 /// Opens a cycle on a channel, which has no frame yet.
-fn begin(params: &Params, lane: &mut Lane, frame: &LentFrame<'_>, at: At)
-    ensures { lane.new ≡ begun params.now lane.old frame.now at }
+fn begin(params: &Params, lane: &mut Lane, frame: &LentFrame<'_>, at: &At)
+    ensures { lane.new ≡ begun params.now lane.old frame.now at.now }
 {
     lane.cycles = lane.cycles.saturating_add(1);
     lane.current = Some(frame.cycle);
@@ -34,8 +34,8 @@ fn begin(params: &Params, lane: &mut Lane, frame: &LentFrame<'_>, at: At)
 }
 
 /// Goes so many cycles on.
-fn pass(lane: &mut Lane, at: At, past: u128)
-    ensures { lane.new ≡ passed lane.old at past }
+fn pass(lane: &mut Lane, at: &At, past: u128)
+    ensures { lane.new ≡ passed lane.old at.now past }
 {
     if past == 1 {
         lane.span = span_between(lane.span, lane.began, at.time);
@@ -67,8 +67,8 @@ impl Judge {
     }
 
     /// Tells that the other channel fell silent, after three cycles.
-    fn tell_silent(&mut self, frame: &LentFrame<'_>, at: At)
-        ensures { self.new ≡ tell_silent self.old frame.now at }
+    fn tell_silent(&mut self, frame: &LentFrame<'_>, at: &At)
+        ensures { self.new ≡ tell_silent self.old frame.now at.now }
     {
         if self.other.alone != SILENCE {
             return;
@@ -83,12 +83,12 @@ impl Judge {
             expected: Word::number(u64::from(frame.cycle.number())),
             found: count_word(self.other.current),
         };
-        self.find(Some(at), place, finding);
+        self.find(&Some(*at), &place, finding);
     }
 
     /// Counts a cycle that was opened without a word of the other channel.
-    fn listen(&mut self, frame: &LentFrame<'_>, at: At)
-        ensures { self.new ≡ listen self.old frame.now at }
+    fn listen(&mut self, frame: &LentFrame<'_>, at: &At)
+        ensures { self.new ≡ listen self.old frame.now at.now }
     {
         if self.rules.are_both() && self.other.spoke < at.number {
             self.other.alone = self.other.alone.saturating_add(1);
@@ -97,8 +97,8 @@ impl Judge {
     }
 
     /// Opens the first cycle of the channel.
-    fn open_first(&mut self, frame: &LentFrame<'_>, at: At)
-        ensures { self.new ≡ open_first self.old frame.now at }
+    fn open_first(&mut self, frame: &LentFrame<'_>, at: &At)
+        ensures { self.new ≡ open_first self.old frame.now at.now }
     {
         begin(self.rules.cluster.params(), &mut self.mine, frame, at);
         if self.rules.whole {
@@ -109,9 +109,9 @@ impl Judge {
     }
 
     /// Tells the cycles between, if there are some.
-    fn tell_gap(&mut self, frame: &LentFrame<'_>, at: At, past: u128)
+    fn tell_gap(&mut self, frame: &LentFrame<'_>, at: &At, past: u128)
         requires { past < 2 ^ 127 }
-        ensures { self.new ≡ tell_gap self.old frame.now at past }
+        ensures { self.new ≡ tell_gap self.old frame.now at.now past }
     {
         if past == 1 {
             return;
@@ -121,32 +121,32 @@ impl Judge {
             expected: Word::Absent,
             found: Word::Number(past.saturating_sub(1) as i128),
         };
-        self.find(Some(at), place_of(self.channel, frame), finding);
+        self.find(&Some(*at), &place_of(self.channel, frame), finding);
     }
 
     /// Opens a cycle so far after the one before.
-    fn open_after(&mut self, frame: &LentFrame<'_>, at: At, distance: Distance)
+    fn open_after(&mut self, frame: &LentFrame<'_>, at: &At, distance: Distance)
         requires { distance.past < 2 ^ 127 }
-        ensures { self.new ≡ open_after self.old frame.now at distance }
+        ensures { self.new ≡ open_after self.old frame.now at.now distance }
     {
         self.leave();
         pass(&mut self.mine, at, distance.past);
         begin(self.rules.cluster.params(), &mut self.mine, frame, at);
         self.skip_before(frame, at);
         self.tell_gap(frame, at, distance.past);
-        self.find_some(Some(at), place_of(self.channel, frame), distance.clock);
+        self.find_some(&Some(*at), &place_of(self.channel, frame), distance.clock);
         self.listen(frame, at);
         self.came(frame, at);
     }
 
     /// Opens a cycle, which closes the one before.
-    pub(crate) fn open_cycle(&mut self, frame: &LentFrame<'_>, at: At)
-        ensures { self.new ≡ open_cycle self.old frame.now at }
+    pub(crate) fn open_cycle(&mut self, frame: &LentFrame<'_>, at: &At)
+        ensures { self.new ≡ open_cycle self.old frame.now at.now }
     {
         if self.mine.current.is_none() {
             self.open_first(frame, at);
         } else {
-            self.end_cycle(Some(at));
+            self.end_cycle(&Some(*at));
             let distance = distance_to(&self.rules, &self.mine, frame, at.time);
             self.open_after(frame, at, distance);
         }

@@ -55,8 +55,8 @@ impl Judge {
     }
 
     /// Takes a frame of the open cycle.
-    fn member(&mut self, frame: &LentFrame<'_>, at: At)
-        ensures { self.new ≡ member self.old frame.now at }
+    fn member(&mut self, frame: &LentFrame<'_>, at: &At)
+        ensures { self.new ≡ member self.old frame.now at.now }
     {
         let last = self.mine.last;
         if frame.id > last {
@@ -67,12 +67,12 @@ impl Judge {
         self.mine.disturb();
         self.mark_odd(frame.id);
         let finding = Finding::with_numbers(Name::Order, u64::from(last), u64::from(frame.id));
-        self.find(Some(at), place_of(self.channel, frame), finding);
+        self.find(&Some(*at), &place_of(self.channel, frame), finding);
     }
 
     /// Tells a frame with a wrong cycle count.
-    fn wrong_count(&mut self, frame: &LentFrame<'_>, at: At)
-        ensures { self.new ≡ wrong_count self.old frame.now at }
+    fn wrong_count(&mut self, frame: &LentFrame<'_>, at: &At)
+        ensures { self.new ≡ wrong_count self.old frame.now at.now }
     {
         let expected = count_word(self.mine.current);
         self.mine.disturb();
@@ -82,12 +82,12 @@ impl Judge {
             expected,
             found: Word::number(u64::from(frame.cycle.number())),
         };
-        self.find(Some(at), place_of(self.channel, frame), finding);
+        self.find(&Some(*at), &place_of(self.channel, frame), finding);
     }
 
     /// Decides a frame that waited.
-    fn decide(&mut self, frame: &LentFrame<'_>, at: At, next: Option<Next>)
-        ensures { self.new ≡ decide self.old frame.now at next }
+    fn decide(&mut self, frame: &LentFrame<'_>, at: &At, next: Option<Next>)
+        ensures { self.new ≡ decide self.old frame.now at.now next }
     {
         if opens(self.mine.current, next_of(frame), next) {
             self.open_cycle(frame, at);
@@ -103,24 +103,24 @@ impl Judge {
         if let Some(held) = self.mine.held.take() {
             let since = self.mine.ill_held;
             self.mine.ill_held = 0;
-            self.decide(&lent(&held.frame), held.at, next);
+            self.decide(&lent(&held.frame), &held.at, next);
             self.mine.ill = self.mine.ill.saturating_add(since);
         }
     }
 
     /// Lets a good frame wait.
-    fn hold(&mut self, frame: &LentFrame<'_>, at: At)
-        ensures { self.new ≡ hold self.old frame.now at }
+    fn hold(&mut self, frame: &LentFrame<'_>, at: &At)
+        ensures { self.new ≡ hold self.old frame.now at.now }
     {
         self.mine.held = Some(Held {
-            at,
+            at: *at,
             frame: Frame::from_lent(frame),
         });
     }
 
     /// Takes a good frame, when none waits.
-    fn place_frame(&mut self, frame: &LentFrame<'_>, at: At)
-        ensures { self.new ≡ place_frame self.old frame.now at }
+    fn place_frame(&mut self, frame: &LentFrame<'_>, at: &At)
+        ensures { self.new ≡ place_frame self.old frame.now at.now }
     {
         if !same_open(self.mine.current, Some(frame.cycle)) {
             self.hold(frame, at);
@@ -132,8 +132,8 @@ impl Judge {
     }
 
     /// Takes a good frame.
-    fn good(&mut self, frame: &LentFrame<'_>, at: At)
-        ensures { self.new ≡ good self.old frame.now at }
+    fn good(&mut self, frame: &LentFrame<'_>, at: &At)
+        ensures { self.new ≡ good self.old frame.now at.now }
     {
         self.mine.heard = true;
         self.mine.spoke = at.number;
@@ -143,11 +143,11 @@ impl Judge {
     }
 
     /// Tells a record that changes nothing.
-    fn ill(&mut self, at: At, place: Place, finding: Finding)
-        ensures { self.new ≡ ill self.old at place finding }
+    fn ill(&mut self, at: &At, place: &Place, finding: Finding)
+        ensures { self.new ≡ ill self.old at.now place.now finding }
     {
         self.mine.disturb();
-        self.find(Some(at), place, finding);
+        self.find(&Some(*at), place, finding);
     }
 
     /// Returns whether no slot of the cluster has this frame ID.
@@ -159,8 +159,8 @@ impl Judge {
     }
 
     /// Takes a frame that is spelled as its header says.
-    fn spelled_frame(&mut self, at: At, frame: &LentFrame<'_>)
-        ensures { self.new ≡ spelled_frame self.old at frame.now }
+    fn spelled_frame(&mut self, at: &At, frame: &LentFrame<'_>)
+        ensures { self.new ≡ spelled_frame self.old at.now frame.now }
     {
         if !self.is_lawless(frame.id) {
             self.good(frame, at);
@@ -171,17 +171,17 @@ impl Judge {
             expected: Word::Absent,
             found: Word::number(u64::from(frame.id)),
         };
-        self.ill(at, place_of(self.channel, frame), finding);
+        self.ill(at, &place_of(self.channel, frame), finding);
     }
 
     /// Takes a record of a frame on the channel.
-    fn frame_on(&mut self, at: At, original: u32, bytes: &[u8])
-        ensures { self.new ≡ frame_on self.old at original bytes.now }
+    fn frame_on(&mut self, at: &At, original: u32, bytes: &[u8])
+        ensures { self.new ≡ frame_on self.old at.now original bytes.now }
     {
         self.mine.frames = self.mine.frames.saturating_add(1);
         match spelled(self.channel, original, bytes) {
             Ok(frame) => self.spelled_frame(at, &frame),
-            Err(finding) => self.ill(at, place_in(self.channel, bytes), finding),
+            Err(finding) => self.ill(at, &place_in(self.channel, bytes), finding),
         }
     }
 
@@ -197,20 +197,20 @@ impl Judge {
     }
 
     /// Takes a record of a symbol on the channel.
-    fn symbol_on(&mut self, at: At, original: u32, bytes: &[u8])
-        ensures { self.new ≡ symbol_on self.old at original bytes.now }
+    fn symbol_on(&mut self, at: &At, original: u32, bytes: &[u8])
+        ensures { self.new ≡ symbol_on self.old at.now original bytes.now }
     {
         let place = self.symbol_place();
         if bytes.len() < original as usize {
-            self.ill(at, place, cut(original, bytes.len()));
+            self.ill(at, &place, cut(original, bytes.len()));
         } else if self.rules.cluster.params().symbol_mt == 0 {
-            self.find(Some(at), place, Finding::bare(Name::Symbol));
+            self.find(&Some(*at), &place, Finding::bare(Name::Symbol));
         }
     }
 
     /// Takes a record of this kind.
-    fn take_kind(&mut self, at: At, original: u32, bytes: &[u8], kind: Kind)
-        ensures { self.new ≡ take_kind self.old at original bytes.now kind }
+    fn take_kind(&mut self, at: &At, original: u32, bytes: &[u8], kind: Kind)
+        ensures { self.new ≡ take_kind self.old at.now original bytes.now kind }
     {
         match kind {
             Kind::Foreign => self.foreign = self.foreign.saturating_add(1),
@@ -244,6 +244,6 @@ impl Judge {
             number: self.records,
             time,
         };
-        self.take_kind(at, original, bytes, kind_of(link, bytes));
+        self.take_kind(&at, original, bytes, kind_of(link, bytes));
     }
 }
