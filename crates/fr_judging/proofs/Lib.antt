@@ -1,0 +1,2 @@
+mod LoopLemmas
+mod SenderLemmas

@@ -19,7 +19,8 @@ steps_of from to = (to + 63 - from) % 64 + 1
 
 -- the time between two first frames, less the distance of their slots in the cycle
 abbrev pub time_between : ℕ → ℕ → ℕ → ℤ → ℤ → ℤ
-time_between slot_ns from_slot to_slot from to = to -ℤ from -ℤ (pos to_slot -ℤ pos from_slot) *ℤ pos slot_ns
+time_between slot_ns from_slot to_slot from to =
+    ((to -ℤ from) +ℤ pos (from_slot * slot_ns)) -ℤ pos (to_slot * slot_ns)
 
 -- how many times 64 cycles more than by the counts lie between; the later number if two are as near
 abbrev pub rounds_by : ℕ → ℤ → ℕ
@@ -76,7 +77,7 @@ distance_to r l f time = by_times r (steps_from l.current f.cycle) l.first f.id 
 -- ---- a frame with the count of the open cycle
 
 abbrev pub is_long : ℕ → ℤ → Bool
-is_long cycle_ns time = int_le (pos (127 * cycle_ns)) (pos 2 *ℤ time)
+is_long cycle_ns time = int_le (pos (127 * cycle_ns)) (time +ℤ time)
 
 abbrev pub anew_by : Rules → Option ℤ → Option ℤ → Bool
 anew_by r (Some from) (Some to) = if r.macrotick == 0 then false else is_long (cycle_time r) (to -ℤ from)

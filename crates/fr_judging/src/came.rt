@@ -5,6 +5,7 @@ ghost use Rattle.fr_judging.specs.Judging.{back_line, add_back, back_of, back, s
 ghost use Rattle.fr_judging.specs.Judging.{channels_finding, show_frame, show, quiet, span_since, with_time, with_frame};
 ghost use Rattle.fr_judging.specs.Judging.{count_frame, keep_frame, fix, static_with, static_found, static_came};
 ghost use Rattle.fr_judging.specs.Judging.{is_placed, placed_finding, dynamic_came, came_with, came, are_equal};
+ghost use Rattle.std.specs.Option.{option_or};
 ghost use Rattle.fr_judging.specs.Lanes.{same_open, opens_at, after_dynamic};
 
 use crate::distance::{fixed_after, time_finding};
@@ -31,6 +32,16 @@ pub(crate) fn same_open(one: Option<Cycle>, other: Option<Cycle>) -> bool
     match (one, other) {
         (Some(one), Some(other)) => one == other,
         _ => false,
+    }
+}
+
+/// Returns the first of two findings, if there is one.
+fn first_of(one: Option<Finding>, other: Option<Finding>) -> Option<Finding>
+    ensures { result ≡ option_or one other }
+{
+    match one {
+        Some(finding) => Some(finding),
+        None => other,
     }
 }
 
@@ -89,6 +100,7 @@ fn with_frame(frame: &LentFrame<'_>, tally: SlotTally) -> SlotTally
 
 impl Judge {
     /// Counts a slot that came back, and adds its line.
+    #[tactic(auto, unfolding(crate::specs::Judging::add_back))]
     fn add_back(&mut self, line: &Line)
         ensures { self.new ≡ add_back self.old line.now }
     {
@@ -99,13 +111,14 @@ impl Judge {
     }
 
     /// Tells a slot that came back for its owner.
+    #[tactic(auto, unfolding(crate::specs::Judging::back))]
     fn back(&mut self, frame: &LentFrame<'_>, at: &At, due: Option<Due>)
         ensures { self.new ≡ back self.old frame.now at.now due }
     {
         if let Some(due) = due {
-            let times = self.away_at(frame.id, due.node);
+            let times = self.away_at(u32::from(frame.id), due.node);
             if times != 0 {
-                self.with_away(frame.id, due.node, 0);
+                self.with_away(u32::from(frame.id), due.node, 0);
                 let place = place_of(self.channel, frame);
                 self.add_back(&Line::Back(*at, place, due.node, times));
             }
@@ -121,6 +134,7 @@ impl Judge {
     }
 
     /// Returns the finding of a frame that isn't like the other channel's.
+    #[tactic(auto, unfolding(crate::specs::Judging::channels_finding))]
     fn channels_finding(&self, frame: &LentFrame<'_>, due: Option<Due>) -> Option<Finding>
         ensures { result ≡ channels_finding self.now frame.now due }
     {
@@ -137,6 +151,7 @@ impl Judge {
     }
 
     /// Keeps the frame of a buffer for both channels.
+    #[tactic(auto, unfolding(crate::specs::Judging::show))]
     fn show(&mut self, frame: &LentFrame<'_>, due: Option<Due>)
         ensures { self.new ≡ show self.old frame.now due }
     {
@@ -153,6 +168,7 @@ impl Judge {
     }
 
     /// Returns whether none of so many cycles after one has a sender in the slot.
+    #[tactic(auto, unfolding(crate::specs::Judging::quiet))]
     fn quiet(&self, slot: u16, from: Cycle, count: u8) -> bool
         requires { count ≤ 64 }
         ensures { result ≡ quiet self.now slot from count }
@@ -166,6 +182,7 @@ impl Judge {
     }
 
     /// Returns the span of a slot's times, with the time since its frame in the due cycle before.
+    #[tactic(auto, unfolding(crate::specs::Judging::span_since))]
     fn span_since(&self, frame: &LentFrame<'_>, at: &At, tally: &SlotTally) -> Option<Span>
         ensures { result ≡ span_since self.now frame.now at.now tally.now tally.now.latest }
     {
@@ -181,6 +198,7 @@ impl Judge {
     }
 
     /// Returns the counts of a slot with the time of its frame, if one was due.
+    #[tactic(auto, unfolding(crate::specs::Judging::with_time))]
     fn with_time(&self, frame: &LentFrame<'_>, at: &At, tally: &SlotTally) -> SlotTally
         ensures { result ≡ with_time self.now frame.now at.now tally.now }
     {
@@ -198,6 +216,7 @@ impl Judge {
     }
 
     /// Counts the frame of a slot.
+    #[tactic(auto, unfolding(crate::specs::Judging::count_frame))]
     fn count_frame(&mut self, frame: &LentFrame<'_>, at: &At)
         ensures { self.new ≡ count_frame self.old frame.now at.now }
     {
@@ -208,36 +227,36 @@ impl Judge {
     }
 
     /// Keeps the frame of a slot, and tells its finding.
+    #[tactic(auto, unfolding(crate::specs::Judging::keep_frame))]
     fn keep_frame(&mut self, frame: &LentFrame<'_>, at: &At, finding: Option<Finding>)
         ensures { self.new ≡ keep_frame self.old frame.now at.now finding }
     {
+        let place = place_of(self.channel, frame);
         self.mine.last = frame.id;
         self.mine.ill = 0;
         self.count_frame(frame, at);
-        self.find_some(&Some(*at), &place_of(self.channel, frame), finding);
+        self.find_some(&Some(*at), &place, finding);
     }
 
     /// Takes the frame of a static slot.
+    #[tactic(auto, unfolding(crate::specs::Judging::static_came))]
     fn static_came(&mut self, frame: &LentFrame<'_>, at: &At, due: Option<Due>)
         ensures { self.new ≡ static_came self.old frame.now at.now due }
     {
-        let finding = match static_finding(&due, frame) {
-            Some(finding) => Some(finding),
-            None => self.channels_finding(frame, due),
-        };
+        let finding = first_of(
+            static_finding(&due, frame),
+            self.channels_finding(frame, due),
+        );
         let wrong = time_finding(&self.rules, &self.mine, frame.id, at.time, finding);
         self.back(frame, at, due);
         self.show(frame, due);
         let fixed = fixed_after(&self.rules, &self.mine, frame.id, at.time, wrong);
         self.mine.fixed = fixed;
-        let finding = match finding {
-            Some(finding) => Some(finding),
-            None => wrong,
-        };
-        self.keep_frame(frame, at, finding);
+        self.keep_frame(frame, at, first_of(finding, wrong));
     }
 
     /// Returns the finding of the minislot at which the slot of a frame opens.
+    #[tactic(auto, unfolding(crate::specs::Judging::placed_finding))]
     fn placed_finding(&self, frame: &LentFrame<'_>, due: Option<Due>) -> Option<Finding>
         ensures { result ≡ placed_finding self.now frame.now due }
     {
@@ -250,19 +269,21 @@ impl Judge {
     }
 
     /// Takes the frame of a dynamic slot.
+    #[tactic(auto, unfolding(crate::specs::Judging::dynamic_came))]
     fn dynamic_came(&mut self, frame: &LentFrame<'_>, at: &At, due: Option<Due>)
         ensures { self.new ≡ dynamic_came self.old frame.now at.now due }
     {
-        let finding = match dynamic_finding(&due, frame) {
-            Some(finding) => Some(finding),
-            None => self.placed_finding(frame, due),
-        };
+        let finding = first_of(
+            dynamic_finding(&due, frame),
+            self.placed_finding(frame, due),
+        );
         let words = frame.payload.len() / 2;
         pass_dynamic(self.rules.cluster.params(), &mut self.mine, frame, words);
         self.keep_frame(frame, at, finding);
     }
 
     /// Takes the frame of a slot of the open cycle.
+    #[tactic(auto, unfolding(crate::specs::Judging::came))]
     pub(crate) fn came(&mut self, frame: &LentFrame<'_>, at: &At)
         ensures { self.new ≡ came self.old frame.now at.now }
     {

@@ -1,6 +1,6 @@
 //! Times in a recording: the distance of two cycles, and the place of a frame in its cycle.
 
-ghost use Rattle.std.specs.Prelude.{◌≡◌, ◌+◌, ◌-◌, ◌*◌, ◌^◌, ◌<◌, ◌≤◌, pos, ℤ, ◌-ℤ◌, ◌≤ℤ◌, ◌<ℤ◌, neg_ℤ};
+ghost use Rattle.std.specs.Prelude.{◌≡◌, ◌+◌, ◌-◌, ◌*◌, ◌^◌, ◌<◌, ◌≤◌, pos, ℤ, ◌-ℤ◌, ◌+ℤ◌, ◌≤ℤ◌, ◌<ℤ◌, neg_ℤ};
 ghost use Rattle.fr_judging.specs.Distances.{steps_of, time_between, rounds_by, rounds_of, due_time, agrees};
 ghost use Rattle.fr_judging.specs.Distances.{distance_with, distance_by, by_times, distance_to, is_anew, anew_by, is_long};
 ghost use Rattle.fr_judging.specs.Distances.{time_off, time_by, time_from, time_finding, fixed_at, fixed_after};
@@ -43,6 +43,33 @@ fn steps_from(from: Option<Cycle>, to: Cycle) -> u8
     }
 }
 
+/// Returns the time from one moment to another.
+pub(crate) fn since(from: Moment, to: Moment) -> i128
+    ensures value { result ≡ to -ℤ from }
+    ensures low { neg_ℤ (pos (2 ^ 96)) ≤ℤ result }
+    ensures high { result ≤ℤ pos (2 ^ 96) }
+{
+    to.nanoseconds() - from.nanoseconds()
+}
+
+/// Returns a time that is shorter by so much.
+fn less(time: i128, by: u64) -> i128
+    requires low { neg_ℤ (pos (2 ^ 98)) ≤ℤ time }
+    requires high { time ≤ℤ pos (2 ^ 98) }
+    ensures { result ≡ time -ℤ pos by }
+{
+    time - i128::from(by)
+}
+
+/// Returns a time that is longer by so much.
+fn more(time: i128, by: u64) -> i128
+    requires low { neg_ℤ (pos (2 ^ 98)) ≤ℤ time }
+    requires high { time ≤ℤ pos (2 ^ 98) }
+    ensures { result ≡ time +ℤ pos by }
+{
+    time + i128::from(by)
+}
+
 /// Returns the time between two first frames, less the distance of their slots in the cycle.
 fn time_between(slot_ns: u64, from_slot: u16, to_slot: u16, from: Moment, to: Moment) -> i128
     requires { slot_ns < 2 ^ 48 }
@@ -50,14 +77,15 @@ fn time_between(slot_ns: u64, from_slot: u16, to_slot: u16, from: Moment, to: Mo
     ensures low { neg_ℤ (pos (2 ^ 97)) ≤ℤ result }
     ensures high { result ≤ℤ pos (2 ^ 97) }
 {
-    let slots = i128::from(to_slot) - i128::from(from_slot);
-    to.nanoseconds() - from.nanoseconds() - slots * i128::from(slot_ns)
+    let time = more(since(from, to), u64::from(from_slot) * slot_ns);
+    less(time, u64::from(to_slot) * slot_ns)
 }
 
 /// Returns how many times 64 cycles more than by the counts lie between.
 fn rounds_by(cycle_ns: u64, later: i128) -> u128
     requires some { 0 < cycle_ns }
     requires few { cycle_ns < 2 ^ 48 }
+    requires low { neg_ℤ (pos (2 ^ 98)) ≤ℤ later }
     requires high { later ≤ℤ pos (2 ^ 98) }
     ensures value { result ≡ rounds_by cycle_ns later }
     ensures fits { result * (64 * cycle_ns) < 2 ^ 99 }
@@ -66,7 +94,7 @@ fn rounds_by(cycle_ns: u64, later: i128) -> u128
     if later < half {
         return 0;
     }
-    (later + half).unsigned_abs() / u128::from(64 * cycle_ns)
+    more(later, 32 * cycle_ns).unsigned_abs() / u128::from(64 * cycle_ns)
 }
 
 /// Returns the distance of so many rounds.
@@ -76,7 +104,8 @@ fn distance_with(cycle_ns: u64, steps: u8, time: i128, rounds: u128) -> Distance
     requires low { neg_ℤ (pos (2 ^ 97)) ≤ℤ time }
     requires high { time ≤ℤ pos (2 ^ 97) }
     requires fits { rounds * (64 * cycle_ns) < 2 ^ 99 }
-    ensures { result ≡ distance_with cycle_ns steps time rounds }
+    ensures value { result ≡ distance_with cycle_ns steps time rounds }
+    ensures few { result.past < 2 ^ 127 }
 {
     let due = u128::from(u64::from(steps) * cycle_ns) + rounds * u128::from(64 * cycle_ns);
     let due = due as i128;
@@ -103,9 +132,10 @@ fn distance_by(cycle_ns: u64, steps: u8, time: i128) -> Distance
     requires few { cycle_ns < 2 ^ 48 }
     requires low { neg_ℤ (pos (2 ^ 97)) ≤ℤ time }
     requires high { time ≤ℤ pos (2 ^ 97) }
-    ensures { result ≡ distance_by cycle_ns steps time }
+    ensures value { result ≡ distance_by cycle_ns steps time }
+    ensures few { result.past < 2 ^ 127 }
 {
-    let later = time - i128::from(u64::from(steps) * cycle_ns);
+    let later = less(time, u64::from(steps) * cycle_ns);
     distance_with(cycle_ns, steps, time, rounds_by(cycle_ns, later))
 }
 
@@ -118,7 +148,8 @@ fn by_times(
     from: Option<Moment>,
     to: Option<Moment>,
 ) -> Distance
-    ensures { result ≡ by_times rules.now steps from_slot to_slot from to }
+    ensures value { result ≡ by_times rules.now steps from_slot to_slot from to }
+    ensures few { result.past < 2 ^ 127 }
 {
     let by_counts = Distance {
         past: u128::from(steps),
@@ -142,10 +173,21 @@ pub(crate) fn distance_to(
     frame: &LentFrame<'_>,
     time: Option<Moment>,
 ) -> Distance
-    ensures { result ≡ distance_to rules.now lane.now frame.now time }
+    ensures value { result ≡ distance_to rules.now lane.now frame.now time }
+    ensures few { result.past < 2 ^ 127 }
 {
     let steps = steps_from(lane.current, frame.cycle);
     by_times(rules, steps, lane.first, frame.id, lane.began, time)
+}
+
+/// Returns whether a time is 63 cycles and a half or more.
+fn is_long(cycle_ns: u64, time: i128) -> bool
+    requires few { cycle_ns < 2 ^ 48 }
+    requires low { neg_ℤ (pos (2 ^ 96)) ≤ℤ time }
+    requires high { time ≤ℤ pos (2 ^ 96) }
+    ensures { result ≡ is_long cycle_ns time }
+{
+    i128::from(127 * cycle_ns) <= time + time
 }
 
 /// Returns whether a frame with the count of the open cycle comes so late that it opens a cycle.
@@ -158,7 +200,7 @@ pub(crate) fn is_anew(rules: &Rules, lane: &Lane, time: Option<Moment>) -> bool
     if rules.macrotick == 0 {
         return false;
     }
-    i128::from(127 * rules.cycle_time()) <= 2 * (to.nanoseconds() - from.nanoseconds())
+    is_long(rules.cycle_time(), since(from, to))
 }
 
 /// Returns the finding of a time that is off by more than half a static slot.
@@ -184,7 +226,7 @@ fn time_by(slot_ns: u64, fixed: Fixed, slot: u16, time: Moment) -> Option<Findin
     ensures { result ≡ time_by slot_ns fixed slot time }
 {
     let due = u64::from(slot.saturating_sub(fixed.slot)) * slot_ns;
-    time_off(slot_ns, due, time.nanoseconds() - fixed.time.nanoseconds())
+    time_off(slot_ns, due, since(fixed.time, time))
 }
 
 /// Returns the finding of a static frame's time. A frame with another finding has none.

@@ -20,6 +20,7 @@ impl Judge {
     }
 
     /// Tells that the channel had no good frame.
+    #[tactic(auto, unfolding(crate::specs::Judging::tell_nothing))]
     fn tell_nothing(&mut self)
         ensures { self.new ≡ tell_nothing self.old }
     {
@@ -30,6 +31,7 @@ impl Judge {
     }
 
     /// Tells what the end of the input shows on the channel.
+    #[tactic(auto, unfolding(crate::specs::Judging::tell_end))]
     fn tell_end(&mut self)
         ensures { self.new ≡ tell_end self.old }
     {
@@ -40,6 +42,7 @@ impl Judge {
     }
 
     /// Ends a channel.
+    #[tactic(auto, unfolding(crate::specs::Judging::finish_on))]
     fn finish_on(&mut self, channel: Channel, over: bool)
         ensures { self.new ≡ finish_on self.old channel over }
     {
@@ -56,6 +59,7 @@ impl Judge {
     /// Ends the recording. After a refusal, when the input isn't over, nothing is told of its end.
     ///
     /// Afterwards `lines` has what the end shows.
+    #[tactic(auto, unfolding(crate::specs::Judging::finish))]
     pub fn finish(&mut self, over: bool)
         ensures { self.new ≡ finish self.old over }
     {

@@ -58,6 +58,7 @@ pub(crate) fn count_word(cycle: Option<Cycle>) -> Word
 
 impl Judge {
     /// Leaves the open cycle. If the other channel has it open too, that one is behind.
+    #[tactic(auto, unfolding(crate::specs::Judging::leave))]
     fn leave(&mut self)
         ensures { self.new ≡ leave self.old }
     {
@@ -67,6 +68,7 @@ impl Judge {
     }
 
     /// Tells that the other channel fell silent, after three cycles.
+    #[tactic(auto, unfolding(crate::specs::Judging::tell_silent))]
     fn tell_silent(&mut self, frame: &LentFrame<'_>, at: &At)
         ensures { self.new ≡ tell_silent self.old frame.now at.now }
     {
@@ -87,6 +89,7 @@ impl Judge {
     }
 
     /// Counts a cycle that was opened without a word of the other channel.
+    #[tactic(auto, unfolding(crate::specs::Judging::listen))]
     fn listen(&mut self, frame: &LentFrame<'_>, at: &At)
         ensures { self.new ≡ listen self.old frame.now at.now }
     {
@@ -97,6 +100,7 @@ impl Judge {
     }
 
     /// Opens the first cycle of the channel.
+    #[tactic(auto, unfolding(crate::specs::Judging::open_first))]
     fn open_first(&mut self, frame: &LentFrame<'_>, at: &At)
         ensures { self.new ≡ open_first self.old frame.now at.now }
     {
@@ -109,6 +113,7 @@ impl Judge {
     }
 
     /// Tells the cycles between, if there are some.
+    #[tactic(auto, unfolding(crate::specs::Judging::tell_gap))]
     fn tell_gap(&mut self, frame: &LentFrame<'_>, at: &At, past: u128)
         requires { past < 2 ^ 127 }
         ensures { self.new ≡ tell_gap self.old frame.now at.now past }
@@ -125,21 +130,24 @@ impl Judge {
     }
 
     /// Opens a cycle so far after the one before.
+    #[tactic(auto, unfolding(crate::specs::Judging::open_after))]
     fn open_after(&mut self, frame: &LentFrame<'_>, at: &At, distance: Distance)
         requires { distance.past < 2 ^ 127 }
         ensures { self.new ≡ open_after self.old frame.now at.now distance }
     {
+        let place = place_of(self.channel, frame);
         self.leave();
         pass(&mut self.mine, at, distance.past);
         begin(self.rules.cluster.params(), &mut self.mine, frame, at);
         self.skip_before(frame, at);
         self.tell_gap(frame, at, distance.past);
-        self.find_some(&Some(*at), &place_of(self.channel, frame), distance.clock);
+        self.find_some(&Some(*at), &place, distance.clock);
         self.listen(frame, at);
         self.came(frame, at);
     }
 
     /// Opens a cycle, which closes the one before.
+    #[tactic(auto, unfolding(crate::specs::Judging::open_cycle))]
     pub(crate) fn open_cycle(&mut self, frame: &LentFrame<'_>, at: &At)
         ensures { self.new ≡ open_cycle self.old frame.now at.now }
     {

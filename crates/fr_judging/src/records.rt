@@ -55,6 +55,7 @@ impl Judge {
     }
 
     /// Takes a frame of the open cycle.
+    #[tactic(auto, unfolding(crate::specs::Judging::member))]
     fn member(&mut self, frame: &LentFrame<'_>, at: &At)
         ensures { self.new ≡ member self.old frame.now at.now }
     {
@@ -71,6 +72,7 @@ impl Judge {
     }
 
     /// Tells a frame with a wrong cycle count.
+    #[tactic(auto, unfolding(crate::specs::Judging::wrong_count))]
     fn wrong_count(&mut self, frame: &LentFrame<'_>, at: &At)
         ensures { self.new ≡ wrong_count self.old frame.now at.now }
     {
@@ -86,6 +88,7 @@ impl Judge {
     }
 
     /// Decides a frame that waited.
+    #[tactic(auto, unfolding(crate::specs::Judging::decide))]
     fn decide(&mut self, frame: &LentFrame<'_>, at: &At, next: Option<Next>)
         ensures { self.new ≡ decide self.old frame.now at.now next }
     {
@@ -97,6 +100,7 @@ impl Judge {
     }
 
     /// Decides the frame that waits, by the next good one.
+    #[tactic(auto, unfolding(crate::specs::Judging::settle))]
     pub(crate) fn settle(&mut self, next: Option<Next>)
         ensures { self.new ≡ settle self.old next }
     {
@@ -109,6 +113,7 @@ impl Judge {
     }
 
     /// Lets a good frame wait.
+    #[tactic(auto, unfolding(crate::specs::Judging::hold))]
     fn hold(&mut self, frame: &LentFrame<'_>, at: &At)
         ensures { self.new ≡ hold self.old frame.now at.now }
     {
@@ -119,6 +124,7 @@ impl Judge {
     }
 
     /// Takes a good frame, when none waits.
+    #[tactic(auto, unfolding(crate::specs::Judging::place_frame))]
     fn place_frame(&mut self, frame: &LentFrame<'_>, at: &At)
         ensures { self.new ≡ place_frame self.old frame.now at.now }
     {
@@ -132,6 +138,7 @@ impl Judge {
     }
 
     /// Takes a good frame.
+    #[tactic(auto, unfolding(crate::specs::Judging::good))]
     fn good(&mut self, frame: &LentFrame<'_>, at: &At)
         ensures { self.new ≡ good self.old frame.now at.now }
     {
@@ -143,6 +150,7 @@ impl Judge {
     }
 
     /// Tells a record that changes nothing.
+    #[tactic(auto, unfolding(crate::specs::Judging::ill))]
     fn ill(&mut self, at: &At, place: &Place, finding: Finding)
         ensures { self.new ≡ ill self.old at.now place.now finding }
     {
@@ -159,6 +167,7 @@ impl Judge {
     }
 
     /// Takes a frame that is spelled as its header says.
+    #[tactic(auto, unfolding(crate::specs::Judging::spelled_frame))]
     fn spelled_frame(&mut self, at: &At, frame: &LentFrame<'_>)
         ensures { self.new ≡ spelled_frame self.old at.now frame.now }
     {
@@ -175,6 +184,7 @@ impl Judge {
     }
 
     /// Takes a record of a frame on the channel.
+    #[tactic(auto, unfolding(crate::specs::Judging::frame_on))]
     fn frame_on(&mut self, at: &At, original: u32, bytes: &[u8])
         ensures { self.new ≡ frame_on self.old at.now original bytes.now }
     {
@@ -197,6 +207,7 @@ impl Judge {
     }
 
     /// Takes a record of a symbol on the channel.
+    #[tactic(auto, unfolding(crate::specs::Judging::symbol_on))]
     fn symbol_on(&mut self, at: &At, original: u32, bytes: &[u8])
         ensures { self.new ≡ symbol_on self.old at.now original bytes.now }
     {
@@ -209,6 +220,7 @@ impl Judge {
     }
 
     /// Takes a record of this kind.
+    #[tactic(auto, unfolding(crate::specs::Judging::take_kind))]
     fn take_kind(&mut self, at: &At, original: u32, bytes: &[u8], kind: Kind)
         ensures { self.new ≡ take_kind self.old at.now original bytes.now kind }
     {
@@ -230,6 +242,7 @@ impl Judge {
     /// Judges a record with this time, link type and captured bytes, of so many bytes that there were.
     ///
     /// Afterwards `lines` has what the record shows.
+    #[tactic(auto, unfolding(crate::specs::Judging::judge))]
     pub fn judge(&mut self, time: Option<Moment>, link: u16, original: u32, bytes: &[u8])
         ensures { self.new ≡ judge self.old (record {
           time = time;

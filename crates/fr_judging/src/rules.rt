@@ -79,7 +79,8 @@ impl Rules {
 
     /// Returns the number of the last static slot.
     pub fn static_slots(&self) -> u32
-        ensures { result ≡ self.now.cluster.params.static_slots }
+        ensures value { result ≡ self.now.cluster.params.static_slots }
+        ensures few { result < 2 ^ 16 }
     {
         u32::from(self.cluster.params().static_slots)
     }

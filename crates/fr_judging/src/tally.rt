@@ -3,6 +3,7 @@
 ghost use Rattle.std.specs.Prelude.{◌≡◌};
 ghost use Rattle.fr_judging.specs.Tallies.{with_span, span_between, fresh_tally};
 
+use crate::distance::since;
 use fr_recording::numbers::Moment;
 use fr_slots::numbers::Cycle;
 
@@ -88,7 +89,7 @@ pub(crate) fn span_between(
     ensures { result ≡ span_between span from to }
 {
     match (from, to) {
-        (Some(from), Some(to)) => Some(with_span(span, to.nanoseconds() - from.nanoseconds())),
+        (Some(from), Some(to)) => Some(with_span(span, since(from, to))),
         _ => span,
     }
 }

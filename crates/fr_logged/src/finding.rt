@@ -105,7 +105,7 @@ pub struct Place {
     pub cycle: Option<Cycle>,
     pub channel: Channel,
     /// The slot, or 0 if a header has frame ID 0.
-    pub slot: Option<u16>,
+    pub slot: Option<u32>,
 }
 
 impl Word {

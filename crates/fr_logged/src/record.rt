@@ -117,7 +117,7 @@ pub fn place_in(channel: Channel, bytes: &[u8]) -> Place
     Place {
         cycle: Some(header.cycle),
         channel,
-        slot: Some(header.id),
+        slot: Some(u32::from(header.id)),
     }
 }
 
@@ -128,6 +128,6 @@ pub fn place_of(channel: Channel, frame: &LentFrame<'_>) -> Place
     Place {
         cycle: Some(frame.cycle),
         channel,
-        slot: Some(frame.id),
+        slot: Some(u32::from(frame.id)),
     }
 }
