@@ -3,6 +3,7 @@
 use Rattle.std.specs.Prelude.{◌≡◌, ℕ, zero, suc, ◌+◌, ◌-◌, ◌*◌, ◌/◌, ◌==◌, nat_lt, nat_le, ◌&&◌, ◌||◌, not, Bool, true, false}
 use Rattle.std.specs.Prelude.{if◌then◌else◌, List, [], ◌∷◌, ◌++◌, length, min, Option, Some, None, ℤ, Result, Ok, Err}
 use Rattle.std.specs.Prelude.{slice_index, slice_index_or, slice_set, replicate, ◌%◌, pos}
+use Rattle.std.specs.List.{list_any}
 use Rattle.std.specs.Option.{is_some, is_none, option_or}
 use Rattle.fr_frame.specs.Fields.{Fields}
 use Rattle.fr_logged.specs.Findings.{bare, with_numbers, number_word}
@@ -517,9 +518,23 @@ finish_on s channel over = if judges s.rules channel then finish_channel (turn s
 unfoldable pub finish : State → Bool → State
 finish s over = finish_on (finish_on (record s { lines = [] }) A over) B over
 
+-- ---- counts
+
+abbrev pub lane_on : State → Channel → Lane
+lane_on s channel = if is_channel s.channel channel then s.mine else s.other
+
+abbrev pub found_of : State → Name → ℕ
+found_of s n = slice_index s.found (index_of n)
+
+abbrev pub is_some_number : ℕ → Bool
+is_some_number n = not (n == 0)
+
+abbrev pub has_finding : State → Bool
+has_finding s = list_any is_some_number s.found
+
 -- ---- the start
 
-abbrev pub fresh : Rules → State
+unfoldable pub fresh : Rules → State
 fresh r = record {
   rules = r;
   mine = fresh_lane;

@@ -2,11 +2,15 @@
 
 ghost use Rattle.std.specs.Prelude.{◌≡◌, ◌<◌, ◌^◌};
 ghost use Rattle.fr_judging.specs.Rules.{due_at, judges, slot_time, cycle_time, has_sender_in, are_both, is_sent};
+ghost use Rattle.fr_judging.specs.Rules.{sends_on, transmits_on, has_sender, owns_in, owns_some, is_clocked, unclocked};
+ghost use Rattle.fr_judging.specs.Rules.{rules_of, no_clock_on};
 
 use fr_logged::due::{Due, due_of};
 use fr_schedule::cluster::Cluster;
 use fr_slots::channel::Channel;
-use fr_slots::numbers::{Cycle, SlotId};
+use fr_slots::numbers::{CYCLES, Cycle, SlotId};
+use fr_slots::params::Params;
+use fr_slots::plan::{Buffer, NodePlan, Own};
 
 /// The rules by which a recording is judged.
 #[derive(Drop)]
@@ -26,7 +30,111 @@ pub struct Rules {
     pub sends_b: bool,
 }
 
+/// Returns whether a node has an ownership line or a dynamic transmit buffer for the channel.
+fn sends_on(params: &Params, plan: &NodePlan, channel: Channel) -> bool
+    ensures { result ≡ sends_on params.now channel plan.now }
+{
+    let owned = plan.owned();
+    let buffers = plan.buffers();
+    owned.iter().any(|own| own.channels.includes(channel))
+        || buffers
+            .iter()
+            .any(|buffer| transmits_on(params, buffer, channel))
+}
+
+/// Returns whether a buffer transmits in a dynamic slot on the channel.
+fn transmits_on(params: &Params, buffer: &Buffer, channel: Channel) -> bool
+    ensures { result ≡ transmits_on params.now channel buffer.now }
+{
+    buffer.transmits()
+        && !params.is_static(buffer.filter.slot)
+        && buffer.filter.channels.includes(channel)
+}
+
+/// Returns whether a node sends on the channel.
+fn has_sender(cluster: &Cluster, channel: Channel) -> bool
+    ensures { result ≡ has_sender cluster.now channel }
+{
+    let params = cluster.params();
+    let plans = cluster.plans();
+    plans.iter().any(|plan| sends_on(params, plan, channel))
+}
+
+/// Returns whether an ownership line is for the channel in the cycle.
+fn owns_in(own: &Own, channel: Channel, cycle: Cycle) -> bool
+    ensures { result ≡ owns_in channel cycle own.now }
+{
+    own.channels.includes(channel) && own.cycles.admits(cycle)
+}
+
+/// Returns whether a node owns a static slot on the channel in the cycle.
+fn owns_some(plan: &NodePlan, channel: Channel, cycle: Cycle) -> bool
+    ensures { result ≡ owns_some channel cycle plan.now }
+{
+    let owned = plan.owned();
+    owned.iter().any(|own| owns_in(own, channel, cycle))
+}
+
+/// Returns whether a static slot has an owner on the channel in the cycle.
+fn is_clocked(cluster: &Cluster, channel: Channel, cycle: Cycle) -> bool
+    ensures { result ≡ is_clocked cluster.now channel cycle }
+{
+    let plans = cluster.plans();
+    plans.iter().any(|plan| owns_some(plan, channel, cycle))
+}
+
+/// Returns the first cycle in which no static slot has an owner on the channel.
+fn unclocked(cluster: &Cluster, channel: Channel) -> Option<Cycle>
+    ensures { result ≡ unclocked cluster.now channel 0 64 }
+{
+    for number in 0..CYCLES {
+        let cycle = Cycle::from_bits(number);
+        if !is_clocked(cluster, channel, cycle) {
+            return Some(cycle);
+        }
+    }
+    None
+}
+
 impl Rules {
+    /// Returns the rules of a judgement by this cluster.
+    ///
+    /// `most` bounds the lines of each name that are told, `only` is the only channel that is judged, and `macrotick` is
+    /// in nanoseconds, 0 if times aren't judged.
+    #[tactic(auto, unfolding(crate::specs::Rules::rules_of))]
+    pub fn new(
+        cluster: Cluster,
+        most: u64,
+        whole: bool,
+        only: Option<Channel>,
+        macrotick: u32,
+    ) -> Rules
+        ensures { result ≡ rules_of cluster most whole only macrotick }
+    {
+        let sends_a = has_sender(&cluster, Channel::A);
+        let sends_b = has_sender(&cluster, Channel::B);
+        Rules {
+            cluster,
+            most,
+            whole,
+            only,
+            macrotick,
+            sends_a,
+            sends_b,
+        }
+    }
+
+    /// Returns the first cycle in which no static slot has an owner on a channel that is judged and has a sender.
+    pub fn no_clock(&self, channel: Channel) -> Option<Cycle>
+        ensures { result ≡ no_clock_on self.now channel }
+    {
+        if self.judges(channel) && self.has_sender(channel) {
+            unclocked(&self.cluster, channel)
+        } else {
+            None
+        }
+    }
+
     /// Returns whether the channel is judged.
     pub fn judges(&self, channel: Channel) -> bool
         ensures { result ≡ judges self.now channel }
