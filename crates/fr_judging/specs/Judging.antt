@@ -534,17 +534,32 @@ has_finding s = list_any is_some_number s.found
 
 -- ---- the start
 
+unfoldable pub no_counts : List SlotTally
+no_counts = replicate 4096 fresh_tally
+
+unfoldable pub none_away : List ℕ
+none_away = replicate 32768 0
+
+abbrev pub not_shown : Shown
+not_shown = record { opened = 0; frame = no_frame }
+
+unfoldable pub none_shown : List Shown
+none_shown = replicate 2048 not_shown
+
+unfoldable pub none_found : List ℕ
+none_found = replicate 28 0
+
 unfoldable pub fresh : Rules → State
 fresh r = record {
   rules = r;
   mine = fresh_lane;
   other = fresh_lane;
   channel = A;
-  slots = replicate 4096 fresh_tally;
-  away = replicate 32768 0;
-  shown = replicate 2048 (record { opened = 0; frame = no_frame });
+  slots = no_counts;
+  away = none_away;
+  shown = none_shown;
   lines = [];
-  found = replicate 28 0;
+  found = none_found;
   backs = 0;
   records = 0;
   foreign = 0;

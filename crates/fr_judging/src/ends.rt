@@ -1,16 +1,16 @@
 //! The start and the end of a recording.
 
-ghost use Rattle.std.specs.Prelude.{◌≡◌, IfOk, replicate};
-ghost use Rattle.fr_judging.specs.Judging.{fresh, no_frame, lane_on, tally_at, found_of, has_finding};
+ghost use Rattle.std.specs.Prelude.{◌≡◌, IfOk, length};
+ghost use Rattle.fr_judging.specs.Judging.{fresh, no_frame, none_shown, no_counts, none_away, none_found, lane_on, tally_at, found_of, has_finding};
 ghost use Rattle.fr_judging.specs.Judging.{says_nothing, tell_nothing, tell_end, finish_channel, finish_on, finish};
 
 use crate::came::SILENCE;
-use crate::judge::{AWAY_PLACES, Judge, MOST_LINES, PLACES, STATIC_PLACES, Shown};
+use crate::judge::{AWAY_PLACES, Judge, MOST_LINES, STATIC_PLACES, Shown};
 use crate::lane::Lane;
 use crate::line::Line;
 use crate::names::{NAMES, index_of};
 use crate::rules::Rules;
-use crate::tally::SlotTally;
+use crate::tally::{SlotTally, no_counts};
 use fr_frame::frame::Frame;
 use fr_frame::payload::Payload;
 use fr_logged::finding::{Finding, Name};
@@ -35,16 +35,33 @@ fn no_frame() -> Frame
 
 /// Returns the places for the frames of static slots, without a frame.
 fn none_shown(alloc: Global) -> Result<Vec<Shown>, AllocError>
-    ensures { IfOk result (λ shown. shown.items ≡ replicate 2048 (record { opened = 0; frame = no_frame })) }
+    ensures value { IfOk result (λ shown. shown.items ≡ none_shown) }
+    ensures whole { IfOk result (λ shown. length shown.items ≡ 2048) }
 {
     let mut shown = Vec::with_capacity(alloc, STATIC_PLACES)?;
-    for _place in 0..STATIC_PLACES {
+    for place in 0..STATIC_PLACES {
         shown.push(Shown {
             opened: 0,
             frame: no_frame(),
         })?;
     }
     Ok(shown)
+}
+
+/// Returns the numbers of missing slots, before the first record.
+fn none_away(alloc: Global) -> Result<Vec<u64>, AllocError>
+    ensures value { IfOk result (λ away. away.items ≡ none_away) }
+    ensures whole { IfOk result (λ away. length away.items ≡ 32768) }
+{
+    Ok(vec![in alloc; 0; AWAY_PLACES]?)
+}
+
+/// Returns the numbers of findings, before the first record.
+fn none_found(alloc: Global) -> Result<Vec<u64>, AllocError>
+    ensures value { IfOk result (λ found. found.items ≡ none_found) }
+    ensures whole { IfOk result (λ found. length found.items ≡ 28) }
+{
+    Ok(vec![in alloc; 0; NAMES]?)
 }
 
 impl Judge {
@@ -58,11 +75,11 @@ impl Judge {
             mine: Box::new(alloc, Lane::new())?,
             other: Box::new(alloc, Lane::new())?,
             channel: Channel::A,
-            slots: vec![in alloc; SlotTally::new(); PLACES]?,
-            away: vec![in alloc; 0; AWAY_PLACES]?,
+            slots: no_counts(alloc)?,
+            away: none_away(alloc)?,
             shown: none_shown(alloc)?,
             lines: Vec::with_capacity(alloc, MOST_LINES)?,
-            found: vec![in alloc; 0; NAMES]?,
+            found: none_found(alloc)?,
             backs: 0,
             records: 0,
             foreign: 0,

@@ -3,7 +3,8 @@
 ghost use Rattle.std.specs.Prelude.{◌≡◌, ◌<◌, ◌^◌};
 ghost use Rattle.fr_judging.specs.Rules.{due_at, judges, slot_time, cycle_time, has_sender_in, are_both, is_sent};
 ghost use Rattle.fr_judging.specs.Rules.{sends_on, transmits_on, has_sender, owns_in, owns_some, is_clocked, unclocked};
-ghost use Rattle.fr_judging.specs.Rules.{rules_of, no_clock_on};
+ghost use Rattle.fr_judging.specs.Rules.{rules_of, no_clock_on, own_includes};
+ghost use Rattle.std.specs.List.{list_any};
 
 use fr_logged::due::{Due, due_of};
 use fr_schedule::cluster::Cluster;
@@ -30,16 +31,29 @@ pub struct Rules {
     pub sends_b: bool,
 }
 
+/// Returns whether a node has an ownership line for the channel.
+fn owns_on(plan: &NodePlan, channel: Channel) -> bool
+    ensures { result ≡ list_any (own_includes channel) plan.now.owned }
+{
+    let owned = plan.owned();
+    owned.iter().any(|own| own.channels.includes(channel))
+}
+
+/// Returns whether a node has a dynamic transmit buffer for the channel.
+fn has_buffer_on(params: &Params, plan: &NodePlan, channel: Channel) -> bool
+    ensures { result ≡ list_any (transmits_on params.now channel) plan.now.buffers }
+{
+    let buffers = plan.buffers();
+    buffers
+        .iter()
+        .any(|buffer| transmits_on(params, buffer, channel))
+}
+
 /// Returns whether a node has an ownership line or a dynamic transmit buffer for the channel.
 fn sends_on(params: &Params, plan: &NodePlan, channel: Channel) -> bool
     ensures { result ≡ sends_on params.now channel plan.now }
 {
-    let owned = plan.owned();
-    let buffers = plan.buffers();
-    owned.iter().any(|own| own.channels.includes(channel))
-        || buffers
-            .iter()
-            .any(|buffer| transmits_on(params, buffer, channel))
+    owns_on(plan, channel) || has_buffer_on(params, plan, channel)
 }
 
 /// Returns whether a buffer transmits in a dynamic slot on the channel.

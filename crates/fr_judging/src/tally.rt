@@ -1,11 +1,14 @@
 //! Counts of a slot, and spans of time.
 
-ghost use Rattle.std.specs.Prelude.{◌≡◌};
+ghost use Rattle.std.specs.Prelude.{◌≡◌, IfOk, length};
+ghost use Rattle.fr_judging.specs.Judging.{no_counts};
 ghost use Rattle.fr_judging.specs.Tallies.{with_span, span_between, fresh_tally};
 
 use crate::distance::since;
+use crate::judge::PLACES;
 use fr_recording::numbers::Moment;
 use fr_slots::numbers::Cycle;
+use std::alloc::{AllocError, Global};
 
 /// The shortest and the longest of some times, in nanoseconds.
 #[derive(Clone, Copy)]
@@ -92,4 +95,23 @@ pub(crate) fn span_between(
         (Some(from), Some(to)) => Some(with_span(span, since(from, to))),
         _ => span,
     }
+}
+
+/// Returns the time of the frame that came last.
+fn latest_time(tally: &SlotTally) -> Option<Moment> {
+    match tally.latest {
+        Some(came) => came.time,
+        None => None,
+    }
+}
+
+/// Returns the counts of all slots, before the first record.
+pub(crate) fn no_counts(alloc: Global) -> Result<Vec<SlotTally>, AllocError>
+    ensures value { IfOk result (λ counts. counts.items ≡ no_counts) }
+    ensures whole { IfOk result (λ counts. length counts.items ≡ 4096) }
+{
+    let tally = SlotTally::new();
+    // For the prover: the types of these fields are named in no other way here.
+    let (_latest, _time) = (tally.latest, latest_time(&tally));
+    Ok(vec![in alloc; tally; PLACES]?)
 }
