@@ -117,12 +117,14 @@ place_text p = optional_text p.cycle ++ codes " " ++ letter_of p.channel ++ code
 unfoldable pub finding_text : Finding → List ℕ
 finding_text f = name_word f.name ++ codes " " ++ word_text f.expected ++ codes " " ++ word_text f.found
 
+unfoldable pub times_text : ℕ → ℕ → List ℕ
+times_text node times = codes " " ++ decimal node ++ codes " " ++ decimal times ++ 10 ∷ []
+
 unfoldable pub line_text : Line → List ℕ
 line_text (line.Finding at place f) =
     codes "finding " ++ at_text at ++ codes " " ++ place_text place ++ codes " " ++ finding_text f ++ 10 ∷ []
 line_text (line.Back at place node times) =
-    codes "back " ++ at_text (Some at) ++ codes " " ++ place_text place ++ codes " " ++ decimal node ++ codes " "
-    ++ decimal times ++ 10 ∷ []
+    codes "back " ++ at_text (Some at) ++ codes " " ++ place_text place ++ times_text node times
 
 abbrev pub lines_text : List Line → List ℕ
 lines_text lines = flat_map line_text lines

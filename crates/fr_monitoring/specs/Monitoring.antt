@@ -9,7 +9,9 @@ use Rattle.fr_recording.specs.Stream.{Progress, fresh, take_bytes, records_from,
 use Rattle.fr_monitoring.specs.LineText.{lines_text}
 use Rattle.fr_monitoring.specs.SummaryText.{summary_text}
 use Rattle.fr_monitoring.specs.declared.error.MonitorError.{MonitorError}
-use Rattle.fr_monitoring.specs.declared.error.MonitorError.TheVariants.{Capture, Read, Write, Memory}
+use Rattle.fr_monitoring.specs.declared.error.StreamError.{StreamError}
+use Rattle.fr_monitoring.specs.declared.error.StreamError.TheVariants as stream
+use Rattle.fr_monitoring.specs.declared.error.MonitorError.TheVariants.{Capture, Read}
 
 -- ---- records
 
@@ -68,17 +70,30 @@ Monitors r text rest old new (Err e) = Unit {0}
 
 -- ---- the steps of the command
 
--- the front has been judged, and its lines are written
-abbrev pub IsFollowed : Rules → Progress → State → Option (List ℕ) → Option (List ℕ) → List ℕ → Type 0
-IsFollowed r p s old new front =
-    (p ≡ take_bytes fresh front) × (s ≡ state_after r front)
-    × Appends old new (told (fresh_state r) (records_from fresh front))
+-- The records of the front have been judged from this state on, and their lines are written.
+pub record IsFollowed (p : Progress) (s : State) (q : Progress) (t : State) (old : Option (List ℕ))
+    (new : Option (List ℕ)) (front : List ℕ) : Type 0 where
+  pub progress_is : q ≡ take_bytes p front
+  pub state_is : t ≡ judged s (records_from p front)
+  pub text_is : Appends old new (told s (records_from p front))
 
 -- the result of reading through
-abbrev pub Follows : Rules → Option (List ℕ) → Option (List ℕ) → Progress → State → Option (List ℕ) → Option (List ℕ)
-    → Result (Unit {0}) MonitorError → Type 0
-Follows r text rest p s old new (Ok x) = ReadFront text rest (λ front left.
-    IsFollowed r p s old new front × StopsThere front left)
-Follows r text rest p s old new (Err Read) = ReadFront text rest (λ front left. IsFollowed r p s old new front)
-Follows r text rest p s old new (Err (Capture refusal)) = ⊥
-Follows r text rest p s old new (Err e) = Unit {0}
+abbrev pub Follows : Progress → State → Option (List ℕ) → Option (List ℕ) → Progress → State → Option (List ℕ)
+    → Option (List ℕ) → Result (Unit {0}) StreamError → Type 0
+Follows p s text rest q t old new (Ok x) = ReadFront text rest (λ front left.
+    IsFollowed p s q t old new front × ((left ≡ []) ⊎ (is_refused q.state.phase ≡ true)))
+Follows p s text rest q t old new (Err stream.Read) = ReadFront text rest (λ front left.
+    IsFollowed p s q t old new front)
+Follows p s text rest q t old new (Err stream.Write) = Unit {0}
+
+-- the result at the end of what was read
+abbrev pub Ends : Progress → State → Result (Unit {0}) StreamError → Option (List ℕ) → Option (List ℕ)
+    → Result Bool MonitorError → Type 0
+Ends q t followed old new (Ok some) =
+    (followed ≡ Ok tt) × (refusal_of q ≡ None) × (some ≡ has_finding (finish t true))
+    × Appends old new (end_text (finish t true) q.state.skipped)
+Ends q t followed old new (Err (Capture refusal)) =
+    (followed ≡ Ok tt) × (refusal_of q ≡ Some refusal) × Appends old new (end_text (finish t false) q.state.skipped)
+Ends q t followed old new (Err Read) =
+    (followed ≡ Err stream.Read) × Appends old new (end_text (finish t false) q.state.skipped)
+Ends q t followed old new (Err e) = Unit {0}

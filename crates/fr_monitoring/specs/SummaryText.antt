@@ -32,11 +32,13 @@ records_text s blocks =
     codes "records " ++ decimal s.records ++ codes " foreign " ++ decimal s.foreign ++ codes " symbols "
     ++ decimal s.symbols ++ codes " skipped " ++ decimal blocks ++ 10 ∷ []
 
+unfoldable pub lane_counts : Lane → List ℕ
+lane_counts l =
+    codes " frames " ++ decimal l.frames ++ codes " cycles " ++ decimal l.cycles ++ codes " gaps " ++ decimal l.gaps
+    ++ codes " lost " ++ decimal l.lost ++ codes " "
+
 unfoldable pub lane_text : Channel → Lane → List ℕ
-lane_text channel l =
-    codes "channel " ++ letter_of channel ++ codes " frames " ++ decimal l.frames ++ codes " cycles "
-    ++ decimal l.cycles ++ codes " gaps " ++ decimal l.gaps ++ codes " lost " ++ decimal l.lost ++ codes " "
-    ++ span_text l.span ++ 10 ∷ []
+lane_text channel l = codes "channel " ++ letter_of channel ++ lane_counts l ++ span_text l.span ++ 10 ∷ []
 
 -- a channel that is judged has a line
 unfoldable pub channel_text : State → Channel → List ℕ
@@ -83,10 +85,13 @@ is_slot_of d slot channel = list_any (sends_in d.params slot channel) d.plans
 abbrev pub is_heard : SlotTally → Bool
 is_heard t = t.odd || (not (t.data_frames == 0) || not (t.null_frames == 0))
 
-unfoldable pub tally_text : SlotTally → List ℕ
-tally_text t =
+unfoldable pub tally_counts : SlotTally → List ℕ
+tally_counts t =
     codes " data " ++ decimal t.data_frames ++ codes " null " ++ decimal t.null_frames ++ codes " missing "
-    ++ decimal t.missing ++ codes " other " ++ decimal t.other ++ codes " " ++ span_text t.span ++ 10 ∷ []
+    ++ decimal t.missing ++ codes " other " ++ decimal t.other ++ codes " "
+
+unfoldable pub tally_text : SlotTally → List ℕ
+tally_text t = tally_counts t ++ span_text t.span ++ 10 ∷ []
 
 unfoldable pub slot_line : State → ℕ → Channel → List ℕ
 slot_line s slot channel =

@@ -5,6 +5,15 @@ use fr_slots::channel::Channel;
 use fr_slots::numbers::Cycle;
 use std::fmt;
 
+/// The failures of the streams.
+#[derive(Clone, Copy, Debug)]
+pub(crate) enum StreamError {
+    /// The input couldn't be read.
+    Read,
+    /// The output couldn't be written.
+    Write,
+}
+
 /// Reasons for which a recording isn't audited to its end (project-defined).
 #[derive(Debug, Drop)]
 pub enum MonitorError {

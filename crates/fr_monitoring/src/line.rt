@@ -4,7 +4,7 @@ ghost use Rattle.std.specs.Prelude.{◌≡◌};
 ghost use Rattle.fr_text.specs.Writing.{Writes};
 ghost use Rattle.std.specs.Fmt.{sign_text};
 ghost use Rattle.fr_monitoring.specs.LineText.{letter_if, dash_if, letters_text, optional_text, word_text, time_text};
-ghost use Rattle.fr_monitoring.specs.LineText.{seconds_text, at_text, place_text, finding_text, line_text, lines_text};
+ghost use Rattle.fr_monitoring.specs.LineText.{seconds_text, at_text, place_text, finding_text, line_text, lines_text, times_text};
 
 use crate::digits::{nine_digits, six_digits, three_digits};
 use crate::names::name_word;
@@ -142,6 +142,14 @@ fn write_finding<W: Write>(writer: &mut W, finding: &Finding) -> io::Result<()>
     write_word(writer, &finding.found)
 }
 
+/// Writes a node, and how often its slot was missing.
+#[tactic(auto, unfolding(crate::specs::LineText::times_text))]
+fn write_times<W: Write>(writer: &mut W, node: u8, times: u64) -> io::Result<()>
+    ensures { Writes W.contents writer.old writer.new result (times_text node times) }
+{
+    writeln!(writer, " {node} {times}")
+}
+
 /// Writes a line.
 #[tactic(auto, unfolding(crate::specs::LineText::line_text))]
 fn write_line<W: Write>(writer: &mut W, line: &Line) -> io::Result<()>
@@ -162,7 +170,7 @@ fn write_line<W: Write>(writer: &mut W, line: &Line) -> io::Result<()>
             write_at(writer, &Some(*at))?;
             write!(writer, " ")?;
             write_place(writer, place)?;
-            writeln!(writer, " {node} {times}")
+            write_times(writer, *node, *times)
         }
     }
 }

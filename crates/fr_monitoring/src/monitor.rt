@@ -1,12 +1,11 @@
 //! The audit of a recording between a reader and a writer.
 
-ghost use Rattle.std.specs.Prelude.{◌≡◌, ◌<◌, length, OnOk, option_to_list};
+ghost use Rattle.std.specs.Prelude.{◌≡◌, ◌<◌, length, IfOk, OnOk, option_to_list};
 ghost use Rattle.fr_text.specs.Writing.{Writes};
-ghost use Rattle.fr_judging.specs.Judging.{fresh as fresh_state};
-ghost use Rattle.fr_recording.specs.Stream.{fresh, take_bytes, records_from, told_of};
-ghost use Rattle.fr_monitoring.specs.Monitoring.{judged, told, end_text, Monitors, Follows};
+ghost use Rattle.fr_recording.specs.Stream.{take_bytes, records_from, told_of};
+ghost use Rattle.fr_monitoring.specs.Monitoring.{judged, told, end_text, Monitors, Follows, Ends};
 
-use crate::error::MonitorError;
+use crate::error::{MonitorError, StreamError};
 use crate::line::write_lines;
 use crate::summary::write_summary;
 use fr_judging::judge::Judge;
@@ -63,34 +62,32 @@ fn follow<R: Read, W: Write>(
     room: &mut [u8],
     reader: &mut R,
     writer: &mut W,
-) -> Result<(), MonitorError>
-    requires start { capture.old ≡ fresh }
-    requires judge { judge.old ≡ fresh_state judge.old.rules }
-    requires room { 0 < length room.old }
-    ensures { Follows judge.old.rules (R.remaining reader.old) (R.remaining reader.new) capture.new judge.new
+) -> Result<(), StreamError>
+    requires { 0 < length room.old }
+    ensures { Follows capture.old judge.old (R.remaining reader.old) (R.remaining reader.new) capture.new judge.new
         (W.contents writer.old) (W.contents writer.new) result }
 {
     // The loop ends with `Read` after 2^64 - 1 reads, so that its termination can be proved.
     'pieces: for _ in 0..u64::MAX {
         if writer.flush().is_err() {
-            return Err(MonitorError::Write);
+            return Err(StreamError::Write);
         }
         let count = match reader.read(room) {
             Ok(count) => count,
             Err(error) if error.kind() == ErrorKind::Interrupted => continue,
-            Err(_) => return Err(MonitorError::Read),
+            Err(_) => return Err(StreamError::Read),
         };
         if count == 0 {
             return Ok(());
         }
         if take_piece(capture, judge, &room[..count], writer).is_err() {
-            return Err(MonitorError::Write);
+            return Err(StreamError::Write);
         }
         if capture.is_refused() {
             return Ok(());
         }
     }
-    Err(MonitorError::Read)
+    Err(StreamError::Read)
 }
 
 /// Writes the lines that the end shows, and the summary, and flushes.
@@ -118,4 +115,69 @@ fn room_for(alloc: Global) -> Result<Vec<u8>, AllocError>
     ensures { IfOk result (λ room. length room.items ≡ 65536) }
 {
     Ok(vec![in alloc; 0; ROOM]?)
+}
+
+/// Ends a recording that was read through, or up to a failure, and writes what that shows.
+fn end<W: Write>(
+    capture: &Reader,
+    judge: &mut Judge,
+    followed: Result<(), StreamError>,
+    writer: &mut W,
+) -> Result<bool, MonitorError>
+    ensures { Ends capture.now judge.old followed (W.contents writer.old) (W.contents writer.new) result }
+{
+    let whole = match followed {
+        Ok(()) => true,
+        Err(StreamError::Read) => false,
+        Err(StreamError::Write) => return Err(MonitorError::Write),
+    };
+    let refusal = capture.refusal();
+    judge.finish(whole && refusal.is_none());
+    if write_end(writer, judge, capture.skipped()).is_err() {
+        return Err(MonitorError::Write);
+    }
+    if !whole {
+        return Err(MonitorError::Read);
+    }
+    match refusal {
+        Some(refusal) => Err(MonitorError::Capture(refusal)),
+        None => Ok(judge.has_finding()),
+    }
+}
+
+/// Audits a recording: writes a line for each finding as it comes, and a summary (project-defined). Returns whether
+/// there is a finding.
+///
+/// Refused with `NoClock` if a channel that has a sender has no owner of a static slot in a cycle, and with `Memory` if
+/// an allocation fails, both before anything is read. Then with the refusal of the capture, and with `Read` or `Write`
+/// if a stream fails. The summary of what was read is written after all of these but `Write`.
+pub fn monitor<R: Read, W: Write>(
+    alloc: Global,
+    rules: Rules,
+    reader: &mut R,
+    writer: &mut W,
+) -> Result<bool, MonitorError>
+    ensures { Monitors rules (R.remaining reader.old) (R.remaining reader.new)
+        (W.contents writer.old) (W.contents writer.new) result }
+{
+    if let Some(error) = clock_error(&rules) {
+        return Err(error);
+    }
+    let Ok(mut capture) = Reader::new(alloc) else {
+        return Err(MonitorError::Memory);
+    };
+    let Ok(mut judge) = Judge::new(alloc, rules) else {
+        return Err(MonitorError::Memory);
+    };
+    let Ok(mut room) = room_for(alloc) else {
+        return Err(MonitorError::Memory);
+    };
+    let followed = follow(
+        &mut capture,
+        &mut judge,
+        room.as_mut_slice(),
+        reader,
+        writer,
+    );
+    end(&capture, &mut judge, followed, writer)
 }

@@ -5,7 +5,9 @@ ghost use Rattle.fr_text.specs.Writing.{Writes};
 ghost use Rattle.fr_monitoring.specs.SummaryText.{span_text, records_text, lane_text, channel_text, is_own_of};
 ghost use Rattle.fr_monitoring.specs.SummaryText.{is_buffer_of, sends_in, nodes_from, nodes_text, is_slot_of, is_heard};
 ghost use Rattle.fr_monitoring.specs.SummaryText.{tally_text, slot_line, has_line, slot_text, slots_text, found_line};
-ghost use Rattle.fr_monitoring.specs.SummaryText.{found_text, summary_text, comma_if, dash_unless};
+ghost use Rattle.fr_monitoring.specs.SummaryText.{found_text, summary_text, comma_if, dash_unless, lane_counts};
+ghost use Rattle.fr_monitoring.specs.SummaryText.{tally_counts};
+ghost use Rattle.std.specs.List.{list_any};
 
 use crate::names::{ALL, name_word};
 use fr_judging::judge::Judge;
@@ -49,16 +51,25 @@ fn write_records<W: Write>(writer: &mut W, judge: &Judge, blocks: u64) -> io::Re
     )
 }
 
+/// Writes the counts of a channel.
+#[tactic(auto, unfolding(crate::specs::SummaryText::lane_counts))]
+fn write_lane_counts<W: Write>(writer: &mut W, lane: &Lane) -> io::Result<()>
+    ensures { Writes W.contents writer.old writer.new result (lane_counts lane.now) }
+{
+    let (frames, cycles, gaps, lost) = (lane.frames, lane.cycles, lane.gaps, lane.lost);
+    write!(
+        writer,
+        " frames {frames} cycles {cycles} gaps {gaps} lost {lost} "
+    )
+}
+
 /// Writes the line of a channel.
 #[tactic(auto, unfolding(crate::specs::SummaryText::lane_text))]
 fn write_lane<W: Write>(writer: &mut W, channel: Channel, lane: &Lane) -> io::Result<()>
     ensures { Writes W.contents writer.old writer.new result (lane_text channel lane.now) }
 {
-    let (frames, cycles, gaps, lost) = (lane.frames, lane.cycles, lane.gaps, lane.lost);
-    write!(
-        writer,
-        "channel {channel} frames {frames} cycles {cycles} gaps {gaps} lost {lost} "
-    )?;
+    write!(writer, "channel {channel}")?;
+    write_lane_counts(writer, lane)?;
     write_span(writer, lane.span)?;
     writeln!(writer)
 }
@@ -92,16 +103,29 @@ fn is_buffer_of(params: &Params, buffer: &Buffer, slot: u32, channel: Channel) -
         && (u32::from(filter.slot.number()) == slot && filter.channels.includes(channel))
 }
 
+/// Returns whether a node has an ownership line for the slot on the channel.
+fn owns_in(plan: &NodePlan, slot: u32, channel: Channel) -> bool
+    ensures { result ≡ list_any (is_own_of slot channel) plan.now.owned }
+{
+    let owned = plan.owned();
+    owned.iter().any(|own| is_own_of(own, slot, channel))
+}
+
+/// Returns whether a node has a transmit buffer for the dynamic slot on the channel.
+fn has_buffer_in(params: &Params, plan: &NodePlan, slot: u32, channel: Channel) -> bool
+    ensures { result ≡ list_any (is_buffer_of params.now slot channel) plan.now.buffers }
+{
+    let buffers = plan.buffers();
+    buffers
+        .iter()
+        .any(|buffer| is_buffer_of(params, buffer, slot, channel))
+}
+
 /// Returns whether a node sends in the slot on the channel in some cycle.
 fn sends_in(params: &Params, plan: &NodePlan, slot: u32, channel: Channel) -> bool
     ensures { result ≡ sends_in params.now slot channel plan.now }
 {
-    let owned = plan.owned();
-    let buffers = plan.buffers();
-    owned.iter().any(|own| is_own_of(own, slot, channel))
-        || buffers
-            .iter()
-            .any(|buffer| is_buffer_of(params, buffer, slot, channel))
+    owns_in(plan, slot, channel) || has_buffer_in(params, plan, slot, channel)
 }
 
 /// Writes the comma before a node that isn't the first.
@@ -146,20 +170,30 @@ fn is_slot_of(cluster: &Cluster, slot: u32, channel: Channel) -> bool
 {
     let params = cluster.params();
     let plans = cluster.plans();
-    plans.iter().any(|plan| sends_in(params, plan, slot, channel))
+    plans
+        .iter()
+        .any(|plan| sends_in(params, plan, slot, channel))
 }
 
 /// Writes the counts of a slot.
-#[tactic(auto, unfolding(crate::specs::SummaryText::tally_text))]
-fn write_tally<W: Write>(writer: &mut W, tally: &SlotTally) -> io::Result<()>
-    ensures { Writes W.contents writer.old writer.new result (tally_text tally.now) }
+#[tactic(auto, unfolding(crate::specs::SummaryText::tally_counts))]
+fn write_tally_counts<W: Write>(writer: &mut W, tally: &SlotTally) -> io::Result<()>
+    ensures { Writes W.contents writer.old writer.new result (tally_counts tally.now) }
 {
     let (values, nulls) = (tally.data_frames, tally.null_frames);
     let (missing, other) = (tally.missing, tally.other);
     write!(
         writer,
         " data {values} null {nulls} missing {missing} other {other} "
-    )?;
+    )
+}
+
+/// Writes the counts and the times of a slot.
+#[tactic(auto, unfolding(crate::specs::SummaryText::tally_text))]
+fn write_tally<W: Write>(writer: &mut W, tally: &SlotTally) -> io::Result<()>
+    ensures { Writes W.contents writer.old writer.new result (tally_text tally.now) }
+{
+    write_tally_counts(writer, tally)?;
     write_span(writer, tally.span)?;
     writeln!(writer)
 }
