@@ -7,8 +7,7 @@ ghost use Rattle.fr_cli.specs.MonitorCommands.{number_asked, findings_asked, mac
 ghost use Rattle.fr_cli.specs.Commands.{is_true};
 
 use crate::error::OrderError;
-use clap::builder::ArgAction;
-use clap::{Arg, ArgMatches, Command};
+use clap::{Arg, ArgAction, ArgMatches, Command};
 use fr_slots::channel::Channel;
 use fr_text::numbers::number_of;
 use std::alloc::{AllocError, Global};
@@ -37,10 +36,16 @@ fn with_options<'a>(alloc: Global, command: Command<'a>) -> Result<Command<'a>, 
     ensures { IfOk result (λ c. app_of c ≡ with_options (app_of command.entry)) }
 {
     let findings = Arg::new(alloc, "findings").long("findings");
-    let whole = Arg::new(alloc, "whole").long("whole").action(ArgAction::SetTrue);
+    let whole = Arg::new(alloc, "whole")
+        .long("whole")
+        .action(ArgAction::SetTrue);
     let channel = Arg::new(alloc, "channel").long("channel");
     let macrotick = Arg::new(alloc, "macrotick").long("macrotick");
-    command.arg(findings)?.arg(whole)?.arg(channel)?.arg(macrotick)
+    command
+        .arg(findings)?
+        .arg(whole)?
+        .arg(channel)?
+        .arg(macrotick)
 }
 
 /// Returns the program, with a file and its options.
@@ -121,10 +126,7 @@ fn given_in<'a>(matches: &ArgMatches<'a>) -> Option<MonitorCommand<'a>>
 /// A command is the name of a cluster file, and options in any order: `--findings` with a number from 0 to 4294967295,
 /// `--whole`, `--channel` with `A` or `B`, and `--macrotick` with a number from 1 to 4294967295. Numbers have no leading
 /// zero. Refused with `Memory` if an allocation fails, and with `Usage` for all other words.
-pub fn command_of<'a>(
-    alloc: Global,
-    words: &'a [&'a str],
-) -> Result<MonitorCommand<'a>, OrderError>
+pub fn command_of<'a>(alloc: Global, words: &'a [&'a str]) -> Result<MonitorCommand<'a>, OrderError>
     ensures { IsAnswer (map (λ word. word.now) words.now) result }
 {
     let matches = the_command(alloc)?.try_get_matches_from(words)?;
