@@ -1,4 +1,5 @@
 pub mod BenchOrders
 pub mod Commands
+pub mod MonitorCommands
 pub mod ViewOrders
 pub mod WorldCommands

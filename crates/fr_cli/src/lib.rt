@@ -1,4 +1,4 @@
-//! The command lines of the three programs: the words after a program's name, read by the rules of `clap`, the refusal
+//! The command lines of the four programs: the words after a program's name, read by the rules of `clap`, the refusal
 //! of words, and streams that wait where they would block (project-defined).
 //!
 //! ```text
@@ -8,6 +8,7 @@
 //! bench::order(alloc, &["audit", "trace"]); // Err(OrderError::Usage)
 //! view::order(alloc, &["frames", "--until-fault"])?; // ViewOrder::Frames
 //! world::command_of(alloc, &["cluster.toml", "--cycles", "4"])?; // WorldCommand
+//! monitor::command_of(alloc, &["cluster.toml", "--whole"])?; // MonitorCommand
 //! let mut output = WaitingWriter::new(&rt, io::writer(&rt));
 //! ```
 //!
@@ -16,8 +17,8 @@
 //! # Definitions
 //!
 //! - `Commands`: the parts of commands that programs share; the exit status of words that are no command.
-//! - `BenchOrders`, `ViewOrders`, `WorldCommands`: the words that are an order of `fr_bench`, an order of `fr_view`, a
-//!   command of `fr_world`.
+//! - `BenchOrders`, `ViewOrders`, `WorldCommands`, `MonitorCommands`: the words that are an order of `fr_bench`, an
+//!   order of `fr_view`, a command of `fr_world`, a command of `fr_monitor`.
 //!
 //! # Inner workings
 //!
@@ -29,6 +30,7 @@ pub mod bench;
 pub mod command;
 mod commands;
 pub mod error;
+pub mod monitor;
 pub mod view;
 pub mod waiting;
 pub mod words;

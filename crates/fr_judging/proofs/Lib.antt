@@ -1,0 +1,4 @@
+mod ClockLemmas
+mod FreshLemmas
+mod LoopLemmas
+mod SenderLemmas

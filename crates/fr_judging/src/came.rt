@@ -1,0 +1,299 @@
+//! The frame of a slot.
+
+ghost use Rattle.std.specs.Prelude.{◌≡◌, ◌<◌, ◌≤◌, ◌+◌, ◌%◌};
+ghost use Rattle.fr_judging.specs.Judging.{back_line, add_back, back_of, back, shown_in, is_beside, beside, differ};
+ghost use Rattle.fr_judging.specs.Judging.{channels_finding, show_frame, show, quiet, span_since, with_time, with_frame};
+ghost use Rattle.fr_judging.specs.Judging.{count_frame, keep_frame, fix, static_with, static_found, static_came};
+ghost use Rattle.fr_judging.specs.Judging.{is_placed, placed_finding, dynamic_came, came_with, came, are_equal};
+ghost use Rattle.std.specs.Option.{option_or};
+ghost use Rattle.fr_judging.specs.Lanes.{same_open, opens_at, after_dynamic};
+
+use crate::distance::{fixed_after, time_finding};
+use crate::judge::{Judge, Shown, other_channel, static_place};
+use crate::lane::Lane;
+use crate::line::{At, Line};
+use crate::tally::{Came, SlotTally, Span, span_between};
+use fr_frame::lent::LentFrame;
+use fr_logged::due::Due;
+use fr_logged::finding::{Finding, Name};
+use fr_logged::record::place_of;
+use fr_logged::rules::{dynamic_finding, minislot_finding, static_finding};
+use fr_slots::channel::Channel;
+use fr_slots::numbers::Cycle;
+use fr_slots::params::Params;
+
+/// The number of cycles that the other channel opens before one is silent.
+pub(crate) const SILENCE: u64 = 3;
+
+/// Returns whether the channels have the same cycle open.
+pub(crate) fn same_open(one: Option<Cycle>, other: Option<Cycle>) -> bool
+    ensures { result ≡ same_open one other }
+{
+    match (one, other) {
+        (Some(one), Some(other)) => one == other,
+        _ => false,
+    }
+}
+
+/// Returns the first of two findings, if there is one.
+fn first_of(one: Option<Finding>, other: Option<Finding>) -> Option<Finding>
+    ensures { result ≡ option_or one other }
+{
+    match one {
+        Some(finding) => Some(finding),
+        None => other,
+    }
+}
+
+/// Returns whether the bytes are the same.
+fn are_equal(one: &[u8], other: &[u8]) -> bool
+    ensures { result ≡ are_equal one.now other.now }
+{
+    one == other
+}
+
+/// Returns the finding of a frame beside one on the other channel.
+fn differ(frame: &LentFrame<'_>, shown: &Shown) -> Option<Finding>
+    ensures { result ≡ differ frame.now (Some shown.now.frame) }
+{
+    if frame.has_data == shown.frame.has_data
+        && are_equal(frame.payload, shown.frame.payload.as_slice())
+    {
+        return None;
+    }
+    Some(Finding::bare(Name::Channels))
+}
+
+/// Returns the minislot at which the slot of a frame opens.
+fn opens_at(lane: &Lane, frame: &LentFrame<'_>) -> u64
+    ensures { result ≡ opens_at lane.now frame.now }
+{
+    let slots = u32::from(frame.id).saturating_sub(lane.slot);
+    lane.minislot.saturating_add(u64::from(slots))
+}
+
+/// Goes on in the dynamic segment, after a frame of so many words.
+fn pass_dynamic(params: &Params, lane: &mut Lane, frame: &LentFrame<'_>, words: usize)
+    requires { words < 200 }
+    ensures { lane.new ≡ after_dynamic params.now lane.old frame.now words }
+{
+    let opens = opens_at(lane, frame);
+    let filled = (words as u16 + 4).div_ceil(params.words_per_minislot);
+    lane.slot = u32::from(frame.id) + 1;
+    lane.minislot = opens
+        .saturating_add(u64::from(filled))
+        .saturating_add(u64::from(params.idle));
+}
+
+/// Counts a frame with data, or a null frame.
+fn with_frame(frame: &LentFrame<'_>, tally: SlotTally) -> SlotTally
+    ensures { result ≡ with_frame frame.now tally }
+{
+    let mut counted = tally;
+    if frame.has_data {
+        counted.data_frames = tally.data_frames.saturating_add(1);
+    } else {
+        counted.null_frames = tally.null_frames.saturating_add(1);
+    }
+    counted
+}
+
+impl Judge {
+    /// Counts a slot that came back, and adds its line.
+    #[tactic(auto, unfolding(crate::specs::Judging::add_back))]
+    fn add_back(&mut self, line: &Line)
+        ensures { self.new ≡ add_back self.old line.now }
+    {
+        self.backs = self.backs.saturating_add(1);
+        if self.backs <= self.rules.most {
+            self.add_line(line);
+        }
+    }
+
+    /// Tells a slot that came back for its owner.
+    #[tactic(auto, unfolding(crate::specs::Judging::back))]
+    fn back(&mut self, frame: &LentFrame<'_>, at: &At, due: Option<Due>)
+        ensures { self.new ≡ back self.old frame.now at.now due }
+    {
+        if let Some(due) = due {
+            let times = self.away_at(u32::from(frame.id), due.node);
+            if times != 0 {
+                self.with_away(u32::from(frame.id), due.node, 0);
+                let place = place_of(self.channel, frame);
+                self.add_back(&Line::Back(*at, place, due.node, times));
+            }
+        }
+    }
+
+    /// Returns whether the other channel has the cycle of the frame open.
+    fn is_beside(&self, frame: &LentFrame<'_>) -> bool
+        ensures { result ≡ is_beside self.now frame.now }
+    {
+        same_open(self.other.current, Some(frame.cycle))
+            && !(self.other.left || SILENCE <= self.other.alone)
+    }
+
+    /// Returns the finding of a frame that isn't like the other channel's.
+    #[tactic(auto, unfolding(crate::specs::Judging::channels_finding))]
+    fn channels_finding(&self, frame: &LentFrame<'_>, due: Option<Due>) -> Option<Finding>
+        ensures { result ≡ channels_finding self.now frame.now due }
+    {
+        let due = due?;
+        if !due.both || !self.is_beside(frame) {
+            return None;
+        }
+        let channel = other_channel(self.channel);
+        let shown = &self.shown[static_place(u32::from(frame.id), channel)];
+        if shown.opened != self.other.cycles {
+            return None;
+        }
+        differ(frame, shown)
+    }
+
+    /// Keeps the frame of a buffer for both channels.
+    #[tactic(auto, unfolding(crate::specs::Judging::show))]
+    fn show(&mut self, frame: &LentFrame<'_>, due: Option<Due>)
+        ensures { self.new ≡ show self.old frame.now due }
+    {
+        match due {
+            Some(due) if due.both => {
+                let place = static_place(u32::from(frame.id), self.channel);
+                let opened = self.mine.cycles;
+                let shown = &mut self.shown[place];
+                shown.opened = opened;
+                shown.frame.replace_by(frame);
+            }
+            _ => {}
+        }
+    }
+
+    /// Returns whether none of so many cycles after one has a sender in the slot.
+    #[tactic(auto, unfolding(crate::specs::Judging::quiet))]
+    fn quiet(&self, slot: u16, from: Cycle, count: u8) -> bool
+        requires { count ≤ 64 }
+        ensures { result ≡ quiet self.now slot from count }
+    {
+        let mut quiet = true;
+        for k in 0..count {
+            let cycle = Cycle::from_bits((from.number() + k + 1) % 64);
+            quiet = quiet && !self.rules.is_sent(slot, self.channel, cycle);
+        }
+        quiet
+    }
+
+    /// Returns the span of a slot's times, with the time since its frame in the due cycle before.
+    #[tactic(auto, unfolding(crate::specs::Judging::span_since))]
+    fn span_since(&self, frame: &LentFrame<'_>, at: &At, tally: &SlotTally) -> Option<Span>
+        ensures { result ≡ span_since self.now frame.now at.now tally.now tally.now.latest }
+    {
+        let Some(came) = tally.latest else {
+            return tally.span;
+        };
+        let cycles = self.mine.number.saturating_sub(came.number).min(65);
+        if self.quiet(frame.id, came.cycle, (cycles as u8).saturating_sub(1)) {
+            span_between(tally.span, came.time, at.time)
+        } else {
+            tally.span
+        }
+    }
+
+    /// Returns the counts of a slot with the time of its frame, if one was due.
+    #[tactic(auto, unfolding(crate::specs::Judging::with_time))]
+    fn with_time(&self, frame: &LentFrame<'_>, at: &At, tally: &SlotTally) -> SlotTally
+        ensures { result ≡ with_time self.now frame.now at.now tally.now }
+    {
+        if !self.rules.is_sent(frame.id, self.channel, frame.cycle) {
+            return *tally;
+        }
+        let mut timed = *tally;
+        timed.span = self.span_since(frame, at, tally);
+        timed.latest = Some(Came {
+            number: self.mine.number,
+            cycle: frame.cycle,
+            time: at.time,
+        });
+        timed
+    }
+
+    /// Counts the frame of a slot.
+    #[tactic(auto, unfolding(crate::specs::Judging::count_frame))]
+    fn count_frame(&mut self, frame: &LentFrame<'_>, at: &At)
+        ensures { self.new ≡ count_frame self.old frame.now at.now }
+    {
+        let slot = u32::from(frame.id);
+        let tally = with_frame(frame, self.tally_at(slot, self.channel));
+        let timed = self.with_time(frame, at, &tally);
+        self.with_tally(slot, self.channel, timed);
+    }
+
+    /// Keeps the frame of a slot, and tells its finding.
+    #[tactic(auto, unfolding(crate::specs::Judging::keep_frame))]
+    fn keep_frame(&mut self, frame: &LentFrame<'_>, at: &At, finding: Option<Finding>)
+        ensures { self.new ≡ keep_frame self.old frame.now at.now finding }
+    {
+        let place = place_of(self.channel, frame);
+        self.mine.last = frame.id;
+        self.mine.ill = 0;
+        self.count_frame(frame, at);
+        self.find_some(&Some(*at), &place, finding);
+    }
+
+    /// Takes the frame of a static slot.
+    #[tactic(auto, unfolding(crate::specs::Judging::static_came))]
+    fn static_came(&mut self, frame: &LentFrame<'_>, at: &At, due: Option<Due>)
+        ensures { self.new ≡ static_came self.old frame.now at.now due }
+    {
+        let finding = first_of(
+            static_finding(&due, frame),
+            self.channels_finding(frame, due),
+        );
+        let wrong = time_finding(&self.rules, &self.mine, frame.id, at.time, finding);
+        self.back(frame, at, due);
+        self.show(frame, due);
+        let fixed = fixed_after(&self.rules, &self.mine, frame.id, at.time, wrong);
+        self.mine.fixed = fixed;
+        self.keep_frame(frame, at, first_of(finding, wrong));
+    }
+
+    /// Returns the finding of the minislot at which the slot of a frame opens.
+    #[tactic(auto, unfolding(crate::specs::Judging::placed_finding))]
+    fn placed_finding(&self, frame: &LentFrame<'_>, due: Option<Due>) -> Option<Finding>
+        ensures { result ≡ placed_finding self.now frame.now due }
+    {
+        let due = due?;
+        if !(self.rules.whole || 1 < self.mine.cycles) {
+            return None;
+        }
+        let minislots = self.rules.cluster.params().minislots;
+        minislot_finding(minislots, due.latest, opens_at(&self.mine, frame))
+    }
+
+    /// Takes the frame of a dynamic slot.
+    #[tactic(auto, unfolding(crate::specs::Judging::dynamic_came))]
+    fn dynamic_came(&mut self, frame: &LentFrame<'_>, at: &At, due: Option<Due>)
+        ensures { self.new ≡ dynamic_came self.old frame.now at.now due }
+    {
+        let finding = first_of(
+            dynamic_finding(&due, frame),
+            self.placed_finding(frame, due),
+        );
+        let words = frame.payload.len() / 2;
+        pass_dynamic(self.rules.cluster.params(), &mut self.mine, frame, words);
+        self.keep_frame(frame, at, finding);
+    }
+
+    /// Takes the frame of a slot of the open cycle.
+    #[tactic(auto, unfolding(crate::specs::Judging::came))]
+    pub(crate) fn came(&mut self, frame: &LentFrame<'_>, at: &At)
+        ensures { self.new ≡ came self.old frame.now at.now }
+    {
+        let due = self
+            .rules
+            .due(u32::from(frame.id), self.channel, frame.cycle);
+        if frame.id <= self.rules.cluster.params().static_slots {
+            self.static_came(frame, at, due);
+        } else {
+            self.dynamic_came(frame, at, due);
+        }
+    }
+}

@@ -1,0 +1,171 @@
+//! The finding of a frame in its slot.
+
+ghost use Rattle.std.specs.Prelude.{◌≡◌};
+ghost use Rattle.std.specs.List.{list_all};
+ghost use Rattle.fr_logged.specs.Rules.{letters_of, unlike, bits_finding, preamble_finding, is_zero, null_finding};
+ghost use Rattle.fr_logged.specs.Rules.{buffer_finding, static_rules, static_finding, words_finding, dynamic_rules};
+ghost use Rattle.fr_logged.specs.Rules.{dynamic_finding, minislot_finding};
+
+use crate::due::Due;
+use crate::finding::{Finding, Letters, Name, Word};
+use fr_frame::lent::LentFrame;
+
+/// Returns the indicators of a frame.
+fn letters_of(frame: &LentFrame<'_>) -> Letters
+    ensures { result ≡ letters_of frame.now }
+{
+    Letters {
+        preamble: frame.preamble,
+        has_data: frame.has_data,
+        sync: frame.sync,
+        startup: frame.startup,
+    }
+}
+
+/// Returns a finding with the indicators that were expected.
+fn unlike(name: Name, expected: Letters, found: Letters) -> Finding
+    ensures { result ≡ unlike name expected found }
+{
+    Finding {
+        name,
+        expected: Word::Letters(expected),
+        found: Word::Letters(found),
+    }
+}
+
+/// Returns the finding of sync and startup indicators that aren't these.
+fn bits_finding(sync: bool, startup: bool, frame: &LentFrame<'_>) -> Finding
+    ensures { result ≡ bits_finding sync startup frame.now }
+{
+    let found = letters_of(frame);
+    let expected = Letters {
+        preamble: found.preamble,
+        has_data: found.has_data,
+        sync,
+        startup,
+    };
+    unlike(Name::Bits, expected, found)
+}
+
+/// Returns the finding of a payload preamble indicator, if it isn't this one.
+fn preamble_finding(preamble: bool, frame: &LentFrame<'_>) -> Option<Finding>
+    ensures { result ≡ preamble_finding preamble frame.now }
+{
+    let found = letters_of(frame);
+    if preamble == found.preamble {
+        return None;
+    }
+    let expected = Letters {
+        preamble,
+        has_data: found.has_data,
+        sync: found.sync,
+        startup: found.startup,
+    };
+    Some(unlike(Name::Preamble, expected, found))
+}
+
+/// Returns whether all bytes are zero.
+fn are_zeros(bytes: &[u8]) -> bool
+    ensures { result ≡ list_all is_zero bytes.now }
+{
+    bytes.iter().all(|byte| *byte == 0)
+}
+
+/// Returns the finding of a null frame in a static slot.
+fn null_finding(frame: &LentFrame<'_>) -> Option<Finding>
+    ensures { result ≡ null_finding frame.now }
+{
+    if !frame.preamble && are_zeros(frame.payload) {
+        return None;
+    }
+    Some(Finding::bare(Name::NullFrame))
+}
+
+/// Returns the finding of a data frame, by the transmit buffer's payload preamble indicator, if there is a buffer.
+fn buffer_finding(node: u8, preamble: Option<bool>, frame: &LentFrame<'_>) -> Option<Finding>
+    ensures { result ≡ buffer_finding node preamble frame.now }
+{
+    match preamble {
+        Some(preamble) => preamble_finding(preamble, frame),
+        None => Some(Finding {
+            name: Name::NoBuffer,
+            expected: Word::number(u64::from(node)),
+            found: Word::Absent,
+        }),
+    }
+}
+
+/// Returns the finding of a frame in a static slot, by what is due there.
+fn static_rules(due: &Due, frame: &LentFrame<'_>) -> Option<Finding>
+    ensures { result ≡ static_rules due.now frame.now }
+{
+    let words = frame.payload.len() / 2;
+    if words != usize::from(due.words) {
+        return Some(Finding::with_numbers(Name::Words, u64::from(due.words), words as u64));
+    }
+    if due.sync != frame.sync || due.startup != frame.startup {
+        return Some(bits_finding(due.sync, due.startup, frame));
+    }
+    if frame.has_data {
+        buffer_finding(due.node, due.preamble, frame)
+    } else {
+        null_finding(frame)
+    }
+}
+
+/// Returns the finding of a frame in a static slot. Findings that need the other channel or a time aren't looked for.
+pub fn static_finding(due: &Option<Due>, frame: &LentFrame<'_>) -> Option<Finding>
+    ensures { result ≡ static_finding due.now frame.now }
+{
+    match due {
+        Some(due) => static_rules(due, frame),
+        None => Some(Finding::bare(Name::Nobody)),
+    }
+}
+
+/// Returns the finding of a data frame in a dynamic slot, by its length and its preamble.
+fn words_finding(due: &Due, frame: &LentFrame<'_>) -> Option<Finding>
+    ensures { result ≡ words_finding due.now frame.now }
+{
+    let words = frame.payload.len() / 2;
+    if words != usize::from(due.words) {
+        return Some(Finding::with_numbers(Name::Words, u64::from(due.words), words as u64));
+    }
+    buffer_finding(due.node, due.preamble, frame)
+}
+
+/// Returns the finding of a frame in a dynamic slot, by what is due there.
+fn dynamic_rules(due: &Due, frame: &LentFrame<'_>) -> Option<Finding>
+    ensures { result ≡ dynamic_rules due.now frame.now }
+{
+    if !frame.has_data {
+        return Some(Finding::bare(Name::NullFrame));
+    }
+    if frame.sync || frame.startup {
+        return Some(bits_finding(false, false, frame));
+    }
+    words_finding(due, frame)
+}
+
+/// Returns the finding of a frame in a dynamic slot, but for the minislot at which the slot opens.
+pub fn dynamic_finding(due: &Option<Due>, frame: &LentFrame<'_>) -> Option<Finding>
+    ensures { result ≡ dynamic_finding due.now frame.now }
+{
+    match due {
+        Some(due) => dynamic_rules(due, frame),
+        None => Some(Finding::bare(Name::Nobody)),
+    }
+}
+
+/// Returns the finding of a dynamic slot that opens at this minislot, of so many, with the sender's latest one.
+pub fn minislot_finding(minislots: u16, latest: u16, opens: u64) -> Option<Finding>
+    ensures { result ≡ minislot_finding minislots latest opens }
+{
+    if opens > u64::from(minislots) {
+        return Some(Finding::with_numbers(Name::Closed, u64::from(minislots), opens));
+    }
+    if opens > u64::from(latest) {
+        return Some(Finding::with_numbers(Name::Late, u64::from(latest), opens));
+    }
+    None
+}

@@ -1,0 +1,3 @@
+pub mod LineText
+pub mod Monitoring
+pub mod SummaryText

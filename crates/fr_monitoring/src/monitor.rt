@@ -1,0 +1,183 @@
+//! The audit of a recording between a reader and a writer.
+
+ghost use Rattle.std.specs.Prelude.{◌≡◌, ◌<◌, length, IfOk, OnOk, option_to_list};
+ghost use Rattle.fr_text.specs.Writing.{Writes};
+ghost use Rattle.fr_recording.specs.Stream.{take_bytes, records_from, told_of};
+ghost use Rattle.fr_monitoring.specs.Monitoring.{judged, told, end_text, Monitors, Follows, Ends};
+
+use crate::error::{MonitorError, StreamError};
+use crate::line::write_lines;
+use crate::summary::write_summary;
+use fr_judging::judge::Judge;
+use fr_judging::rules::Rules;
+use fr_recording::reader::Reader;
+use fr_slots::channel::Channel;
+use std::alloc::{AllocError, Global};
+use std::io;
+use std::io::{ErrorKind, Read, Write};
+
+/// The number of bytes that are asked for at a time.
+const ROOM: usize = 65_536;
+
+/// Judges the record that the last byte completed, if it completed one, and writes its lines.
+fn take_record<W: Write>(capture: &Reader, judge: &mut Judge, writer: &mut W) -> io::Result<()>
+    ensures judge { OnOk result (judge.new ≡ judged judge.old (option_to_list (told_of capture.now))) }
+    ensures text { Writes W.contents writer.old writer.new result
+        (told judge.old (option_to_list (told_of capture.now))) }
+{
+    match capture.told() {
+        Some(head) => {
+            judge.judge(head.time, head.link, head.original, capture.captured());
+            write_lines(writer, judge.lines())
+        }
+        None => Ok(()),
+    }
+}
+
+/// Judges the records that a piece completes, one after another, and writes their lines.
+fn take_piece<W: Write>(
+    capture: &mut Reader,
+    judge: &mut Judge,
+    piece: &[u8],
+    writer: &mut W,
+) -> io::Result<()>
+    ensures capture { OnOk result (capture.new ≡ take_bytes capture.old piece.now) }
+    ensures judge { OnOk result (judge.new ≡ judged judge.old (records_from capture.old piece.now)) }
+    ensures text { Writes W.contents writer.old writer.new result
+        (told judge.old (records_from capture.old piece.now)) }
+{
+    let mut taken = 0;
+    while taken < piece.len() {
+        taken += capture.next(&piece[taken..]);
+        take_record(capture, judge, writer)?;
+    }
+    Ok(())
+}
+
+/// Reads a recording through, or up to the piece that has its refusal, and writes the lines of its records. The writer
+/// is flushed before each read.
+fn follow<R: Read, W: Write>(
+    capture: &mut Reader,
+    judge: &mut Judge,
+    room: &mut [u8],
+    reader: &mut R,
+    writer: &mut W,
+) -> Result<(), StreamError>
+    requires { 0 < length room.old }
+    ensures { Follows capture.old judge.old (R.remaining reader.old) (R.remaining reader.new) capture.new judge.new
+        (W.contents writer.old) (W.contents writer.new) result }
+{
+    // The loop ends with `Read` after 2^64 - 1 reads, so that its termination can be proved.
+    'pieces: for _ in 0..u64::MAX {
+        if writer.flush().is_err() {
+            return Err(StreamError::Write);
+        }
+        let count = match reader.read(room) {
+            Ok(count) => count,
+            Err(error) if error.kind() == ErrorKind::Interrupted => continue,
+            Err(_) => return Err(StreamError::Read),
+        };
+        if count == 0 {
+            return Ok(());
+        }
+        if take_piece(capture, judge, &room[..count], writer).is_err() {
+            return Err(StreamError::Write);
+        }
+        if capture.is_refused() {
+            return Ok(());
+        }
+    }
+    Err(StreamError::Read)
+}
+
+/// Writes the lines that the end shows, and the summary, and flushes.
+fn write_end<W: Write>(writer: &mut W, judge: &Judge, blocks: u64) -> io::Result<()>
+    ensures { Writes W.contents writer.old writer.new result (end_text judge.now blocks) }
+{
+    write_lines(writer, judge.lines())?;
+    write_summary(writer, judge, blocks)?;
+    writer.flush()
+}
+
+/// Returns the refusal of a cluster that gives a channel no clock.
+fn clock_error(rules: &Rules) -> Option<MonitorError> {
+    if let Some(cycle) = rules.no_clock(Channel::A) {
+        return Some(MonitorError::NoClock(Channel::A, cycle));
+    }
+    match rules.no_clock(Channel::B) {
+        Some(cycle) => Some(MonitorError::NoClock(Channel::B, cycle)),
+        None => None,
+    }
+}
+
+/// Returns room for a piece.
+fn room_for(alloc: Global) -> Result<Vec<u8>, AllocError>
+    ensures { IfOk result (λ room. length room.items ≡ 65536) }
+{
+    Ok(vec![in alloc; 0; ROOM]?)
+}
+
+/// Ends a recording that was read through, or up to a failure, and writes what that shows.
+fn end<W: Write>(
+    capture: &Reader,
+    judge: &mut Judge,
+    followed: Result<(), StreamError>,
+    writer: &mut W,
+) -> Result<bool, MonitorError>
+    ensures { Ends capture.now judge.old followed (W.contents writer.old) (W.contents writer.new) result }
+{
+    let whole = match followed {
+        Ok(()) => true,
+        Err(StreamError::Read) => false,
+        Err(StreamError::Write) => return Err(MonitorError::Write),
+    };
+    let refusal = capture.refusal();
+    judge.finish(whole && refusal.is_none());
+    if write_end(writer, judge, capture.skipped()).is_err() {
+        return Err(MonitorError::Write);
+    }
+    if !whole {
+        return Err(MonitorError::Read);
+    }
+    match refusal {
+        Some(refusal) => Err(MonitorError::Capture(refusal)),
+        None => Ok(judge.has_finding()),
+    }
+}
+
+/// Audits a recording: writes a line for each finding as it comes, and a summary (project-defined). Returns whether
+/// there is a finding.
+///
+/// Refused with `NoClock` if a channel that has a sender has no owner of a static slot in a cycle, and with `Memory` if
+/// an allocation fails, both before anything is read. Then with the refusal of the capture, and with `Read` or `Write`
+/// if a stream fails. The summary of what was read is written after all of these but `Write`.
+pub fn monitor<R: Read, W: Write>(
+    alloc: Global,
+    rules: Rules,
+    reader: &mut R,
+    writer: &mut W,
+) -> Result<bool, MonitorError>
+    ensures { Monitors rules (R.remaining reader.old) (R.remaining reader.new)
+        (W.contents writer.old) (W.contents writer.new) result }
+{
+    if let Some(error) = clock_error(&rules) {
+        return Err(error);
+    }
+    let Ok(mut capture) = Reader::new(alloc) else {
+        return Err(MonitorError::Memory);
+    };
+    let Ok(mut judge) = Judge::new(alloc, rules) else {
+        return Err(MonitorError::Memory);
+    };
+    let Ok(mut room) = room_for(alloc) else {
+        return Err(MonitorError::Memory);
+    };
+    let followed = follow(
+        &mut capture,
+        &mut judge,
+        room.as_mut_slice(),
+        reader,
+        writer,
+    );
+    end(&capture, &mut judge, followed, writer)
+}
