@@ -13,8 +13,8 @@ answer() {
         ;;
     esac
     command=$1
-    if [ "$name" = fr_world ]; then
-        command=fr_world
+    if is_one_command; then
+        command=$name
     elif [ "$1" = help ] || [ "$1" = -h ] || [ "$1" = --help ]; then
         ! read_block "$2" || print "$block"
     fi
@@ -24,6 +24,11 @@ answer() {
         -h | --help) ! read_block "$command" || print "$block" ;;
         esac
     done
+}
+
+# Succeeds if the program has no names of commands.
+is_one_command() {
+    [ "$name" = fr_world ] || [ "$name" = fr_monitor ]
 }
 
 print() {
@@ -51,8 +56,8 @@ read_block() {
 }
 
 print_overview() {
-    if [ "$name" = fr_world ]; then
-        read_block fr_world
+    if is_one_command; then
+        read_block "$name"
         print "$block"
     fi
     read_commands

@@ -87,6 +87,12 @@ read_words() {
         flags=
         input=requests
         read_arguments "$@"
+    elif [ "$name" = fr_monitor ]; then
+        places=FILE
+        options='--findings --channel --macrotick'
+        flags=--whole
+        input=RECORDING
+        read_arguments "$@"
     elif find_command "${1-}"; then
         command=$1
         shift
