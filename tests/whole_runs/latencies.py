@@ -39,6 +39,7 @@ buffer = [
   {kind = "event", slot = 8, channels = "B", words = 4},
 ]
 [[node]]
+tasks = 0
 latest_a = 10
 latest_b = 10
 buffer = [{kind = "event", slot = 4, channels = "A", words = 4}]

@@ -1,13 +1,9 @@
--- The minislots at which slots can begin: none before the first that is left, always that one, and none long after the
--- segment.
-use Rattle.std.proofs.Common.{◌≡◌, ℕ, zero, suc, ◌+◌, ◌-◌, ◌*◌, ◌<◌, ◌≤◌, ◌⊎◌, Bool, true, false, ◌&&◌, ◌||◌, leb}
-use Rattle.std.proofs.Common.{eqb, List, [], ◌∷◌}
-use Rattle.std.proofs.Common.{refl, sym, ap, ◌∙◌, subst, inl, inr, arith, add-one}
+-- Where slots can begin: not before the first minislot that is left, always there, and not long after the segment.
+use Rattle.std.proofs.Common.{◌≡◌, ℕ, zero, suc, ◌+◌, ◌-◌, ◌*◌, ◌≤◌, Bool, true, false, leb, eqb, List, [], ◌∷◌}
+use Rattle.std.proofs.Common.{refl, sym, ap, ◌∙◌, inl, inr, arith, add-one}
 use Rattle.std.specs.List.{list_any}
-use Rattle.std.specs.Int.{div_ceil}
-use Rattle.std.proofs.lemmas.Bool.{cases_Bool, and_parts, and_left, and_right, or_cases, or_from, or_left, true≢false}
-use Rattle.std.proofs.lemmas.Bool.{leb-true}
-use Rattle.std.proofs.lemmas.Bool.{ne_eqb, eqb-true}
+use Rattle.std.proofs.lemmas.Bool.{and_right, or_cases, or_from, or_left, true≢false}
+use Rattle.std.proofs.lemmas.Bool.{ne_eqb}
 use Rattle.std.proofs.lemmas.Grind.{div_ceil_times}
 use Rattle.fr_slots.specs.declared.channel.Channel.{Channel}
 use Rattle.fr_slots.specs.declared.plan.Buffer.{Buffer}
@@ -16,7 +12,7 @@ use Rattle.fr_slots.specs.Parameters.{Parameters, IsParameters}
 use Rattle.fr_slots.specs.Plans.{Plan}
 use Rattle.fr_schedule.specs.Descriptions.{Description}
 use Rattle.fr_latency.specs.Openings.{frame_length, follows_frame, follows_buffer, follows_node, follows, slot_after}
-use Rattle.fr_latency.specs.Openings.{can_begin, horizon}
+use Rattle.fr_latency.specs.Openings.{can_begin}
 
 -- ---- the items of a list
 

@@ -1,7 +1,6 @@
 -- One more number, for the words on the numbers below a number.
-use Rattle.std.proofs.Common.{◌≡◌, ℕ, zero, suc, ◌+◌, ◌-◌, ◌<◌, ◌≤◌, min, max, Bool, true, false, ◌&&◌, ◌||◌, cond}
-use Rattle.std.proofs.Common.{refl, sym, ap, ◌∙◌}
-use Rattle.std.proofs.Common.{subst, arith, add-one}
+use Rattle.std.proofs.Common.{◌≡◌, ℕ, zero, suc, ◌+◌, ◌-◌, ◌<◌, min, max, Bool, true, false, ◌&&◌, ◌||◌, refl, ap, ◌∙◌}
+use Rattle.std.proofs.Common.{arith, add-one}
 use Rattle.std.proofs.lemmas.Bool.{cond-true, cond-false}
 use Rattle.std.specs.Prelude.{if◌then◌else◌}
 use Rattle.fr_latency.specs.Below.{all_below, any_below, count_below, least_below, most_below, sum_below}

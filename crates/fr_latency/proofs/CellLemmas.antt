@@ -11,11 +11,11 @@ use Rattle.std.proofs.lemmas.List.{take_all}
 use Rattle.std.proofs.Common.{take, replicate}
 use Rattle.std.proofs.lemmas.Grind.{common_steps}
 use Rattle.std.proofs.lemmas.List.{length-replicate}
-use Rattle.std.specs.Prelude.{bit_and, bit_or, slice_index}
+use Rattle.std.specs.Prelude.{bit_and, bit_or}
 use Rattle.std.proofs.lemmas.Bool.{cases_lt, cases_eq, eq-eqb, ne_eqb, lt-ltb, le-ltb, le-leb, lt-leb}
 use Rattle.std.proofs.lemmas.Bool.Decides.{nat_tests}
-use Rattle.std.proofs.lemmas.Nat.Bits.{bit_at_or, bit_at_and, bit_at-lt, bit_at_set_same, bit_at_set_other}
-use Rattle.std.proofs.lemmas.Nat.Bits.{bit_at-zero, bit_at_ones}
+use Rattle.std.proofs.lemmas.Nat.Bits.{bit_at_or, bit_at_and, bit_at-lt, bit_at_set_same, bit_at_set_other, bit_at-zero}
+use Rattle.std.proofs.lemmas.Nat.Bits.{bit_at_ones}
 use Rattle.fr_slots.specs.Admission.{CycleClass, cycle_admitted}
 use Rattle.fr_slots.specs.Numbers.{cycle_count}
 use Rattle.fr_latency.specs.Cells.{has_bit, IsMask, HasBits, IsAdded, BeginsAbove, AddsTo, CycleTest}
@@ -162,8 +162,8 @@ too_early kept admitted fits began none = grind arith
 too_late : (kept admitted fits began : Bool) → fits ≡ false → kept ≡ (kept || (admitted && (fits && began)))
 too_late kept admitted fits began none = grind arith
 
-in_time : (kept admitted fits began : Bool) → fits ≡ true → (kept || (began && admitted))
-    ≡ (kept || (admitted && (fits && began)))
+in_time : (kept admitted fits began : Bool) → fits ≡ true → (kept || (began && admitted)) ≡ (kept || (admitted &&
+    (fits && began)))
 in_time kept admitted fits began all = grind arith
 
 -- the cell of each minislot, after the cells before a frame were added to those of the next slot
@@ -175,7 +175,8 @@ frame_at : (earlier latest size shift count mask : ℕ) (cycles : CycleClass) (b
     → (index cycle : ℕ) → index < length old → cycle < 64
     → has_bit (get_or new index 0) cycle
     ≡ (kept cycle (earlier + 2 + index) || after_frame latest size cycles test cycle (earlier + 2 + index))
-frame_at earlier latest size shift count mask cycles before old new test kept is_size is_count room same masks above from
+frame_at earlier latest size shift count mask cycles before old new test kept is_size is_count room same masks
+    above from
     into is index cycle less within =
     let m : ℕ = earlier + 2 + index in
     elim (cases_lt index shift) as (λ _. has_bit (get_or new index 0) cycle
@@ -220,7 +221,8 @@ pub frame_added : (earlier latest size shift count mask : ℕ) (cycles : CycleCl
     → length new ≡ length old
     → IsMask cycles mask → BeginsAbove earlier test → HasBits (earlier + 1) test before → HasBits (earlier + 2) kept old
     → IsAdded before shift count mask old new
-    → HasBits (earlier + 2) (λ cycle minislot. kept cycle minislot || after_frame latest size cycles test cycle minislot)
+    → HasBits (earlier + 2) (λ cycle minislot. kept cycle minislot || after_frame latest size cycles test cycle
+    minislot)
     new
 frame_added earlier latest size shift count mask cycles before old new test kept is_size is_count room same keeps masks
     above from into is = λ index cycle less within.

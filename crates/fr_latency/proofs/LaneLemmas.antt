@@ -1,10 +1,9 @@
 -- The lanes that a run can have come to the minislots at which slots can begin, and to no others.
-use Rattle.std.proofs.Common.{◌≡◌, ℕ, zero, suc, ◌+◌, ◌-◌, ◌*◌, ◌/◌, ◌%◌, ◌<◌, ◌≤◌, ◌⊎◌, min, Bool, true, false, ◌&&◌}
-use Rattle.std.proofs.Common.{◌||◌, eqb, leb}
+use Rattle.std.proofs.Common.{◌≡◌, ℕ, zero, suc, ◌+◌, ◌-◌, ◌*◌, ◌/◌, ◌%◌, ◌≤◌, ◌⊎◌, Bool, true, false, eqb, leb}
 use Rattle.std.proofs.Common.{List, [], ◌∷◌, ◌++◌, length, refl, sym, ap, ap₂, ◌∙◌, subst, arith, inl, inr, Some}
-use Rattle.std.proofs.Common.{slice_get, cond}
+use Rattle.std.proofs.Common.{slice_get}
 use Rattle.std.specs.Int.{div_ceil}
-use Rattle.std.specs.List.{list_any, sum_by}
+use Rattle.std.specs.List.{list_any}
 use Rattle.std.proofs.Math.Nat.{mul-div-mul_left, mod-eq-sub-mul-div}
 use Rattle.std.proofs.lemmas.Bool.{and_from, and_parts, cond-false, eqb-true, leb-true, le-leb, ne_eqb, or_cases}
 use Rattle.std.proofs.lemmas.Bool.{or_left, or_right}
@@ -13,13 +12,16 @@ use Rattle.std.proofs.lemmas.List.{length_push}
 use Rattle.std.proofs.lemmas.List.Sums.{sum_by_push}
 use Rattle.fr_minislot.specs.DynamicRows.{first_minislot, row_length}
 use Rattle.fr_minislot.specs.DynamicRows as rows
+use Rattle.fr_latency.specs.Openings.{opens, slots_before}
+use Rattle.std.proofs.Common.{◌<◌, ◌&&◌, cond, None, length-append, append_assoc}
+use Rattle.std.proofs.lemmas.Bool.{cond-true, eq-eqb}
+use Rattle.std.proofs.lemmas.List.Sums.{sum_by-append}
 use Rattle.fr_slots.specs.declared.channel.Channel.{Channel}
 use Rattle.fr_slots.specs.declared.plan.Buffer.{Buffer}
 use Rattle.fr_slots.proofs.HistoryLemmas.{AllAfter-induction, AllAfter-snoc}
-use Rattle.fr_slots.specs.Faults.{latest_on, minislots_filled, sends_at, words_of}
+use Rattle.fr_slots.specs.Faults.{latest_on, sends_at, words_of}
 use Rattle.fr_slots.specs.History.{AllAfter}
-use Rattle.fr_slots.specs.Parameters.{Parameters, IsParameters}
-use Rattle.fr_slots.specs.Plans.{Plan}
+use Rattle.fr_slots.specs.Parameters.{Parameters}
 use Rattle.fr_schedule.specs.Clusters.{IsCluster}
 use Rattle.fr_schedule.specs.Descriptions.{Description}
 use Rattle.std.proofs.Common.{Result, Ok, Err}
@@ -28,9 +30,8 @@ use Rattle.std.specs.declared.alloc.Global.{Global}
 use Rattle.fr_latency.specs.declared.openings.Row.{Row}
 use Rattle.fr_latency.specs.Exact.{AreExactRows}
 use Rattle.fr_latency.specs.Rows.{AreRows}
-use Rattle.fr_latency.specs.Lanes.{CanSend, IsLane, IsLaneTo, IsLatest, frame_bytes}
-use Rattle.fr_latency.specs.Openings.{can_begin, follows_buffer, follows_frame, follows_node, frame_length, horizon}
-use Rattle.fr_latency.specs.Openings.{last_begin}
+use Rattle.fr_latency.specs.Lanes.{CanSend, IsLane, IsLatest, Opens, Reaches, AreLanes, frame_bytes}
+use Rattle.fr_latency.specs.Openings.{can_begin, follows_buffer, follows_node, frame_length, horizon, last_begin}
 use Rattle.fr_latency.specs.Openings.{slot_after}
 use Rattle.fr_latency.proofs.BeginLemmas.{begins_more, begins_none}
 use Rattle.fr_latency.proofs.GreatestLemmas.{greatest_bounds}
@@ -127,13 +128,13 @@ lanes_come d on cycle counts is =
 -- ---- each minislot
 
 -- an item that passes, with its place
-record Found {X : Type 0} (test : X → Bool) (xs : List X) : Type 0 where
-  place : ℕ
-  item : X
-  at : slice_get xs place ≡ Some item
-  passes : test item ≡ true
+pub record Found {X : Type 0} (test : X → Bool) (xs : List X) : Type 0 where
+  pub place : ℕ
+  pub item : X
+  pub at : slice_get xs place ≡ Some item
+  pub passes : test item ≡ true
 
-found_in : {X : Type 0} (test : X → Bool) (xs : List X) → list_any test xs ≡ true → Found test xs
+pub found_in : {X : Type 0} (test : X → Bool) (xs : List X) → list_any test xs ≡ true → Found test xs
 found_in test [] some = absurd (true≢false (sym some))
 found_in test (x ∷ xs) some =
     elim (or_cases (test x) (list_any test xs) some) as (λ _. Found test (x ∷ xs)) [
@@ -142,12 +143,6 @@ found_in test (x ∷ xs) some =
           let found = found_in test xs later in
           record { place = suc found.place; item = found.item; at = found.at; passes = found.passes }
     ]
-
--- a lane that comes to the minislot
-pub record Reaches (d : Description) (channel : Channel) (cycle earlier minislot : ℕ) : Type 0 where
-  pub counts : List ℕ
-  pub is_lane : IsLaneTo d channel cycle earlier counts
-  pub at : first_minislot d.params counts ≡ minislot
 
 lane_more : (d : Description) (on : Channel) (cycle earlier minislot begin bytes : ℕ)
     (lane : Reaches d on cycle earlier begin)
@@ -222,6 +217,81 @@ minislots_reached d is on cycle (suc earlier) minislot begins =
           (omega (arith, late))
       | inr sent ↦ frame_more d is on cycle earlier minislot reach sent
     ])
+
+-- ---- slots that open
+
+rows_before : (p : Parameters) (before rest : List ℕ) → first_minislot p (before ++ rest) ≤ p.minislots
+    → rows.slot_after p (before ++ rest) ≤ rows.last_slot
+    → AllAfter (λ counts count. rows.has_row_after p counts ≡ true) before rest
+unfolding AllAfter
+rows_before p before [] fits few = tt
+rows_before p before (x ∷ rest) fits few =
+    let sum = sum_by-append (row_length p) before (x ∷ rest) in
+    let size = length-append before (x ∷ rest) in
+    let grouped = append_assoc before (x ∷ []) rest in
+    let here : rows.has_row_after p before ≡ true =
+    and_from (leb (first_minislot p before) p.minislots) (leb (rows.slot_after p before) rows.last_slot)
+    (le-leb (first_minislot p before) p.minislots (omega (arith, sum, fits)))
+    (le-leb (rows.slot_after p before) rows.last_slot (omega (arith, size, few))) in (
+      here,
+      rows_before p (before ++ x ∷ []) rest
+          (subst (λ (xs : List ℕ). first_minislot p xs ≤ p.minislots) (sym grouped) fits)
+          (subst (λ (xs : List ℕ). rows.slot_after p xs ≤ rows.last_slot) (sym grouped) few),
+    )
+
+lane_opens : (d : Description) → IsCluster d → (on : Channel) (cycle slot minislot : ℕ) → d.params.static_slots < slot
+    → opens d on cycle slot minislot ≡ true → Opens d on cycle slot minislot
+lane_opens d is on cycle slot minislot dynamic open_there =
+    let p = d.params in
+    let parts = and_parts (rows.is_row p slot minislot) _ open_there in
+    let row = and_parts (leb minislot p.minislots) (leb slot rows.last_slot) parts.0 in
+    let lane = minislots_reached d is on cycle (slots_before p slot) minislot parts.1 in
+    let counts = lane.counts in
+    let slot_is : rows.slot_after p counts ≡ slot = omega (arith, lane.is_lane.1, dynamic) in
+    let exists : rows.has_row_after p counts ≡ true =
+    ap₂ (λ s m. rows.is_row p s m) slot_is lane.at ∙ parts.0 in
+    let there : eqb (first_minislot p counts) minislot ≡ true = eq-eqb (first_minislot p counts) minislot lane.at in
+    record {
+      counts = counts;
+      is_lane = lane.is_lane.0;
+      are_rows = rows_before p [] counts (omega (arith, lane.at, leb-true minislot p.minislots row.0))
+          (omega (arith, slot_is, leb-true slot rows.last_slot row.1));
+      opened = cond-true (rows.has_row_after p counts && eqb (first_minislot p counts) minislot)
+          (Some (rows.slot_after p counts)) None (and_from _ _ exists there)
+          ∙ ap (λ (n : ℕ). Some n) slot_is;
+    }
+
+opened_lane : (d : Description) (on : Channel) (cycle slot minislot : ℕ) → d.params.static_slots < slot
+    → Opens d on cycle slot minislot → opens d on cycle slot minislot ≡ true
+opened_lane d on cycle slot minislot dynamic lane =
+    let p = d.params in
+    let counts = lane.counts in
+    let test : Bool = rows.has_row_after p counts && eqb (first_minislot p counts) minislot in
+    let told = some_cond test (rows.slot_after p counts) slot lane.opened in
+    let parts = and_parts (rows.has_row_after p counts) (eqb (first_minislot p counts) minislot) told.0 in
+    let at : first_minislot p counts ≡ minislot = eqb-true (first_minislot p counts) minislot parts.1 in
+    let before : length counts ≡ slots_before p slot = omega (arith, told.1, dynamic) in
+    and_from (rows.is_row p slot minislot) _
+    (ap₂ (λ s m. rows.is_row p s m) (sym told.1) (sym at) ∙ parts.0)
+    (ap₂ (λ n m. can_begin d on cycle n m) (sym before) (sym at) ∙ lanes_come d on cycle counts lane.is_lane)
+  where
+    some_cond : (test : Bool) (a b : ℕ) → cond test (Some a) None ≡ Some b → (test ≡ true) × (a ≡ b)
+    some_cond true a b is = (refl, cc)
+    some_cond false a b is = absurd (cc)
+
+pub are_lanes : (d : Description) → IsCluster d → AreLanes d
+are_lanes d is = record {
+  begins = λ on cycle earlier minislot. (
+    minislots_reached d is on cycle earlier minislot,
+    λ (lane : Reaches d on cycle earlier minislot).
+        ap₂ (λ n m. can_begin d on cycle n m) (sym lane.is_lane.1) (sym lane.at)
+        ∙ lanes_come d on cycle lane.counts lane.is_lane.0,
+  );
+  opens = λ on cycle slot minislot dynamic. (
+    lane_opens d is on cycle slot minislot dynamic,
+    opened_lane d on cycle slot minislot dynamic,
+  );
+}
 
 -- ---- the latest start
 

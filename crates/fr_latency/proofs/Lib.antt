@@ -8,3 +8,5 @@ pub mod StateLemmas
 pub mod UsedLemmas
 pub mod WayLemmas
 pub mod LaneLemmas
+pub mod BoundLemmas
+pub mod ExactLemmas

@@ -1,13 +1,11 @@
 -- The rows of slots, from the minislots at which each slot can begin.
-use Rattle.std.proofs.Common.{◌≡◌, ℕ, zero, suc, ◌+◌, ◌-◌, ◌*◌, ◌<◌, ◌≤◌, Bool, true, false, eqb, List, [], ◌∷◌, ◌++◌}
-use Rattle.std.proofs.Common.{length, get_or}
-use Rattle.std.proofs.Common.{refl, sym, ap, ◌∙◌, subst, arith, Some, None, slice_get}
+use Rattle.std.proofs.Common.{◌≡◌, ℕ, zero, suc, ◌+◌, ◌-◌, ◌<◌, ◌≤◌, eqb, List, [], ◌∷◌, ◌++◌, length, get_or}
+use Rattle.std.proofs.Common.{sym, ap, ◌∙◌, subst, arith, Some, slice_get}
 use Rattle.fr_slots.specs.declared.channel.Channel.{Channel}
 use Rattle.fr_slots.specs.Numbers.{cycle_count}
 use Rattle.fr_schedule.specs.Clusters.{IsCluster}
 use Rattle.fr_schedule.specs.Descriptions.{Description}
-use Rattle.fr_latency.specs.declared.openings.Row.{Row}
-use Rattle.fr_latency.specs.Cells.{HasBits, BeginsAbove, CycleTest, has_bit}
+use Rattle.fr_latency.specs.Cells.{HasBits, CycleTest, has_bit}
 use Rattle.fr_latency.specs.Openings.{can_begin, greatest, horizon}
 use Rattle.fr_latency.specs.Rows.{AreLast, BeginsRightAfter, IsRow}
 use Rattle.fr_latency.proofs.BeginLemmas.{frames_have_lengths, starts_after, starts_first, begins_none}

@@ -1,7 +1,6 @@
 -- The kind of a transmit buffer, by three answers.
 use Rattle.std.proofs.Common.{◌≡◌, Bool, true, false, refl}
-use Rattle.fr_latency.specs.declared.latency.State.{State}
-use Rattle.fr_latency.specs.declared.latency.State.TheVariants.{Guaranteed, Possible, Blocked, Idle}
+use Rattle.fr_latency.specs.declared.latency.State.TheVariants.{Guaranteed, Possible, Blocked}
 use Rattle.fr_latency.specs.Latencies.{state_by}
 
 pub by_all : (tasks all ever : Bool) → tasks ≡ true → all ≡ true → Guaranteed ≡ state_by tasks all ever

@@ -1,7 +1,6 @@
 -- From the minislots of a slot to those of the next one.
-use Rattle.std.proofs.Common.{◌≡◌, ℕ, zero, suc, ◌+◌, ◌-◌, ◌<◌, ◌≤◌, Bool, true, false, ◌&&◌, ◌||◌, eqb, leb, List}
-use Rattle.std.proofs.Common.{[], ◌∷◌, length, get_or}
-use Rattle.std.proofs.Common.{refl, sym, ap, ◌∙◌, subst, arith, Some, None, Option, slice_get}
+use Rattle.std.proofs.Common.{◌≡◌, ℕ, zero, suc, ◌+◌, ◌-◌, ◌≤◌, Bool, true, ◌&&◌, eqb, List, [], ◌∷◌}
+use Rattle.std.proofs.Common.{sym, ap, ◌∙◌, subst, arith, Some, None, slice_get}
 use Rattle.std.specs.List.{list_any}
 use Rattle.fr_slots.specs.declared.channel.Channel.{Channel}
 use Rattle.fr_slots.specs.declared.plan.Buffer.{Buffer}
@@ -12,11 +11,11 @@ use Rattle.fr_slots.specs.Parameters.{Parameters}
 use Rattle.fr_slots.specs.Plans.{Plan, Each}
 use Rattle.fr_schedule.specs.Clusters.{IsCluster, IsNode}
 use Rattle.fr_schedule.specs.Descriptions.{Description}
-use Rattle.fr_latency.specs.Cells.{HasBits, BeginsAbove, AddsTo, CycleTest, has_bit}
+use Rattle.fr_latency.specs.Cells.{HasBits, BeginsAbove, AddsTo, CycleTest}
 use Rattle.fr_latency.specs.Openings.{frame_length, is_for, follows_frame, follows_buffer, follows_node, follows}
 use Rattle.fr_latency.specs.Openings.{slot_after}
 use Rattle.fr_latency.specs.Openings.{can_begin}
-use Rattle.fr_latency.proofs.BeginLemmas.{HasLengths, frames_have_lengths, starts_after, begins_more}
+use Rattle.fr_latency.proofs.BeginLemmas.{frames_have_lengths, starts_after, begins_more}
 use Rattle.fr_latency.proofs.CellLemmas.{bits_same, after_frame}
 
 -- ---- a buffer

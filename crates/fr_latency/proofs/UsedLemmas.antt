@@ -1,37 +1,33 @@
 -- The buffers of a cluster's nodes, and the owners of its static slots.
-use Rattle.std.proofs.Common.{◌≡◌, ℕ, zero, suc, ◌+◌, ◌-◌, ◌*◌, ◌/◌, ◌<◌, ◌≤◌, min, Bool, true, false, ◌&&◌, ◌||◌}
-use Rattle.std.proofs.Common.{eqb, leb, List, [], ◌∷◌, length, get_or}
+use Rattle.std.proofs.Common.{◌≡◌, ℕ, zero, suc, ◌+◌, ◌-◌, ◌/◌, ◌<◌, ◌≤◌, Bool, true, false, ◌&&◌, eqb, leb, List, []}
+use Rattle.std.proofs.Common.{◌∷◌}
 use Rattle.std.proofs.Common.{refl, sym, ap, ◌∙◌, subst, arith, Some, None, Option, slice_get}
-use Rattle.std.proofs.lemmas.Bool.{and_from, and_parts, eq-eqb, or_parts, or_from, or_left, or_right, cond-true}
-use Rattle.std.proofs.lemmas.Bool.{cond-false, false_from_ne_true, cases_Bool, true≢false, leb-true, lt-leb, ne_eqb}
-use Rattle.std.proofs.lemmas.Bool.{cond_both, and_left, and_right}
+use Rattle.std.proofs.lemmas.Bool.{and_from, and_parts, eq-eqb, or_from, cond-true, false_from_ne_true, leb-true}
+use Rattle.std.proofs.lemmas.Bool.{lt-leb, ne_eqb, cond_both, and_left, and_right}
 use Rattle.std.proofs.Math.Nat.{div-le_self}
 use Rattle.std.proofs.lemmas.Bool.Decides.{nat_tests}
-use Rattle.std.proofs.lemmas.Option.{slice_get_within, get_or_from_slice_get, same_Some}
+use Rattle.std.proofs.lemmas.Option.{slice_get_within, get_or_from_slice_get}
 use Rattle.std.proofs.lemmas.List.Folds.{list_any_at}
 use Rattle.std.specs.List.{list_any}
 use Rattle.std.specs.Prelude.{IfSome, IfNone, is_some, unwrap_or}
 use Rattle.fr_slots.specs.declared.channel.Channel.{Channel}
-use Rattle.fr_slots.specs.declared.channel.Channel.TheVariants as channel
 use Rattle.fr_slots.specs.declared.channel.Channels.{Channels}
 use Rattle.fr_slots.specs.declared.channel.Channels.TheVariants as channels
 use Rattle.fr_slots.specs.declared.plan.Buffer.{Buffer}
 use Rattle.fr_slots.specs.Admission.{includes}
 use Rattle.fr_slots.specs.Faults.{transmits, is_owned, latest_on, sends_at, words_of}
-use Rattle.fr_slots.specs.Numbers.{IsSlot, number_within}
+use Rattle.fr_slots.specs.Numbers.{number_within}
 use Rattle.fr_slots.specs.Parameters.{Parameters, IsParameters, is_static_slot}
-use Rattle.fr_slots.specs.Plans.{Plan, IsPlan, IsBuffer, IsFilter, AllFit, buffer_fits, words_fit}
+use Rattle.fr_slots.specs.Plans.{Plan, IsBuffer, AllFit, buffer_fits, words_fit}
 use Rattle.fr_schedule.specs.Clusters.{IsCluster, IsNode}
 use Rattle.fr_schedule.specs.Descriptions.{Description}
-use Rattle.fr_schedule.specs.SenderTable.{IsSender, may_send}
+use Rattle.fr_schedule.specs.SenderTable.{IsSender}
 use Rattle.fr_latency.specs.Below.{least_below}
 use Rattle.fr_latency.specs.Latencies.{channel_of}
 use Rattle.fr_latency.specs.Loads.{has_owner}
-use Rattle.fr_latency.specs.Openings.{is_for, is_used, can_begin, follows_buffer, follows_frame, follows_node}
-use Rattle.fr_latency.specs.Openings.{frame_length}
+use Rattle.fr_latency.specs.Openings.{is_for, can_begin, follows_buffer, follows_frame, follows_node, frame_length}
 use Rattle.fr_latency.specs.Openings.{horizon, slot_after}
 use Rattle.fr_latency.specs.Tables.{IsUsedFor}
-use Rattle.fr_latency.proofs.BelowLemmas.{least_more, least_none}
 use Rattle.fr_latency.proofs.StepLemmas.{each_at, latest_fits}
 
 -- ---- buffers

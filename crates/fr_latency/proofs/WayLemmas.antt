@@ -1,13 +1,9 @@
 -- Ways to the minislots at which a slot can begin, and the marks of these minislots.
-use Rattle.std.proofs.Common.{◌≡◌, ℕ, zero, suc, ◌+◌, ◌-◌, ◌<◌, ◌≤◌, Bool, true, false, ◌&&◌, ◌||◌, ltb, List, []}
-use Rattle.std.proofs.Common.{◌∷◌, ◌++◌, length, get_or, map}
-use Rattle.std.proofs.Common.{refl, sym, ap, ◌∙◌, subst, arith, inl, inr, add-one, append_assoc, Some, None}
-use Rattle.std.proofs.Common.{slice_get, cond}
+use Rattle.std.proofs.Common.{◌≡◌, ℕ, zero, suc, ◌+◌, ◌-◌, ◌<◌, ◌≤◌, Bool, true, false, ltb, List, [], ◌∷◌, ◌++◌}
+use Rattle.std.proofs.Common.{length, get_or, map}
+use Rattle.std.proofs.Common.{refl, sym, ap, ◌∙◌, subst, arith, inl, inr, add-one, Some, slice_get, cond}
 use Rattle.std.specs.List.{list_any}
-use Rattle.std.specs.Prelude.{slice_index_or}
-use Rattle.std.proofs.lemmas.Bool.{cases_lt, cases_Bool, cond-true, cond-false, ltb-true, ltb-false, true≢false}
-use Rattle.std.proofs.lemmas.Bool.{or_from, eqb-true}
-use Rattle.std.proofs.lemmas.Grind.{common_steps}
+use Rattle.std.proofs.lemmas.Bool.{cases_lt, true≢false, or_from, eqb-true}
 use Rattle.std.proofs.lemmas.List.{length-map, get_or-map}
 use Rattle.std.proofs.lemmas.Option.{slice_get_read}
 use Rattle.std.specs.Prelude.{Vec}
@@ -16,14 +12,13 @@ use Rattle.fr_latency.specs.Marks.{AreMarks}
 use Rattle.fr_latency.proofs.RowLemmas.{pushed, none_pushed}
 use Rattle.std.proofs.lemmas.List.{length_push}
 use Rattle.fr_slots.specs.declared.channel.Channel.{Channel}
-use Rattle.fr_slots.specs.Plans.{Plan}
 use Rattle.fr_schedule.specs.Clusters.{IsCluster}
 use Rattle.fr_schedule.specs.Descriptions.{Description}
 use Rattle.fr_latency.specs.declared.way.Frame.{Frame}
 use Rattle.fr_latency.specs.Cells.{HasBits, has_bit}
 use Rattle.fr_latency.specs.Marks.{AreMarksOf, IsFrameInto, place_of_most}
-use Rattle.fr_latency.specs.Openings.{can_begin, follows_node, greatest, horizon, last_begin, slot_after}
-use Rattle.fr_latency.specs.Ways.{IsFrame, IsSent, IsSilent, IsWay}
+use Rattle.fr_latency.specs.Openings.{can_begin, follows_node, horizon, last_begin, slot_after}
+use Rattle.fr_latency.specs.Ways.{IsWay}
 use Rattle.fr_latency.proofs.BeginLemmas.{begins_more, frames_have_lengths, starts_after, starts_first}
 use Rattle.fr_latency.proofs.GreatestLemmas.{greatest_bounds, greatest_passes}
 use Rattle.fr_latency.proofs.UsedLemmas.{ends_by}
@@ -36,8 +31,8 @@ pub marks_right : (d : Description) (on : Channel) (cycle earlier : ℕ) (cells 
     → marks ≡ map (λ cell. has_bit cell cycle) cells
     → AreMarksOf earlier (can_begin d on cycle earlier) marks
 marks_right d on cycle earlier cells marks is within room bits made =
-    let size : length marks ≡ length cells = ap (λ (xs : List Bool). length xs) made
-    ∙ length-map cells (λ cell. has_bit cell cycle) in
+    let size : length marks ≡ length cells = ap (λ (xs : List Bool). length xs) made ∙ length-map cells
+    (λ cell. has_bit cell cycle) in
     record {
       above = λ minislot few. starts_after d on cycle earlier minislot (frames_have_lengths d.params is.params_are) few;
       each = λ index less.

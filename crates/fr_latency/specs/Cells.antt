@@ -1,6 +1,5 @@
 -- The bits in which the code keeps the minislots at which slots can begin: a cell for each minislot from a first one
--- on,
--- with a bit for each cycle.
+-- on, with a bit for each cycle.
 use Rattle.std.specs.Prelude.{◌≡◌, ℕ, ◌+◌, ◌==◌, ◌<◌, ◌≤◌, Bool, false, ◌||◌, List, length, slice_index, bit_and}
 use Rattle.std.specs.Prelude.{bit_or}
 use Rattle.std.specs.Int.{bit_at}

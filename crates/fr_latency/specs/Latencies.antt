@@ -1,7 +1,7 @@
 -- The transmit buffers whose frames always get through, and the greatest time from a commit to the end of its frame, in
 -- runs without faults (project-defined).
-use Rattle.std.specs.Prelude.{ℕ, suc, zero, ◌+◌, ◌-◌, ◌*◌, ◌%◌, ◌==◌, nat_le, not, Bool, ◌&&◌, ◌||◌, Option, Some}
-use Rattle.std.specs.Prelude.{None, if◌then◌else◌}
+use Rattle.std.specs.Prelude.{ℕ, suc, zero, ◌+◌, ◌-◌, ◌*◌, ◌%◌, ◌==◌, nat_le, not, Bool, ◌&&◌, ◌||◌, Option, Some, None}
+use Rattle.std.specs.Prelude.{if◌then◌else◌}
 use Rattle.fr_slots.specs.declared.channel.Channel.{Channel}
 use Rattle.fr_slots.specs.declared.channel.Channel.TheVariants as channel
 use Rattle.fr_slots.specs.declared.channel.Channels.{Channels}
@@ -10,7 +10,7 @@ use Rattle.fr_slots.specs.declared.plan.Buffer.{Buffer}
 use Rattle.fr_slots.specs.Admission.{cycle_admitted}
 use Rattle.fr_slots.specs.Faults.{latest_on, minislots_filled, words_of}
 use Rattle.fr_slots.specs.Numbers.{cycle_count, last_cycle}
-use Rattle.fr_slots.specs.Parameters.{Parameters, is_static_slot}
+use Rattle.fr_slots.specs.Parameters.{is_static_slot}
 use Rattle.fr_slots.specs.Plans.{Plan}
 use Rattle.fr_schedule.specs.Descriptions.{Description}
 use Rattle.fr_timing.specs.Segments.{dynamic_start}
@@ -91,8 +91,7 @@ abbrev pub unless_zero : ℕ → Option ℕ
 unless_zero n = if n == 0 then None else Some n
 
 -- The first minislot at which the slot of a dynamic buffer opens. Before it comes one minislot for each dynamic slot,
--- if
--- nothing is sent.
+-- if nothing is sent.
 abbrev pub first_opening_of : Description → Buffer → ℕ
 first_opening_of d b =
     if nat_le (before_slot d b + 1) d.params.minislots then before_slot d b + 1 else 0
@@ -137,8 +136,7 @@ abbrev pub distance : (ℕ → Bool) → ℕ → ℕ
 distance test cycle = first_from (is_after test cycle) 1 last_cycle
 
 -- A commit comes just after the fetch in a cycle that passes, as early as that can be. It is sent in the next cycle
--- that
--- passes, as late as that can be.
+-- that passes, as late as that can be.
 abbrev pub wait_from : ℕ → (ℕ → Bool) → ℕ → (ℕ → ℕ) → ℕ → ℕ
 wait_from cycle_mt test start end cycle =
     distance test cycle * cycle_mt + end ((cycle + distance test cycle) % cycle_count) - start

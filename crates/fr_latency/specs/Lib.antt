@@ -12,3 +12,4 @@ pub mod Marks
 pub mod WayText
 pub mod Lanes
 pub mod Exact
+pub mod Bounds

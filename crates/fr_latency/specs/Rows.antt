@@ -1,11 +1,11 @@
 -- The last minislots of slots, as the code keeps them: for each cycle.
-use Rattle.std.specs.Prelude.{◌≡◌, ℕ, ◌+◌, ◌-◌, ◌<◌, ◌≤◌, Bool, true, List, length, slice_get, slice_index, Some}
+use Rattle.std.specs.Prelude.{◌≡◌, ℕ, ◌+◌, ◌<◌, true, List, length, slice_get, slice_index, Some}
 use Rattle.fr_slots.specs.declared.channel.Channel.{Channel}
 use Rattle.fr_slots.specs.Numbers.{cycle_count, last_slot}
 use Rattle.fr_schedule.specs.Descriptions.{Description}
 use Rattle.fr_latency.specs.declared.openings.Row.{Row}
 use Rattle.fr_latency.specs.Cells.{BeginsAbove, CycleTest}
-use Rattle.fr_latency.specs.Openings.{can_begin, greatest, horizon, is_used, last_begin, last_opening, slot_after}
+use Rattle.fr_latency.specs.Openings.{greatest, is_used, last_begin, last_opening, slot_after}
 
 -- the first minislot after so many dynamic slots passes the test in each cycle, and none before it
 pub record BeginsRightAfter (earlier : ℕ) (test : CycleTest) : Type 0 where

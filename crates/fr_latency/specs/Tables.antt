@@ -25,8 +25,8 @@ pub record AreOpenings (d : Description) (o : Openings) : Type 0 where
 
 -- the row is that of a dynamic buffer's slot
 abbrev pub HasRow : Description → Buffer → Row → Type 0
-HasRow d b row = is_static_slot d.params b.filter.slot ≡ false
-    → IsRow d (channel_of b.filter.channels) (before_slot d b) row
+HasRow d b row = is_static_slot d.params b.filter.slot ≡ false → IsRow d (channel_of b.filter.channels)
+    (before_slot d b) row
 
 -- this is a buffer of a node: if it transmits, its slot is used on its channel
 pub record IsUsedFor (d : Description) (b : Buffer) : Type 0 where

@@ -38,8 +38,7 @@ pub record IsSent (d : Description) (channel : Channel) (cycle slot : ℕ) (IsBe
   pub before : IsBefore frame.minislot others
 
 -- If these frames are sent, in order of their slots, the slot after so many dynamic slots begins at this minislot, if
--- the
--- segment has it.
+-- the segment has it.
 unfoldable pub IsWay : Description → Channel → ℕ → ℕ → ℕ → List Frame → Type 0
 IsWay d channel cycle zero minislot frames = (minislot ≡ 1) × (frames ≡ [])
 IsWay d channel cycle (suc earlier) minislot frames =

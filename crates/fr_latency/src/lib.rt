@@ -13,8 +13,8 @@
 //!
 //! # Definitions
 //!
-//! - `Openings`, `Lanes`, `Exact`: the minislots at which a dynamic slot can begin and open; the lanes that a run can
-//!   have; that the latest starts are exactly those of the lanes.
+//! - `Openings`, `Lanes`, `Exact`, `Bounds`: the minislots at which a dynamic slot can begin and open; the lanes that a
+//!   run can have; that the starts are exactly those of the lanes; the sum of the longest rows.
 //! - `Latencies`, `Loads`, `Below`: the latency of a transmit buffer; the load of a channel; words on numbers.
 //! - `Ways`: the frames of a way to a minislot.
 //! - `LatencyText`, `WayText`, `Commands`: the texts, and the command on a whole cluster file.

@@ -6,7 +6,7 @@ ghost use Rattle.fr_schedule.specs.Clusters.{IsCluster};
 ghost use Rattle.fr_slots.specs.Faults.{latest_on};
 ghost use Rattle.fr_slots.specs.Numbers.{cycle_count, last_slot};
 ghost use Rattle.fr_latency.specs.Cells.{AddsTo, CycleTest, HasBits, has_bit};
-ghost use Rattle.fr_latency.specs.Exact.{AreExact, AreExactRows};
+ghost use Rattle.fr_latency.specs.Exact.{AreExact, AreExactRows, IsTrueToLanes};
 ghost use Rattle.fr_latency.specs.Tables.{AreOpenings};
 ghost use Rattle.fr_latency.specs.Rows.{AreLast, AreRows, BeginsRightAfter, IsRow};
 ghost use Rattle.fr_latency.specs.Openings.{frame_length, is_for, follows_buffer, follows_node, can_begin, slot_after};
@@ -159,7 +159,8 @@ pub(crate) fn step(
     requires slot { slot ≡ slot_after cluster.now.params earlier }
     requires begins { HasBits (earlier + 1) (λ cycle minislot. can_begin cluster.now channel cycle earlier minislot)
         before.old }
-    ensures begins { HasBits (earlier + 2) (λ cycle minislot. can_begin cluster.now channel cycle (earlier + 1) minislot)
+    ensures begins { HasBits (earlier + 2) (λ cycle minislot. can_begin cluster.now channel cycle
+        (earlier + 1) minislot)
         before.new }
 {
     after.copy_from_slice(before);
@@ -289,6 +290,7 @@ fn rows_from(
 pub fn rows_on(alloc: Global, cluster: &Cluster, channel: Channel) -> Result<Vec<Row>, AllocError>
     ensures rows { IfOk result (λ rows. AreRows cluster.now channel rows.items) }
     ensures exact { IfOk result (λ rows. AreExactRows cluster.now channel rows.items) }
+    ensures lanes { IsTrueToLanes cluster.now }
 {
     let width = usize::from(cluster.params().minislots + LONGEST);
     let mut before = first_cells(alloc, width)?;
@@ -308,6 +310,7 @@ pub fn rows_on(alloc: Global, cluster: &Cluster, channel: Channel) -> Result<Vec
 pub fn openings_of(alloc: Global, cluster: &Cluster) -> Result<Openings, AllocError>
     ensures rows { IfOk result (AreOpenings cluster.now) }
     ensures exact { IfOk result (AreExact cluster.now) }
+    ensures lanes { IsTrueToLanes cluster.now }
 {
     let a = rows_on(alloc, cluster, Channel::A)?;
     let b = rows_on(alloc, cluster, Channel::B)?;

@@ -134,7 +134,8 @@ fn begin_of(
         → IfSome result (λ begin. IsBegin params.now place.now test minislot plan.now buffer.now begin) }
     ensures none { (test : ℕ → Bool) → AreMarksOf place.now.earlier test marks.now
         → IfNone result
-        (follows_buffer params.now place.now.slot place.now.channel place.now.cycle test minislot plan.now buffer.now ≡ false) }
+        (follows_buffer params.now place.now.slot place.now.channel place.now.cycle test minislot plan.now
+        buffer.now ≡ false) }
 {
     if !sends_at(place.slot, place.channel, place.cycle, buffer) {
         return None;

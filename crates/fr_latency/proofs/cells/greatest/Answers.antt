@@ -1,5 +1,4 @@
-use Rattle.std.proofs.Common.{◌≡◌, ℕ, ◌-◌, Bool, true, false, sym, ap, ◌∙◌, arith, get_or, not, rules}
-use Rattle.std.proofs.lemmas.List.{get_or_read}
+use Rattle.std.proofs.Common.{◌≡◌, ℕ, Bool, true, false, sym, ap, ◌∙◌, arith, get_or, rules}
 use Rattle.fr_latency.specs.Cells.{has_bit}
 use Rattle.fr_latency.specs.Openings.{greatest}
 use Rattle.fr_latency.proofs.GreatestLemmas.{greatest_here, greatest_down, greatest_zero}

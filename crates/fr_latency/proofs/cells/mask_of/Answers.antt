@@ -1,4 +1,4 @@
-use Rattle.std.proofs.Common.{◌≡◌, ℕ, ◌+◌, true, false, subst, sym, ap, ◌∙◌, arith}
+use Rattle.std.proofs.Common.{◌≡◌, ℕ, ◌+◌, subst, sym, ap, ◌∙◌, arith}
 use Rattle.fr_slots.specs.Admission.{cycle_admitted}
 use Rattle.fr_latency.proofs.CellLemmas.{IsMaskBelow, mask_none, mask_with, mask_without, mask_whole}
 use Rattle.fr_latency.proofs.cells.mask_of.Goals as goal

@@ -1,5 +1,4 @@
-use Rattle.std.proofs.Common.{◌≡◌, ◌+◌, ℕ, Bool, true, false, sym, ap, ◌∙◌, arith, ◌||◌, ◌&&◌}
-use Rattle.std.proofs.lemmas.Grind.{common_steps}
+use Rattle.std.proofs.Common.{◌≡◌, ◌+◌, sym, ap, ◌∙◌, arith, ◌||◌, ◌&&◌}
 use Rattle.fr_slots.specs.Admission.{cycle_admitted}
 use Rattle.fr_latency.specs.Below.{any_below}
 use Rattle.fr_latency.specs.Latencies.{is_possible}
@@ -32,7 +31,8 @@ loop-number-preserved c =
           w.ever-is ∙ w.if-ever.true
           ∙ sym (more ∙ ap (λ x. x || (c.admits-admitted.result && c.is_ever_in_time-in_time.result)) w.if-ever.true)
       | else-ever+then-admitted w ↦
-          w.ever-is ∙ sym (more ∙ ap (λ x. x || (c.admits-admitted.result && c.is_ever_in_time-in_time.result)) w.if-ever.false
+          w.ever-is ∙ sym (more ∙ ap (λ x. x || (c.admits-admitted.result && c.is_ever_in_time-in_time.result))
+          w.if-ever.false
           ∙ ap (λ x. x && c.is_ever_in_time-in_time.result) w.if-admitted.true)
       | else-ever+else-admitted w ↦
           w.ever-is ∙ w.if-admitted.false

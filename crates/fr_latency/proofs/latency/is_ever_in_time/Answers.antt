@@ -1,4 +1,4 @@
-use Rattle.std.proofs.Common.{◌≡◌, ℕ, Bool, false, ltb, sym, ap, ◌∙◌, ◌||◌}
+use Rattle.std.proofs.Common.{◌≡◌, false, ltb, sym, ap, ◌∙◌, ◌||◌}
 use Rattle.fr_slots.specs.declared.channel.Channel.{Channel}
 use Rattle.fr_slots.specs.Faults.{latest_on}
 use Rattle.fr_slots.specs.Parameters.{Parameters, is_static_slot}

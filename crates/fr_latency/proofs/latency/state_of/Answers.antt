@@ -1,4 +1,4 @@
-use Rattle.std.proofs.Common.{◌≡◌, ℕ, Bool, true, false, sym, ◌∙◌, arith, leb, not, ◌||◌}
+use Rattle.std.proofs.Common.{sym, ◌∙◌, arith, leb, not, ◌||◌}
 use Rattle.std.proofs.lemmas.Bool.{le-leb}
 use Rattle.fr_slots.specs.Admission.{cycle_admitted}
 use Rattle.fr_latency.specs.Below.{all_below, any_below}

@@ -1,4 +1,4 @@
-use Rattle.std.proofs.Common.{◌≡◌, ℕ, sym, ap, ◌∙◌, arith}
+use Rattle.std.proofs.Common.{◌≡◌, sym, ap, ◌∙◌, arith}
 use Rattle.fr_latency.specs.Below.{least_below, most_below}
 use Rattle.fr_latency.specs.Loads.{demand}
 use Rattle.fr_latency.proofs.BelowLemmas.{least_none, least_more, most_none, most_more}

@@ -1,4 +1,4 @@
-use Rattle.std.proofs.Common.{◌∙◌, sym}
+use Rattle.std.proofs.Common.{◌∙◌}
 use Rattle.fr_latency.proofs.UsedLemmas.{owner_is}
 use Rattle.fr_latency.proofs.load.has_owner.Goals as goal
 

@@ -1,4 +1,4 @@
-use Rattle.std.proofs.Common.{◌≡◌, ℕ, ◌+◌, ◌≤◌, sym, ap, ◌∙◌, arith}
+use Rattle.std.proofs.Common.{◌≡◌, ℕ, ◌+◌, sym, arith}
 use Rattle.fr_latency.specs.Loads.{owned_cycles}
 use Rattle.fr_latency.proofs.BelowLemmas.{sum_none, sum_more}
 use Rattle.fr_latency.proofs.load.owned_slots.Goals as goal

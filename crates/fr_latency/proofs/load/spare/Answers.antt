@@ -1,4 +1,4 @@
-use Rattle.std.proofs.Common.{◌≡◌, ℕ, sym, ap, ◌∙◌, arith}
+use Rattle.std.proofs.Common.{◌≡◌, sym, ap, ◌∙◌, arith}
 use Rattle.fr_slots.specs.Parameters.{Parameters}
 use Rattle.fr_latency.specs.Below.{least_below}
 use Rattle.fr_latency.specs.Loads.{spare_in}
@@ -17,5 +17,6 @@ loop-number-preserved c =
     let value = spare_in d c.args.channel c.args.plan.now c.args.buffer.now in
     let here : c.spare_in.result ≡ value c.loop-number.number = c.spare_in.ensures ∙ ap value c.from_bits.ensures in
     let more = least_more d.params.minislots value c.loop-number.number in
-    let so_far : c.loop-number.least ≡ least_below d.params.minislots value c.loop-number.number = c.loop-number.invariant in
+    let so_far : c.loop-number.least ≡ least_below d.params.minislots value c.loop-number.number =
+    c.loop-number.invariant in
     omega (arith, here, more, so_far)

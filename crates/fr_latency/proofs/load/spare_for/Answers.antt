@@ -1,9 +1,8 @@
-use Rattle.std.proofs.Common.{◌≡◌, ℕ, Bool, false, sym, ap, ◌∙◌, ◌&&◌, not}
+use Rattle.std.proofs.Common.{◌≡◌, false, sym, ap, ◌∙◌, ◌&&◌, not}
 use Rattle.std.proofs.lemmas.Bool.{and_left, cond-false}
 use Rattle.fr_slots.specs.Admission.{cycle_admitted, includes}
 use Rattle.fr_slots.specs.Faults.{transmits}
 use Rattle.fr_slots.specs.Parameters.{Parameters, is_static_slot}
-use Rattle.fr_latency.specs.Latencies.{last_begin_of, latest_for}
 use Rattle.fr_latency.specs.Loads.{spare_in}
 use Rattle.fr_latency.proofs.UsedLemmas.{least_same}
 use Rattle.fr_latency.proofs.load.spare_for.Goals as goal

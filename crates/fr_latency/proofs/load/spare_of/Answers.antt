@@ -8,7 +8,8 @@ pub spare_for-requires-clause-used : goal.spare_for-requires-clause-used
 spare_for-requires-clause-used c =
     let plan = c.args.plan.now in
     let index = c.loop-buffer.buffer-index in
-    let here = slice_get_read c.buffers-buffer-items.result.now _ index c.buffer-item.result refl c.loop-buffer-test.true
+    let here = slice_get_read c.buffers-buffer-items.result.now _ index c.buffer-item.result refl
+    c.loop-buffer-test.true
     c.buffer-item.is in
     let there = subst (λ (bs : List Buffer). slice_get bs index ≡ Some c.buffer-item.result)
     c.buffers-buffer-items.ensures.value here in

@@ -1,4 +1,4 @@
-use Rattle.std.proofs.Common.{◌≡◌, ◌+◌, ◌-◌, ◌≤◌, length, Bool, true, ◌||◌, arith, rules, sym, ap}
+use Rattle.std.proofs.Common.{◌≡◌, ◌+◌, ◌-◌, ◌≤◌, length, true, ◌||◌, arith, rules, ap}
 use Rattle.fr_slots.specs.Faults.{latest_on}
 use Rattle.fr_latency.specs.Openings.{frame_length, is_for, follows_buffer}
 use Rattle.fr_latency.proofs.CellLemmas.{bits_same, frame_added, after_frame}

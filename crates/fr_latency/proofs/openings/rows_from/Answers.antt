@@ -1,5 +1,4 @@
-use Rattle.std.proofs.Common.{◌≡◌, ℕ, ◌+◌, [], ◌∷◌, ◌++◌, List, length, true, sym, ap, ◌∙◌, subst, arith, rules}
-use Rattle.std.proofs.Common.{slice_get, Some}
+use Rattle.std.proofs.Common.{◌≡◌, ℕ, ◌+◌, List, length, true, sym, ap, ◌∙◌, subst, arith, slice_get, Some}
 use Rattle.std.proofs.lemmas.List.{length_push}
 use Rattle.fr_slots.specs.Parameters.{Parameters}
 use Rattle.fr_latency.specs.declared.openings.Row.{Row}

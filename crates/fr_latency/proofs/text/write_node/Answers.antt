@@ -13,7 +13,8 @@ loop-number-init g c = no_node (buffer_text c.args.cluster.now c.args.node c.arg
 pub write_buffer-requires-clause-used : goal.write_buffer-requires-clause-used
 write_buffer-requires-clause-used g c =
     let index = c.loop-number.number in
-    let here = slice_get_read c.buffers-buffer-items.result.now _ index c.buffer-item.result refl c.loop-number-test.true
+    let here = slice_get_read c.buffers-buffer-items.result.now _ index c.buffer-item.result refl
+    c.loop-number-test.true
     c.buffer-item.is in
     let there = subst (λ (bs : List Buffer). slice_get bs index ≡ Some c.buffer-item.result)
     c.buffers-buffer-items.ensures.value here in
@@ -25,7 +26,8 @@ loop-number-preserved g c =
     let d = c.args.cluster.now in
     let plan = c.args.plan.now in
     let index = c.loop-number.number in
-    let here = slice_get_read c.buffers-buffer-items.result.now _ index c.buffer-item.result refl c.loop-number-test.true
+    let here = slice_get_read c.buffers-buffer-items.result.now _ index c.buffer-item.result refl
+    c.loop-number-test.true
     c.buffer-item.is in
     let there = subst (λ (bs : List Buffer). slice_get bs index ≡ Some c.buffer-item.result)
     c.buffers-buffer-items.ensures.value here in

@@ -1,10 +1,9 @@
 use Rattle.std.proofs.Common.{◌≡◌, ℕ, ◌+◌, ◌++◌, ◌∷◌, [], List, Bool, length, sym, ap, ◌∙◌, subst, arith}
 use Rattle.std.specs.Prelude.{Vec}
 use Rattle.std.specs.declared.alloc.Global.{Global}
-use Rattle.fr_slots.specs.Parameters.{Parameters}
 use Rattle.fr_latency.specs.Cells.{HasBits}
-use Rattle.fr_latency.specs.Marks.{AreMarks, AreMarksOf}
-use Rattle.fr_latency.specs.Openings.{can_begin, slot_after}
+use Rattle.fr_latency.specs.Marks.{AreMarks}
+use Rattle.fr_latency.specs.Openings.{can_begin}
 use Rattle.fr_latency.proofs.RowLemmas.{first_slot}
 use Rattle.fr_latency.proofs.WayLemmas.{marks_first, marks_pushed, marks_right}
 use Rattle.fr_latency.proofs.way.history_from.Goals as goal

@@ -1,4 +1,4 @@
-use Rattle.std.proofs.Common.{◌≡◌, ◌+◌, length}
+use Rattle.std.proofs.Common.{◌+◌}
 use Rattle.fr_latency.specs.Cells.{HasBits}
 use Rattle.fr_latency.specs.Marks.{AreMarks}
 use Rattle.fr_latency.specs.Openings.{can_begin}
