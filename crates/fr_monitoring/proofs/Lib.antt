@@ -1,1 +1,3 @@
+mod FollowLemmas
+mod LineLemmas
 mod TextLemmas

@@ -1,9 +1,12 @@
 -- The text of a recording that is audited, and the result of a command that reads one (project-defined).
 use Rattle.std.specs.Prelude.{◌≡◌, ℕ, Bool, true, false, List, [], ◌∷◌, ◌++◌, Option, Some, None, Result, Ok, Err, ◌⊎◌}
-use Rattle.std.specs.Io.KnownBytes.{Appends}
+use Rattle.std.specs.Io.KnownBytes.{Appends, Keeps}
 use Rattle.std.specs.List.{fold}
 use Rattle.fr_judging.specs.Judging.{State, judge, finish, fresh as fresh_state, has_finding}
+use Rattle.fr_judging.specs.Rules.{no_clock_on}
 use Rattle.fr_judging.specs.declared.rules.Rules.{Rules}
+use Rattle.fr_slots.specs.declared.channel.Channel.{Channel}
+use Rattle.fr_slots.specs.declared.channel.Channel.TheVariants.{A, B}
 use Rattle.fr_recording.specs.Records.{Record}
 use Rattle.fr_recording.specs.Stream.{Progress, fresh, take_bytes, records_from, refusal_of, is_refused}
 use Rattle.fr_monitoring.specs.LineText.{lines_text}
@@ -11,7 +14,7 @@ use Rattle.fr_monitoring.specs.SummaryText.{summary_text}
 use Rattle.fr_monitoring.specs.declared.error.MonitorError.{MonitorError}
 use Rattle.fr_monitoring.specs.declared.error.StreamError.{StreamError}
 use Rattle.fr_monitoring.specs.declared.error.StreamError.TheVariants as stream
-use Rattle.fr_monitoring.specs.declared.error.MonitorError.TheVariants.{Capture, Read}
+use Rattle.fr_monitoring.specs.declared.error.MonitorError.TheVariants.{NoClock, Capture, Read}
 
 -- ---- records
 
@@ -44,6 +47,14 @@ recording_text r bytes over =
 
 -- ---- the command
 
+abbrev pub clock_on : Channel → Option ℕ → Option MonitorError → Option MonitorError
+clock_on channel None others = others
+clock_on channel (Some cycle) others = Some (NoClock channel cycle)
+
+-- the refusal of a cluster in which a channel has no clock
+abbrev pub clock_refusal : Rules → Option MonitorError
+clock_refusal r = clock_on A (no_clock_on r A) (clock_on B (no_clock_on r B) None)
+
 -- A front of the input was read, of which this holds, if the bytes of the reader are known.
 abbrev pub ReadFront : Option (List ℕ) → Option (List ℕ) → (List ℕ → List ℕ → Type 0) → Type 0
 ReadFront None rest P = Unit {0}
@@ -54,8 +65,9 @@ ReadFront (Some text) (Some rest) P = (front : List ℕ) × (text ≡ front ++ r
 abbrev pub StopsThere : List ℕ → List ℕ → Type 0
 StopsThere front rest = (rest ≡ []) ⊎ (is_refused (take_bytes fresh front).state.phase ≡ true)
 
--- The whole input was read and accepted, or a front of it shows the refusal, or a front of it was read before the
--- reader failed. The text of what was read is written, and the result says whether there is a finding.
+-- A channel has no clock, and nothing was read. Or the whole input was read and accepted, or a front of it shows the
+-- refusal, or a front of it was read before the reader failed. Then the text of what was read is written, and the result
+-- says whether there is a finding.
 abbrev pub Monitors : Rules → Option (List ℕ) → Option (List ℕ) → Option (List ℕ) → Option (List ℕ)
     → Result Bool MonitorError → Type 0
 Monitors r text rest old new (Ok some) = ReadFront text rest (λ front left.
@@ -66,6 +78,8 @@ Monitors r text rest old new (Err (Capture refusal)) = ReadFront text rest (λ f
     × Appends old new (recording_text r front false))
 Monitors r text rest old new (Err Read) = ReadFront text rest (λ front left.
     Appends old new (recording_text r front false))
+Monitors r text rest old new (Err (NoClock channel cycle)) =
+    (clock_refusal r ≡ Some (NoClock channel cycle)) × Keeps text rest × Keeps old new
 Monitors r text rest old new (Err e) = Unit {0}
 
 -- ---- the steps of the command
@@ -96,4 +110,5 @@ Ends q t followed old new (Err (Capture refusal)) =
     (followed ≡ Ok tt) × (refusal_of q ≡ Some refusal) × Appends old new (end_text (finish t false) q.state.skipped)
 Ends q t followed old new (Err Read) =
     (followed ≡ Err stream.Read) × Appends old new (end_text (finish t false) q.state.skipped)
+Ends q t followed old new (Err (NoClock channel cycle)) = ⊥
 Ends q t followed old new (Err e) = Unit {0}

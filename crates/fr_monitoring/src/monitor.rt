@@ -1,9 +1,9 @@
 //! The audit of a recording between a reader and a writer.
 
-ghost use Rattle.std.specs.Prelude.{◌≡◌, ◌<◌, length, IfOk, OnOk, option_to_list};
+ghost use Rattle.std.specs.Prelude.{◌≡◌, ◌<◌, length, IfOk, IfSome, Err, OnOk, option_to_list};
 ghost use Rattle.fr_text.specs.Writing.{Writes};
 ghost use Rattle.fr_recording.specs.Stream.{take_bytes, records_from, told_of};
-ghost use Rattle.fr_monitoring.specs.Monitoring.{judged, told, end_text, Monitors, Follows, Ends};
+ghost use Rattle.fr_monitoring.specs.Monitoring.{judged, told, end_text, Monitors, Follows, Ends, clock_refusal};
 
 use crate::error::{MonitorError, StreamError};
 use crate::line::write_lines;
@@ -99,8 +99,10 @@ fn write_end<W: Write>(writer: &mut W, judge: &Judge, blocks: u64) -> io::Result
     writer.flush()
 }
 
-/// Returns the refusal of a cluster that gives a channel no clock.
-fn clock_error(rules: &Rules) -> Option<MonitorError> {
+/// Returns the refusal of a cluster in which a channel has no clock.
+fn clock_refusal(rules: &Rules) -> Option<MonitorError>
+    ensures { result ≡ clock_refusal rules.now }
+{
     if let Some(cycle) = rules.no_clock(Channel::A) {
         return Some(MonitorError::NoClock(Channel::A, cycle));
     }
@@ -157,10 +159,12 @@ pub fn monitor<R: Read, W: Write>(
     reader: &mut R,
     writer: &mut W,
 ) -> Result<bool, MonitorError>
-    ensures { Monitors rules (R.remaining reader.old) (R.remaining reader.new)
+    ensures text { Monitors rules (R.remaining reader.old) (R.remaining reader.new)
         (W.contents writer.old) (W.contents writer.new) result }
+    // A cluster without a clock is refused.
+    ensures clock { IfSome (clock_refusal rules) (λ e. result ≡ Err e) }
 {
-    if let Some(error) = clock_error(&rules) {
+    if let Some(error) = clock_refusal(&rules) {
         return Err(error);
     }
     let Ok(mut capture) = Reader::new(alloc) else {

@@ -1,0 +1,35 @@
+use Rattle.std.proofs.Common.{◌≡◌, ◌+◌, ◌-◌, ◌<◌, ◌≤◌, ◌==◌, ℕ, List, [], length, take, drop, rules, sym, ap, ◌∙◌, arith, false, inl, inr}
+use Rattle.std.proofs.Common.{cond, Bool}
+use Rattle.std.specs.Prelude.{option_to_list}
+use Rattle.std.proofs.lemmas.Bool.Decides.{nat_tests}
+use Rattle.std.proofs.lemmas.List.{take_rest, length-drop}
+use Rattle.fr_recording.specs.Records.{Record}
+use Rattle.fr_recording.specs.Stream.{records_from, told_of}
+use Rattle.fr_monitoring.proofs.TextLemmas.{followed_none, followed_next}
+use Rattle.fr_monitoring.proofs.monitor.take_piece.Goals as goal
+
+pub loop-taken-init : goal.loop-taken-init
+loop-taken-init g c = (omega arith, followed_none c.args.capture.now c.args.judge.now _)
+
+some_told : (n : ℕ) (r : List Record) → 0 < n → (let x : List Record = cond (n == 0) [] r in x) ≡ r
+some_told n r some =
+    let more : (n == 0) ≡ false = grind (arith, nat_tests) in
+    ap (λ (t : Bool). let x : List Record = cond t [] r in x) more
+
+pub loop-taken-preserved : goal.loop-taken-preserved
+loop-taken-preserved g c =
+    let piece = c.args.piece.now in
+    let taken = c.loop-taken.taken in
+    let rest : List ℕ = take (length piece - taken) (drop taken piece) in
+    let rest_is : rest ≡ drop taken piece = take_rest piece taken in
+    let long : length rest ≡ length piece - taken = ap length rest_is ∙ length-drop taken piece in
+    let some : 0 < c.next-taken.result =
+    elim c.next-taken.ensures.all [ inl all ↦ omega (arith, long, all) | inr more ↦ more.0 ] in (
+      search rules,
+      followed_next c.args.capture.now c.loop-taken.capture c.next-taken.new.self c.args.judge.now c.loop-taken.judge
+          c.take_record.new.judge _ _ _ piece rest taken c.next-taken.result c.loop-taken.invariant.1 rest_is
+          c.next-taken.ensures.state
+          (c.next-taken.ensures.records ∙ some_told c.next-taken.result (option_to_list (told_of c.next-taken.new.self))
+          some)
+          c.in_ok-take_record.ensures.judge c.in_ok-take_record.ensures.text,
+    )
