@@ -1,7 +1,7 @@
 """Runs of `fr_monitor`: recordings of the three nodes, with and without a disturbance, broken files, and its words.
 
 The frames are the null frames that the cluster sends without host calls. Expected values were worked out by hand from
-docs/formats/recording.md.
+examples/recordings/README.md.
 """
 import struct
 
