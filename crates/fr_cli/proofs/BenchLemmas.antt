@@ -1,7 +1,7 @@
 -- The answer to words follows from a parse. The commands are of the kind for which `clap` reports all faults, and the
 -- rows of a parse have the command's name and its words.
 use Rattle.std.proofs.Common.{◌≡◌, ◌∷◌, [], List, Option, Some, None, Err, option_map, is_some, true≢false, ap, sym}
-use Rattle.std.proofs.Common.{refl, ◌∙◌, ℕ, arith, inl, inr, codes, true, ap₂, ◌&&◌}
+use Rattle.std.proofs.Common.{refl, ◌∙◌, ℕ, arith, inl, inr, codes, true}
 use Rattle.std.specs.Prelude.{IfSome, IsSome, option_and_then}
 use Rattle.std.specs.Option.{ok_or, option_map_or}
 use Rattle.clap.specs.Values.{kind_of}

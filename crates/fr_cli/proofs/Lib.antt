@@ -1,5 +1,6 @@
 pub mod BenchLemmas
 pub mod BenchWholeLemmas
 pub mod CommandLemmas
-pub mod ViewLemmas
+pub mod MonitorLemmas
+mod ViewLemmas
 pub mod WorldLemmas

@@ -1,6 +1,6 @@
 -- The words that are an order of `fr_bench`, by the rules of `clap`, and the refusals that follow from its errors.
 use Rattle.std.specs.Prelude.{◌≡◌, ◌⊎◌, ◌<◌, List, [], length, Option, Some, Result, Ok, Err, true, codes, is_some}
-use Rattle.std.specs.Prelude.{option_and_then, false, ◌&&◌}
+use Rattle.std.specs.Prelude.{option_and_then, false}
 use Rattle.clap.specs.declared.builder.action.ArgAction.TheVariants.{SetTrue}
 use Rattle.clap.specs.Words.{App, Row, Rule, Text, fault_of, first_of, new_rule, subcommand_of}
 use Rattle.clap.specs.Words.{with_rule, with_subcommand}

@@ -25,11 +25,15 @@ option_named name = record (new_rule name) { long = Some name }
 abbrev pub the_flag : Rule
 the_flag = record (new_rule (codes "whole")) { long = Some (codes "whole"); action = Some SetTrue }
 
+unfoldable pub with_first : App → App
+with_first app = with_rule (with_rule app (option_named (codes "findings"))) the_flag
+
+unfoldable pub with_channel_option : App → App
+with_channel_option app = with_rule (with_first app) (option_named (codes "channel"))
+
 -- with the options, none of which is required
-abbrev pub with_options : App → App
-with_options app =
-    with_rule (with_rule (with_rule (with_rule app (option_named (codes "findings"))) the_flag)
-    (option_named (codes "channel"))) (option_named (codes "macrotick"))
+unfoldable pub with_options : App → App
+with_options app = with_rule (with_channel_option app) (option_named (codes "macrotick"))
 
 -- the program with a file and its options
 abbrev pub the_command : App

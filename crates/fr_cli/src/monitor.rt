@@ -1,10 +1,12 @@
 //! The command of `fr_monitor`: the words after its name, read as the recording that it has to audit.
 ghost use Rattle.std.specs.Prelude.{◌≡◌, IfOk, codes, map, option_map, false};
-ghost use Rattle.clap.specs.Words.{app_of, first_value, found_of};
+ghost use Rattle.clap.specs.Words.{app_of, first_value, found_of, rule_of, with_rule};
 ghost use Rattle.clap.specs.declared.builder.command.Command.TheViews.{out-Command};
 ghost use Rattle.fr_cli.specs.MonitorCommands.{IsAnswer, given_in, given_of, the_command, with_options};
+ghost use Rattle.fr_cli.specs.MonitorCommands.{with_first, with_channel_option, option_named, the_flag};
 ghost use Rattle.fr_cli.specs.MonitorCommands.{number_asked, findings_asked, macrotick_asked, channel_asked};
-ghost use Rattle.fr_cli.specs.Commands.{is_true};
+ghost use Rattle.fr_cli.specs.Commands.{is_true, the_file};
+ghost use Rattle.fr_cli.specs.MonitorCommands.{bare_command};
 
 use crate::error::OrderError;
 use clap::{Arg, ArgAction, ArgMatches, Command};
@@ -30,33 +32,81 @@ pub struct MonitorCommand<'a> {
     pub macrotick: u32,
 }
 
-/// Returns the options of the program.
+/// Returns an option of this name, with a value.
+fn option<'a>(alloc: Global, name: &'a str) -> Arg<'a>
+    ensures rule { rule_of result ≡ option_named name.now }
+    ensures local { result.global ≡ false }
+{
+    Arg::new(alloc, name).long(name)
+}
+
+/// Returns the flag of a recording with whole cycles.
+fn whole_flag<'a>(alloc: Global) -> Arg<'a>
+    ensures rule { rule_of result ≡ the_flag }
+    ensures local { result.global ≡ false }
+{
+    Arg::new(alloc, "whole")
+        .long("whole")
+        .action(ArgAction::SetTrue)
+}
+
+/// Returns the program with its first two options.
+#[tactic(auto, unfolding(crate::specs::MonitorCommands::with_first))]
+fn with_first<'a>(alloc: Global, command: Command<'a>) -> Result<Command<'a>, AllocError>
+    requires { (out-Command command).has_globals ≡ false }
+    ensures app { IfOk result (λ c. app_of c ≡ with_first (app_of command.entry)) }
+    ensures local { IfOk result (λ c. (out-Command c).has_globals ≡ false) }
+{
+    let (findings, whole) = (option(alloc, "findings"), whole_flag(alloc));
+    command.arg(findings)?.arg(whole)
+}
+
+/// Returns the program with its first three options.
+#[tactic(auto, unfolding(crate::specs::MonitorCommands::with_channel_option))]
+fn with_channel<'a>(alloc: Global, command: Command<'a>) -> Result<Command<'a>, AllocError>
+    requires { (out-Command command).has_globals ≡ false }
+    ensures app { IfOk result (λ c. app_of c ≡ with_channel_option (app_of command.entry)) }
+    ensures local { IfOk result (λ c. (out-Command c).has_globals ≡ false) }
+{
+    let channel = option(alloc, "channel");
+    with_first(alloc, command)?.arg(channel)
+}
+
+/// Returns the program with its options.
+#[tactic(auto, unfolding(crate::specs::MonitorCommands::with_options))]
 fn with_options<'a>(alloc: Global, command: Command<'a>) -> Result<Command<'a>, AllocError>
     requires { (out-Command command).has_globals ≡ false }
     ensures { IfOk result (λ c. app_of c ≡ with_options (app_of command.entry)) }
 {
-    let findings = Arg::new(alloc, "findings").long("findings");
-    let whole = Arg::new(alloc, "whole")
-        .long("whole")
-        .action(ArgAction::SetTrue);
-    let channel = Arg::new(alloc, "channel").long("channel");
-    let macrotick = Arg::new(alloc, "macrotick").long("macrotick");
-    command
-        .arg(findings)?
-        .arg(whole)?
-        .arg(channel)?
-        .arg(macrotick)
+    let macrotick = option(alloc, "macrotick");
+    with_channel(alloc, command)?.arg(macrotick)
+}
+
+/// Returns the program without arguments.
+fn bare_command<'a>(alloc: Global) -> Command<'a>
+    ensures app { app_of result ≡ bare_command }
+    ensures local { (out-Command result).has_globals ≡ false }
+{
+    Command::new(alloc, "fr_monitor")
+        .no_binary_name(true)
+        .disable_help_flag(true)
+}
+
+/// Returns the program with a file.
+fn with_file<'a>(alloc: Global) -> Result<Command<'a>, AllocError>
+    ensures app { IfOk result (λ c. app_of c ≡ with_rule bare_command the_file) }
+    ensures local { IfOk result (λ c. (out-Command c).has_globals ≡ false) }
+{
+    let file = Arg::new(alloc, "FILE").required(true);
+    bare_command(alloc).arg(file)
 }
 
 /// Returns the program, with a file and its options.
 fn the_command<'a>(alloc: Global) -> Result<Command<'a>, AllocError>
     ensures { IfOk result (λ c. app_of c ≡ the_command) }
 {
-    let file = Arg::new(alloc, "FILE").required(true);
-    let command = Command::new(alloc, "fr_monitor")
-        .no_binary_name(true)
-        .disable_help_flag(true);
-    with_options(alloc, command.arg(file)?)
+    let command = with_file(alloc)?;
+    with_options(alloc, command)
 }
 
 /// Returns the number that a word spells: 0 to 4294967295, without a leading zero.

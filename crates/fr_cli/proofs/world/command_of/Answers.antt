@@ -3,7 +3,7 @@ use Rattle.clap.proofs.WalkLemmas.{first_value-rows}
 use Rattle.clap.specs.Words.{HasKind, Text, fault_of, first_of, first_value, found_of, is_simple}
 use Rattle.clap.specs.Words.{is_simple_and_free, matches_of, rows_of}
 use Rattle.fr_cli.proofs.WorldLemmas.{are_free, are_simple, given_alike, refused_for, taken_for}
-use Rattle.fr_cli.specs.WorldCommands.{IsAnswer, entered, given_in, the_command}
+use Rattle.fr_cli.specs.WorldCommands.{IsAnswer, entered, the_command}
 use Rattle.fr_cli.proofs.world.command_of.Goals as goal
 
 pub returns-in_err-matches : goal.returns-in_err-matches
