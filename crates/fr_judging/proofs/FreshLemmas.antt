@@ -1,5 +1,5 @@
 -- The counts before the first record.
-use Rattle.std.proofs.Common.{◌≡◌, ℕ, List, replicate, ◌∙◌, ap, length}
+use Rattle.std.proofs.Common.{◌≡◌, ℕ, List, replicate, ◌∙◌, ap}
 use Rattle.fr_judging.specs.Judging.{no_counts, none_away, none_shown, none_found, not_shown}
 use Rattle.fr_judging.specs.Tallies.{fresh_tally}
 use Rattle.fr_judging.specs.declared.judge.Shown.{Shown}

@@ -1,5 +1,5 @@
 -- The loops of a judge.
-use Rattle.std.proofs.Common.{◌≡◌, ℕ, zero, suc, ◌+◌, ◌-◌, ◌≤◌, ◌%◌, Bool, refl, sym, ap, ◌∙◌, arith, Option}
+use Rattle.std.proofs.Common.{◌≡◌, ℕ, suc, ◌+◌, ◌-◌, ◌≤◌, ◌%◌, Bool, sym, ap, ◌∙◌, arith, Option}
 use Rattle.std.specs.Prelude.{not, ◌&&◌}
 use Rattle.fr_judging.specs.Judging.{State, skipped, miss, quiet}
 use Rattle.fr_judging.specs.Rules.{is_sent}

@@ -1,6 +1,6 @@
 -- Times in a recording: the distance of two cycles, and the place of a frame in its cycle.
-use Rattle.std.specs.Prelude.{ℕ, ◌+◌, ◌-◌, ◌*◌, ◌/◌, ◌%◌, ◌==◌, nat_le, nat_lt, ◌&&◌, not, Bool, true, false}
-use Rattle.std.specs.Prelude.{Option, Some, None, ℤ, pos, ◌+ℤ◌, ◌-ℤ◌, ◌*ℤ◌, int_lt, int_le, unsigned_abs, if◌then◌else◌}
+use Rattle.std.specs.Prelude.{ℕ, ◌+◌, ◌-◌, ◌*◌, ◌/◌, ◌%◌, ◌==◌, nat_le, nat_lt, Bool, false}
+use Rattle.std.specs.Prelude.{Option, Some, None, ℤ, pos, ◌+ℤ◌, ◌-ℤ◌, int_lt, int_le, unsigned_abs, if◌then◌else◌}
 use Rattle.fr_frame.specs.Fields.{Fields}
 use Rattle.fr_logged.specs.declared.finding.Finding.{Finding}
 use Rattle.fr_logged.specs.declared.finding.Name.TheVariants.{Clock, Time}

@@ -1,14 +1,12 @@
 -- One channel of a recording, and the frames that open its cycles.
-use Rattle.std.specs.Prelude.{ℕ, ◌+◌, ◌-◌, ◌*◌, ◌%◌, ◌==◌, nat_le, nat_lt, ◌&&◌, ◌||◌, not, Bool, true, false}
-use Rattle.std.specs.Prelude.{Option, Some, None, if◌then◌else◌, min}
+use Rattle.std.specs.Prelude.{ℕ, ◌+◌, ◌-◌, ◌%◌, ◌==◌, nat_le, nat_lt, ◌&&◌, ◌||◌, not, Bool, true, false}
+use Rattle.std.specs.Prelude.{Option, Some, None, if◌then◌else◌}
 use Rattle.std.specs.Option.{is_some}
 use Rattle.fr_frame.specs.Fields.{Fields}
 use Rattle.fr_recording.specs.Numbers.{counted}
 use Rattle.fr_slots.specs.Faults.{minislots_filled}
 use Rattle.fr_slots.specs.Parameters.{Parameters}
 use Rattle.fr_judging.specs.Tallies.{long_counted, span_between}
-use Rattle.fr_judging.specs.declared.lane.Fixed.{Fixed}
-use Rattle.fr_judging.specs.declared.lane.Held.{Held}
 use Rattle.fr_judging.specs.declared.lane.Lane.{Lane}
 use Rattle.fr_judging.specs.declared.lane.Next.{Next}
 use Rattle.fr_judging.specs.declared.line.At.{At}

@@ -1,17 +1,14 @@
 -- The bits that the header CRC covers, as fields of the header.
-use Rattle.std.proofs.Common.{◌≡◌, ℕ, ◌+◌, ◌-◌, ◌*◌, ◌/◌, ◌^◌, ◌≤◌, ◌<◌, Bool, eqb, List, [], ◌∷◌, ◌++◌, length, take, drop}
-use Rattle.std.proofs.Common.{refl, sym, ap, ◌∙◌, arith, bit_and, length-append, min}
-use Rattle.std.proofs.lemmas.List.{append_assoc, length-take, length-drop, take-append-drop, drop-drop, take_at, take_all}
+use Rattle.std.proofs.Common.{◌≡◌, ℕ, ◌+◌, ◌*◌, ◌/◌, ◌^◌, ◌≤◌, Bool, eqb, List, ◌∷◌, ◌++◌, length, take, drop}
+use Rattle.std.proofs.Common.{sym, ap, ◌∙◌, arith, bit_and, length-append}
+use Rattle.std.proofs.lemmas.List.{append_assoc, length-take, length-drop, take-append-drop, drop-drop, take_at}
 use Rattle.fr_frame.specs.Bits.{bits_of, number_of, bits_of_bytes}
-use Rattle.fr_frame.specs.Crc.{header_check}
-use Rattle.fr_frame.specs.Fields.{Fields}
-use Rattle.fr_frame.specs.Header.{bits_at, number_at, flag_at}
+use Rattle.fr_frame.specs.Header.{bits_at, number_at}
 use Rattle.fr_frame.specs.Spelling.{covered}
 use Rattle.fr_frame.proofs.FieldLemmas.{field-number}
 use Rattle.fr_frame.proofs.NumberLemmas.{bits_of-spelled, flag_is, length-bits_of_bytes}
 use Rattle.fr_logged.specs.Headers.{header_in}
 use Rattle.fr_logged.specs.Logged.{fields_by}
-use Rattle.fr_logged.specs.declared.frame.Header.{Header}
 
 abbrev flag : ℕ → List Bool → Bool
 flag place bits = eqb (number_of (take 1 (drop place bits))) 1

@@ -1,5 +1,5 @@
 -- The header of a frame, read from its first five bytes (chapter 4).
-use Rattle.std.specs.Prelude.{ℕ, Bool, List}
+use Rattle.std.specs.Prelude.{ℕ, List}
 use Rattle.fr_frame.specs.Header.{number_at, flag_at, bits_at}
 use Rattle.fr_frame.specs.Bits.{number_of}
 use Rattle.fr_frame.specs.Crc.{header_check}

@@ -1,5 +1,5 @@
 -- The finding of a frame in its slot, by what is due there (project-defined).
-use Rattle.std.specs.Prelude.{ℕ, ◌/◌, ◌==◌, nat_lt, ◌&&◌, ◌||◌, not, Bool, true, false, List, length, Option, Some, None}
+use Rattle.std.specs.Prelude.{ℕ, ◌/◌, ◌==◌, nat_lt, ◌&&◌, ◌||◌, not, Bool, true, false, length, Option, Some, None}
 use Rattle.std.specs.Prelude.{if◌then◌else◌}
 use Rattle.std.specs.List.{list_all}
 use Rattle.fr_frame.specs.Fields.{Fields}

@@ -3,7 +3,6 @@ use Rattle.std.proofs.Common.{◌≡◌, ℕ, Bool, true, false, List, [], ◌++
 use Rattle.std.specs.Prelude.{Option, Some, None, Result, Ok, Err, OnOk, is_err}
 use Rattle.std.specs.Io.KnownBytes.{Appends, Keeps, Consumes, IsAtEnd}
 use Rattle.std.proofs.KnownBytes.{Appends-trans}
-use Rattle.std.proofs.lemmas.List.{append-nil}
 use Rattle.fr_judging.specs.Judging.{State, finish, has_finding, fresh as fresh_state}
 use Rattle.fr_judging.specs.Rules.{no_clock_on}
 use Rattle.fr_judging.specs.declared.rules.Rules.{Rules}

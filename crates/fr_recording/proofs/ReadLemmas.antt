@@ -1,13 +1,13 @@
 -- Several bytes at once give the same as one after another.
-use Rattle.std.proofs.Common.{◌≡◌, ◌≢◌, ℕ, zero, suc, ◌+◌, ◌-◌, ◌<◌, ◌≤◌, ◌==◌, nat_lt, true, false, List, [], ◌∷◌, ◌++◌, min, max}
+use Rattle.std.proofs.Common.{◌≡◌, ◌≢◌, ℕ, suc, ◌+◌, ◌-◌, ◌<◌, ◌≤◌, ◌==◌, true, false, List, [], ◌∷◌, ◌++◌, max}
 use Rattle.std.proofs.Common.{length, take, drop, refl, sym, ap, ◌∙◌, arith, append_assoc, length-append, subst}
-use Rattle.std.specs.Prelude.{Option, Some, None, option_to_list}
+use Rattle.std.specs.Prelude.{Option, None, option_to_list}
 use Rattle.std.proofs.lemmas.Bool.{lt-ltb, le-ltb, eqb-true, eq-eqb}
 use Rattle.std.proofs.lemmas.Bool.Decides.{nat_tests}
 use Rattle.std.proofs.Math.Seq.{take-add}
 use Rattle.std.proofs.lemmas.List.Sums.{fold-append}
 use Rattle.std.proofs.lemmas.List.{append-nil, length-take-le, take_all}
-use Rattle.fr_recording.specs.Numbers.{counted, most_counted}
+use Rattle.fr_recording.specs.Numbers.{counted}
 use Rattle.fr_recording.specs.Records.{Record}
 use Rattle.fr_recording.specs.Steps.{Steps}
 use Rattle.fr_recording.specs.Stream.{State, Progress, read_on, take_in, take_byte, take_bytes, records_from, told_of, needed}
@@ -15,7 +15,7 @@ use Rattle.fr_recording.specs.Stream.{after_part, skip, less, go}
 use Rattle.fr_recording.specs.declared.phase.Block.{Block}
 use Rattle.fr_recording.specs.declared.phase.Head.{Head}
 use Rattle.fr_recording.specs.declared.phase.Phase.{Phase}
-use Rattle.fr_recording.specs.declared.phase.Phase.TheVariants.{Skipped, Trailer, Refused}
+use Rattle.fr_recording.specs.declared.phase.Phase.TheVariants.{Skipped, Refused}
 use Rattle.fr_recording.specs.declared.phase.Refusal.{Refusal}
 
 -- ---- counts

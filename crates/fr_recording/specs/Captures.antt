@@ -1,10 +1,10 @@
 -- The parts of a capture file, each as a function of its bytes (project-defined).
-use Rattle.std.specs.Prelude.{ℕ, ◌+◌, ◌-◌, ◌*◌, ◌%◌, ◌^◌, nat_lt, nat_le, ◌==◌, ◌&&◌, ◌||◌, not, Bool, true, false}
-use Rattle.std.specs.Prelude.{min, List, [], ◌∷◌, length, take, slice_get, slice_index, ℤ, pos, if◌then◌else◌}
+use Rattle.std.specs.Prelude.{ℕ, ◌+◌, ◌*◌, ◌%◌, ◌^◌, nat_lt, nat_le, ◌==◌, ◌&&◌, ◌||◌, not, Bool, true, false}
+use Rattle.std.specs.Prelude.{min, List, length, slice_get, slice_index, ℤ, pos, if◌then◌else◌}
 use Rattle.std.specs.Prelude.{Option, Some, None}
 use Rattle.std.specs.Option.{is_none}
 use Rattle.std.specs.Int.{w64, cast_signed}
-use Rattle.fr_recording.specs.Numbers.{short, long, longer, number, padded, most_captured, most_sources}
+use Rattle.fr_recording.specs.Numbers.{short, long, longer, padded, most_captured}
 use Rattle.fr_recording.specs.Times.{time_of}
 use Rattle.fr_recording.specs.declared.heads.Magic.{Magic}
 use Rattle.fr_recording.specs.declared.heads.Magic.TheVariants.{Classic, Sections, Unknown}

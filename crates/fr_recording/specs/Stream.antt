@@ -1,13 +1,12 @@
 -- The reading of a capture file, byte by byte: its records, and the refusal with the place of the record or block that
 -- is at fault.
-use Rattle.std.specs.Prelude.{ℕ, zero, suc, ◌+◌, ◌-◌, ◌*◌, nat_lt, ◌==◌, ◌&&◌, not, Bool, true, false, if◌then◌else◌}
-use Rattle.std.specs.Prelude.{List, [], ◌∷◌, ◌++◌, length, take, Option, Some, None, max}
-use Rattle.std.specs.Option.{is_none}
+use Rattle.std.specs.Prelude.{ℕ, ◌-◌, nat_lt, ◌==◌, Bool, true, false, if◌then◌else◌}
+use Rattle.std.specs.Prelude.{List, [], ◌∷◌, ◌++◌, length, take, Option, Some, None}
 use Rattle.std.specs.Prelude.{option_map, option_to_list}
 use Rattle.std.specs.List.{fold}
 use Rattle.fr_recording.specs.Captures.{magic_in, link_in, record_head, is_length_of, order_in, source_in, with_option}
 use Rattle.fr_recording.specs.Captures.{packet_head, is_bad_front, simple_head, section_type}
-use Rattle.fr_recording.specs.Numbers.{short, long, number, padded, counted, most_sources}
+use Rattle.fr_recording.specs.Numbers.{short, long, padded, counted, most_sources}
 use Rattle.fr_recording.specs.Records.{Record}
 use Rattle.fr_recording.specs.declared.heads.Magic.{Magic}
 use Rattle.fr_recording.specs.declared.heads.Magic.TheVariants.{Classic, Sections, Unknown}

@@ -1,4 +1,4 @@
-use Rattle.std.proofs.Common.{◌≡◌, ℕ, true, false, Some, ap, sym, ◌∙◌, rules, arith, subst}
+use Rattle.std.proofs.Common.{◌≡◌, ℕ, true, false, Some, ap, ◌∙◌, rules, arith, subst}
 use Rattle.fr_judging.specs.Rules.{is_clocked}
 use Rattle.fr_judging.proofs.ClockLemmas.{clocked_more, clocked_found, clocked_none}
 use Rattle.fr_judging.proofs.rules.unclocked.Goals as goal

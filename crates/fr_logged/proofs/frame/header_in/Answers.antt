@@ -1,4 +1,4 @@
-use Rattle.std.proofs.Common.{◌≡◌, take, rules, arith}
+use Rattle.std.proofs.Common.{rules}
 use Rattle.fr_logged.proofs.HeaderLemmas.{header_read, five_read}
 use Rattle.fr_logged.proofs.frame.header_in.Goals as goal
 

@@ -1,10 +1,9 @@
-use Rattle.std.proofs.Common.{◌≡◌, ◌+◌, ◌*◌, ◌≤◌, ℕ, List, Bool, length, take, rules, arith, ap, ◌∙◌, sym}
+use Rattle.std.proofs.Common.{◌≡◌, ◌+◌, ◌*◌, ◌≤◌, List, Bool, length, arith, ap, ◌∙◌}
 use Rattle.fr_frame.specs.Bits.{number_of}
 use Rattle.fr_frame.specs.Crc.{header_check}
 use Rattle.fr_frame.specs.Fields.{Fields}
 use Rattle.fr_frame.specs.Header.{number_at}
 use Rattle.fr_frame.specs.Spelling.{covered}
-use Rattle.fr_logged.specs.Headers.{header_in}
 use Rattle.fr_logged.specs.Logged.{fields_by}
 use Rattle.fr_logged.specs.declared.frame.Header.{Header}
 use Rattle.fr_logged.proofs.HeaderLemmas.{covered_by}

@@ -1,4 +1,4 @@
-use Rattle.std.proofs.Common.{◌≡◌, ◌-◌, ◌*◌, ◌^◌, ◌<◌, ℕ, List, length, take, drop, rules, arith, ap, ◌∙◌, sym, subst}
+use Rattle.std.proofs.Common.{ℕ, List, ap, ◌∙◌, sym}
 use Rattle.fr_frame.proofs.FieldLemmas.{number-read}
 use Rattle.fr_frame.proofs.ReadingLemmas.{last_part}
 use Rattle.fr_frame.specs.Bits.{number_of, bits_of_bytes}

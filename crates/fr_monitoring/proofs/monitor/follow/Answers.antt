@@ -1,5 +1,5 @@
-use Rattle.std.proofs.Common.{◌≡◌, ◌<◌, length, rules, sym, ◌∙◌, arith}
-use Rattle.fr_monitoring.proofs.FollowLemmas.{none_read, nothing_read, piece_read, ends_here, stops_here, on_ok}
+use Rattle.std.proofs.Common.{rules, sym, ◌∙◌}
+use Rattle.fr_monitoring.proofs.FollowLemmas.{none_read, piece_read, stops_here, on_ok}
 use Rattle.fr_monitoring.proofs.monitor.follow.Goals as goal
 
 pub pieces-init : goal.pieces-init

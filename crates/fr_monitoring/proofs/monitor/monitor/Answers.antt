@@ -1,4 +1,4 @@
-use Rattle.std.proofs.Common.{◌≡◌, rules, sym, ◌∙◌, subst, Option}
+use Rattle.std.proofs.Common.{◌≡◌, sym, ◌∙◌, subst}
 use Rattle.fr_judging.specs.Judging.{State, fresh as fresh_state}
 use Rattle.fr_recording.specs.Stream.{Progress, fresh}
 use Rattle.fr_monitoring.specs.Monitoring.{Follows}

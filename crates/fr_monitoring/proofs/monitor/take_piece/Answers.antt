@@ -1,10 +1,10 @@
-use Rattle.std.proofs.Common.{◌≡◌, ◌+◌, ◌-◌, ◌<◌, ◌≤◌, ◌==◌, ℕ, List, [], length, take, drop, rules, sym, ap, ◌∙◌, arith, false, inl, inr}
+use Rattle.std.proofs.Common.{◌≡◌, ◌-◌, ◌<◌, ◌==◌, ℕ, List, [], length, take, drop, rules, ap, ◌∙◌, arith, false, inl, inr}
 use Rattle.std.proofs.Common.{cond, Bool}
 use Rattle.std.specs.Prelude.{option_to_list}
 use Rattle.std.proofs.lemmas.Bool.Decides.{nat_tests}
 use Rattle.std.proofs.lemmas.List.{take_rest, length-drop}
 use Rattle.fr_recording.specs.Records.{Record}
-use Rattle.fr_recording.specs.Stream.{records_from, told_of}
+use Rattle.fr_recording.specs.Stream.{told_of}
 use Rattle.fr_monitoring.proofs.TextLemmas.{followed_none, followed_next}
 use Rattle.fr_monitoring.proofs.monitor.take_piece.Goals as goal
 

@@ -1,6 +1,4 @@
-use Rattle.std.proofs.Common.{◌≡◌, ◌≤◌, ◌-◌, length, take}
-use Rattle.std.specs.Io.KnownBytes.{Appends}
-use Rattle.fr_recording.specs.Stream.{take_bytes, records_from}
+use Rattle.std.proofs.Common.{◌≤◌, ◌-◌, length, take}
 use Rattle.fr_monitoring.specs.Monitoring.{IsFollowed}
 use Rattle.fr_monitoring.proofs.monitor.take_piece.Given as goal
 

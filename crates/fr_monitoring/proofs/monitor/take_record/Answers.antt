@@ -1,12 +1,9 @@
-use Rattle.std.proofs.Common.{◌≡◌, ℕ, List, sym, ap, ◌∙◌, subst}
-use Rattle.std.specs.Prelude.{Option, Some, None, option_map, option_to_list}
+use Rattle.std.proofs.Common.{◌≡◌, ℕ, List, ap, ◌∙◌, subst}
+use Rattle.std.specs.Prelude.{Some, None, option_map, option_to_list}
 use Rattle.std.specs.Io.KnownBytes.{Appends}
 use Rattle.std.proofs.KnownBytes.{Appends-nil}
 use Rattle.fr_judging.specs.Judging.{State, judge}
-use Rattle.fr_judging.specs.declared.line.Line.{Line}
-use Rattle.fr_recording.specs.Records.{Record}
 use Rattle.fr_recording.specs.Stream.{told_of, record_of}
-use Rattle.fr_recording.specs.declared.phase.Head.{Head}
 use Rattle.fr_text.specs.Writing.{Writes}
 use Rattle.fr_monitoring.specs.LineText.{lines_text}
 use Rattle.fr_monitoring.specs.Monitoring.{told}

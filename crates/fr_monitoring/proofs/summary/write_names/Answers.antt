@@ -1,4 +1,3 @@
-use Rattle.std.proofs.Common.{◌≡◌, rules}
 use Rattle.std.proofs.lemmas.List.{get_or_default}
 use Rattle.fr_monitoring.specs.SummaryText.{found_line}
 use Rattle.fr_monitoring.proofs.LineLemmas.{written-more}

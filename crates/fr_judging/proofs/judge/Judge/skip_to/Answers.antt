@@ -1,4 +1,4 @@
-use Rattle.std.proofs.Common.{◌≡◌, ◌-◌, ◌≤◌, ◌∙◌, ap, rules, arith, sym, ℕ}
+use Rattle.std.proofs.Common.{◌≡◌, ◌-◌, ◌∙◌, ap, rules, arith}
 use Rattle.fr_judging.specs.Judging.{skipped, skip_to}
 use Rattle.fr_judging.proofs.LoopLemmas.{skip_none, skip_more}
 use Rattle.fr_judging.proofs.judge.Judge.skip_to.Goals as goal

@@ -1,5 +1,4 @@
-use Rattle.std.proofs.Common.{◌≡◌, ℕ, sym, ap, ◌∙◌}
-use Rattle.std.specs.Prelude.{Option}
+use Rattle.std.proofs.Common.{sym, ap, ◌∙◌}
 use Rattle.fr_judging.specs.Rules.{sent_or}
 use Rattle.fr_judging.proofs.SenderLemmas.{sent_is}
 use Rattle.fr_judging.proofs.rules.Rules.is_sent.Goals as goal

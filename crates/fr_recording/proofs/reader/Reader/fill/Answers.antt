@@ -1,5 +1,4 @@
-use Rattle.std.proofs.Common.{is_ok, vec_len, vec_capacity, ◌≡◌, refl, ◌<◌, ◌≤◌, ◌+◌, ◌==◌, [], ◌++◌, max, min, length, take, rules, sym, ap, ◌∙◌, arith, true, false}
-use Rattle.fr_recording.specs.Stream.{needed}
+use Rattle.std.proofs.Common.{is_ok, vec_len, vec_capacity, ◌≡◌, refl, ◌<◌, ◌≤◌, ◌+◌, ◌==◌, ◌++◌, length, take, rules, true, false}
 use Rattle.fr_recording.proofs.ReadLemmas.{part_here, part_ended, part_begun}
 use Rattle.fr_recording.proofs.reader.Reader.fill.Goals as goal
 

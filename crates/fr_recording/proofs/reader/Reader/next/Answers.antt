@@ -1,10 +1,10 @@
-use Rattle.std.proofs.Common.{◌≡◌, ℕ, Bool, List, ◌<◌, ◌≤◌, ◌+◌, ◌-◌, ◌==◌, [], length, take, drop, rules, sym, ap, ◌∙◌, arith}
-use Rattle.std.proofs.Common.{false, true, refl, cond}
+use Rattle.std.proofs.Common.{◌≡◌, ℕ, Bool, List, ◌<◌, ◌+◌, ◌-◌, ◌==◌, [], length, take, drop, rules, sym, ap, ◌∙◌, arith}
+use Rattle.std.proofs.Common.{false, cond}
 use Rattle.std.specs.Prelude.{Option, None, Some, is_some, option_map, option_to_list, if◌then◌else◌}
 use Rattle.std.proofs.lemmas.Bool.Decides.{nat_tests}
 use Rattle.std.proofs.lemmas.List.{take_rest}
 use Rattle.fr_recording.specs.Records.{Record}
-use Rattle.fr_recording.specs.Stream.{State, Progress, take_bytes, records_from, told_of, record_of}
+use Rattle.fr_recording.specs.Stream.{State, Progress, told_of, record_of}
 use Rattle.fr_recording.specs.declared.phase.Head.{Head}
 use Rattle.fr_recording.proofs.ReadLemmas.{next_part}
 use Rattle.fr_recording.proofs.reader.Reader.next.Goals as goal

@@ -1,5 +1,4 @@
-use Rattle.std.proofs.Common.{◌≡◌, ◌<◌, ◌≤◌, ◌+◌, [], ◌++◌, max, min, length, take, rules, sym, ap, ◌∙◌, arith, false, refl}
-use Rattle.std.proofs.lemmas.List.{take_all, length-take-le}
+use Rattle.std.proofs.Common.{◌<◌, ◌≤◌, max, length, rules, sym, ◌∙◌}
 use Rattle.fr_recording.specs.Stream.{needed}
 use Rattle.fr_recording.proofs.ReadLemmas.{passed_part, refused_piece}
 use Rattle.fr_recording.proofs.reader.Reader.step.Goals as goal
