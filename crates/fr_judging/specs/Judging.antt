@@ -1,5 +1,5 @@
--- The judgement of a recording, record by record (project-defined). Each channel is judged by itself; the channel of the
--- record stands first in the state.
+-- The judgement of a recording, record by record (project-defined). Each channel is judged by itself; the channel of
+-- the record stands first in the state.
 use Rattle.std.specs.Prelude.{ℕ, zero, suc, ◌+◌, ◌-◌, ◌/◌, ◌==◌, nat_lt, nat_le, ◌&&◌, ◌||◌, not, Bool, true, false}
 use Rattle.std.specs.Prelude.{if◌then◌else◌, List, [], ◌∷◌, ◌++◌, length, min, Option, Some, None, Result, Ok, Err}
 use Rattle.std.specs.Prelude.{slice_index, slice_index_or, slice_set, replicate, ◌%◌, pos}

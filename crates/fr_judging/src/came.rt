@@ -2,7 +2,8 @@
 
 ghost use Rattle.std.specs.Prelude.{◌≡◌, ◌<◌, ◌≤◌, ◌+◌, ◌%◌};
 ghost use Rattle.fr_judging.specs.Judging.{back_line, add_back, back_of, back, shown_in, is_beside, beside, differ};
-ghost use Rattle.fr_judging.specs.Judging.{channels_finding, show_frame, show, quiet, span_since, with_time, with_frame};
+ghost use Rattle.fr_judging.specs.Judging.{channels_finding, show_frame, show, quiet, span_since, with_time};
+ghost use Rattle.fr_judging.specs.Judging.{with_frame};
 ghost use Rattle.fr_judging.specs.Judging.{count_frame, keep_frame, fix, static_with, static_found, static_came};
 ghost use Rattle.fr_judging.specs.Judging.{is_placed, placed_finding, dynamic_came, came_with, came, are_equal};
 ghost use Rattle.std.specs.Option.{option_or};

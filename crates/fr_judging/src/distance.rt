@@ -2,7 +2,8 @@
 
 ghost use Rattle.std.specs.Prelude.{◌≡◌, ◌+◌, ◌-◌, ◌*◌, ◌^◌, ◌<◌, ◌≤◌, pos, ℤ, ◌-ℤ◌, ◌+ℤ◌, ◌≤ℤ◌, ◌<ℤ◌, neg_ℤ};
 ghost use Rattle.fr_judging.specs.Distances.{steps_of, time_between, rounds_by, rounds_of, due_time, agrees};
-ghost use Rattle.fr_judging.specs.Distances.{distance_with, distance_by, by_times, distance_to, is_anew, anew_by, is_long};
+ghost use Rattle.fr_judging.specs.Distances.{distance_with, distance_by, by_times, distance_to, is_anew, anew_by};
+ghost use Rattle.fr_judging.specs.Distances.{is_long};
 ghost use Rattle.fr_judging.specs.Distances.{time_off, time_by, time_from, time_finding, fixed_at, fixed_after};
 ghost use Rattle.fr_judging.specs.Distances.{steps_from};
 

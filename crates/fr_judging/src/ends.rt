@@ -1,7 +1,8 @@
 //! The start and the end of a recording.
 
 ghost use Rattle.std.specs.Prelude.{◌≡◌, IfOk, length};
-ghost use Rattle.fr_judging.specs.Judging.{fresh, no_frame, none_shown, no_counts, none_away, none_found, lane_on, tally_at, found_of, has_finding};
+ghost use Rattle.fr_judging.specs.Judging.{fresh, no_frame, none_shown, no_counts, none_away, none_found, lane_on};
+ghost use Rattle.fr_judging.specs.Judging.{tally_at, found_of, has_finding};
 ghost use Rattle.fr_judging.specs.Judging.{says_nothing, tell_nothing, tell_end, finish_channel, finish_on, finish};
 
 use crate::came::SILENCE;

@@ -1,7 +1,8 @@
 //! Frames that open a cycle.
 
 ghost use Rattle.std.specs.Prelude.{◌≡◌, ◌≤◌, ◌<◌, ◌^◌};
-ghost use Rattle.fr_judging.specs.Judging.{leave, silent_place, count_word, tell_silent, with_alone, listen, open_first};
+ghost use Rattle.fr_judging.specs.Judging.{leave, silent_place, count_word, tell_silent, with_alone, listen};
+ghost use Rattle.fr_judging.specs.Judging.{open_first};
 ghost use Rattle.fr_judging.specs.Judging.{tell_gap, enter, open_after, open_next, open_cycle};
 ghost use Rattle.fr_judging.specs.Lanes.{begun, passed};
 ghost use Rattle.fr_judging.specs.Rules.{are_both};

@@ -4,7 +4,8 @@ ghost use Rattle.std.specs.Prelude.{◌≡◌, None, Some, ℤ, Option, length};
 ghost use Rattle.fr_logged.specs.Logged.{spelled};
 ghost use Rattle.fr_judging.specs.Judging.{disturb, mark_odd, member, add_ill, wrong_count, next_of, decide, settle};
 ghost use Rattle.fr_judging.specs.Judging.{settle_with, hold, place_frame, speak, good, ill, is_lawless, spelled_frame};
-ghost use Rattle.fr_judging.specs.Judging.{take_frame, frame_on, symbol_place, symbol_on, take_kind, next_record, judge};
+ghost use Rattle.fr_judging.specs.Judging.{take_frame, frame_on, symbol_place, symbol_on, take_kind, next_record};
+ghost use Rattle.fr_judging.specs.Judging.{judge};
 
 use crate::came::same_open;
 use crate::distance::is_anew;

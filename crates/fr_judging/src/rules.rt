@@ -113,8 +113,8 @@ fn unclocked(cluster: &Cluster, channel: Channel) -> Option<Cycle>
 impl Rules {
     /// Returns the rules of a judgement by this cluster.
     ///
-    /// `most` bounds the lines of each name that are told, `only` is the only channel that is judged, and `macrotick` is
-    /// in nanoseconds, 0 if times aren't judged.
+    /// `most` bounds the lines of each name that are told, `only` is the only channel that is judged, and `macrotick`
+    /// is in nanoseconds, 0 if times aren't judged.
     #[tactic(auto, unfolding(crate::specs::Rules::rules_of))]
     pub fn new(
         cluster: Cluster,

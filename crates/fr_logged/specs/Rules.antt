@@ -25,7 +25,8 @@ unlike name expected found = record { name = name; expected = InLetters expected
 -- sync or startup differ
 abbrev pub bits_finding : Bool → Bool → Fields → Finding
 bits_finding sync startup f =
-    unlike name.Bits (record { preamble = f.preamble; has_data = f.has_data; sync = sync; startup = startup }) (letters_of f)
+    unlike name.Bits (record { preamble = f.preamble; has_data = f.has_data; sync = sync; startup = startup })
+    (letters_of f)
 
 abbrev pub preamble_finding : Bool → Fields → Option Finding
 preamble_finding preamble f =

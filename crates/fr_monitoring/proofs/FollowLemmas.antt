@@ -1,5 +1,6 @@
 -- A recording that is read piece by piece.
-use Rattle.std.proofs.Common.{◌≡◌, ℕ, Bool, true, false, List, [], ◌++◌, refl, sym, ap, ◌∙◌, append_assoc, subst, inl, inr, ◌⊎◌}
+use Rattle.std.proofs.Common.{◌≡◌, ℕ, Bool, true, false, List, [], ◌++◌, refl, sym, ap, ◌∙◌, append_assoc, subst, inl}
+use Rattle.std.proofs.Common.{inr, ◌⊎◌}
 use Rattle.std.specs.Prelude.{Option, Some, None, Result, Ok, Err, OnOk, is_err}
 use Rattle.std.specs.Io.KnownBytes.{Appends, Keeps, Consumes, IsAtEnd}
 use Rattle.std.proofs.KnownBytes.{Appends-trans}
@@ -129,7 +130,8 @@ pub monitors : (r : Rules) (q : Progress) (t : State) (text rest old mid new : O
     → Monitors r text rest old new result
 monitors r q t text rest old mid new followed (Ok some) follows ends =
     monitors_ok r q t text rest old mid new some
-    (subst (λ (f : Result (Unit {0}) StreamError). Follows fresh (fresh_state r) text rest q t old mid f) ends.0 follows)
+    (subst (λ (f : Result (Unit {0}) StreamError). Follows fresh
+    (fresh_state r) text rest q t old mid f) ends.0 follows)
     ends.1 ends.2 ends.3
   where
     monitors_ok : (r : Rules) (q : Progress) (t : State) (text rest old mid new : Option (List ℕ)) (some : Bool)
@@ -155,7 +157,8 @@ monitors r q t text rest old mid new followed (Ok some) follows ends =
         over (inr refused) = absurd (refuses q.state.phase q refused none)
 monitors r q t text rest old mid new followed (Err (failure.Capture refusal)) follows ends =
     monitors_refused r q t text rest old mid new refusal
-    (subst (λ (f : Result (Unit {0}) StreamError). Follows fresh (fresh_state r) text rest q t old mid f) ends.0 follows)
+    (subst (λ (f : Result (Unit {0}) StreamError). Follows fresh
+    (fresh_state r) text rest q t old mid f) ends.0 follows)
     ends.1 ends.2
   where
     monitors_refused : (r : Rules) (q : Progress) (t : State) (text rest old mid new : Option (List ℕ))
@@ -181,7 +184,8 @@ monitors r q t text rest old mid new followed (Err (failure.Capture refusal)) fo
         stops front left same (inr refused) = inr (ap (λ (p : Progress). is_refused p.state.phase) (sym same) ∙ refused)
 monitors r q t text rest old mid new followed (Err failure.Read) follows ends =
     monitors_read r q t text rest old mid new
-    (subst (λ (f : Result (Unit {0}) StreamError). Follows fresh (fresh_state r) text rest q t old mid f) ends.0 follows)
+    (subst (λ (f : Result (Unit {0}) StreamError). Follows fresh
+    (fresh_state r) text rest q t old mid f) ends.0 follows)
     ends.1
   where
     monitors_read : (r : Rules) (q : Progress) (t : State) (text rest old mid new : Option (List ℕ))

@@ -4,7 +4,8 @@ ghost use Rattle.std.specs.Prelude.{◌≡◌};
 ghost use Rattle.fr_text.specs.Writing.{Writes};
 ghost use Rattle.std.specs.Fmt.{sign_text};
 ghost use Rattle.fr_monitoring.specs.LineText.{letter_if, dash_if, letters_text, optional_text, word_text, time_text};
-ghost use Rattle.fr_monitoring.specs.LineText.{seconds_text, at_text, place_text, finding_text, line_text, lines_text, times_text};
+ghost use Rattle.fr_monitoring.specs.LineText.{seconds_text, at_text, place_text, finding_text, line_text};
+ghost use Rattle.fr_monitoring.specs.LineText.{lines_text, times_text};
 
 use crate::digits::{nine_digits, six_digits, three_digits};
 use crate::names::name_word;

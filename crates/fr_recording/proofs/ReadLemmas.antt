@@ -10,7 +10,8 @@ use Rattle.std.proofs.lemmas.List.{append-nil, length-take-le, take_all}
 use Rattle.fr_recording.specs.Numbers.{counted}
 use Rattle.fr_recording.specs.Records.{Record}
 use Rattle.fr_recording.specs.Steps.{Steps}
-use Rattle.fr_recording.specs.Stream.{State, Progress, read_on, take_in, take_byte, take_bytes, records_from, told_of, needed}
+use Rattle.fr_recording.specs.Stream.{State, Progress, read_on, take_in, take_byte, take_bytes, records_from, told_of}
+use Rattle.fr_recording.specs.Stream.{needed}
 use Rattle.fr_recording.specs.Stream.{after_part, skip, less, go}
 use Rattle.fr_recording.specs.declared.phase.Block.{Block}
 use Rattle.fr_recording.specs.declared.phase.Head.{Head}

@@ -1,4 +1,5 @@
-//! Captures of a bus in the two formats of packet captures, classic and with blocks, read as they come (project-defined).
+//! Captures of a bus in the two formats of packet captures, classic and with blocks, read as they come
+//! (project-defined).
 //!
 //! ```text
 //! let mut reader = Reader::new(alloc)?;

@@ -1,4 +1,5 @@
-use Rattle.std.proofs.Common.{◌≡◌, ◌-◌, ◌<◌, ◌==◌, ℕ, List, [], length, take, drop, rules, ap, ◌∙◌, arith, false, inl, inr}
+use Rattle.std.proofs.Common.{◌≡◌, ◌-◌, ◌<◌, ◌==◌, ℕ, List, [], length, take, drop, rules, ap, ◌∙◌, arith, false, inl}
+use Rattle.std.proofs.Common.{inr}
 use Rattle.std.proofs.Common.{cond, Bool}
 use Rattle.std.specs.Prelude.{option_to_list}
 use Rattle.std.proofs.lemmas.Bool.Decides.{nat_tests}

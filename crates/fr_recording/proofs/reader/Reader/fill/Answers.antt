@@ -1,4 +1,5 @@
-use Rattle.std.proofs.Common.{is_ok, vec_len, vec_capacity, ◌≡◌, refl, ◌<◌, ◌≤◌, ◌+◌, ◌==◌, ◌++◌, length, take, rules, true, false}
+use Rattle.std.proofs.Common.{is_ok, vec_len, vec_capacity, ◌≡◌, refl, ◌<◌, ◌≤◌, ◌+◌, ◌==◌, ◌++◌, length, take, rules}
+use Rattle.std.proofs.Common.{true, false}
 use Rattle.fr_recording.proofs.ReadLemmas.{part_here, part_ended, part_begun}
 use Rattle.fr_recording.proofs.reader.Reader.fill.Goals as goal
 

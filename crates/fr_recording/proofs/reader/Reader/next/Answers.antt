@@ -1,4 +1,5 @@
-use Rattle.std.proofs.Common.{◌≡◌, ℕ, Bool, List, ◌<◌, ◌+◌, ◌-◌, ◌==◌, [], length, take, drop, rules, sym, ap, ◌∙◌, arith}
+use Rattle.std.proofs.Common.{◌≡◌, ℕ, Bool, List, ◌<◌, ◌+◌, ◌-◌, ◌==◌, [], length, take, drop, rules, sym, ap, ◌∙◌}
+use Rattle.std.proofs.Common.{arith}
 use Rattle.std.proofs.Common.{false, cond}
 use Rattle.std.specs.Prelude.{Option, None, Some, is_some, option_map, option_to_list, if◌then◌else◌}
 use Rattle.std.proofs.lemmas.Bool.Decides.{nat_tests}
@@ -46,7 +47,8 @@ loop-taken-preserved c =
     let state_is : c.self.inside.course ≡ c.step-taken.new.self.state =
     ap (λ (p : Progress). p.state) c.self.view_is in
     let none : option_to_list (told_of c.step-taken.new.self) ≡ [] =
-    none_told c.step-taken.new.self c.told.result (c.told.ensures ∙ ap (λ (s : State). s.told) state_is) (sym c.is_some.ensures ∙ c.if-is_some.false) in
+    none_told c.step-taken.new.self c.told.result (c.told.ensures
+    ∙ ap (λ (s : State). s.told) state_is) (sym c.is_some.ensures ∙ c.if-is_some.false) in
     record {
       within = search rules;
       state = both.0;

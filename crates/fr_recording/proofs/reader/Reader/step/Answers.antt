@@ -10,7 +10,8 @@ returns-in-Skipped-clause-steps c =
     let fits : c.min-count.result ≤ length c.args.bytes.now = search rules in
     let left : c.min-count.result ≤ max c.in-Skipped.block.left 1 = search rules in
     passed_part c.args.self.now c.self.inside.course c.read_on.new.self c.pass.new.self c.self.inside.held.items
-    c.args.bytes.now c.in-Skipped.block c.in-Skipped.head c.min-count.result c.self.view_is (sym c.phase-phase.ensures ∙ c.in-Skipped.is) few
+    c.args.bytes.now c.in-Skipped.block c.in-Skipped.head c.min-count.result c.self.view_is
+    (sym c.phase-phase.ensures ∙ c.in-Skipped.is) few
     some fits left
     c.read_on.ensures c.pass.ensures
 
