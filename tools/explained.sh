@@ -34,7 +34,7 @@ explain_words() {
     if [ "$slip" = 'no command' ]; then
         find_program "$@"
     fi
-    if [ "$name" != fr_world ] && [ -z "$command" ]; then
+    if [ -z "$command" ] && ! is_one_command; then
         read_commands
         known=$commands
         usage="$name COMMAND ..; COMMAND is one of$commands"

@@ -56,6 +56,8 @@ is_in_range() {
     --slot) least=1 most=2047 ;;
     --node | NODE) least=0 most=15 ;;
     --from) least=0 most=1023 ;;
+    --findings) least=0 most=4294967295 ;;
+    --macrotick) least=1 most=4294967295 ;;
     --channel)
         range='A or B'
         [ "$2" = A ] || [ "$2" = B ]
@@ -65,7 +67,7 @@ is_in_range() {
     esac
     range="a whole number from $least to $most"
     case $2 in
-    '' | *[!0123456789]* | ?????*) return 1 ;;
+    '' | *[!0123456789]* | ???????????*) return 1 ;;
     0?*)
         range="$range without leading zeros"
         return 1
@@ -238,7 +240,9 @@ find_surplus() {
         *" $option "*) ! is_in_range "$option" "$surplus" || slip="$option is missing in front of $surplus" ;;
         esac
     done
-    [ -n "$places" ] || slip="$slip; $command reads $input on standard input: < $surplus"
+    case $input in
+    TRACE | NUMBERS | RECORDING) slip="$slip; ${command:-$name} reads $input on standard input: < $surplus" ;;
+    esac
 }
 
 # Sets `unread` to the unreadable file of the words and the reason, or to nothing, and `unread_as` to its argument.

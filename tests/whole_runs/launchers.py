@@ -30,10 +30,10 @@ def digest(data: bytes) -> str:
     return hashlib.sha256(data).hexdigest()
 
 
-LAUNCHER_FILES = ("fr_bench", "fr_view", "fr_world", "python/musmyrtle/VERSION", "tools/launch",
+LAUNCHER_FILES = ("fr_bench", "fr_view", "fr_world", "fr_monitor", "python/musmyrtle/VERSION", "tools/launch",
                   "tools/launch_anew", "tools/identities.sh", "tools/digests.bash", "tools/told",
                   "tools/words.sh", "tools/help.sh", "tools/explained.sh", "tools/help/fr_bench",
-                  "tools/help/fr_view", "tools/help/fr_world")
+                  "tools/help/fr_view", "tools/help/fr_world", "tools/help/fr_monitor")
 
 
 class Checkout:

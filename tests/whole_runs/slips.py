@@ -68,6 +68,13 @@ SLIPS: list[tuple[str, Words, str]] = [
     ("fr_world", (CLUSTER, SCENARIO, "--cycles", "4"), f"one word too many: {SCENARIO}"),
     ("fr_world", (CLUSTER, "-cycles", "4"), "did you mean --cycles?"),
     ("fr_world", (CLUSTER, "--cycles", "0"), "from 1 to 1024, not 0"),
+    ("fr_monitor", ("--whole",), "missing: FILE"),
+    ("fr_monitor", (CLUSTER, "bus.pcap"), "fr_monitor reads RECORDING on standard input: < bus.pcap"),
+    ("fr_monitor", (CLUSTER, "--findings", "4294967296"), "from 0 to 4294967295, not 4294967296"),
+    ("fr_monitor", (CLUSTER, "--macrotick=0"), "--macrotick must be a whole number from 1 to 4294967295, not 0"),
+    ("fr_monitor", (CLUSTER, "--channel", "AB"), "--channel must be A or B, not AB"),
+    ("fr_monitor", (CLUSTER, "--findigs", "4"), "fr_monitor has no option --findigs; did you mean --findings?"),
+    ("fr_monitor", (CLUSTER, "--whole=1"), "--whole takes no value"),
 ]
 """A program, words that it answers with `usage`, and the text that names the slip.
 
@@ -87,6 +94,7 @@ UNREAD: list[tuple[str, Words, str]] = [
     ("fr_view", ("trace", "1", CLUSTER, "closed", "--cycles", "4"), "permission denied: closed"),
     ("fr_view", ("schedule", "missing.toml"), "no such file: missing.toml"),
     ("fr_world", ("missing.toml", "--cycles", "4"), "no such file: missing.toml"),
+    ("fr_monitor", ("missing.toml", "--whole"), "no such file: missing.toml"),
 ]
 """The same for right words, with a file that can't be read: the whole second line."""
 
@@ -101,12 +109,14 @@ ALONE: list[tuple[str, Words, str]] = [
 
 POOL = ["a", "4", "0", "1024", "1025", "04", "--cycles", "--cycles=4", "--cycles=", "--free", "--free=1", "--channel",
         "A", "--channel=B", "C", "--node=3", "--node", "16", "--from", "--cycle=5", "--cycle", "--own", "--all",
-        "--until-fault", "--", "-", "-x", "--x", "", " ", "\u00e9", "--=", "*", "--cycles --channel", "-4"]
+        "--until-fault", "--whole", "--findings=5", "--macrotick", "--", "-", "-x", "--x", "", " ", "\u00e9", "--=",
+        "*", "--cycles --channel", "-4"]
 SHAPES = {
     "fr_bench": [["audit"], ["check", "a"], ["midpoint"], ["run", "a", "b", "--cycles", "4"]],
     "fr_view": [["schedule", "a"], ["frames"], ["matrix", "a", "b", "--cycles", "4"],
                 ["trace", "1", "a", "b", "--cycles", "4"]],
     "fr_world": [["a", "--cycles", "4"]],
+    "fr_monitor": [["a"], ["a", "--findings", "4", "--macrotick=1000"]],
 }
 READ = '. "$1"; name=$2; shift 2; read_words "$@"; [ -z "$slip" ]'
 
@@ -224,7 +234,7 @@ class Slips:
             program = drawn.choice(sorted(self.programs))
             words = list(drawn.choice(SHAPES[program]))
             for _ in range(drawn.randint(0, 2)):
-                words.insert(drawn.randint(program != "fr_world", len(words)), drawn.choice(POOL))
+                words.insert(drawn.randint(program not in ("fr_world", "fr_monitor"), len(words)), drawn.choice(POOL))
             if drawn.random() < 0.4:
                 words.pop(drawn.randrange(len(words)))
             ran = subprocess.run([self.programs[program], *words], cwd=self.top, capture_output=True,

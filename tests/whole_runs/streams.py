@@ -7,6 +7,7 @@ import subprocess
 import time
 from pathlib import Path
 
+from .monitors import frames, recording
 from .runner import EXAMPLES, SECONDS, Runs
 
 SMALL = 4096
@@ -70,6 +71,7 @@ def without_blocking(runs: Runs, programs: dict[str, Path]) -> None:
         "audit": ("fr_bench", ["audit"], trace),
         "frames": ("fr_view", ["frames"], trace),
         "midpoint": ("fr_bench", ["midpoint"], b"15 13 11 6 -3 -5 -18"),
+        "a recording": ("fr_monitor", ["three-nodes/cluster.toml"], recording(frames(2))),
     }
     for name, (program, words, given) in asked.items():
         command = [programs[program], *words]
