@@ -1,7 +1,7 @@
 //! `fr_bench audit`.
 ghost use Rattle.std.specs.Prelude.{IsSomeAnd};
 ghost use Rattle.fr_bench.specs.Audits.{Ends};
-ghost use Rattle.fr_interface.specs.State.{State, IsLegalInterface};
+ghost use Rattle.fr_interface.specs.State.{State, IsNodeInterface};
 ghost use Rattle.fr_trace.specs.Audit.{Audits, IsNotRefused};
 ghost use Rattle.fr_trace.specs.TraceText.{IsTraceOf};
 
@@ -26,7 +26,7 @@ pub fn audit<R: Read, W: Write>(
     // It reads in pieces of at most 4096 bytes, and none after the one that has the fault.
     ensures read { Ends (R.remaining reader.old) (R.remaining reader.new) result }
     // A text of a legal interface is accepted in each version.
-    ensures only { (s : State) → IsLegalInterface s → IsSomeAnd (R.remaining reader.old) (λ text. IsTraceOf s text)
+    ensures only { (s : State) → IsNodeInterface s → IsSomeAnd (R.remaining reader.old) (λ text. IsTraceOf s text)
         → IsNotRefused result }
 {
     let mut report = Vec::new(alloc);

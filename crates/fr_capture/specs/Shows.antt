@@ -2,7 +2,7 @@
 use Rattle.std.specs.Prelude.{ℕ, List, ◌++◌, Option, Some, None, Result, Ok, Err, ◌⊎◌}
 use Rattle.std.specs.Io.KnownBytes.{Keeps, Appends}
 use Rattle.std.specs.List.{flat_map}
-use Rattle.fr_interface.specs.State.{State, IsLegalInterface}
+use Rattle.fr_interface.specs.State.{State, IsNodeInterface}
 use Rattle.fr_journal.specs.Forms.{Entry}
 use Rattle.fr_slots.specs.Parameters.{Parameters}
 use Rattle.fr_trace.specs.Audit.{IsTextOf, IsRefusedBy, HasBegin, StopsAt, StopsAtEnd}
@@ -38,15 +38,15 @@ text_of form s = shown_of form s s.entries
 -- the text is refused by its first line at fault, or memory ran out, or the reader failed.
 abbrev pub Shows : (State → List ℕ) → Option (List ℕ) → Option (List ℕ) → Option (List ℕ) → Result (Unit {0}) TraceError
     → Type 0
-Shows written text old new (Ok x) = (s : State) × IsTextOf s text × IsLegalInterface s × Appends old new (written s)
-Shows written text old new (Err Write) = (s : State) × IsTextOf s text × IsLegalInterface s
+Shows written text old new (Ok x) = (s : State) × IsTextOf s text × IsNodeInterface s × Appends old new (written s)
+Shows written text old new (Err Write) = (s : State) × IsTextOf s text × IsNodeInterface s
 Shows written text old new (Err Read) = Keeps old new
 Shows written text old new (Err Memory) = HasBegin text × Keeps old new
 Shows written text old new (Err e) = IsRefusedBy e text × Keeps old new
 
 -- the text is one of a legal interface
 abbrev pub IsAccepted : List ℕ → Type 0
-IsAccepted text = (s : State) × IsTextOf s (Some text) × IsLegalInterface s
+IsAccepted text = (s : State) × IsTextOf s (Some text) × IsNodeInterface s
 
 -- It reads as an audit does. Memory may also run out for the output, once the whole text is accepted.
 abbrev pub EndsAt : List ℕ → List ℕ → Result (Unit {0}) TraceError → Type 0

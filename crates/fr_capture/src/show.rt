@@ -7,7 +7,7 @@ ghost use Rattle.std.specs.Prelude.{◌≡◌, ◌≤◌, ◌⊎◌, ◌++◌, [
 ghost use Rattle.std.specs.Io.KnownBytes.{Appends, Keeps};
 ghost use Rattle.std.specs.List.{flat_map};
 ghost use Rattle.fr_text.specs.Writing.{Writes};
-ghost use Rattle.fr_interface.specs.State.{State, IsLegalInterface};
+ghost use Rattle.fr_interface.specs.State.{State, IsNodeInterface};
 ghost use Rattle.fr_trace.specs.Audit.{IsNotRefused};
 ghost use Rattle.fr_trace.specs.Refusals.{LineIsNamed};
 ghost use Rattle.fr_trace.specs.TraceText.{IsTraceOf};
@@ -168,7 +168,7 @@ pub fn show_trace<R: Read, W: Write>(
     // The line that an error names is that of the byte with which the first fault shows.
     ensures line { IfSome (R.remaining reader.old) (λ text. LineIsNamed result text) }
     // A text of a legal interface is accepted in each version.
-    ensures only { (s : State) → IsLegalInterface s → IsSomeAnd (R.remaining reader.old) (λ text. IsTraceOf s text)
+    ensures only { (s : State) → IsNodeInterface s → IsSomeAnd (R.remaining reader.old) (λ text. IsTraceOf s text)
         → IsNotRefused result }
 {
     let interface = interface_of(alloc, reader)?;

@@ -14,7 +14,7 @@ use Rattle.fr_interface.specs.Known.{transmitters, held_in, waiting_of, change_a
 use Rattle.fr_interface.specs.Seeing.{status_seen}
 use Rattle.fr_interface.specs.Sending.{sender_in, frame_at, pending_at, frame_by, outgoing_in, sender_on, outgoing_on}
 use Rattle.fr_interface.specs.Sending.{owner_on, offered_by}
-use Rattle.fr_interface.specs.Standing.{Leaves, limited, with_limits, IsLegalHistory, Standing, standing_of, IsHistory}
+use Rattle.fr_interface.specs.Standing.{Leaves, limited, IsLegalHistory, Standing, standing_of, IsHistory}
 use Rattle.fr_interface.specs.Standing.{entries_before, after_commit, after_read, after_fetch, after_observe}
 use Rattle.fr_interface.specs.Standing.{after_taking_back, after_pop, sending_fault, withdraw_refused, queue_fault}
 use Rattle.fr_interface.specs.Standing.{pop_refused, held_at, oldest_at, source_where, source_at, tally_where, tally_at}

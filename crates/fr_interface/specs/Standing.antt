@@ -28,7 +28,7 @@ use Rattle.fr_slots.specs.declared.channel.Channel.TheVariants.{A, B}
 use Rattle.fr_slots.specs.Parameters.{Parameters, IsParameters}
 use Rattle.fr_slots.specs.declared.plan.Buffer.{Buffer}
 use Rattle.fr_slots.specs.declared.plan.Queue.{Queue}
-use Rattle.fr_slots.specs.Plans.{Plan, is_receive, buffer_at}
+use Rattle.fr_slots.specs.Plans.{Plan, is_receive, buffer_at, with_limits}
 use Rattle.fr_slots.specs.Windows.{Opportunity, window_fits}
 use Rattle.fr_status.specs.declared.counters.Counters.{Counters}
 use Rattle.fr_status.specs.declared.status.SlotStatus.{SlotStatus}
@@ -61,10 +61,6 @@ standing_of s = record {
   queue = option_map (waiting_of s.params s.plan s.entries) s.plan.queue;
   counters = counters_of s.params s.entries;
 }
-
--- the plan with room for so many entries
-abbrev pub with_limits : Plan → ℕ → ℕ → Plan
-with_limits p host slot = record p { host_entries = host; slot_entries = slot }
 
 -- the kept data, with a plan that has their room
 abbrev pub limited : Standing → Standing

@@ -26,7 +26,7 @@ use Rattle.fr_slots.specs.declared.plan.Buffer.{Buffer}
 use Rattle.fr_slots.specs.declared.plan.Queue.{Queue}
 use Rattle.fr_slots.specs.Faults.{plan_fault, words_of}
 use Rattle.fr_slots.specs.Parameters.{Parameters, IsParameters}
-use Rattle.fr_slots.specs.Plans.{Plan, IsPlan, is_receive, buffer_at}
+use Rattle.fr_slots.specs.Plans.{Plan, IsPlan, IsNodePlan, is_receive, buffer_at}
 use Rattle.fr_slots.specs.Windows.{Opportunity, window_fits}
 
 pub record State : Type 0 where
@@ -47,6 +47,11 @@ pub record IsLegalInterface (s : State) : Type 0 where
   pub faultless : plan_fault s.params s.plan ≡ None
   pub entries_are : AreEntries s.entries
   pub legal : IsLegalJournal s.params s.plan s.entries
+
+-- the legal interface of a node, with room within the limits of its journal
+pub record IsNodeInterface (s : State) : Type 0 where
+  pub legal : IsLegalInterface s
+  pub node_plan : IsNodePlan s.plan
 
 -- ---- answers
 

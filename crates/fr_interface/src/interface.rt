@@ -82,6 +82,7 @@ impl Interface {
     ghost use Rattle.fr_journal.specs.Fate.{pending_commit};
     ghost use Rattle.fr_interface.specs.State.{received_by, source_of, tally_by, oldest_of, length_of, lost_of};
     ghost use Rattle.fr_interface.specs.State.{arrived_of, popped_of, queued_of, commit_refusal, read_refusal};
+    ghost use Rattle.fr_slots.specs.Plans.{IsNodePlan};
     ghost use Rattle.fr_interface.specs.State.{pop_refusal, fetch_refusal, observe_refusal, IsLegalInterface};
     ghost use Rattle.fr_slots.specs.Faults.{plan_fault};
 
@@ -474,6 +475,7 @@ impl Interface {
     pub fn plan(&self) -> &NodePlan
         ensures value { result.now ≡ self.now.plan }
         ensures legal { IsLegalInterface self.now }
+        ensures node { IsNodePlan self.now.plan }
     {
         self.state.plan().as_plan()
     }

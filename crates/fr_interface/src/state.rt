@@ -74,7 +74,8 @@ impl InterfaceState {
     ghost use Rattle.fr_interface.specs.Standing.{after_commit, after_read, after_fetch, after_observe, commit_refused};
     ghost use Rattle.fr_interface.specs.Standing.{read_refused, fetch_refused, observe_refused, entries_before};
     ghost use Rattle.fr_interface.specs.Standing.{withdraw_refused, pop_refused, oldest_at, source_at, tally_at};
-    ghost use Rattle.fr_interface.specs.Standing.{received_at, with_limits, KeepsTerms};
+    ghost use Rattle.fr_interface.specs.Standing.{received_at, KeepsTerms};
+    ghost use Rattle.fr_slots.specs.Plans.{with_limits};
     ghost use Rattle.fr_interface.specs.Sending.{outgoing_on, pending_at, frame_by};
     ghost use Rattle.fr_journal.specs.Offers.{IsHandedOut, bytes_of};
 

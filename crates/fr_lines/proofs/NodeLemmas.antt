@@ -9,7 +9,7 @@ use Rattle.fr_lines.proofs.WordLemmas.{number_word}
 use Rattle.fr_lines.specs.Reading.{limits_in, node_in}
 use Rattle.fr_lines.specs.Spelled.{bare_plan}
 use Rattle.fr_lines.specs.Spelling.{node_words}
-use Rattle.fr_slots.specs.Plans.{Plan, IsPlan, plan_of, empty_plan, limits_fit}
+use Rattle.fr_slots.specs.Plans.{Plan, IsPlan, IsNodePlan, plan_of, empty_plan, limits_fit}
 use Rattle.fr_text.proofs.BindLemmas.{bind_some}
 use Rattle.fr_text.proofs.LineLemmas.{cons_same, line_of-words_of, words_of-line_of, has_no_feed-line_of}
 use Rattle.fr_text.proofs.LineLemmas.{length-line_of-le}
@@ -20,7 +20,7 @@ use Rattle.fr_text.specs.Spaces.{words_of, line_of}
 
 -- ---- a plan that is read is spelled by these words
 
-limits_is : (t a b h s : ℕ) → limits_fit t a b h s ≡ true → IsPlan (empty_plan t a b h s)
+limits_is : (t a b h s : ℕ) → limits_fit t a b h s ≡ true → IsNodePlan (empty_plan t a b h s)
 limits_is t a b h s pass =
     let (six, slot_high) =
     and_parts (leb t 8 && leb a 8000 && leb b 8000 && leb 1 h && leb h 16384 && leb 2 s) (leb s 65536) pass in
@@ -29,14 +29,16 @@ limits_is t a b h s pass =
     let (three, host_low) = and_parts (leb t 8 && leb a 8000 && leb b 8000) (leb 1 h) four in
     let (two, latest_b) = and_parts (leb t 8 && leb a 8000) (leb b 8000) three in
     let (tasks, latest_a) = and_parts (leb t 8) (leb a 8000) two in
-    record {
+    let few_host : h ≤ 16384 = leb-true h 16384 host_high in
+    let few_slot : s ≤ 65536 = leb-true s 65536 slot_high in
+    let plan : IsPlan (empty_plan t a b h s) = record {
       few_tasks = leb-true t 8 tasks;
       latest_a_fits = leb-true a 8000 latest_a;
       latest_b_fits = leb-true b 8000 latest_b;
       some_host_entries = leb-true 1 h host_low;
-      few_host_entries = leb-true h 16384 host_high;
+      host_entries_fit = omega (arith, few_host);
       some_slot_entries = leb-true 2 s slot_low;
-      few_slot_entries = leb-true s 65536 slot_high;
+      slot_entries_fit = omega (arith, few_slot);
       few_owned = omega arith;
       owned_fit = tt;
       owned_are = tt;
@@ -45,10 +47,10 @@ limits_is t a b h s pass =
       buffers_are = tt;
       queue_fits = tt;
       queue_is = tt;
-    }
+    } in record { plan_is = plan; few_host_entries = few_host; few_slot_entries = few_slot }
 
 plan_takes : (t a b h s : ℕ) (p : Plan) → result_ok (plan_of t a b h s) ≡ Some p
-    → (empty_plan t a b h s ≡ p) × IsPlan (empty_plan t a b h s)
+    → (empty_plan t a b h s ≡ p) × IsNodePlan (empty_plan t a b h s)
 plan_takes t a b h s p read =
     elim (cases_Bool (limits_fit t a b h s)) [
       | inl pass ↦ (cc (rw pass at read), limits_is t a b h s pass)
@@ -56,7 +58,7 @@ plan_takes t a b h s p read =
     ]
 
 limits_takes : (words : List (List ℕ)) (p : Plan) → limits_in words ≡ Some p
-    → (codes "node" ∷ words ≡ node_words p) × (p ≡ bare_plan p) × IsPlan p
+    → (codes "node" ∷ words ≡ node_words p) × (p ≡ bare_plan p) × IsNodePlan p
 unfolding limits_in
 limits_takes [] p h = cc h
 limits_takes (t ∷ []) p h = cc h
@@ -80,7 +82,7 @@ limits_takes (t ∷ a ∷ b ∷ host ∷ slot ∷ []) p h =
 limits_takes (t ∷ a ∷ b ∷ host ∷ slot ∷ more ∷ words) p h = cc h
 
 taken : (words : List (List ℕ)) (p : Plan) → node_in words ≡ Some p
-    → (words ≡ node_words p) × (p ≡ bare_plan p) × IsPlan p
+    → (words ≡ node_words p) × (p ≡ bare_plan p) × IsNodePlan p
 unfolding node_in
 taken [] p h = cc h
 taken (kind ∷ words) p h =
@@ -96,7 +98,7 @@ node_takes words p h = (taken words p h).0
 pub node_bare : (words : List (List ℕ)) (p : Plan) → node_in words ≡ Some p → p ≡ bare_plan p
 node_bare words p h = (taken words p h).1
 
-pub node_fits : (words : List (List ℕ)) (p : Plan) → node_in words ≡ Some p → IsPlan p
+pub node_fits : (words : List (List ℕ)) (p : Plan) → node_in words ≡ Some p → IsNodePlan p
 node_fits words p h = (taken words p h).2
 
 pub node_no_lines : (words : List (List ℕ)) (p : Plan) → node_in words ≡ Some p
@@ -110,28 +112,28 @@ node_line_takes line p h = sym (line_of-words_of line) ∙ ap line_of (node_take
 
 -- ---- a plan that is spelled is read again
 
-limits_are : (p : Plan) → IsPlan p → limits_fit p.tasks p.latest_a p.latest_b p.host_entries p.slot_entries ≡ true
+limits_are : (p : Plan) → IsNodePlan p → limits_fit p.tasks p.latest_a p.latest_b p.host_entries p.slot_entries ≡ true
 limits_are p is =
     rw (
-      le-leb p.tasks 8 is.few_tasks,
-      le-leb p.latest_a 8000 is.latest_a_fits,
-      le-leb p.latest_b 8000 is.latest_b_fits,
-      le-leb 1 p.host_entries is.some_host_entries,
+      le-leb p.tasks 8 is.plan_is.few_tasks,
+      le-leb p.latest_a 8000 is.plan_is.latest_a_fits,
+      le-leb p.latest_b 8000 is.plan_is.latest_b_fits,
+      le-leb 1 p.host_entries is.plan_is.some_host_entries,
       le-leb p.host_entries 16384 is.few_host_entries,
-      le-leb 2 p.slot_entries is.some_slot_entries,
+      le-leb 2 p.slot_entries is.plan_is.some_slot_entries,
       le-leb p.slot_entries 65536 is.few_slot_entries,
     ) refl
 
-plan_again : (p : Plan) → IsPlan p
+plan_again : (p : Plan) → IsNodePlan p
     → result_ok (plan_of p.tasks p.latest_a p.latest_b p.host_entries p.slot_entries) ≡ Some (bare_plan p)
 plan_again p is = rw (limits_are p is) refl
 
-pub node_again : (p : Plan) → IsPlan p → node_in (node_words p) ≡ Some (bare_plan p)
+pub node_again : (p : Plan) → IsNodePlan p → node_in (node_words p) ≡ Some (bare_plan p)
 unfolding node_in limits_in
 node_again p is =
-    let tasks = is.few_tasks in
-    let a = is.latest_a_fits in
-    let b = is.latest_b_fits in
+    let tasks = is.plan_is.few_tasks in
+    let a = is.plan_is.latest_a_fits in
+    let b = is.plan_is.latest_b_fits in
     let host = is.few_host_entries in
     let slot = is.few_slot_entries in
     let t1 : p.tasks < 9 = omega arith in
@@ -149,11 +151,11 @@ node_again p is =
 
 -- ---- the words are plain, and the line is short
 
-both : (p : Plan) → IsPlan p → ArePlain (node_words p) × (length (line_of (node_words p)) ≤ 1200)
+both : (p : Plan) → IsNodePlan p → ArePlain (node_words p) × (length (line_of (node_words p)) ≤ 1200)
 both p is =
-    let tasks = is.few_tasks in
-    let a = is.latest_a_fits in
-    let b = is.latest_b_fits in
+    let tasks = is.plan_is.few_tasks in
+    let a = is.plan_is.latest_a_fits in
+    let b = is.plan_is.latest_b_fits in
     let host = is.few_host_entries in
     let slot = is.few_slot_entries in
     let tasks_is = number_word 1 p.tasks (omega arith) (omega arith) (omega arith) in
@@ -164,21 +166,21 @@ both p is =
     let all = length-line_of-le (node_words p) in
     ((refl, (tasks_is.plain, (a_is.plain, (b_is.plain, (host_is.plain, (slot_is.plain, tt)))))), omega arith)
 
-pub node_plain : (p : Plan) → IsPlan p → ArePlain (node_words p)
+pub node_plain : (p : Plan) → IsNodePlan p → ArePlain (node_words p)
 node_plain p is = (both p is).0
 
-pub node_no_feed : (p : Plan) → IsPlan p → has_no_feed (line_of (node_words p)) ≡ true
+pub node_no_feed : (p : Plan) → IsNodePlan p → has_no_feed (line_of (node_words p)) ≡ true
 node_no_feed p is = has_no_feed-line_of (node_words p) (node_plain p is)
 
-pub node_short : (p : Plan) → IsPlan p → length (line_of (node_words p)) ≤ 1200
+pub node_short : (p : Plan) → IsNodePlan p → length (line_of (node_words p)) ≤ 1200
 node_short p is = (both p is).1
 
 -- so the line is cut into them
-pub node_cut : (p : Plan) → IsPlan p → words_of (line_of (node_words p)) ≡ node_words p
+pub node_cut : (p : Plan) → IsNodePlan p → words_of (line_of (node_words p)) ≡ node_words p
 node_cut p is =
     words_of-line_of (codes "node")
     (decimal p.tasks ∷ decimal p.latest_a ∷ decimal p.latest_b ∷ decimal p.host_entries ∷ decimal p.slot_entries ∷ [])
     (node_plain p is)
 
-pub node_line_again : (p : Plan) → IsPlan p → node_in (words_of (line_of (node_words p))) ≡ Some (bare_plan p)
+pub node_line_again : (p : Plan) → IsNodePlan p → node_in (words_of (line_of (node_words p))) ≡ Some (bare_plan p)
 node_line_again p is = ap node_in (node_cut p is) ∙ node_again p is

@@ -1,6 +1,6 @@
 //! The line of a node's numbers.
 ghost use Rattle.std.specs.Prelude.{◌≡◌, Some, IfSome};
-ghost use Rattle.fr_slots.specs.Plans.{Plan, IsPlan};
+ghost use Rattle.fr_slots.specs.Plans.{Plan, IsNodePlan};
 ghost use Rattle.fr_text.specs.Spaces.{words_of, line_of};
 ghost use Rattle.fr_lines.specs.Reading.{limits_in, node_in};
 ghost use Rattle.fr_lines.specs.Spelled.{bare_plan};
@@ -51,8 +51,8 @@ fn node_in(line: &[u8]) -> Option<NodePlan>
 /// 0 to 8000 for channel A and for B. There is room for 1 to 16384 host entries and for 2 to 65536 slot entries.
 pub fn node_of(line: &[u8]) -> Option<NodePlan>
     ensures found { IfSome result (λ p. line.now ≡ line_of (node_words p)) }
-    ensures fits { IfSome result (λ p. IsPlan p × (p ≡ bare_plan p)) }
-    ensures only { (p : Plan) → IsPlan p → line.now ≡ line_of (node_words p) → result ≡ Some (bare_plan p) }
+    ensures fits { IfSome result (λ p. IsNodePlan p × (p ≡ bare_plan p)) }
+    ensures only { (p : Plan) → IsNodePlan p → line.now ≡ line_of (node_words p) → result ≡ Some (bare_plan p) }
     ensures exact { result ≡ node_in (words_of line.now) }
 {
     node_in(line)

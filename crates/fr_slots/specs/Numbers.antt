@@ -54,6 +54,13 @@ most_host_entries = 16384
 abbrev pub most_slot_entries : ℕ
 most_slot_entries = 65536
 
+-- the greatest room that the numbers of entries allow
+abbrev pub last_host_limit : ℕ
+last_host_limit = 1073741824
+
+abbrev pub last_slot_limit : ℕ
+last_slot_limit = 3221225469
+
 abbrev pub most_entries : ℕ
 most_entries = most_host_entries + most_slot_entries
 

@@ -1,7 +1,7 @@
 -- The fields of `NodePlan` as a plan.
 use Rattle.std.specs.Prelude.{slice_index}
 use Rattle.fr_slots.specs.declared.plan.NodePlan.TheInside.{Inside}
-use Rattle.fr_slots.specs.Plans.{Plan, IsPlan}
+use Rattle.fr_slots.specs.Plans.{Plan, IsNodePlan}
 
 abbrev pub plan_in : Inside → Plan
 plan_in p = record {
@@ -16,4 +16,4 @@ plan_in p = record {
 }
 
 abbrev pub IsLawful : Inside → Type 0
-IsLawful p = IsPlan (plan_in p)
+IsLawful p = IsNodePlan (plan_in p)

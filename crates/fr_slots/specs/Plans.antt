@@ -12,7 +12,7 @@ use Rattle.fr_slots.specs.declared.plan.PlanError.{PlanError}
 use Rattle.fr_slots.specs.declared.plan.PlanError.TheVariants.{OutOfRange, TooMany}
 use Rattle.fr_slots.specs.Admission.{includes, cycle_admitted, IsCycleClass}
 use Rattle.fr_slots.specs.Numbers.{IsSlot, last_static_slot, last_minislot, most_words, most_tasks, most_lines}
-use Rattle.fr_slots.specs.Numbers.{most_frames, most_host_entries, most_slot_entries}
+use Rattle.fr_slots.specs.Numbers.{most_frames, most_host_entries, most_slot_entries, last_host_limit, last_slot_limit}
 use Rattle.fr_slots.specs.Windows.{Opportunity, slot_of}
 
 -- slot, channel and cycle are all the filter's
@@ -104,15 +104,15 @@ abbrev pub QueueFits : Option Queue → Type 0
 QueueFits None = Unit {0}
 QueueFits (Some q) = queue_fits q ≡ true
 
--- a plan that a node may have
+-- a plan with any room that the numbers of entries allow
 pub record IsPlan (p : Plan) : Type 0 where
   pub few_tasks : p.tasks ≤ most_tasks
   pub latest_a_fits : p.latest_a ≤ last_minislot
   pub latest_b_fits : p.latest_b ≤ last_minislot
   pub some_host_entries : 1 ≤ p.host_entries
-  pub few_host_entries : p.host_entries ≤ most_host_entries
+  pub host_entries_fit : p.host_entries ≤ last_host_limit
   pub some_slot_entries : 2 ≤ p.slot_entries
-  pub few_slot_entries : p.slot_entries ≤ most_slot_entries
+  pub slot_entries_fit : p.slot_entries ≤ last_slot_limit
   pub few_owned : length p.owned ≤ most_lines
   pub owned_fit : AllFit own_fits p.owned
   pub owned_are : Each IsOwn p.owned
@@ -121,6 +121,16 @@ pub record IsPlan (p : Plan) : Type 0 where
   pub buffers_are : Each IsBuffer p.buffers
   pub queue_fits : QueueFits p.queue
   pub queue_is : IsQueueOrNone p.queue
+
+-- the plan of a node, with room within the limits of its journal
+pub record IsNodePlan (p : Plan) : Type 0 where
+  pub plan_is : IsPlan p
+  pub few_host_entries : p.host_entries ≤ most_host_entries
+  pub few_slot_entries : p.slot_entries ≤ most_slot_entries
+
+-- the plan with room for so many entries
+abbrev pub with_limits : Plan → ℕ → ℕ → Plan
+with_limits p host slot = record p { host_entries = host; slot_entries = slot }
 
 -- ---- making a plan
 

@@ -208,8 +208,8 @@ impl Model for NodePlan {
 impl NodePlan {
     ghost use Rattle.std.specs.Prelude.{◌≡◌, ◌<◌, ◌↔◌, IfOk, OnOk, OnErr, IfSome, IfNone, IsTrue, ◌==◌, length};
     ghost use Rattle.std.specs.Prelude.{position, slice_index};
-    ghost use Rattle.fr_slots.specs.Plans.{IsPlan, plan_of, buffer_at, own_refusal, with_own, buffer_refusal};
-    ghost use Rattle.fr_slots.specs.Plans.{with_buffer, queue_refusal, with_queue};
+    ghost use Rattle.fr_slots.specs.Plans.{IsPlan, IsNodePlan, plan_of, buffer_at, own_refusal, with_own};
+    ghost use Rattle.fr_slots.specs.Plans.{buffer_refusal, with_buffer, queue_refusal, with_queue};
     ghost use Rattle.fr_slots.specs.Faults.{latest_on, plan_fault, IsFaultless, not_owned, dynamic_both, too_long};
 
     /// Returns a plan with no lines yet.
@@ -370,7 +370,7 @@ impl NodePlan {
     /// Returns the number of host entries that the node's journal has room for, 1 to 16384.
     pub fn host_entries(&self) -> u16
         ensures value { result ≡ self.now.host_entries }
-        ensures lawful { IsPlan self.now }
+        ensures lawful { IsNodePlan self.now }
     {
         self.host_entries
     }
@@ -378,7 +378,7 @@ impl NodePlan {
     /// Returns the number of slot entries that the node's journal has room for, 2 to 65536.
     pub fn slot_entries(&self) -> u32
         ensures value { result ≡ self.now.slot_entries }
-        ensures lawful { IsPlan self.now }
+        ensures lawful { IsNodePlan self.now }
     {
         self.slot_entries
     }

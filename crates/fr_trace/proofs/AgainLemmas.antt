@@ -9,7 +9,7 @@ use Rattle.fr_journal.specs.Forms.{Entry}
 use Rattle.fr_journal.specs.declared.entry.Entry.TheVariants.{Commit, Withdraw, Read, Pop, Fetch, Observe}
 use Rattle.fr_journal.specs.Entries.{IsEntry}
 use Rattle.fr_journal.specs.Legal.{IsLegal}
-use Rattle.fr_interface.specs.State.{State, IsLegalInterface, with_entry}
+use Rattle.fr_interface.specs.State.{State, IsNodeInterface, with_entry}
 use Rattle.fr_lines.specs.declared.versions.Version.{Version}
 use Rattle.fr_lines.specs.declared.versions.Version.TheVariants.{One, Two, Three}
 use Rattle.fr_lines.specs.Versions.{tells, tells_own}
@@ -31,7 +31,7 @@ use Rattle.fr_slots.specs.declared.plan.Queue.{Queue}
 use Rattle.fr_slots.specs.Faults.{plan_fault}
 use Rattle.fr_slots.specs.History.{AllAfter}
 use Rattle.fr_slots.specs.Parameters.{Parameters, IsParameters}
-use Rattle.fr_slots.specs.Plans.{Plan, IsPlan, IsBuffer, IsOwn, IsQueueOrNone, QueueFits, Each, AllFit, buffer_fits}
+use Rattle.fr_slots.specs.Plans.{Plan, IsPlan, IsNodePlan, IsBuffer, IsOwn, IsQueueOrNone, QueueFits, Each, AllFit, buffer_fits}
 use Rattle.fr_slots.specs.Plans.{own_fits, with_buffer, with_own, with_queue}
 use Rattle.fr_text.specs.Spaces.{words_of, line_of}
 use Rattle.fr_trace.specs.Answers.{made_by}
@@ -70,14 +70,14 @@ params_read v p is =
 
 -- ---- the plan
 
-node_read : (v : Version) (p : Parameters) (plan : Plan) → IsParameters p → IsPlan plan
+node_read : (v : Version) (p : Parameters) (plan : Plan) → IsParameters p → IsNodePlan plan
     → take_bytes fresh (params_text v p ++ line_text (node_words plan)) ≡ reading (lines v p (bare_plan plan)) []
 node_read v p plan is plan_is =
     next_line fresh (params_text v p) (line_of (node_words plan)) (node v p) (lines v p (bare_plan plan))
     (params_read v p is) refl (node_no_feed plan plan_is) (node_short plan plan_is)
     (ap (after_node v p) (node_line_again plan plan_is))
 
-bare_read : (v : Version) (p : Parameters) (plan : Plan) → IsParameters p → IsPlan plan
+bare_read : (v : Version) (p : Parameters) (plan : Plan) → IsParameters p → IsNodePlan plan
     → take_bytes fresh (plan_text v p (bare_plan plan)) ≡ reading (lines v p (bare_plan plan)) []
 bare_read v p plan is plan_is = ap (take_bytes fresh) (bare_text v p (bare_plan plan) refl refl refl)
     ∙ node_read v p plan is plan_is
@@ -190,18 +190,19 @@ queue_read v p plan (Some q) none fits ranges came =
     (lines v p (with_queue plan q)) came refl (queue_no_feed q spelled) (queue_short q spelled)
     (queue_line_read v p plan q none spelled)
 
-plan_read : (v : Version) (p : Parameters) (plan : Plan) → IsParameters p → IsPlan plan → AreOwnedTold v plan.owned
+plan_read : (v : Version) (p : Parameters) (plan : Plan) → IsParameters p → IsNodePlan plan → AreOwnedTold v plan.owned
     → take_bytes fresh (plan_text v p plan) ≡ reading (lines v p plan) []
 plan_read v p plan is plan_is told =
-    let few_owned = plan_is.few_owned in
-    let few_buffers = plan_is.few_buffers in
-    let owned = owned_read v p plan plan.owned [] (omega arith) plan_is.owned_fit plan_is.owned_are told
+    let is_plan = plan_is.plan_is in
+    let few_owned = is_plan.few_owned in
+    let few_buffers = is_plan.few_buffers in
+    let owned = owned_read v p plan plan.owned [] (omega arith) is_plan.owned_fit is_plan.owned_are told
     (bare_read v p plan is plan_is) in
     let buffers = buffers_read v p plan plan.owned plan.buffers []
-    (omega arith) plan_is.buffers_fit plan_is.buffers_are owned in
-    queue_read v p (with_lines plan plan.owned plan.buffers) plan.queue refl plan_is.queue_fits plan_is.queue_is buffers
+    (omega arith) is_plan.buffers_fit is_plan.buffers_are owned in
+    queue_read v p (with_lines plan plan.owned plan.buffers) plan.queue refl is_plan.queue_fits is_plan.queue_is buffers
 
-begin_read : (v : Version) (p : Parameters) (plan : Plan) → IsParameters p → IsPlan plan → AreOwnedTold v plan.owned
+begin_read : (v : Version) (p : Parameters) (plan : Plan) → IsParameters p → IsNodePlan plan → AreOwnedTold v plan.owned
     → plan_fault p plan ≡ None → take_bytes fresh (begin_text v p plan) ≡ reading
     (body v (record { params = p; plan = plan; entries = [] })) []
 begin_read v p plan is plan_is told faultless =
@@ -267,21 +268,21 @@ entries_read v p plan (e ∷ items) before front plan_is legal ranges told came 
 
 -- ---- the whole text
 
-pub text_again : (v : Version) (s : State) → IsLegalInterface s → AreOwnedTold v s.plan.owned → AreTold v s.entries
+pub text_again : (v : Version) (s : State) → IsNodeInterface s → AreOwnedTold v s.plan.owned → AreTold v s.entries
     → take_bytes fresh (trace_text v s) ≡ reading (finished v s) []
 text_again v s is owned told =
-    let begun = begin_read v s.params s.plan is.params_are is.plan_is owned is.faultless in
+    let begun = begin_read v s.params s.plan is.legal.params_are is.node_plan owned is.legal.faultless in
     let entries = entries_read v s.params s.plan s.entries []
-    (begin_text v s.params s.plan) is.plan_is is.legal is.entries_are told begun in
+    (begin_text v s.params s.plan) is.legal.plan_is is.legal.legal is.legal.entries_are told begun in
     next_line fresh (body_text v s) end_line (body v s) (finished v s) entries refl refl (omega arith) refl
 
 -- the line feed of `begin` comes after the plan
-pub text_begins : (v : Version) (s : State) → IsLegalInterface s → AreOwnedTold v s.plan.owned
+pub text_begins : (v : Version) (s : State) → IsNodeInterface s → AreOwnedTold v s.plan.owned
     → Begins fresh (trace_text v s)
 text_begins v s is owned =
     let front = plan_text v s.params s.plan ++ begin_line in
     let before : take_bytes fresh (plan_text v s.params s.plan) ≡ reading (lines v s.params s.plan) [] =
-    plan_read v s.params s.plan is.params_are is.plan_is owned in
+    plan_read v s.params s.plan is.legal.params_are is.node_plan owned in
     let at : take_bytes fresh front ≡ reading (lines v s.params s.plan) begin_line =
     fold-append take_byte fresh (plan_text v s.params s.plan) begin_line ∙ ap
     (λ p. take_bytes p begin_line) before in
@@ -289,7 +290,7 @@ text_begins v s is owned =
       front,
       [],
       sym (append_assoc (plan_text v s.params s.plan) begin_line line_feed),
-      subst IsAtBegin (sym at) (refl, is.faultless),
+      subst IsAtBegin (sym at) (refl, is.legal.faultless),
     ) in
     begins_before fresh (body_text v s) (end_line ++ line_feed)
     (begins_before fresh (begin_text v s.params s.plan) (flat_map entry_line s.entries) begins)

@@ -4,7 +4,7 @@ use Rattle.std.proofs.Common.{List, [], ◌∷◌, ◌++◌, Option, Some, None,
 use Rattle.std.proofs.lemmas.List.{append-nil}
 use Rattle.fr_journal.specs.Forms.{Entry}
 use Rattle.fr_journal.specs.declared.entry.Entry.TheVariants as entries
-use Rattle.fr_interface.specs.State.{State, IsLegalInterface}
+use Rattle.fr_interface.specs.State.{State, IsNodeInterface}
 use Rattle.fr_lines.specs.declared.versions.Version.TheVariants.{Three}
 use Rattle.fr_lines.specs.Versions.{tells}
 use Rattle.fr_slots.specs.declared.plan.Own.{Own}
@@ -42,7 +42,7 @@ pub accepted_text : (text : List ℕ) (s : State) → outcome_of (take_bytes fre
 accepted_text text s h = found_in (take_bytes fresh text) text s (text_spelled text) (text_told text) h
 
 -- a text of a legal interface is accepted
-pub legal_outcome : (text : List ℕ) (s : State) → IsLegalInterface s → IsTraceOf s text
+pub legal_outcome : (text : List ℕ) (s : State) → IsNodeInterface s → IsTraceOf s text
     → outcome_of (take_bytes fresh text) ≡ Ok s
 legal_outcome text s is trace =
     let (v, same, owned, told) = trace in
@@ -66,7 +66,7 @@ all_owned_told [] = tt
 all_owned_told (o ∷ owned) = (refl, all_owned_told owned)
 
 -- a text that is written is accepted
-pub written_outcome : (s : State) → IsLegalInterface s → outcome_of (take_bytes fresh (trace_text Three s)) ≡ Ok s
+pub written_outcome : (s : State) → IsNodeInterface s → outcome_of (take_bytes fresh (trace_text Three s)) ≡ Ok s
 written_outcome s is = legal_outcome (trace_text Three s) s is
     (Three, refl, all_owned_told s.plan.owned, all_told s.entries)
 
@@ -78,7 +78,7 @@ text_given (Some text) None s h = absurd h
 text_given (Some text) (Some rest) s h = accepted_text text s h.1
 
 -- an accepted text has the line at which its interface is made
-pub accepted_begins : (text : Option (List ℕ)) (s : State) → IsLegalInterface s → IsTextOf s text → HasBegin text
+pub accepted_begins : (text : Option (List ℕ)) (s : State) → IsNodeInterface s → IsTextOf s text → HasBegin text
 accepted_begins None s is same = tt
 accepted_begins (Some text) s is trace =
     let (v, same, owned, told) = trace in
@@ -164,7 +164,7 @@ given_fault text old new Write h of_text = absurd of_text
 given_fault text old new Memory h of_text = absurd of_text
 
 pub not_refused : (text old new : Option (List ℕ)) (r : Result (Unit {0}) TraceError) (s : State)
-    → Audits text old new r → IsLegalInterface s → IsSomeAnd text (λ t. IsTraceOf s t) → IsNotRefused r
+    → Audits text old new r → IsNodeInterface s → IsSomeAnd text (λ t. IsTraceOf s t) → IsNotRefused r
 not_refused text old new (Ok x) s h is trace = tt
 not_refused None old new (Err e) s h is trace = absurd trace
 not_refused (Some text) old new (Err e) s h is trace =
@@ -173,7 +173,7 @@ not_refused (Some text) old new (Err e) s h is trace =
 
 -- ---- an interface alone
 
-pub through_understood : (text rest : Option (List ℕ)) (r : Result State TraceError) → IfOk r IsLegalInterface
+pub through_understood : (text rest : Option (List ℕ)) (r : Result State TraceError) → IfOk r IsNodeInterface
     → ReadsThrough text rest r → Understands text r
 through_understood text rest (Ok s) legal h = (text_given text rest s h, legal)
 through_understood text rest (Err BadMagic) legal h = refused_by text rest BadMagic tt h
@@ -189,7 +189,7 @@ through_understood (Some text) (Some rest) (Err Write) legal h = h
 through_understood text rest (Err Memory) legal h = through_begins text rest h
 
 -- reading such a text through, without writing
-pub understood_leaves : (text rest : Option (List ℕ)) (r : Result State TraceError) → IfOk r IsLegalInterface
+pub understood_leaves : (text rest : Option (List ℕ)) (r : Result State TraceError) → IfOk r IsNodeInterface
     → ReadsThrough text rest r → Leaves text rest None None (outcome r)
 understood_leaves text rest (Ok s) legal h = (s, h, legal, tt)
 understood_leaves text rest (Err BadMagic) legal h = (h, tt)

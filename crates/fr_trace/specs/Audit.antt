@@ -1,7 +1,7 @@
 -- The result of an audit of a whole text, and the bytes that it reads.
 use Rattle.std.specs.Prelude.{◌≡◌, ℕ, ◌≤◌, List, [], ◌++◌, length, Option, Some, None, Result, Ok, Err, ◌⊎◌}
 use Rattle.std.specs.Io.KnownBytes.{Keeps, Appends}
-use Rattle.fr_interface.specs.State.{State, IsLegalInterface}
+use Rattle.fr_interface.specs.State.{State, IsNodeInterface}
 use Rattle.fr_trace.specs.declared.error.TraceError.{TraceError}
 use Rattle.fr_trace.specs.declared.error.TraceError.TheVariants.{Read, Write, Memory}
 use Rattle.fr_trace.specs.Feeds.{Begins}
@@ -42,8 +42,8 @@ HasBegin (Some text) = Begins fresh text
 -- the text is refused by its first line at fault, or memory ran out when the text's interface was made, or the reader
 -- failed.
 abbrev pub Audits : Option (List ℕ) → Option (List ℕ) → Option (List ℕ) → Result (Unit {0}) TraceError → Type 0
-Audits text old new (Ok x) = (s : State) × IsTextOf s text × IsLegalInterface s × Appends old new (report_text s)
-Audits text old new (Err Write) = (s : State) × IsTextOf s text × IsLegalInterface s
+Audits text old new (Ok x) = (s : State) × IsTextOf s text × IsNodeInterface s × Appends old new (report_text s)
+Audits text old new (Err Write) = (s : State) × IsTextOf s text × IsNodeInterface s
 Audits text old new (Err Read) = Keeps old new
 Audits text old new (Err Memory) = HasBegin text × Keeps old new
 Audits text old new (Err e) = IsRefusedBy e text × Keeps old new
@@ -114,9 +114,9 @@ ReadsThrough (Some text) (Some rest) r = Through text rest r
 -- the bytes left in the reader, and those in the writer
 abbrev pub Leaves : Option (List ℕ) → Option (List ℕ) → Option (List ℕ) → Option (List ℕ)
     → Result (Unit {0}) TraceError → Type 0
-Leaves text rest old new (Ok x) = (s : State) × ReadsThrough text rest (Ok s) × IsLegalInterface s
+Leaves text rest old new (Ok x) = (s : State) × ReadsThrough text rest (Ok s) × IsNodeInterface s
     × Appends old new (report_text s)
-Leaves text rest old new (Err Write) = (s : State) × ReadsThrough text rest (Ok s) × IsLegalInterface s
+Leaves text rest old new (Err Write) = (s : State) × ReadsThrough text rest (Ok s) × IsNodeInterface s
 Leaves text rest old new (Err e) = ReadsThrough text rest (Err e) × Keeps old new
 
 -- ---- the interface of a trace, before any report
@@ -129,7 +129,7 @@ outcome (Err e) = Err e
 -- The text is one of the legal interface that is returned. Or it is refused by its first line at fault, or memory ran
 -- out when the text's interface was made, or the reader failed.
 abbrev pub Understands : Option (List ℕ) → Result State TraceError → Type 0
-Understands text (Ok s) = IsTextOf s text × IsLegalInterface s
+Understands text (Ok s) = IsTextOf s text × IsNodeInterface s
 Understands text (Err Write) = ⊥
 Understands text (Err Read) = Unit {0}
 Understands text (Err Memory) = HasBegin text

@@ -1,7 +1,7 @@
 -- A refusal of a trace names the line at fault, and no bytes that follow could make the trace legal.
 use Rattle.std.specs.Prelude.{◌≡◌, ℕ, ◌+◌, ◌*◌, ◌≤◌, ◌==◌, List, [], ◌∷◌, ◌++◌, length, Option, Some, None, Result, Ok}
 use Rattle.std.specs.Prelude.{Err, count_by, IfSome}
-use Rattle.fr_interface.specs.State.{State, IsLegalInterface}
+use Rattle.fr_interface.specs.State.{State, IsNodeInterface}
 use Rattle.fr_slots.specs.Numbers.{most_lines, most_entries}
 use Rattle.fr_trace.specs.Audit.{IsOfText, HasNoFault}
 use Rattle.fr_trace.specs.declared.error.TraceError.{TraceError}
@@ -43,7 +43,7 @@ LineIsNamed (Err e) text = NamesItsLine e text
 
 -- no text of a legal interface begins with these bytes
 abbrev pub IsHopeless : List ℕ → Type 0
-IsHopeless bytes = (rest : List ℕ) (s : State) → IsLegalInterface s → IsTraceOf s (bytes ++ rest) → ⊥
+IsHopeless bytes = (rest : List ℕ) (s : State) → IsNodeInterface s → IsTraceOf s (bytes ++ rest) → ⊥
 
 -- if the result is a fault of the text
 abbrev pub HopelessIfRefused : {A : Type 0} → Result A TraceError → List ℕ → Type 0

@@ -1,7 +1,7 @@
 //! The audit of a reader's bytes.
 
 ghost use Rattle.std.specs.Prelude.{IfOk, IfSome, IsSomeAnd};
-ghost use Rattle.fr_interface.specs.State.{State, IsLegalInterface};
+ghost use Rattle.fr_interface.specs.State.{State, IsNodeInterface};
 ghost use Rattle.fr_trace.specs.Audit.{Audits, Stops, Leaves, ReadsThrough, IsNotRefused, Understands, outcome};
 ghost use Rattle.fr_trace.specs.Refusals.{HasFewLines, LineIsNamed, ShortIfTaken};
 ghost use Rattle.fr_trace.specs.TraceText.{IsTraceOf};
@@ -20,7 +20,7 @@ const ROOM: usize = 4096;
 /// Returns the interface that the reader's bytes leave. It stops reading at an error, and repeats an interrupted read.
 fn read_through<R: Read>(alloc: Global, reader: &mut R) -> Result<Interface, TraceError>
     ensures through { ReadsThrough (R.remaining reader.old) (R.remaining reader.new) result }
-    ensures legal { IfOk result IsLegalInterface }
+    ensures legal { IfOk result IsNodeInterface }
     ensures few { IfOk result HasFewLines }
 {
     let mut auditor = Auditor::new(alloc);
@@ -57,7 +57,7 @@ pub fn interface_of<R: Read>(alloc: Global, reader: &mut R) -> Result<Interface,
     // The line that an error names is that of the byte with which the first fault shows.
     ensures line { IfSome (R.remaining reader.old) (λ text. LineIsNamed result text) }
     // A text of a legal interface is accepted in each version.
-    ensures only { (s : State) → IsLegalInterface s → IsSomeAnd (R.remaining reader.old) (λ text. IsTraceOf s text)
+    ensures only { (s : State) → IsNodeInterface s → IsSomeAnd (R.remaining reader.old) (λ text. IsTraceOf s text)
         → IsNotRefused result }
 {
     read_through(alloc, reader)
@@ -99,7 +99,7 @@ pub fn audit<R: Read, W: Write>(
     // The line that an error names is that of the byte with which the first fault shows.
     ensures line { IfSome (R.remaining reader.old) (λ text. LineIsNamed result text) }
     // A text of a legal interface is accepted in each version.
-    ensures only { (s : State) → IsLegalInterface s → IsSomeAnd (R.remaining reader.old) (λ text. IsTraceOf s text)
+    ensures only { (s : State) → IsNodeInterface s → IsSomeAnd (R.remaining reader.old) (λ text. IsTraceOf s text)
         → IsNotRefused result }
 {
     audit_through(alloc, reader, writer)

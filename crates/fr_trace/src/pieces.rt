@@ -2,7 +2,7 @@
 
 ghost use Rattle.std.specs.Prelude.{◌≡◌, ◌≤◌, ◌⊎◌, length, IfOk, OnOk, Ok, Err};
 ghost use Rattle.std.specs.List.{flat_map};
-ghost use Rattle.fr_interface.specs.State.{State, IsLegalInterface};
+ghost use Rattle.fr_interface.specs.State.{State, IsNodeInterface};
 ghost use Rattle.fr_trace.specs.Feeds.{Begins, Reads};
 ghost use Rattle.fr_trace.specs.Refusals.{HasFewLines, LineIsNamed, longest_text};
 ghost use Rattle.fr_trace.specs.Stream.{fresh, take_bytes, outcome_of};
@@ -29,9 +29,9 @@ fn fed(alloc: Global, pieces: &[&[u8]]) -> Auditor
 /// Returns the error of the first line at fault, and `Memory` if an allocation fails.
 pub fn audit_pieces(alloc: Global, pieces: &[&[u8]]) -> Result<Interface, TraceError>
     // An accepted text is a text of the interface that is returned, in whichever pieces it came.
-    ensures found { IfOk result (λ s. IsTraceOf s (flat_map (λ p. p.now) pieces.now) × IsLegalInterface s) }
+    ensures found { IfOk result (λ s. IsTraceOf s (flat_map (λ p. p.now) pieces.now) × IsNodeInterface s) }
     // A text of a legal interface is accepted as that interface, unless memory runs out.
-    ensures only { (s : State) → IsLegalInterface s → IsTraceOf s (flat_map (λ p. p.now) pieces.now)
+    ensures only { (s : State) → IsNodeInterface s → IsTraceOf s (flat_map (λ p. p.now) pieces.now)
         → (result ≡ Ok s) ⊎ (result ≡ Err TraceError.Memory) }
     // An accepted text is no longer than the longest text.
     ensures short { OnOk result (length (flat_map (λ p. p.now) pieces.now) ≤ longest_text) }
@@ -49,7 +49,7 @@ pub fn audit_pieces(alloc: Global, pieces: &[&[u8]]) -> Result<Interface, TraceE
 /// Returns the result of an auditor unchanged.
 pub(crate) fn lawful(outcome: Result<Interface, TraceError>) -> Result<Interface, TraceError>
     ensures same { result ≡ outcome }
-    ensures legal { IfOk result IsLegalInterface }
+    ensures legal { IfOk result IsNodeInterface }
     ensures few { IfOk result HasFewLines }
 {
     match outcome {

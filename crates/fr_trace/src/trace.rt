@@ -6,7 +6,7 @@ ghost use Rattle.std.specs.List.{flat_map};
 ghost use Rattle.fr_lines.specs.declared.versions.Version.TheVariants.{Three};
 ghost use Rattle.fr_trace.specs.TraceText.{own_line, buffer_line, queue_lines, entry_line, numbers_text};
 ghost use Rattle.fr_trace.specs.TraceText.{plan_text, trace_text};
-ghost use Rattle.fr_interface.specs.State.{IsLegalInterface};
+ghost use Rattle.fr_interface.specs.State.{IsNodeInterface};
 ghost use Rattle.fr_trace.specs.Stream.{fresh, take_bytes, outcome_of};
 
 use crate::error::TraceError;
@@ -84,7 +84,7 @@ fn write_entries<W: Write>(writer: &mut W, journal: &Journal) -> io::Result<()>
 /// Writes the whole text.
 fn write_text<W: Write>(writer: &mut W, interface: &Interface) -> io::Result<()>
     ensures written { Writes W.contents writer.old writer.new result (trace_text Three interface.now) }
-    ensures legal { IsLegalInterface interface.now }
+    ensures legal { IsNodeInterface interface.now }
 {
     write_plan(writer, interface.params(), interface.plan())?;
     writeln!(writer, "begin")?;

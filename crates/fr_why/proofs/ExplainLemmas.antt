@@ -7,7 +7,7 @@ use Rattle.std.specs.Io.KnownBytes.{Appends, Keeps}
 use Rattle.std.specs.Prelude.{option_map}
 use Rattle.fr_capture.specs.declared.form.Form.{Form}
 use Rattle.fr_capture.specs.Shows.{text_of}
-use Rattle.fr_interface.specs.State.{State, IsLegalInterface}
+use Rattle.fr_interface.specs.State.{State, IsNodeInterface}
 use Rattle.fr_trace.specs.Audit.{IsOfText}
 use Rattle.fr_trace.specs.declared.error.TraceError.{TraceError}
 use Rattle.fr_trace.specs.declared.error.TraceError.TheVariants as refusal
@@ -86,7 +86,7 @@ shows_fault form text front line rest old new refusal.Memory is fault shown = ab
 
 -- the output of an accepted text is written, or the writer or an allocation fails
 pub shows_accepted : (form : Form) (text : List ℕ) (old new : Option (List ℕ)) (s : State)
-    (r : Result (Unit {0}) TraceError) → outcome_of (take_bytes fresh text) ≡ Ok s → IsLegalInterface s
+    (r : Result (Unit {0}) TraceError) → outcome_of (take_bytes fresh text) ≡ Ok s → IsNodeInterface s
     → OnOk r (Appends old new (text_of form s))
     → IfErr r (λ e. (e ≡ refusal.Write) ⊎ ((e ≡ refusal.Memory) × Keeps old new)) → ShowsUntil form text old new r
 shows_accepted form text old new s (Ok x) is legal shown failed = (s, is, legal, shown)

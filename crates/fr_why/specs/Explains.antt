@@ -5,7 +5,7 @@ use Rattle.std.specs.declared.alloc.Global.{Global}
 use Rattle.std.specs.Io.KnownBytes.{Keeps, Appends}
 use Rattle.fr_capture.specs.declared.form.Form.{Form}
 use Rattle.fr_capture.specs.Shows.{text_of}
-use Rattle.fr_interface.specs.State.{State, IsLegalInterface}
+use Rattle.fr_interface.specs.State.{State, IsNodeInterface}
 use Rattle.fr_trace.specs.declared.error.TraceError.{TraceError}
 use Rattle.fr_trace.specs.declared.error.TraceError.TheVariants.{Read, Write, Memory}
 use Rattle.fr_trace.specs.Refusals.{feed_count, longest_text}
@@ -36,7 +36,7 @@ IsKept text (Err e) = ⊥
 -- The text is accepted, and the words report this, with its lines and windows. Or it is refused, and the words describe
 -- its line at fault, with the reason of the refusal.
 abbrev pub IsExplained : List ℕ → Verdict → List ℕ → Type 0
-IsExplained text Accepted words = (s : State) × (outcome_of (take_bytes fresh text) ≡ Ok s) × IsLegalInterface s
+IsExplained text Accepted words = (s : State) × (outcome_of (take_bytes fresh text) ≡ Ok s) × IsNodeInterface s
     × (length text ≤ longest_text) × (words ≡ accepted_text (feed_count text) (window_count s.entries))
 IsExplained text Refused words = (e : TraceError) × (front : List ℕ) × (line : List ℕ) × (rest : List ℕ)
     × IsAtFault e text front line rest × IsReasonOf e (reason_for e (take_bytes fresh front) line)
@@ -67,7 +67,7 @@ shown_so_far form (Some s) = text_of form s
 -- An accepted text is shown whole. For a refused text, the output of the lines before its line at fault is written, and
 -- the result is the audit's. If the reader failed or memory ran out, nothing is written.
 abbrev pub ShowsUntil : Form → List ℕ → Option (List ℕ) → Option (List ℕ) → Result (Unit {0}) TraceError → Type 0
-ShowsUntil form text old new (Ok x) = (s : State) × (outcome_of (take_bytes fresh text) ≡ Ok s) × IsLegalInterface s
+ShowsUntil form text old new (Ok x) = (s : State) × (outcome_of (take_bytes fresh text) ≡ Ok s) × IsNodeInterface s
     × Appends old new (text_of form s)
 ShowsUntil form text old new (Err Read) = Keeps old new
 ShowsUntil form text old new (Err Memory) = Keeps old new

@@ -1,6 +1,6 @@
 -- The state that the code keeps of the line at which a text is refused: places in the text.
 use Rattle.std.specs.Prelude.{◌≡◌, ℕ, ◌-◌, ◌≤◌, List, [], length, take, drop, Result, Ok, Err}
-use Rattle.fr_interface.specs.State.{IsLegalInterface}
+use Rattle.fr_interface.specs.State.{IsNodeInterface}
 use Rattle.fr_trace.specs.Audit.{IsOfText}
 use Rattle.fr_trace.specs.declared.error.TraceError.{TraceError}
 use Rattle.fr_trace.specs.declared.error.TraceError.TheVariants.{Read, Write, Memory}
@@ -29,7 +29,7 @@ pub record IsFaultIn (text : List ℕ) (f : FaultyLine) : Type 0 where
 -- the text is accepted as this interface, with this number of lines, and so isn't too long; or it is refused at this
 -- line
 abbrev pub IsFound : List ℕ → Found → Type 0
-IsFound text (Accepted s lines) = (outcome_of (take_bytes fresh text) ≡ Ok s) × IsLegalInterface s
+IsFound text (Accepted s lines) = (outcome_of (take_bytes fresh text) ≡ Ok s) × IsNodeInterface s
     × (lines ≡ feed_count text) × (length text ≤ longest_text)
 IsFound text (Refused f) = IsFaultIn text f
 

@@ -1,6 +1,6 @@
 //! The line at which a text is refused.
 ghost use Rattle.std.specs.Prelude.{◌≡◌, IfOk, IfErr};
-ghost use Rattle.fr_interface.specs.State.{IsLegalInterface};
+ghost use Rattle.fr_interface.specs.State.{IsNodeInterface};
 ghost use Rattle.fr_trace.specs.Audit.{IsOfText};
 ghost use Rattle.fr_trace.specs.Refusals.{HasFewLines};
 ghost use Rattle.fr_why.specs.Finding.{IsFound, found_of};
@@ -50,7 +50,7 @@ fn refused(fault: FaultyLine) -> Result<Found, TraceError>
 #[tactic(auto, using(crate::proofs::FindingLemmas::few_lines))]
 fn accepted(interface: Interface, lines: usize) -> Found
     ensures found { result ≡ Found.Accepted interface lines }
-    ensures legal { IsLegalInterface interface }
+    ensures legal { IsNodeInterface interface }
     ensures few { HasFewLines interface }
 {
     // For the prover: the clauses of these calls.

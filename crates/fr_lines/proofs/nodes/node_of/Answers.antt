@@ -4,7 +4,7 @@ use Rattle.fr_lines.proofs.NodeLemmas.{node_line_takes, node_line_again, node_ba
 use Rattle.fr_lines.specs.Reading.{node_in}
 use Rattle.fr_lines.specs.Spelled.{bare_plan}
 use Rattle.fr_lines.specs.Spelling.{node_words}
-use Rattle.fr_slots.specs.Plans.{Plan, IsPlan}
+use Rattle.fr_slots.specs.Plans.{Plan, IsNodePlan}
 use Rattle.fr_text.specs.Spaces.{words_of, line_of}
 use Rattle.fr_lines.proofs.nodes.node_of.Goals as goal
 
@@ -12,7 +12,8 @@ found : (o : Option Plan) (line : List ℕ) → o ≡ node_in (words_of line) �
 found None line h = tt
 found (Some p) line h = node_line_takes line p (sym h)
 
-fits : (o : Option Plan) (line : List ℕ) → o ≡ node_in (words_of line) → IfSome o (λ p. IsPlan p × (p ≡ bare_plan p))
+fits : (o : Option Plan) (line : List ℕ) → o ≡ node_in (words_of line)
+    → IfSome o (λ p. IsNodePlan p × (p ≡ bare_plan p))
 fits None line h = tt
 fits (Some p) line h = (node_fits (words_of line) p (sym h), node_bare (words_of line) p (sym h))
 

@@ -1,7 +1,7 @@
 use Rattle.std.proofs.Common.{◌≡◌, ◌≤◌, ℕ, List, length, Result, Ok, Err, ◌⊎◌, inl, inr, ap, sym, subst, ◌∙◌}
 use Rattle.std.specs.Prelude.{IfOk, OnOk}
 use Rattle.std.specs.List.{flat_map}
-use Rattle.fr_interface.specs.State.{State, IsLegalInterface}
+use Rattle.fr_interface.specs.State.{State, IsNodeInterface}
 use Rattle.fr_trace.specs.Feeds.{Begins, Reads}
 use Rattle.fr_trace.specs.Stream.{Progress, fresh, take_bytes, outcome_of}
 use Rattle.fr_trace.specs.TraceText.{IsTraceOf}
@@ -21,13 +21,13 @@ exact : (p : Progress) (text : List ℕ) (r : Result State TraceError) → Reads
 exact p text r (inl read) is = inl (is ∙ ap outcome_of read)
 exact p text r (inr out) is = inr (is ∙ ap outcome_of out.0, out.1)
 
-found : (text : List ℕ) (r : Result State TraceError) → IfOk r IsLegalInterface → Answers text r
-    → IfOk r (λ s. IsTraceOf s text × IsLegalInterface s)
+found : (text : List ℕ) (r : Result State TraceError) → IfOk r IsNodeInterface → Answers text r
+    → IfOk r (λ s. IsTraceOf s text × IsNodeInterface s)
 found text (Ok s) legal (inl e) = (accepted_text text s (cc e), legal)
 found text (Ok s) legal (inr e) = cc e.0
 found text (Err f) legal e = tt
 
-only : (text : List ℕ) (r : Result State TraceError) (s : State) → IsLegalInterface s → IsTraceOf s text
+only : (text : List ℕ) (r : Result State TraceError) (s : State) → IsNodeInterface s → IsTraceOf s text
     → Answers text r → (r ≡ Ok s) ⊎ (r ≡ Err Memory)
 only text r s is same (inl e) = inl (e ∙ legal_outcome text s is same)
 only text r s is same (inr e) = inr e.0

@@ -1,7 +1,7 @@
 use Rattle.std.proofs.Common.{◌≡◌, [], map, Option, None, arith, ap, sym, ◌∙◌, option_map, rules}
 use Rattle.fr_buffers.specs.Transmitting.{new_transmitter}
 use Rattle.fr_interface.specs.Known.{transmitters, held_in, waiting_of, empty_queue}
-use Rattle.fr_interface.specs.Standing.{with_limits}
+use Rattle.fr_slots.specs.Plans.{with_limits}
 use Rattle.fr_interface.specs.State.{State}
 use Rattle.fr_interface.proofs.CounterLemmas.{counters-none}
 use Rattle.fr_interface.proofs.KeptLemmas.{queue-none}
