@@ -47,6 +47,8 @@ pub mod bus;
 mod course;
 pub mod error;
 pub mod fault;
+mod kept;
+pub mod live;
 pub mod outcome;
 mod station;
 pub mod windows;
