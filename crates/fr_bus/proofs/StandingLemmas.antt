@@ -1,13 +1,13 @@
 -- The calls of a bus keep the runs that lead to its data.
-use Rattle.std.proofs.Common.{◌≡◌, ℕ, zero, suc, ◌+◌, ◌*◌, ◌^◌, ◌<◌, ◌≤◌, Bool, true, false, cond, List, [], ◌∷◌, ◌++◌, length, map}
+use Rattle.std.proofs.Common.{◌≡◌, ℕ, zero, suc, ◌+◌, ◌*◌, ◌^◌, ◌<◌, ◌≤◌, Bool, true, false, List, [], ◌∷◌, ◌++◌}
+use Rattle.std.proofs.Common.{length, map}
 use Rattle.std.proofs.Common.{replicate, Option, Some, None, slice_get, refl, subst, sym, ap, ◌∙◌, arith}
 use Rattle.std.proofs.lemmas.Bool.{and_parts, leb-true}
 use Rattle.std.proofs.lemmas.List.{length-map}
 use Rattle.std.proofs.Common.{◌-◌}
-use Rattle.std.specs.Prelude.{slice_set, slice_index_or, option_map, nat_le, ◌&&◌, Result, Ok, Err, OnOk, OnErr}
+use Rattle.std.specs.Prelude.{option_map, nat_le, ◌&&◌, Result, Ok, Err, OnOk, OnErr}
 use Rattle.std.specs.Global.{Vec}
 use Rattle.fr_bus.specs.BusFields.{state_in, IsLawful}
-use Rattle.fr_bus.proofs.CourseLemmas.{course_more}
 use Rattle.fr_bus.proofs.NextLemmas.{next_is}
 use Rattle.fr_bus.proofs.RunLemmas.{run_new, run_sealed, run_advanced, course_sealed, opened_is_next, last_more}
 use Rattle.fr_bus.specs.Courses.{Standpoint, opportunities, course_of, passed, next_of}
@@ -21,10 +21,13 @@ use Rattle.fr_bus.specs.declared.station.Side.{Side}
 use Rattle.fr_bus.specs.Live.{cycles_suit, most_live_cycles}
 use Rattle.fr_bus.specs.Outcome.{sent_from, sent_of, sent_in, sent_on, longest, transmission, fate_of}
 use Rattle.fr_bus.specs.Record.{Recorded, seen_by}
-use Rattle.fr_bus.specs.Standing.{no_room, roomless, BusStanding, standing_of, with_record, bare, with_cluster, IsBusHistory}
+use Rattle.fr_bus.specs.Standing.{no_room, roomless, BusStanding, standing_of, with_record, bare, with_cluster}
+use Rattle.fr_bus.specs.Standing.{IsBusHistory}
 use Rattle.fr_bus.specs.Standing.{IsDecided, LiveStanding, IsLiveHistory}
-use Rattle.fr_bus.specs.States.{BusState, IsRun, Stands, collects, outcome_of, sealed_with, sealed_now, advanced, phase_at}
-use Rattle.fr_bus.specs.States.{idle_station, seal_refusal, seen_where, next_of_bus, inject_done, last_recorded, new_bus}
+use Rattle.fr_bus.specs.States.{BusState, IsRun, Stands, collects, outcome_of, sealed_with, sealed_now, advanced}
+use Rattle.fr_bus.specs.States.{phase_at}
+use Rattle.fr_bus.specs.States.{idle_station, seal_refusal, seen_where, next_of_bus, inject_done, last_recorded}
+use Rattle.fr_bus.specs.States.{new_bus}
 use Rattle.fr_bus.specs.States.{with_side, is_put, is_taken}
 use Rattle.fr_bus.specs.Stations.{Station}
 use Rattle.fr_bus.specs.Windows.{following}
@@ -72,8 +75,10 @@ passes_alike d e node w channel alike =
     sym (passes_roomless d node w channel) ∙ ap (λ c. passes c node w channel) alike ∙ passes_roomless e node w channel
 
 module _ (d e : Description) (w : Opportunity) (alike : roomless d ≡ roomless e) where
-  on_channel : (node : ℕ) (channel : Channel) (side : Side) → sent_on d w node channel side ≡ sent_on e w node channel side
-  on_channel node channel side = ap (λ (lets : Bool). transmission node channel false (fate_of side.mute lets) side.offer
+  on_channel : (node : ℕ) (channel : Channel) (side : Side)
+      → sent_on d w node channel side ≡ sent_on e w node channel side
+  on_channel node channel side =
+      ap (λ (lets : Bool). transmission node channel false (fate_of side.mute lets) side.offer
       ++ transmission node channel true (fate_of false lets) side.babble) (passes_alike d e node w channel alike)
 
   in_channel : (node : ℕ) (channel : Channel) (side : Side) (slot : Option ℕ)
@@ -107,7 +112,8 @@ module _ (h : BusStanding) (b : BusState) (is : IsBusHistory h b) where
   params_are = ap (λ (d : Description). d.params) is.alike
 
   pub course_cycles : h.course.cycles ≡ h.cycles
-  course_cycles = sym (ap (λ (x : BusStanding). x.course.cycles) is.leaves) ∙ ap (λ (x : BusStanding). x.cycles) is.leaves
+  course_cycles =
+      sym (ap (λ (x : BusStanding). x.course.cycles) is.leaves) ∙ ap (λ (x : BusStanding). x.cycles) is.leaves
 
   -- the outcome of the open window
   pub outcome_is : (w : Opportunity) → outcome_of b w ≡ outcome_of (bare h) w
@@ -213,8 +219,10 @@ module _ (h : BusStanding) (b : BusState) (is : IsBusHistory h b) where
       let at_w : b.opened ≡ Some w = opened_is ∙ decided.opened in
       let open_phase : collects b.phase ≡ true = ap collects phase_is ∙ collecting decided.accepted in
       let sent_is : outcome_of b w ≡ outcome_of (bare h) w = outcome_is w in
-      let on_a : x ≡ longest A (outcome_of b w).sent = decided.on_a ∙ sym (ap (λ (r : Recorded). longest A r.sent) sent_is) in
-      let on_b : y ≡ longest B (outcome_of b w).sent = decided.on_b ∙ sym (ap (λ (r : Recorded). longest B r.sent) sent_is) in
+      let on_a : x ≡ longest A (outcome_of b w).sent =
+      decided.on_a ∙ sym (ap (λ (r : Recorded). longest A r.sent) sent_is) in
+      let on_b : y ≡ longest B (outcome_of b w).sent =
+      decided.on_b ∙ sym (ap (λ (r : Recorded). longest B r.sent) sent_is) in
       let rs = b.sealed ++ outcome_of b w ∷ [] in
       let new_course : c ≡ course_of b.cluster.params b.cycles rs =
       course_sealed b w h.course c x y rs course (sym course_is) on_a on_b refl in
@@ -269,8 +277,8 @@ pub record KeepsRecord (b c : BusState) : Type 0 where
   pub cycles : c.cycles ≡ b.cycles
   pub sealed : c.sealed ≡ b.sealed
 
-pub kept_record : (b : BusState) → KeepsRecord b b
-kept_record b = record { cluster = refl; cycles = refl; sealed = refl }
+pub kept_record : (b c : BusState) → c.cluster ≡ b.cluster → c.cycles ≡ b.cycles → c.sealed ≡ b.sealed → KeepsRecord b c
+kept_record b c cluster cycles sealed = record { cluster = cluster; cycles = cycles; sealed = sealed }
 
 pub inject_keeps : (b : BusState) (fault : Fault) → KeepsRecord b (inject_done b fault)
 inject_keeps b (Babble node channel bytes) = record { cluster = refl; cycles = refl; sealed = refl }
@@ -337,7 +345,8 @@ module _ (h new : LiveStanding) (b c : BusState) (is : IsLiveHistory h b) (keeps
     last_is = ap (λ (rs : List Recorded). slice_get rs (length rs - 1)) keeps.sealed ∙ is.last_is ∙ sym same;
   }
 
-  pub live_either : {X : Type 0} (r : Result X BusError) → OnOk r (IsBusHistory new.bus c) → OnOk r (IsLiveHistory new c)
+  pub live_either : {X : Type 0} (r : Result X BusError) → OnOk r (IsBusHistory new.bus c)
+      → OnOk r (IsLiveHistory new c)
   live_either (Ok x) history = live_call history
   live_either (Err e) history = tt
 
@@ -385,7 +394,8 @@ live_new d e cycles bus new suits lawful alike =
     let (front, few) = and_parts (nat_le 1 cycles && nat_le cycles most_live_cycles)
     (nat_le (cycles * opportunities d.params) 4294967295) suits in
     let (some, most) = and_parts (nat_le 1 cycles) (nat_le cycles most_live_cycles) front in
-    let within : cycles * opportunities d.params ≤ 4294967295 = leb-true (cycles * opportunities d.params) 4294967295 few in
+    let within : cycles * opportunities d.params ≤ 4294967295 =
+    leb-true (cycles * opportunities d.params) 4294967295 few in
     let fits : cycles * opportunities d.params < 2 ^ 32 = omega (arith, within) in
     record {
       of_bus = record {

@@ -26,8 +26,8 @@ OpensLive d cycles (Ok h) = (cycles_suit d.params cycles ≡ true)
 OpensLive d cycles (Err Memory) = cycles_suit d.params cycles ≡ true
 OpensLive d cycles (Err e) = (cycles_suit d.params cycles ≡ false) × (e ≡ BadCycles)
 
--- The answer of a seal, and the data after it. A failed allocation is possible only if the seal is otherwise lawful, and
--- leaves the data unchanged.
+-- The answer of a seal, and the data after it. A failed allocation is possible only if the seal is otherwise lawful.
+-- It leaves the data unchanged.
 abbrev pub SealsLive : LiveStanding → Result (Unit {0}) BusError → LiveStanding → Type 0
 SealsLive old (Ok x) new = (seal_refusal (bare old.bus) ≡ None)
     × ForEachLiveHistory old (λ b. IsLiveHistory new (sealed_now b))

@@ -1,5 +1,6 @@
 -- The view of a bus, the answers and effects of its calls, and the properties of every bus.
-use Rattle.std.specs.Prelude.{◌≡◌, ℕ, ◌≤◌, ◌<◌, ◌-◌, ◌*◌, ◌^◌, ◌==◌, nat_lt, nat_le, Bool, true, false, not, ◌&&◌, List, [], ◌∷◌, ◌++◌}
+use Rattle.std.specs.Prelude.{◌≡◌, ℕ, ◌≤◌, ◌<◌, ◌-◌, ◌*◌, ◌^◌, ◌==◌, nat_lt, nat_le, Bool, true, false, not, ◌&&◌, List}
+use Rattle.std.specs.Prelude.{[], ◌∷◌, ◌++◌}
 use Rattle.std.specs.Prelude.{length, replicate, Option, Some, None, is_some, option_map, Result, Ok, Err, Contains}
 use Rattle.std.specs.Prelude.{slice_set, slice_index_or, slice_get, if◌then◌else◌}
 use Rattle.std.specs.List.{list_all}

@@ -107,7 +107,8 @@ fn lane_after(channel: Channel, lane: &Lane, window: &Window, bytes: u16) -> Lan
 
 impl RunCourse {
     ghost use Rattle.std.specs.Prelude.{◌≡◌, ◌≤◌, ◌<◌, ◌*◌, ◌^◌, [], Some};
-    ghost use Rattle.fr_bus.specs.Courses.{IsCourse, opportunities, course_of, passed, first_next, inner_next, dynamic_next, next_of};
+    ghost use Rattle.fr_bus.specs.Courses.{IsCourse, opportunities, course_of, passed, first_next, inner_next};
+    ghost use Rattle.fr_bus.specs.Courses.{dynamic_next, next_of};
 
     /// Returns the course of a run of so many cycles, at its start.
     pub(crate) fn new(params: &Params, cycles: u32) -> RunCourse

@@ -17,10 +17,12 @@ invariant_of-self c =
     record {
       bus = inject_done c.self.invariant.bus (Mute c.args.node c.args.channel);
       run = history_change (standing_in c.self.inside) c.self.invariant.bus c.self.invariant.run
-          (λ l. slice_set l c.args.node (muting c.args.channel (slice_index_or l c.args.node idle_station))) c.mute.new.self
+          (λ l. slice_set l c.args.node (muting c.args.channel (slice_index_or l c.args.node idle_station)))
+          c.mute.new.self
           c.mute.ensures (length-set stations c.args.node new);
       put_count_is = counted_same is_put stations c.mute.new.self c.args.node c.self.inside.put_count new idle_station
           c.mute.ensures within c.self.invariant.put_count_is (side_put c.args.channel _ old);
-      taken_count_is = counted_same is_taken stations c.mute.new.self c.args.node c.self.inside.taken_count new idle_station
+      taken_count_is = counted_same is_taken stations c.mute.new.self c.args.node c.self.inside.taken_count new
+          idle_station
           c.mute.ensures within c.self.invariant.taken_count_is (side_taken c.args.channel _ old);
     }

@@ -17,10 +17,12 @@ invariant_of-self c =
     record {
       bus = put_done c.self.invariant.bus c.args.node c.args.offer.now;
       run = history_change (standing_in c.self.inside) c.self.invariant.bus c.self.invariant.run
-          (λ l. slice_set l c.args.node (offering (slice_index_or l c.args.node idle_station) c.args.offer.now)) c.put.new.self
+          (λ l. slice_set l c.args.node (offering (slice_index_or l c.args.node idle_station) c.args.offer.now))
+          c.put.new.self
           c.put.ensures (length-set stations c.args.node new);
       put_count_is = counted_more is_put stations c.put.new.self c.args.node c.self.inside.put_count new idle_station
           c.put.ensures within c.self.invariant.put_count_is fresh refl;
-      taken_count_is = counted_same is_taken stations c.put.new.self c.args.node c.self.inside.taken_count new idle_station
+      taken_count_is = counted_same is_taken stations c.put.new.self c.args.node c.self.inside.taken_count new
+          idle_station
           c.put.ensures within c.self.invariant.taken_count_is refl;
     }
