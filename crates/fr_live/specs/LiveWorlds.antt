@@ -83,13 +83,9 @@ OpensLiveWorld d cycles room (Err e) = (cycles_suit d.params cycles ≡ false) �
 
 -- ---- the parts of a new world
 
--- the data of a new interface for each plan, with this room
-abbrev pub AreNew : Parameters → Entries → List Plan → List Standing → Type 0
-AreNew params room [] [] = Unit {0}
-AreNew params room [] (h ∷ hs) = ⊥
-AreNew params room (p ∷ ps) [] = ⊥
-AreNew params room (p ∷ ps) (h ∷ hs) =
-    IsHistory h (new_interface params (with_limits p room.host room.slot)) × AreNew params room ps hs
+-- a new interface with this room
+abbrev pub new_with : Parameters → Entries → Plan → State
+new_with params room p = new_interface params (with_limits p room.host room.slot)
 
 -- the same as `OpensLiveWorld`, of the data alone
 abbrev pub OpensMachine : Description → ℕ → Entries → Result LiveState BusError → Type 0

@@ -1,14 +1,10 @@
 //! The steps of a world without history, one call each.
 
-ghost use Rattle.std.specs.Prelude.{◌≡◌, ◌≤◌, Ok, Err, replicate, length, IfOk, ◌&&◌};
+ghost use Rattle.std.specs.Prelude.{◌≡◌, replicate, map, IfOk};
 ghost use Rattle.fr_core.specs.Carried.{Idle};
 ghost use Rattle.fr_core.specs.Steps.{answered};
 ghost use Rattle.fr_core.specs.declared.event.Reply.TheVariants.{Done};
-ghost use Rattle.fr_core.specs.Worlds.{new_interface};
-ghost use Rattle.fr_live.specs.LiveWorlds.{AreHistories, with_room};
-ghost use Rattle.fr_schedule.specs.Descriptions.{Description};
-ghost use Rattle.fr_schedule.specs.Clusters.{IsNode};
-ghost use Rattle.fr_slots.specs.Plans.{Each};
+ghost use Rattle.fr_live.specs.LiveWorlds.{AreHistories, new_with};
 
 use crate::room::Room;
 use fr_bus::error::BusError;
@@ -56,7 +52,7 @@ fn interfaces_of(
     plans: &[NodePlan],
     room: Room,
 ) -> Result<Vec<InterfaceState>, InterfaceError>
-    ensures { IfOk result (λ list. AreNew params.now room plans.now list.items) }
+    ensures { IfOk result (λ list. AreHistories list.items (map (new_with params.now room) plans.now)) }
 {
     let mut list = Vec::new(alloc);
     for plan in plans {
@@ -103,7 +99,12 @@ impl LiveMachine {
     ghost use Rattle.fr_live.specs.LiveSteps.{put_in_turn, take_in_turn, observe_in_turn};
 
     /// Returns the data of the opening world.
-    pub(crate) fn new(alloc: Global, cluster: &Cluster, cycles: u32, room: Room) -> Result<LiveMachine, BusError>
+    pub(crate) fn new(
+        alloc: Global,
+        cluster: &Cluster,
+        cycles: u32,
+        room: Room,
+    ) -> Result<LiveMachine, BusError>
         ensures { OpensMachine cluster.now cycles room result }
     {
         let bus = LiveBus::new(alloc, cluster, cycles)?;
