@@ -4,3 +4,17 @@ pub mod LedLemmas
 pub mod FileLemmas
 pub mod LawLemmas
 pub mod PlayLemmas
+pub mod RisingLemmas
+pub mod AskedLemmas
+pub mod ScriptLemmas
+pub mod EntryLemmas
+pub mod EventLemmas
+pub mod PassLemmas
+pub mod FaultLemmas
+pub mod BabbleLemmas
+pub mod WindowLemmas
+pub mod StageLemmas
+pub mod CallLemmas
+pub mod CycleLemmas
+pub mod AgreeLemmas
+pub mod SettledLemmas
