@@ -21,11 +21,12 @@ use Rattle.fr_core.specs.Worlds.{WorldState, interface_at, carried_at, no_interf
 use Rattle.fr_interface.specs.declared.call.Call.{Call}
 use Rattle.fr_interface.specs.State.{State, with_entry}
 use Rattle.fr_journal.specs.Forms.{Entry}
+use Rattle.fr_playing.proofs.AnswerLemmas.{AreTold, told_next}
 use Rattle.fr_playing.proofs.AskedLemmas.{is_mine, mine}
 use Rattle.fr_playing.proofs.EntryLemmas.{call_by, calls_by, calls_more, as_many_calls, as_many_fetches, host_entry}
 use Rattle.fr_playing.proofs.EntryLemmas.{host_done, host_there, host_task, host_call_by, no_call}
 use Rattle.fr_playing.proofs.EventLemmas.{IsKept, AreBalanced, balanced_host, unobserved}
-use Rattle.fr_playing.proofs.PassLemmas.{IsSound, world_done, cluster_done}
+use Rattle.fr_playing.proofs.PassLemmas.{IsSound, world_done}
 use Rattle.fr_playing.proofs.ScriptLemmas.{IsGiven, line_of}
 use Rattle.fr_playing.proofs.WindowLemmas.{IsFresh}
 use Rattle.fr_playing.specs.Calls.{Asked, asked_of, asked_in, asked_in_line, asked_in_script, DoesCall, DoesCalls}
@@ -41,7 +42,7 @@ use Rattle.fr_slots.specs.History.{AllAfter}
 
 abbrev pub AreOf : ℕ → List Asked → Type 0
 AreOf cycle [] = Unit {0}
-AreOf cycle (a ∷ as) = (a.cycle ≡ cycle) × AreOf cycle as
+AreOf cycle (a ∷ later) = (a.cycle ≡ cycle) × AreOf cycle later
 
 of_both : (cycle : ℕ) (xs ys : List Asked) → AreOf cycle xs → AreOf cycle ys → AreOf cycle (xs ++ ys)
 of_both cycle [] ys first second = second
@@ -155,6 +156,7 @@ module _ (d : Description) (scripts : List Scripted) (record_of : List Recorded)
     pub ready : IsReady d start w
     pub made : AreMade before w
     pub in_turn : AreInTurn w
+    pub told : AreTold before w
 
   module _ (cycles cycle : ℕ) (suits : EachScriptSuits d cycles scripts) (start : WorldState)
       (begun : cycles_begun (take (length start.bus.sealed) record_of) ≡ cycle)
@@ -275,6 +277,7 @@ module _ (d : Description) (scripts : List Scripted) (record_of : List Recorded)
         ready = call_ready d start w call new does called.ready;
         made = subst (AreMade (before ++ call ∷ [])) (sym next) made_next;
         in_turn = subst AreInTurn (sym next) turns_next;
+        told = subst (AreTold (before ++ call ∷ [])) (sym next) (told_next before call w within does.0.1 called.told);
       }
 
     -- ---- all calls of the cycle

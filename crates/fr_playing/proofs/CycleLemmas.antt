@@ -16,9 +16,12 @@ use Rattle.fr_interface.specs.State.{State}
 use Rattle.fr_journal.specs.Forms.{Entry}
 use Rattle.fr_playing.proofs.CallLemmas.{AreOf, of_cycle, AreMade, AreInTurn, turn_kept, IsCalled, calls_made, action_of, IsReady}
 use Rattle.fr_playing.proofs.CallLemmas.{calls_ready}
+use Rattle.fr_core.specs.Scripts.{call_at}
+use Rattle.fr_playing.proofs.AnswerLemmas.{longer, Tells, AreTold, told_kept}
+use Rattle.fr_playing.specs.Settled.{executed_by}
 use Rattle.fr_playing.proofs.AskedLemmas.{mine}
 use Rattle.fr_playing.proofs.EntryLemmas.{calls_by, calls_more, no_call}
-use Rattle.fr_playing.proofs.EventLemmas.{AreBalanced, IsKept, unobserved}
+use Rattle.fr_playing.proofs.EventLemmas.{AreBalanced, IsBalanced, IsKept}
 use Rattle.fr_playing.proofs.PassLemmas.{IsSound}
 use Rattle.fr_playing.proofs.StageLemmas.{AreFaulted, Stands, Passed, windows_passed, windows_keep}
 use Rattle.fr_playing.proofs.WindowLemmas.{IsFresh}
@@ -34,7 +37,7 @@ use Rattle.fr_schedule.specs.Descriptions.{Description}
 use Rattle.fr_slots.proofs.PlaceLemmas.{get-after}
 use Rattle.fr_slots.specs.declared.channel.Channel.{Channel}
 use Rattle.fr_slots.specs.declared.channel.Channel.TheVariants.{A, B}
-use Rattle.fr_slots.specs.History.{AllAfter}
+use Rattle.fr_slots.specs.History.{AllAfter, each_after}
 use Rattle.fr_slots.specs.Windows.{static_window}
 use Rattle.fr_slots.specs.Parameters.{Parameters}
 use Rattle.fr_slots.specs.Plans.{Plan}
@@ -48,6 +51,7 @@ pub record IsStage (d : Description) (scripts : List Scripted) (lines : List Fau
   pub begun : cycles_begun w.bus.sealed ≡ cycle
   pub at_cycle : is_at_cycle w.bus.opened ≡ true
   pub made : AreMade calls w
+  pub told : AreTold calls w
   -- in each record that goes on from here, the calls are in the cycles of their lines
   pub in_turn : (rs more : List Recorded) → rs ≡ w.bus.sealed ++ more → AreInTurn d scripts rs w
 
@@ -55,6 +59,11 @@ pub record IsStage (d : Description) (scripts : List Scripted) (lines : List Fau
 front : {X : Type 0} (xs ys : List X) → take (length xs) (xs ++ ys) ≡ xs
 front [] ys = refl
 front (x ∷ xs) ys = ap (λ (l : List _). x ∷ l) (front xs ys)
+
+balanced_empty : (s : State) (c : Carried) → s.entries ≡ [] → c ≡ Idle → IsBalanced s c
+balanced_empty s c none idle =
+    subst (IsBalanced s) (sym idle)
+    (ap (λ (es : List Entry). count_by is_observe es + 0) none ∙ ap (λ (es : List Entry). count_by is_fetch es) (sym none))
 
 module _ (d : Description) (scripts : List Scripted) (lines : List FaultLine) (cycles : ℕ)
     (suits : EachScriptSuits d cycles scripts) where
@@ -84,6 +93,7 @@ module _ (d : Description) (scripts : List Scripted) (lines : List FaultLine) (c
           ready = record { sound = stage.sound; fresh = stage.fresh; same_bus = refl };
           made = stage.made;
           in_turn = stage.in_turn rs (first ∷ more) goes;
+          told = stage.told;
         })
         plays.2
 
@@ -138,6 +148,13 @@ module _ (d : Description) (scripts : List Scripted) (lines : List FaultLine) (c
         (after_calls new.bus.sealed (passed.more ++ []) passed.first
         (goes_on new.bus.sealed [] (sym (append-nil new.bus.sealed))) passed.begins).made
 
+    told_after : AreTold (before ++ calls) new
+    told_after =
+        windows_keep d lines cycle (λ m s. (task : ℕ) → Tells task (executed_by (before ++ calls) m task) s)
+        (told_kept (before ++ calls)) called new plays.3
+        (after_calls new.bus.sealed (passed.more ++ []) passed.first
+        (goes_on new.bus.sealed [] (sym (append-nil new.bus.sealed))) passed.begins).told
+
     pub next_stage : is_at_cycle new.bus.opened ≡ true → IsStage d scripts lines (cycle + 1) (before ++ calls) new
     next_stage at_cycle = record {
       sound = passed.sound;
@@ -146,6 +163,7 @@ module _ (d : Description) (scripts : List Scripted) (lines : List FaultLine) (c
       begun = passed.begun;
       at_cycle = at_cycle;
       made = made_after;
+      told = told_after;
       in_turn = turns_after;
     }
 
@@ -185,13 +203,11 @@ module _ (d : Description) (scripts : List Scripted) (lines : List FaultLine) (c
 
   balanced_opening : AreBalanced (opening_world d cycles)
   balanced_opening m =
-      ap (λ (es : List Entry). count_by is_observe es + unobserved (carried_at (opening_world d cycles) m))
-      (opening_entries d.params d.plans m)
-      ∙ ap unobserved (opening_idle (length d.plans) m)
-      ∙ ap (λ (es : List Entry). count_by is_fetch es) (sym (opening_entries d.params d.plans m))
+      balanced_empty (interface_at (opening_world d cycles) m) (carried_at (opening_world d cycles) m)
+      (opening_entries d.params d.plans m) (opening_idle (length d.plans) m)
 
   opening : IsStage d scripts lines 0 [] (opening_world d cycles)
-  unfolding AllAfter
+  unfolding AllAfter each_after
   opening = record {
     sound = record { world = kept_opening d cycles; balanced = balanced_opening; cluster = refl };
     fresh = record {
@@ -206,6 +222,8 @@ module _ (d : Description) (scripts : List Scripted) (lines : List FaultLine) (c
     begun = refl;
     at_cycle = first_at_cycle (nat_lt 0 cycles);
     made = λ m task. ap (calls_by task) (opening_entries d.params d.plans m);
+    told = λ m task more. ap (each_after (call_at (longer (interface_at (opening_world d cycles) m) more) task) [])
+        (opening_entries d.params d.plans m);
     in_turn = λ rs more goes m. subst (AllAfter (IsInTurn rs scripts m) []) (sym (opening_entries d.params d.plans m)) tt;
   }
 

@@ -6,7 +6,7 @@ use Rattle.std.specs.List.{flat_map}
 use Rattle.std.proofs.lemmas.Bool.{ltb-true}
 use Rattle.std.proofs.lemmas.Grind.{flat_map-append}
 use Rattle.std.proofs.lemmas.List.{map-append}
-use Rattle.std.proofs.lemmas.List.Sums.{sum_by_push}
+use Rattle.std.proofs.lemmas.List.Sums.{sum_by-append, sum_by_push}
 use Rattle.fr_core.specs.Agreeing.{Handed, handed_at, fetched}
 use Rattle.fr_core.specs.declared.error.StepError.{StepError}
 use Rattle.fr_core.specs.declared.error.StepError.TheVariants.{UnknownNode}
@@ -69,9 +69,10 @@ pub as_many_calls : (task : ℕ) (entries : List Entry) → count_by (is_by task
 as_many_calls task [] = refl
 as_many_calls task (e ∷ entries) =
     let split = length-append (call_by task e) (calls_by task entries) in
-    let here = one_call task e in
-    let rest = as_many_calls task entries in
-    omega (arith, split, here, rest)
+    let counted : count_by (is_by task) (e ∷ entries) ≡ 0 + cond {A = ℕ} (is_by task e) 1 0
+    + count_by (is_by task) entries = sum_by-append (λ (x : Entry). cond {A = ℕ} (is_by task x) 1 0) (e ∷ []) entries in
+    let all : length (calls_by task (e ∷ entries)) ≡ length (call_by task e) + length (calls_by task entries) = split in
+    omega (arith, counted, all, one_call task e, as_many_calls task entries)
 
 -- ---- executed calls
 
@@ -118,9 +119,11 @@ unfolding each_after
 handed_after p plan before [] = refl
 handed_after p plan before (e ∷ entries) =
     let split = length-append (handed_at p plan before e) (each_after (handed_at p plan) (before ++ e ∷ []) entries) in
-    let here = one_handed p plan before e in
-    let rest = handed_after p plan (before ++ e ∷ []) entries in
-    omega (arith, split, here, rest)
+    let counted : count_by is_fetch (e ∷ entries) ≡ 0 + cond {A = ℕ} (is_fetch e) 1 0 + count_by is_fetch entries =
+    sum_by-append (λ (x : Entry). cond {A = ℕ} (is_fetch x) 1 0) (e ∷ []) entries in
+    let all : length (each_after (handed_at p plan) before (e ∷ entries)) ≡ length (handed_at p plan before e)
+    + length (each_after (handed_at p plan) (before ++ e ∷ []) entries) = split in
+    omega (arith, counted, all, one_handed p plan before e, handed_after p plan (before ++ e ∷ []) entries)
 
 pub as_many_fetches : (s : State) → length (fetched s) ≡ count_by is_fetch s.entries
 as_many_fetches s = handed_after s.params s.plan [] s.entries

@@ -9,6 +9,7 @@ use Rattle.std.proofs.lemmas.Bool.Decides.{eqb_tells}
 use Rattle.std.proofs.lemmas.List.{get_or-set_same, get_or-set_other}
 use Rattle.arrayvec.specs.ArrayVec.{ArrayVec}
 use Rattle.fr_bus.specs.declared.error.BusError.{BusError}
+use Rattle.fr_bus.specs.declared.error.BusError.TheVariants.{UnknownNode, NotCollecting, TooManyFaults}
 use Rattle.fr_bus.specs.declared.fault.Fault.{Fault}
 use Rattle.fr_bus.specs.declared.fault.Fault.TheVariants.{Babble, Mute, Corrupt}
 use Rattle.fr_bus.specs.declared.station.Side.{Side}
@@ -200,7 +201,7 @@ IsStruckBy fault b c =
 
 pub injected : (b : BusState) (fault : Fault) → inject_refusal b fault ≡ None → IsStruckBy fault b (inject_done b fault)
 injected b (Babble of on bytes) free =
-    let tests = if_free (is_node b of) (collects b.phase) (has_fault b (Babble of on bytes)) _ _ _ free in
+    let tests = if_free (is_node b of) (collects b.phase) (has_fault b (Babble of on bytes)) UnknownNode NotCollecting TooManyFaults free in
     let within : of < length b.stations = ltb-true of (length b.stations) tests.0 in
     record {
       same_record = refl;
@@ -215,7 +216,7 @@ injected b (Babble of on bytes) free =
     same_bits A = sym (or_none b.corrupt_a)
     same_bits B = sym (or_none b.corrupt_b)
 injected b (Mute of on) free =
-    let tests = if_free (is_node b of) (collects b.phase) (has_fault b (Mute of on)) _ _ _ free in
+    let tests = if_free (is_node b of) (collects b.phase) (has_fault b (Mute of on)) UnknownNode NotCollecting TooManyFaults free in
     let within : of < length b.stations = ltb-true of (length b.stations) tests.0 in
     record {
       same_record = refl;
@@ -240,7 +241,7 @@ injected b (Corrupt A bit) free =
   where
     new_bits : (channel : Channel) → corrupt_in (inject_done b (Corrupt A bit)) channel
         ≡ option_or (corrupt_in b channel) (bit_turned channel (Corrupt A bit))
-    new_bits A = first_value b.corrupt_a bit (if_free true (collects b.phase) (has_fault b (Corrupt A bit)) _ _ _ free).1
+    new_bits A = first_value b.corrupt_a bit (if_free true (collects b.phase) (has_fault b (Corrupt A bit)) UnknownNode NotCollecting TooManyFaults free).1
     new_bits B = sym (or_none b.corrupt_b)
 injected b (Corrupt B bit) free =
     record {
@@ -254,7 +255,7 @@ injected b (Corrupt B bit) free =
     new_bits : (channel : Channel) → corrupt_in (inject_done b (Corrupt B bit)) channel
         ≡ option_or (corrupt_in b channel) (bit_turned channel (Corrupt B bit))
     new_bits A = sym (or_none b.corrupt_a)
-    new_bits B = first_value b.corrupt_b bit (if_free true (collects b.phase) (has_fault b (Corrupt B bit)) _ _ _ free).1
+    new_bits B = first_value b.corrupt_b bit (if_free true (collects b.phase) (has_fault b (Corrupt B bit)) UnknownNode NotCollecting TooManyFaults free).1
 
 -- ---- the faults of lines
 

@@ -76,7 +76,7 @@ pub played_of : (d : Description) (cycles : ℕ) (text : Option (List ℕ)) (con
     (faults : List FaultLine) (played : Played)
     → scripts ≡ contents.scripts → faults ≡ contents.faults → IfSome text (λ t. IsScenarioOf t (Ok contents))
     → Refuses d scripts faults cycles None
-    → IsPlayed d scripts faults cycles played → IsSettled d scripts faults cycles played.world
+    → IsPlayed d scripts faults cycles played → IsSettled d scripts faults cycles played
     → IfSome text (λ t. IsPlayOf d cycles t (Ok (record { scenario = contents; played = played })))
 played_of d cycles None contents scripts faults played same_scripts same_faults read refuses is settled = tt
 played_of d cycles (Some t) contents scripts faults played same_scripts same_faults read refuses is settled =
@@ -86,7 +86,7 @@ played_of d cycles (Some t) contents scripts faults played same_scripts same_fau
     let run : IsPlayed d contents.scripts contents.faults cycles played =
     subst (λ (ss : List Scripted). IsPlayed d ss contents.faults cycles played) same_scripts
     (subst (λ (fs : List FaultLine). IsPlayed d scripts fs cycles played) same_faults is) in
-    let compared : IsSettled d contents.scripts contents.faults cycles played.world =
-    subst (λ (ss : List Scripted). IsSettled d ss contents.faults cycles played.world) same_scripts
-    (subst (λ (fs : List FaultLine). IsSettled d scripts fs cycles played.world) same_faults settled) in
+    let compared : IsSettled d contents.scripts contents.faults cycles played =
+    subst (λ (ss : List Scripted). IsSettled d ss contents.faults cycles played) same_scripts
+    (subst (λ (fs : List FaultLine). IsSettled d scripts fs cycles played) same_faults settled) in
     ((read.0, (contents, read.1, refused)), (read.1, run, compared))

@@ -14,6 +14,7 @@ pub mod FaultLemmas
 pub mod BabbleLemmas
 pub mod WindowLemmas
 pub mod StageLemmas
+pub mod AnswerLemmas
 pub mod CallLemmas
 pub mod CycleLemmas
 pub mod AgreeLemmas

@@ -1,6 +1,6 @@
 -- A single-threaded run is settled.
 use Rattle.std.proofs.Common.{◌≡◌, ℕ, zero, suc, ◌+◌, ◌-◌, Bool, true, false, List, [], ◌∷◌, ◌++◌, map, take, Option, Some, None}
-use Rattle.std.proofs.Common.{refl, sym, ap, subst, ◌∙◌, append-nil, arith, slice_get}
+use Rattle.std.proofs.Common.{refl, sym, ap, subst, ◌∙◌, append-nil, arith, slice_get, get_or}
 use Rattle.std.specs.Prelude.{IfSome, is_some}
 use Rattle.fr_bus.specs.declared.error.Phase.{Phase}
 use Rattle.fr_bus.specs.declared.error.Phase.TheVariants.{Collect, Sealed as InSealed, Finished}
@@ -11,12 +11,13 @@ use Rattle.fr_core.proofs.CaseLemmas.{differ}
 use Rattle.fr_core.specs.Accounts.{IsHarmless}
 use Rattle.fr_core.specs.Headline.{Headline}
 use Rattle.fr_core.specs.Receivers.{Receivers}
-use Rattle.fr_core.specs.Scripts.{Scripted}
+use Rattle.fr_core.specs.Scripts.{Scripted, calls_at, calls_in}
 use Rattle.fr_core.specs.Settling.{IfThere}
 use Rattle.fr_core.specs.Worlds.{WorldState, interface_at, no_interface, opening_world}
 use Rattle.fr_interface.specs.State.{State}
 use Rattle.fr_journal.specs.Forms.{Entry}
 use Rattle.fr_playing.proofs.AgreeLemmas.{agrees}
+use Rattle.fr_playing.proofs.AnswerLemmas.{Tells, AreTold, told_at_end}
 use Rattle.fr_playing.proofs.CallLemmas.{AreInTurn}
 use Rattle.fr_playing.proofs.CycleLemmas.{IsStage, stage_after}
 use Rattle.fr_playing.proofs.StageLemmas.{HasFaultsAfter, AreFaulted}
@@ -24,21 +25,21 @@ use Rattle.fr_playing.specs.Calls.{asked_of}
 use Rattle.fr_playing.specs.declared.call.ExecutedCall.{ExecutedCall}
 use Rattle.fr_playing.specs.declared.play.Played.{Played}
 use Rattle.fr_playing.specs.Playing.{IsPlayed, asked_by}
-use Rattle.fr_playing.specs.Settled.{IsSettled, PlayedIsSettled}
+use Rattle.fr_playing.specs.Settled.{IsSettled, PlayedIsSettled, executed_by}
 use Rattle.fr_runs.specs.declared.fault_line.FaultLine.{FaultLine}
 use Rattle.fr_runs.specs.Faulted.{HasFaults, HaveFaults, cycle_at}
 use Rattle.fr_runs.specs.Refusing.{Refuses}
 use Rattle.fr_runs.specs.Stepping.{IsInTurn, IsStepped, AreStepped}
 use Rattle.fr_schedule.specs.Descriptions.{Description}
 use Rattle.fr_slots.proofs.PlaceLemmas.{AllAfter-at}
-use Rattle.fr_slots.specs.History.{AllAfter}
+use Rattle.fr_slots.specs.History.{AllAfter, each_after}
 use Rattle.fr_slots.specs.Windows.{Opportunity}
 use Rattle.std.proofs.lemmas.Option.{get_or_from_slice_get}
 
 -- ---- faults
 
 front_more : {X : Type 0} (xs : List X) (k : ℕ) (x : X) → slice_get xs k ≡ Some x → take (k + 1) xs ≡ take k xs ++ x ∷ []
-front_more xs k x at =
+front_more {X = X} xs k x at =
     let place : suc k ≡ k + 1 = omega arith in
     subst (λ (n : ℕ). take n xs ≡ take k xs ++ x ∷ []) place (from xs k at)
   where
@@ -78,6 +79,26 @@ module _ (rs : List Recorded) (scripts : List Scripted) where
       → AreStepped rs scripts w.interfaces
   stepped w all node few = stepped_at w all node (slice_get w.interfaces node) refl
 
+-- ---- answers
+
+no_interface_at : (is : List State) (n : ℕ) → slice_get is n ≡ None → get_or is n no_interface ≡ no_interface
+no_interface_at [] n none = refl
+no_interface_at (i ∷ is) zero none = absurd (let no : ⊥ = cc in no)
+no_interface_at (i ∷ is) (suc n) none = no_interface_at is n none
+
+answered_at : (calls : List ExecutedCall) (w : WorldState) → AreTold calls w → (n task : ℕ) (o : Option State)
+    → slice_get w.interfaces n ≡ o → calls_in o task ≡ executed_by calls n task
+unfolding each_after
+answered_at calls w told n task None at =
+    subst (Tells task (executed_by calls n task)) (no_interface_at w.interfaces n at) (told n task) []
+answered_at calls w told n task (Some s) at =
+    told_at_end s task (executed_by calls n task)
+    (subst (Tells task (executed_by calls n task)) (get_or_from_slice_get w.interfaces n s no_interface at) (told n task))
+
+answered : (calls : List ExecutedCall) (w : WorldState) → AreTold calls w → (n task : ℕ)
+    → calls_at w.interfaces n task ≡ executed_by calls n task
+answered calls w told n task = answered_at calls w told n task (slice_get w.interfaces n) refl
+
 -- ---- the end
 
 no_window : (o : Option Opportunity) → o ≡ None → is_some o ≡ false
@@ -91,7 +112,7 @@ finished b Finished is stands none = is
 
 pub settled_run : (d : Description) (scripts : List Scripted) (lines : List FaultLine) (cycles : ℕ) (played : Played)
     → Refuses d scripts lines cycles None → Headline played.world → IsPlayed d scripts lines cycles played
-    → IsSettled d scripts lines cycles played.world
+    → IsSettled d scripts lines cycles played
 settled_run d scripts lines cycles played accepted headline is =
     let w : WorldState = played.world in
     let calls : List ExecutedCall = played.calls.items in
@@ -103,6 +124,7 @@ settled_run d scripts lines cycles played accepted headline is =
     let same = stage.sound.cluster in
     record {
       agrees = agrees d cycles scripts suits calls is.asked w stage.made headline.agrees headline.run stage.fresh.idle same;
+      answers = answered calls w stage.told;
       faults = have_faults lines w.bus.sealed stage.faulted;
       stepped = stepped w.bus.sealed scripts w
           (stage.in_turn w.bus.sealed [] (sym (append-nil w.bus.sealed)));

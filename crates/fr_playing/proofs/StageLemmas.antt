@@ -170,9 +170,9 @@ module _ (d : Description) (lines : List FaultLine) (cycle : ℕ) where
         → ((m : ℕ) → Q m (interface_at old m)) → (m : ℕ) → Q m (interface_at new m)
     unfolding PlaysWithin
     within_keeps zero old new plays q m = subst (λ (w : WorldState). Q m (interface_at w m)) (sym plays) (q m)
-    within_keeps (suc count) old new plays q =
+    within_keeps (suc count) old new plays q m =
         let (mid, before, window, within) = plays in
-        window_keeps mid new window (within_keeps count old mid before q)
+        window_keeps mid new window (λ k. within_keeps count old mid before q k) m
 
     pub windows_keep : (old new : WorldState) → PlaysWindows cycle lines due old new
         → ((m : ℕ) → Q m (interface_at old m)) → (m : ℕ) → Q m (interface_at new m)

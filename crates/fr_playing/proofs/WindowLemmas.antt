@@ -13,7 +13,7 @@ use Rattle.fr_bus.specs.declared.outcome.Sent.{Sent}
 use Rattle.fr_bus.specs.Outcome.{sent_from}
 use Rattle.fr_bus.specs.Record.{Recorded, side_on, corrupt_on, recordable}
 use Rattle.fr_bus.specs.States.{BusState, collecting_of, corrupt_in, station_at, idle_station, offering, outcome_of, sealed_with}
-use Rattle.fr_bus.specs.States.{advanced}
+use Rattle.fr_bus.specs.States.{advanced, put_done}
 use Rattle.fr_bus.specs.Stations.{Station}
 use Rattle.fr_core.proofs.CaseLemmas.{both, both_first, both_rest}
 use Rattle.fr_core.specs.Carried.{Carried, Idle, Knows, Offers, Waits, Took}
@@ -125,39 +125,43 @@ offered_mute : (channel : Channel) (s : Station) (o : Offer)
 offered_mute A s o = refl
 offered_mute B s o = refl
 
+module _ (w : WorldState) (n : ℕ) (o : Offer) where
+  abbrev with_offer : Station
+  with_offer = offering (station_at w.bus n) o
+
+  bits_put : (channel : Channel) → corrupt_in (put_done w.bus n o) channel ≡ corrupt_in w.bus channel
+  bits_put A = refl
+  bits_put B = refl
+
+  babbles_put : (m : ℕ) (channel : Channel) → IsSet w.bus.stations n with_offer m idle_station
+      → (side_on channel (get_or (set w.bus.stations n with_offer) m idle_station)).babble ≡ babble_at w.bus m channel
+  babbles_put m channel (inl is) = ap (λ (s : Station). (side_on channel s).babble) is
+  babbles_put m channel (inr is) =
+      ap (λ (s : Station). (side_on channel s).babble) is.1 ∙ offered_babble channel (station_at w.bus n) o
+      ∙ ap (λ (k : ℕ). babble_at w.bus k channel) (sym is.0)
+
+  mutes_put : (m : ℕ) (channel : Channel) → IsSet w.bus.stations n with_offer m idle_station
+      → (side_on channel (get_or (set w.bus.stations n with_offer) m idle_station)).mute ≡ mute_at w.bus m channel
+  mutes_put m channel (inl is) = ap (λ (s : Station). (side_on channel s).mute) is
+  mutes_put m channel (inr is) =
+      ap (λ (s : Station). (side_on channel s).mute) is.1 ∙ offered_mute channel (station_at w.bus n) o
+      ∙ ap (λ (k : ℕ). mute_at w.bus k channel) (sym is.0)
+
+  put_keeps : KeepsFaults w.bus (put_done w.bus n o)
+  put_keeps = record {
+    same_record = refl;
+    same_window = refl;
+    bits = bits_put;
+    babbles = λ m channel. babbles_put m channel (set_read w.bus.stations n with_offer m idle_station);
+    mutes = λ m channel. mutes_put m channel (set_read w.bus.stations n with_offer m idle_station);
+  }
+
 kept_put : (w : WorldState) (n : ℕ) (c : Carried) → KeepsFaults w.bus (put_on_bus w n c).bus
 kept_put w n Idle = kept_all w.bus
 kept_put w n (Knows x) = kept_all w.bus
+kept_put w n (Offers x o) = put_keeps w n o
 kept_put w n (Waits x) = kept_all w.bus
 kept_put w n (Took x p q) = kept_all w.bus
-kept_put w n (Offers x o) = record {
-  same_record = refl;
-  same_window = refl;
-  bits = same_bits;
-  babbles = λ m channel. by_babble m channel (set_read w.bus.stations n offered m idle_station);
-  mutes = λ m channel. by_mute m channel (set_read w.bus.stations n offered m idle_station);
-}
-  where
-    abbrev offered : Station
-    offered = offering (station_at w.bus n) o
-
-    same_bits : (channel : Channel) → corrupt_in (put_on_bus w n (Offers x o)).bus channel ≡ corrupt_in w.bus channel
-    same_bits A = refl
-    same_bits B = refl
-
-    by_babble : (m : ℕ) (channel : Channel) → IsSet w.bus.stations n offered m idle_station
-        → (side_on channel (get_or (set w.bus.stations n offered) m idle_station)).babble ≡ babble_at w.bus m channel
-    by_babble m channel (inl is) = ap (λ (s : Station). (side_on channel s).babble) is
-    by_babble m channel (inr is) =
-        ap (λ (s : Station). (side_on channel s).babble) is.1 ∙ offered_babble channel (station_at w.bus n) o
-        ∙ ap (λ (k : ℕ). babble_at w.bus k channel) (sym is.0)
-
-    by_mute : (m : ℕ) (channel : Channel) → IsSet w.bus.stations n offered m idle_station
-        → (side_on channel (get_or (set w.bus.stations n offered) m idle_station)).mute ≡ mute_at w.bus m channel
-    by_mute m channel (inl is) = ap (λ (s : Station). (side_on channel s).mute) is
-    by_mute m channel (inr is) =
-        ap (λ (s : Station). (side_on channel s).mute) is.1 ∙ offered_mute channel (station_at w.bus n) o
-        ∙ ap (λ (k : ℕ). mute_at w.bus k channel) (sym is.0)
 
 looked_bus : (w : WorldState) (n : ℕ) (opened : Option Opportunity) → KeepsFaults w.bus (looked w n opened).bus
 looked_bus w n None = kept_all w.bus
@@ -300,14 +304,13 @@ sees_next count old mid new idle passes m below =
 
 sees_idle : (count : ℕ) (old new : WorldState) → Passes old (for_nodes see_events count) new → AreIdleBelow count new
 sees_idle zero old new passes m below = absurd (omega (arith, below))
-sees_idle (suc count) old new passes =
+sees_idle (suc count) old new passes m below =
     let next : suc count ≡ count + 1 = omega arith in
     let all : Passes old (for_nodes see_events count ++ see_events count) new =
     subst (λ (l : List Event). Passes old l new) (ap (for_nodes see_events) next ∙ nodes_more see_events count) passes in
     let cut : IsSplit old (for_nodes see_events count) (see_events count) new =
     passes_split old (for_nodes see_events count) (see_events count) new all in
-    subst (λ (k : ℕ). AreIdleBelow k new) (sym next)
-    (sees_next count old cut.mid new (sees_idle count old cut.mid cut.first) cut.second)
+    sees_next count old cut.mid new (sees_idle count old cut.mid cut.first) cut.second m (omega (arith, below))
 
 -- ---- a window
 

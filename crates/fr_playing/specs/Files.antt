@@ -15,7 +15,7 @@ abbrev pub IsPlayIn : Description → ℕ → List ℕ → PlayedFile → Type 0
 IsPlayIn d cycles text file =
     IsScenarioText text file.scenario
     × IsPlayed d file.scenario.scripts file.scenario.faults cycles file.played
-    × IsSettled d file.scenario.scripts file.scenario.faults cycles file.played.world
+    × IsSettled d file.scenario.scripts file.scenario.faults cycles file.played
 
 -- The run with the scenario that the text spells, or the reason why there is none: the text is rejected with this
 -- error, or the run with it. Nothing is stated for a failing reader, a failed allocation, or an event that the world

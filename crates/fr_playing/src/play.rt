@@ -110,8 +110,8 @@ pub fn play(
     ensures kind { IfErr result IsOfRun }
     ensures played { IfOk result (IsPlayed cluster.now scripts.now faults.now cycles) }
     ensures headline { IfOk result (λ played. Headline played.world) }
-    // Journals, record and scripts agree, and each fault and each call comes in its window and its cycle.
-    ensures settled { IfOk result (λ played. IsSettled cluster.now scripts.now faults.now cycles played.world) }
+    // Journals, record, scripts and answers agree, and each fault and each call comes in its window and its cycle.
+    ensures settled { IfOk result (IsSettled cluster.now scripts.now faults.now cycles) }
 {
     if let Err(refusal) = check_run(cluster, scripts, faults, cycles) {
         return Err(PlayError::Run(refusal));
