@@ -1,0 +1,259 @@
+-- Wherever the definition lets a dynamic slot open, a run opens it.
+use Rattle.std.proofs.Common.{◌≡◌, ℕ, ◌+◌, ◌-◌, ◌*◌, ◌%◌, ◌<◌, ◌≤◌, ◌==◌, Bool, true, false, not, cond, ◌&&◌, ◌⊎◌, inl, inr}
+use Rattle.std.proofs.Common.{List, [], ◌∷◌, ◌++◌, length, length-append, replicate, map, Option, Some, None, refl, sym, ap}
+use Rattle.std.proofs.Common.{subst, ◌∙◌, arith, slice_get, get_or, is_some}
+use Rattle.std.specs.Prelude.{nat_lt, nat_le}
+use Rattle.std.proofs.lemmas.Bool.{eqb-true, lt-ltb}
+use Rattle.std.proofs.lemmas.List.{length-map, length-replicate}
+use Rattle.std.proofs.lemmas.Nat.{mod-mul-add}
+use Rattle.std.proofs.lemmas.Option.{get_or_from_slice_get, slice_get-get_or}
+use Rattle.fr_bus.specs.Courses.{opportunities}
+use Rattle.fr_bus.specs.declared.error.Phase.{Phase}
+use Rattle.fr_bus.specs.Record.{Recorded}
+use Rattle.fr_bus.specs.States.{collects, collecting_of, idle_station, phase_at}
+use Rattle.fr_bus.specs.Windows.{cycles_begun, this_cycle, counts_on, is_first_slot, is_row_of, opens_cycle, following}
+use Rattle.fr_core.proofs.CaseLemmas.{both_first, kept_if}
+use Rattle.fr_core.specs.Carried.{Idle}
+use Rattle.fr_core.specs.Worlds.{WorldState, no_interface, interface_at, new_interface, opening_world}
+use Rattle.fr_exactness.proofs.JournalLemmas.{HasWindows}
+use Rattle.fr_exactness.proofs.LeadLemmas.{leads_on}
+use Rattle.fr_exactness.proofs.PassingLemmas.{IsNodeAt, IsAt, IsPast, passes_silent, next_here}
+use Rattle.fr_exactness.proofs.PointLemmas.{replicate_is}
+use Rattle.fr_exactness.proofs.ProgressLemmas.{course_none, windows_fit, begun_next, counts_first}
+use Rattle.fr_exactness.proofs.SilenceLemmas.{IsEmpty}
+use Rattle.fr_exactness.proofs.WalkLemmas.{IsStart, reaches_cycle, IsCome, IsOn, walks}
+use Rattle.fr_exactness.proofs.WindowLemmas.{IsBetween}
+use Rattle.fr_exactness.specs.Exactness.{HasRoom, IsOpened, AreRealized}
+use Rattle.fr_exactness.specs.Leading.{Leads}
+use Rattle.fr_guarantees.specs.Ways.{IsRow, IsWay}
+use Rattle.fr_guarantees.specs.Ways.{CanSend}
+use Rattle.fr_interface.specs.State.{State}
+use Rattle.fr_journal.specs.Offers.{ready}
+use Rattle.fr_latency.proofs.LaneLemmas.{are_lanes}
+use Rattle.fr_latency.specs.Lanes.{CanSend as CanSendLane, IsLane, Opens}
+use Rattle.fr_latency.specs.Openings.{slots_before}
+use Rattle.fr_minislot.specs.DynamicRows.{AreRows, first_minislot, slot_after, has_row_after, opened_after}
+use Rattle.fr_schedule.specs.Clusters.{IsCluster}
+use Rattle.fr_schedule.specs.Descriptions.{Description}
+use Rattle.fr_slots.proofs.PlaceLemmas.{same_some, map-get}
+use Rattle.fr_slots.specs.declared.channel.Channel.{Channel}
+use Rattle.fr_slots.specs.declared.plan.Mode.{Mode}
+use Rattle.fr_slots.specs.declared.plan.Mode.TheVariants as mode
+use Rattle.fr_slots.specs.Faults.{words_of}
+use Rattle.fr_slots.specs.History.{AllAfter, last_after}
+use Rattle.fr_slots.specs.Parameters.{Parameters}
+use Rattle.fr_slots.specs.Plans.{Plan, empty_plan}
+use Rattle.fr_slots.specs.Windows.{Opportunity, slot_of, is_static}
+
+-- ---- the opening world
+
+nothing_ready : (m : Mode) (number : ℕ) → ready m number [] ≡ None
+unfolding last_after
+nothing_ready mode.Event number = refl
+nothing_ready mode.State number = refl
+nothing_ready mode.Receive number = refl
+
+no_windows : (params : Parameters) (plan : Plan) → HasWindows (new_interface params plan) 0
+unfolding last_after
+no_windows params plan = record { closed = refl; earlier = refl; slots = omega arith }
+
+new_node : (d : Description) (n : ℕ) (plan : Plan) → slice_get d.plans n ≡ Some plan
+    → IsNodeAt d n (new_interface d.params plan) 0 0
+new_node d n plan at = record {
+  params_are = refl;
+  plan_at = at;
+  has = no_windows d.params plan;
+  hosts = omega arith;
+  empty = λ number b here. nothing_ready b.mode number;
+}
+
+opening_node : (d : Description) (cycles n : ℕ) → n < length d.plans
+    → IsNodeAt d n (interface_at (opening_world d cycles) n) 0 0
+opening_node d cycles n within =
+    let no_plan = empty_plan 0 0 0 0 0 in
+    let plan = get_or d.plans n no_plan in
+    let at : slice_get d.plans n ≡ Some plan = slice_get-get_or d.plans n no_plan within in
+    let is : interface_at (opening_world d cycles) n ≡ new_interface d.params plan =
+    get_or_from_slice_get (map (new_interface d.params) d.plans) n (new_interface d.params plan) no_interface
+    (map-get (new_interface d.params) d.plans n plan at) in
+    subst (λ (s : State). IsNodeAt d n s 0 0) (sym is) (new_node d n plan at)
+
+opening_between : (d : Description) (cycles : ℕ) → 0 < cycles → IsBetween (opening_world d cycles)
+opening_between d cycles some =
+    let many = length-map d.plans (new_interface d.params) in
+    let next : following d.params cycles [] ≡ Some _ =
+    ap (λ (b : Bool). cond b (Some _) None) (lt-ltb 0 cycles some) in
+    record {
+      a_controller_each = length-replicate (length d.plans) Idle ∙ sym many;
+      a_station_each = length-replicate (length d.plans) idle_station ∙ sym many;
+      idle = λ n within. replicate_is (length d.plans) Idle n;
+      unput = λ n within. replicate_is (length d.plans) idle_station n;
+      whole_a = refl;
+      whole_b = refl;
+      phase = sym (ap phase_at next);
+      opened = refl;
+    }
+
+pub opening_at : (d : Description) → IsCluster d → (cycles : ℕ) → 0 < cycles → cycles ≤ 1024
+    → IsAt d cycles 0 (opening_world d cycles)
+opening_at d lawful cycles some few = record {
+  cluster = refl;
+  cycles_are = refl;
+  one_each = length-map d.plans (new_interface d.params);
+  course = course_none d.params cycles lawful.params_are few;
+  between = opening_between d cycles some;
+  nodes = λ n within. opening_node d cycles n (subst (λ (m : ℕ). n < m) (length-map d.plans (new_interface d.params))
+      within);
+}
+
+-- ---- the way of a lane
+
+both_after : {X : Type 0} (P Q R : List X → X → Type 0)
+    → ((before : List X) (x : X) → P before x → Q before x → R before x) → (before xs : List X)
+    → AllAfter P before xs → AllAfter Q before xs → AllAfter R before xs
+unfolding AllAfter
+both_after P Q R join before [] p q = tt
+both_after P Q R join before (x ∷ xs) p q =
+    (join before x p.0 q.0, both_after P Q R join (before ++ x ∷ []) xs p.1 q.1)
+
+can_send : (d : Description) (channel : Channel) (cycle slot minislot bytes : ℕ)
+    → CanSendLane d channel cycle slot minislot bytes → CanSend d cycle slot channel minislot bytes
+can_send d channel cycle slot minislot bytes can = record {
+  node = can.node;
+  plan = can.plan;
+  plan_at = can.of_node;
+  some_task = can.has_tasks;
+  number = can.number;
+  buffer = can.buffer;
+  at = can.of_plan;
+  sends = can.sends;
+  in_time = can.in_time;
+  bytes_are = omega (arith, can.bytes_are);
+}
+
+pub is_way : (d : Description) (channel : Channel) (cycle : ℕ) (counts : List ℕ) → IsLane d channel cycle counts
+    → AreRows d.params counts → IsWay d cycle channel counts
+is_way d channel cycle counts lane rows =
+    both_after
+    (λ before bytes. (bytes ≡ 0)
+    ⊎ CanSendLane d channel cycle (slot_after d.params before) (first_minislot d.params before) bytes)
+    (λ before bytes. has_row_after d.params before ≡ true) (IsRow d cycle channel)
+    (λ before bytes choice row. (row, elim choice [
+      | inl none ↦ inl none
+      | inr can ↦ inr (can_send d channel cycle (slot_after d.params before) (first_minislot d.params before) bytes can)
+    ])) [] counts lane rows
+
+-- ---- the row that opens the slot
+
+record IsRowOf (p : Parameters) (counts : List ℕ) (minislot slot : ℕ) : Type 0 where
+  exists : has_row_after p counts ≡ true
+  begins : first_minislot p counts ≡ minislot
+  slot_is : slot_after p counts ≡ slot
+
+row_of : (p : Parameters) (counts : List ℕ) (minislot slot : ℕ) → opened_after p counts minislot ≡ Some slot
+    → IsRowOf p counts minislot slot
+row_of p counts minislot slot e =
+    by (has_row_after p counts) (first_minislot p counts == minislot) refl refl e
+  where
+    by : (row at : Bool) → has_row_after p counts ≡ row → (first_minislot p counts == minislot) ≡ at
+        → cond (row && at) (Some (slot_after p counts)) None ≡ Some slot → IsRowOf p counts minislot slot
+    by true true is here f = record {
+      exists = is;
+      begins = eqb-true (first_minislot p counts) minislot here;
+      slot_is = same_some (slot_after p counts) slot f;
+    }
+    by true false is here f = absurd (let none : ⊥ = cc in none)
+    by false at is here f = absurd (let none : ⊥ = cc in none)
+
+-- ---- the run
+
+small_mod : (n : ℕ) → n < 64 → (n + 1 - 1) % 64 ≡ n
+small_mod n few =
+    let same : n + 1 - 1 ≡ 0 * 64 + n = omega arith in
+    ap (λ (m : ℕ). m % 64) same ∙ mod-mul-add 0 64 n few
+
+is_collecting : (phase : Phase) (opened : Option Opportunity) (window : Opportunity)
+    → phase ≡ phase_at (Some window) → opened ≡ Some window → cond (collects phase) opened None ≡ Some window
+is_collecting phase opened window is at = λ i. cond (collects (is i)) (at i) None
+
+open_at : (d : Description) (cycles calls : ℕ) (w : WorldState) (window : Opportunity) → IsAt d cycles calls w
+    → following d.params cycles w.bus.sealed ≡ Some window → collecting_of w.bus ≡ Some window
+open_at d cycles calls w window here next =
+    let follows = next_here d cycles calls w here ∙ next in
+    is_collecting w.bus.phase w.bus.opened window (here.between.phase ∙ ap phase_at follows)
+    (here.between.opened ∙ follows)
+
+module _ (d : Description) (lawful : IsCluster d) (cycle most : ℕ) (few : cycle < 64)
+    (room : HasRoom d (cycle + 1) most) (channel : Channel) where
+  -- the world after the first window of the cycle
+  first_row : (start : IsStart d lawful (cycle + 1) most room 0 cycle (opening_world d (cycle + 1)))
+      → IsPast d (cycle + 1) 0 start.world start.window channel 0
+  first_row start = passes_silent d (cycle + 1) most room 0 start.world start.window channel start.is_at start.next
+
+  begins : IsStart d lawful (cycle + 1) most room 0 cycle (opening_world d (cycle + 1))
+  begins = reaches_cycle d lawful (cycle + 1) most room (cycle * opportunities d.params + 1) 0 cycle (omega arith)
+      channel (opening_world d (cycle + 1)) (opening_at d lawful (cycle + 1) (omega arith) (omega (arith, few)))
+      (omega arith) (omega arith)
+
+  on_way : (start : IsStart d lawful (cycle + 1) most room 0 cycle (opening_world d (cycle + 1)))
+      → (past : IsPast d (cycle + 1) 0 start.world start.window channel 0)
+      → IsOn d lawful (cycle + 1) most room (cycle + 1) cycle (small_mod cycle few) few (omega arith) channel 0 []
+      past.world
+  on_way start past =
+      let opens = ap opens_cycle past.window_is ∙ start.opens in
+      let r = past.recorded in
+      let static : is_static r.window ≡ true = both_first (is_static r.window) (is_first_slot r.window.a) opens in
+      let row : is_row_of channel r ≡ false = ap (λ (b : Bool). not b && is_some (slot_of r.window channel)) static in
+      record {
+        is_at = past.is_at;
+        begun_is = ap cycles_begun past.sealed ∙ begun_next start.world.bus.sealed r true opens
+            ∙ ap (λ (n : ℕ). n + 1) start.begun_is;
+        counts_are = ap (λ (rs : List Recorded). counts_on channel (this_cycle rs)) past.sealed
+            ∙ counts_first channel start.world.bus.sealed r opens row;
+      }
+
+  pub comes : (counts : List ℕ) → IsWay d cycle channel counts → has_row_after d.params counts ≡ true
+      → 3 * length counts ≤ most
+      → IsCome d lawful (cycle + 1) most room most cycle channel counts (opening_world d (cycle + 1))
+  comes counts way final enough =
+      let start = begins in
+      let past = first_row start in
+      let on = on_way start past in
+      let fit = windows_fit d.params (cycle + 1) past.world.bus.sealed past.is_at.course in
+      let begun : cycles_begun past.world.bus.sealed * opportunities d.params ≡ (cycle + 1) * opportunities d.params =
+      ap (λ (n : ℕ). n * opportunities d.params) on.begun_is in
+      let fuel = (cycle + 1) * opportunities d.params + 1 - length past.world.bus.sealed in
+      let come = walks d lawful (cycle + 1) most room (cycle + 1) cycle (small_mod cycle few) few (omega arith) channel
+      counts most (omega arith) final fuel 0 counts [] past.world on refl way (omega (arith, enough))
+      (omega (arith, fit, begun)) in
+      record {
+        world = come.world;
+        leads = leads_on start.leads (leads_on past.leads come.leads);
+        is_at = come.is_at;
+        window = come.window;
+        next = come.next;
+        dynamic = come.dynamic;
+        cycle_is = come.cycle_is;
+        counts_are = come.counts_are;
+        slot_is = come.slot_is;
+        minislot_is = come.minislot_is;
+      }
+
+-- each opening of the definition is one of a run
+pub all_realized : (d : Description) → IsCluster d → AreRealized d
+all_realized d lawful channel cycle slot minislot few dynamic room opens =
+    let lane : Opens d channel cycle slot minislot =
+    ((are_lanes d lawful).opens channel cycle slot minislot dynamic).0 opens in
+    let row = row_of d.params lane.counts minislot slot lane.opened in
+    let way = is_way d channel cycle lane.counts lane.is_lane lane.are_rows in
+    let come = comes d lawful cycle (3 * slots_before d.params slot) few room channel lane.counts way row.exists
+    (omega (arith, row.slot_is)) in
+    record {
+      world = come.world;
+      leads = come.leads;
+      window = come.window;
+      is_open = open_at d (cycle + 1) (3 * slots_before d.params slot) come.world come.window come.is_at come.next;
+      cycle_is = come.cycle_is;
+      minislot_is = come.minislot_is ∙ row.begins;
+      slot_is = come.slot_is ∙ ap Some row.slot_is;
+    }

@@ -1,0 +1,17 @@
+pub mod LeadLemmas
+pub mod TurnLemmas
+pub mod PointLemmas
+pub mod OfferingLemmas
+pub mod ObservingLemmas
+pub mod WindowLemmas
+pub mod JournalLemmas
+pub mod HeardLemmas
+pub mod SilenceLemmas
+pub mod CallLemmas
+pub mod FollowingLemmas
+pub mod ProgressLemmas
+pub mod PassingLemmas
+pub mod FrameLemmas
+pub mod SentLemmas
+pub mod WalkLemmas
+pub mod ExactLemmas
