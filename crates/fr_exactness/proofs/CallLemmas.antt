@@ -5,12 +5,13 @@ use Rattle.std.specs.Prelude.{◌==◌, nat_le, count_by}
 use Rattle.std.specs.Option.{option_and_then}
 use Rattle.std.proofs.lemmas.Bool.{eq-eqb, eqb-true, ne_eqb, lt-leb}
 use Rattle.std.proofs.lemmas.Bool.Decides.{eqb_tells}
-use Rattle.fr_core.proofs.CaseLemmas.{differ}
+use Rattle.fr_core.proofs.CaseLemmas.{kept_if}
+use Rattle.fr_core.proofs.HandingLemmas.{data_is}
 use Rattle.fr_core.proofs.ReadyLemmas.{pending-new, ready-same, ready-new, ready-taken}
 use Rattle.fr_core.proofs.TakingLemmas.{IsOfferedBy, in_slot}
 use Rattle.fr_exactness.proofs.ObservingLemmas.{IsObserved}
 use Rattle.fr_exactness.proofs.OfferingLemmas.{fetched_by}
-use Rattle.fr_exactness.proofs.SilenceLemmas.{IsEmpty}
+use Rattle.fr_exactness.proofs.SilenceLemmas.{Keeps, HasReady, IsMute, not_ready}
 use Rattle.fr_interface.specs.declared.errors.HostError.TheVariants.{UnknownTask, UnknownBuffer, NotTransmit, WrongLength}
 use Rattle.fr_interface.specs.declared.errors.HostError.TheVariants.{HostFull}
 use Rattle.fr_interface.specs.State.{State, with_entry, fetch_entry, withdraw_entry, has_words, is_host_full}
@@ -23,10 +24,11 @@ use Rattle.fr_journal.specs.declared.entry.Offered.TheVariants.{Nothing, Null, D
 use Rattle.fr_journal.specs.Entries.{is_host}
 use Rattle.fr_journal.specs.Fate.{is_data_of, last_commit, pending_commit, sends, takes_back}
 use Rattle.fr_journal.specs.Forms.{Entry}
-use Rattle.fr_journal.specs.Offers.{offered, ready, ready_in}
+use Rattle.fr_journal.specs.Offers.{may_begin, ready, ready_in, transmitter, commit_offered, owns, offered_at, offered}
 use Rattle.fr_slots.specs.declared.channel.Channel.{Channel}
 use Rattle.fr_slots.specs.declared.channel.Channel.TheVariants.{A, B}
 use Rattle.fr_slots.specs.declared.plan.Buffer.{Buffer}
+use Rattle.fr_slots.specs.declared.plan.Mode.{Mode}
 use Rattle.fr_slots.specs.Faults.{words_of}
 use Rattle.fr_slots.specs.Plans.{buffer_at, is_receive}
 use Rattle.fr_slots.specs.Windows.{Opportunity, slot_of}
@@ -57,76 +59,90 @@ module _ (s : State) (number : ℕ) (b : Buffer) (at : buffer_at s.plan number �
       ∙ ap (unless_sending s) at
       ∙ (λ i. cond (sending i) (Some NotTransmit) (cond (not_full i) (Some HostFull) None))
 
--- ---- the only buffer with a commit to send
+-- ---- the buffers beside one
 
--- no other buffer has a commit to send
-abbrev pub IsOnly : State → ℕ → Type 0
-IsOnly s number = (other : ℕ) (b : Buffer) → other ≢ number → buffer_at s.plan other ≡ Some b
-    → ready b.mode other s.entries ≡ None
+-- each other buffer has this commit ready, or none
+abbrev pub HasOthers : Keeps → State → ℕ → Type 0
+HasOthers kept s number = (m : Mode) (other : ℕ) → is_receive m ≡ false → other ≢ number
+    → ready m other s.entries ≡ kept other
 
-pub empty_only : (s : State) (number : ℕ) → IsEmpty s → IsOnly s number
-empty_only s number empty other b differs at = empty other b at
-
-pub only_committed : (s : State) (number task : ℕ) (payload : List ℕ) → IsOnly s number
-    → IsOnly (with_entry s (Commit task number payload)) number
-only_committed s number task payload only other b differs at =
+pub others_committed : (kept : Keeps) (s : State) (number task : ℕ) (payload : List ℕ) → HasOthers kept s number
+    → HasOthers kept (with_entry s (Commit task number payload)) number
+others_committed kept s number task payload has m other sending differs =
     ready-same other s.entries (Commit task number payload)
-    (ne_eqb number other (λ same. differs (sym same))) b.mode (λ j last. refl) (λ j last. refl)
-    ∙ only other b differs at
+    (ne_eqb number other (λ same. differs (sym same))) m (λ j last. refl) (λ j last. refl)
+    ∙ has m other sending differs
 
 -- ---- the fetch of a window
 
-record IsSentBy (s : State) (commit : ℕ) : Type 0 where
+record IsSentBy (s : State) (window : Opportunity) (commit : ℕ) : Type 0 where
+  pub channel : Channel
   pub buffer : ℕ
+  pub transmitter_is : transmitter s.plan window channel ≡ Some buffer
+  pub begins : may_begin s.plan window channel ≡ true
   pub is_ready : ready_in s.plan s.entries buffer ≡ Some commit
   pub last : last_commit buffer s.entries ≡ Some commit
 
+record HasSlot (window : Opportunity) (channel : Channel) : Type 0 where
+  pub slot : ℕ
+  pub is : slot_of window channel ≡ Some slot
+
+offered_slot : (s : State) (window : Opportunity) (channel : Channel) (commit : ℕ) (o : Option ℕ)
+    → slot_of window channel ≡ o → offered_at s.plan s.entries window channel o ≡ Data commit
+    → HasSlot window channel
+offered_slot s window channel commit None is e = absurd (let none : ⊥ = cc in none)
+offered_slot s window channel commit (Some slot) is e = record { slot = slot; is = is }
+
 by_offer : (s : State) (window : Opportunity) (channel : Channel) (commit : ℕ) (o : Offered)
-    → offered s.plan s.entries window channel ≡ o → is_data_of commit o ≡ true → IsSentBy s commit
+    → offered s.plan s.entries window channel ≡ o → is_data_of commit o ≡ true → IsSentBy s window commit
 by_offer s window channel commit Nothing is e = absurd (let none : ⊥ = cc in none)
 by_offer s window channel commit Null is e = absurd (let none : ⊥ = cc in none)
 by_offer s window channel commit (Data k) is e =
     let same : k ≡ commit = eqb-true k commit e in
-    let o = in_slot s.plan s.entries window channel commit (slot_of window channel) (is ∙ ap Data same) in
-    record { buffer = o.buffer; is_ready = o.is_ready; last = o.last }
+    let offers : offered s.plan s.entries window channel ≡ Data commit = is ∙ ap Data same in
+    let o = in_slot s.plan s.entries window channel commit (slot_of window channel) offers in
+    let at = offered_slot s window channel commit (slot_of window channel) refl offers in
+    let there = ap (offered_at s.plan s.entries window channel) (sym at.is) ∙ offers in
+    record {
+      channel = channel;
+      buffer = o.buffer;
+      transmitter_is = o.at;
+      begins = kept_if (may_begin s.plan window channel)
+          (option_and_then (ready_in s.plan s.entries) (transmitter s.plan window channel)) commit
+          (data_is (owns s.plan window channel at.slot) (commit_offered s.plan s.entries window channel) commit there);
+      is_ready = o.is_ready;
+      last = o.last;
+    }
 
 sent_by : (s : State) (window : Opportunity) (commit : ℕ) (a b : Bool)
     → is_data_of commit (offered s.plan s.entries window A) ≡ a
-    → is_data_of commit (offered s.plan s.entries window B) ≡ b → (a || b) ≡ true → IsSentBy s commit
+    → is_data_of commit (offered s.plan s.entries window B) ≡ b → (a || b) ≡ true → IsSentBy s window commit
 sent_by s window commit true b on_a on_b e =
     by_offer s window A commit (offered s.plan s.entries window A) refl on_a
 sent_by s window commit false true on_a on_b e =
     by_offer s window B commit (offered s.plan s.entries window B) refl on_b
 sent_by s window commit false false on_a on_b e = absurd (let none : ⊥ = cc in none)
 
-record IsBuffer (s : State) (number : ℕ) : Type 0 where
-  pub buffer : Buffer
-  pub at : buffer_at s.plan number ≡ Some buffer
-
--- a buffer that is ready is one of the plan's
-of_plan : (s : State) (number commit : ℕ) → ready_in s.plan s.entries number ≡ Some commit → IsBuffer s number
-of_plan s number commit e = by (buffer_at s.plan number) refl e
-  where
-    by : (o : Option Buffer) → buffer_at s.plan number ≡ o
-        → option_and_then (λ (b : Buffer). ready b.mode number s.entries) o ≡ Some commit → IsBuffer s number
-    by None is f = absurd (let none : ⊥ = cc in none)
-    by (Some b) is f = record { buffer = b; at = is }
+-- a buffer that isn't ready in any mode offers nothing
+never_ready : (entries : List Entry) (number commit : ℕ) → ((m : Mode) → ready m number entries ≡ None)
+    → (o : Option Buffer) → option_and_then (λ (b : Buffer). ready b.mode number entries) o ≡ Some commit → ⊥
+never_ready entries number commit none None e = let no : ⊥ = cc in no
+never_ready entries number commit none (Some b) e = let is = none b.mode in let no : ⊥ = cc in no
 
 -- a fetch sends nothing of the other buffers
-unsent : (s : State) (window : Opportunity) (number other commit : ℕ) → IsOnly s number → other ≢ number
+unsent : (kept : Keeps) (s : State) (window : Opportunity) (number other commit : ℕ) → HasOthers kept s number
+    → IsMute kept s.plan window → other ≢ number
     → last_commit other s.entries ≡ Some commit → sends commit (fetch_entry s window) ≡ false
-unsent s window number other commit only differs last = by (sends commit (fetch_entry s window)) refl
+unsent kept s window number other commit has mute differs last = by (sends commit (fetch_entry s window)) refl
   where
-    never : IsSentBy s commit → ⊥
+    never : IsSentBy s window commit → ⊥
     never sent = elim (eqb_tells sent.buffer number) [
       | inl same ↦ differs (one_buffer s.entries other number commit last
           (ap (λ (n : ℕ). last_commit n s.entries) (sym same.1) ∙ sent.last))
       | inr another ↦ (
-          let b = of_plan s sent.buffer commit sent.is_ready in
-          let ready_is : ready b.buffer.mode sent.buffer s.entries ≡ Some commit =
-          ap (option_and_then (λ (c : Buffer). ready c.mode sent.buffer s.entries)) (sym b.at) ∙ sent.is_ready in
-          let not_so = only sent.buffer b.buffer another.1 b.at in
-          let none : ⊥ = cc in none)
+          let none = mute sent.channel sent.buffer sent.transmitter_is sent.begins in
+          never_ready s.entries sent.buffer commit (not_ready s.entries sent.buffer
+          (λ m sending. has m sent.buffer sending another.1 ∙ none)) (buffer_at s.plan sent.buffer) sent.is_ready)
     ]
 
     by : (t : Bool) → sends commit (fetch_entry s window) ≡ t → sends commit (fetch_entry s window) ≡ false
@@ -134,15 +150,15 @@ unsent s window number other commit only differs last = by (sends commit (fetch_
     by true e = absurd (never (sent_by s window commit (is_data_of commit (offered s.plan s.entries window A))
         (is_data_of commit (offered s.plan s.entries window B)) refl refl e))
 
-pub only_after : (s t : State) (window : Opportunity) (number : ℕ) → IsOnly s number
-    → IsObserved (fetched_by s window) t window → IsOnly t number
-only_after s t window number only seen other b differs at =
-    ap (λ (x : State). ready b.mode other x.entries) seen.is
-    ∙ ready-same other (fetched_by s window).entries (Observe window.number seen.a seen.b) refl b.mode
+pub others_after : (kept : Keeps) (s t : State) (window : Opportunity) (number : ℕ) → HasOthers kept s number
+    → IsMute kept s.plan window → IsObserved (fetched_by s window) t window → HasOthers kept t number
+others_after kept s t window number has mute seen m other sending differs =
+    ap (λ (x : State). ready m other x.entries) seen.is
+    ∙ ready-same other (fetched_by s window).entries (Observe window.number seen.a seen.b) refl m
     (λ j last. refl) (λ j last. refl)
-    ∙ ready-same other s.entries (fetch_entry s window) refl b.mode
-    (λ j last. unsent s window number other j only differs last) (λ j last. refl)
-    ∙ only other b differs (ap (λ (x : State). buffer_at x.plan other) (sym seen.is) ∙ at)
+    ∙ ready-same other s.entries (fetch_entry s window) refl m
+    (λ j last. unsent kept s window number other j has mute differs last) (λ j last. refl)
+    ∙ has m other sending differs
 
 -- ---- the withdraw that empties the buffer
 
@@ -151,7 +167,7 @@ emptied s number payload =
     with_entry (with_entry s (Commit 0 number payload))
     (withdraw_entry (with_entry s (Commit 0 number payload)) 0 number)
 
-module _ (s : State) (number : ℕ) (payload : List ℕ) (only : IsOnly s number) where
+module _ (kept : Keeps) (s : State) (number : ℕ) (payload : List ℕ) (has : HasOthers kept s number) where
   abbrev committed : State
   committed = with_entry s (Commit 0 number payload)
 
@@ -164,20 +180,21 @@ module _ (s : State) (number : ℕ) (payload : List ℕ) (only : IsOnly s number
   taken : (commit : ℕ) → takes_back commit (withdraw_entry committed 0 number) ≡ (length s.entries == commit)
   taken commit = ap (λ (o : Option ℕ). takes_back commit (Withdraw 0 number o)) pending
 
-  others : (other : ℕ) (b : Buffer) → other ≢ number → buffer_at s.plan other ≡ Some b
-      → ready b.mode other (emptied s number payload).entries ≡ None
-  others other b differs at =
-      ready-same other committed.entries (withdraw_entry committed 0 number) refl b.mode (λ j known. refl)
+  others : (m : Mode) (other : ℕ) → is_receive m ≡ false → other ≢ number
+      → ready m other (emptied s number payload).entries ≡ kept other
+  others m other sending differs =
+      ready-same other committed.entries (withdraw_entry committed 0 number) refl m (λ j known. refl)
       (λ j known. taken j ∙ ne_eqb (length s.entries) j (λ same. differs (one_buffer committed.entries other number j
       known (last ∙ ap Some same))))
-      ∙ only_committed s number 0 payload only other b differs at
+      ∙ others_committed kept s number 0 payload has m other sending differs
 
-  pub emptied_is : IsEmpty (emptied s number payload)
-  emptied_is other b at = elim (eqb_tells other number) [
-    | inl same ↦ ap (λ (n : ℕ). ready b.mode n (emptied s number payload).entries) same.1
-        ∙ ready-taken number committed.entries (withdraw_entry committed 0 number) refl b.mode (length s.entries)
+  pub emptied_is : kept number ≡ None → HasReady kept (emptied s number payload)
+  emptied_is none m other sending = elim (eqb_tells other number) [
+    | inl same ↦ ap (λ (n : ℕ). ready m n (emptied s number payload).entries) same.1
+        ∙ ready-taken number committed.entries (withdraw_entry committed 0 number) refl m (length s.entries)
         (λ j. refl) pending (taken (length s.entries) ∙ eq-eqb (length s.entries) (length s.entries) refl)
-    | inr differs ↦ others other b differs.1 at
+        ∙ sym none ∙ ap kept (sym same.1)
+    | inr differs ↦ others m other sending differs.1
   ]
 
 -- a commit on the buffer is ready

@@ -17,10 +17,10 @@ use Rattle.fr_core.specs.Carried.{Idle}
 use Rattle.fr_core.specs.Worlds.{WorldState, no_interface, interface_at, new_interface, opening_world}
 use Rattle.fr_exactness.proofs.JournalLemmas.{HasWindows}
 use Rattle.fr_exactness.proofs.LeadLemmas.{leads_on}
-use Rattle.fr_exactness.proofs.PassingLemmas.{IsNodeAt, IsAt, IsPast, passes_silent, next_here}
+use Rattle.fr_exactness.proofs.PassingLemmas.{IsNodeAt, IsAt, AreMute, IsPast, passes_silent, next_here}
 use Rattle.fr_exactness.proofs.PointLemmas.{replicate_is}
 use Rattle.fr_exactness.proofs.ProgressLemmas.{course_none, windows_fit, begun_next, counts_first}
-use Rattle.fr_exactness.proofs.SilenceLemmas.{IsEmpty}
+use Rattle.fr_exactness.proofs.SilenceLemmas.{Keeps}
 use Rattle.fr_exactness.proofs.WalkLemmas.{IsStart, reaches_cycle, IsCome, IsOn, walks}
 use Rattle.fr_exactness.proofs.WindowLemmas.{IsBetween}
 use Rattle.fr_exactness.specs.Exactness.{HasRoom, IsOpened, AreRealized}
@@ -47,6 +47,10 @@ use Rattle.fr_slots.specs.Windows.{Opportunity, slot_of, is_static}
 
 -- ---- the opening world
 
+-- no buffer has a commit to send
+abbrev pub nothing_kept : ℕ → Keeps
+nothing_kept n number = None
+
 nothing_ready : (m : Mode) (number : ℕ) → ready m number [] ≡ None
 unfolding last_after
 nothing_ready mode.Event number = refl
@@ -58,17 +62,17 @@ unfolding last_after
 no_windows params plan = record { closed = refl; earlier = refl; slots = omega arith }
 
 new_node : (d : Description) (n : ℕ) (plan : Plan) → slice_get d.plans n ≡ Some plan
-    → IsNodeAt d n (new_interface d.params plan) 0 0
+    → IsNodeAt d (nothing_kept n) n (new_interface d.params plan) 0 0
 new_node d n plan at = record {
   params_are = refl;
   plan_at = at;
   has = no_windows d.params plan;
   hosts = omega arith;
-  empty = λ number b here. nothing_ready b.mode number;
+  ready = λ m number sending. nothing_ready m number;
 }
 
 opening_node : (d : Description) (cycles n : ℕ) → n < length d.plans
-    → IsNodeAt d n (interface_at (opening_world d cycles) n) 0 0
+    → IsNodeAt d (nothing_kept n) n (interface_at (opening_world d cycles) n) 0 0
 opening_node d cycles n within =
     let no_plan = empty_plan 0 0 0 0 0 in
     let plan = get_or d.plans n no_plan in
@@ -76,7 +80,7 @@ opening_node d cycles n within =
     let is : interface_at (opening_world d cycles) n ≡ new_interface d.params plan =
     get_or_from_slice_get (map (new_interface d.params) d.plans) n (new_interface d.params plan) no_interface
     (map-get (new_interface d.params) d.plans n plan at) in
-    subst (λ (s : State). IsNodeAt d n s 0 0) (sym is) (new_node d n plan at)
+    subst (λ (s : State). IsNodeAt d (nothing_kept n) n s 0 0) (sym is) (new_node d n plan at)
 
 opening_between : (d : Description) (cycles : ℕ) → 0 < cycles → IsBetween (opening_world d cycles)
 opening_between d cycles some =
@@ -95,7 +99,7 @@ opening_between d cycles some =
     }
 
 pub opening_at : (d : Description) → IsCluster d → (cycles : ℕ) → 0 < cycles → cycles ≤ 1024
-    → IsAt d cycles 0 (opening_world d cycles)
+    → IsAt d cycles nothing_kept 0 (opening_world d cycles)
 opening_at d lawful cycles some few = record {
   cluster = refl;
   cycles_are = refl;
@@ -176,28 +180,34 @@ is_collecting : (phase : Phase) (opened : Option Opportunity) (window : Opportun
     → phase ≡ phase_at (Some window) → opened ≡ Some window → cond (collects phase) opened None ≡ Some window
 is_collecting phase opened window is at = λ i. cond (collects (is i)) (at i) None
 
-open_at : (d : Description) (cycles calls : ℕ) (w : WorldState) (window : Opportunity) → IsAt d cycles calls w
+pub open_at : (d : Description) (cycles : ℕ) (kept : ℕ → Keeps) (calls : ℕ) (w : WorldState) (window : Opportunity)
+    → IsAt d cycles kept calls w
     → following d.params cycles w.bus.sealed ≡ Some window → collecting_of w.bus ≡ Some window
-open_at d cycles calls w window here next =
-    let follows = next_here d cycles calls w here ∙ next in
+open_at d cycles kept calls w window here next =
+    let follows = next_here d cycles kept calls w here ∙ next in
     is_collecting w.bus.phase w.bus.opened window (here.between.phase ∙ ap phase_at follows)
     (here.between.opened ∙ follows)
 
 module _ (d : Description) (lawful : IsCluster d) (cycle most : ℕ) (few : cycle < 64)
     (room : HasRoom d (cycle + 1) most) (channel : Channel) where
+  all_mute : (window : Opportunity) → AreMute d nothing_kept window
+  all_mute window n plan at on number is begins = refl
+
   -- the world after the first window of the cycle
-  first_row : (start : IsStart d lawful (cycle + 1) most room 0 cycle (opening_world d (cycle + 1)))
-      → IsPast d (cycle + 1) 0 start.world start.window channel 0
-  first_row start = passes_silent d (cycle + 1) most room 0 start.world start.window channel start.is_at start.next
+  first_row : (start : IsStart d lawful (cycle + 1) most room nothing_kept 0 cycle (opening_world d (cycle + 1)))
+      → IsPast d (cycle + 1) nothing_kept 0 start.world start.window channel 0
+  first_row start = passes_silent d (cycle + 1) most room nothing_kept 0 start.world start.window channel start.is_at
+      start.next (all_mute start.window)
 
-  begins : IsStart d lawful (cycle + 1) most room 0 cycle (opening_world d (cycle + 1))
-  begins = reaches_cycle d lawful (cycle + 1) most room (cycle * opportunities d.params + 1) 0 cycle (omega arith)
-      channel (opening_world d (cycle + 1)) (opening_at d lawful (cycle + 1) (omega arith) (omega (arith, few)))
-      (omega arith) (omega arith)
+  begins : IsStart d lawful (cycle + 1) most room nothing_kept 0 cycle (opening_world d (cycle + 1))
+  begins = reaches_cycle d lawful (cycle + 1) most room nothing_kept (λ rs. Unit {0}) (cycle * opportunities d.params + 1) 0 cycle
+      (λ rs window good next course few opens. (all_mute window, λ r is. tt)) (omega arith) channel
+      (opening_world d (cycle + 1)) (opening_at d lawful (cycle + 1) (omega arith) (omega (arith, few)))
+      tt (omega arith) (omega arith)
 
-  on_way : (start : IsStart d lawful (cycle + 1) most room 0 cycle (opening_world d (cycle + 1)))
-      → (past : IsPast d (cycle + 1) 0 start.world start.window channel 0)
-      → IsOn d lawful (cycle + 1) most room (cycle + 1) cycle (small_mod cycle few) few (omega arith) channel 0 []
+  on_way : (start : IsStart d lawful (cycle + 1) most room nothing_kept 0 cycle (opening_world d (cycle + 1)))
+      → (past : IsPast d (cycle + 1) nothing_kept 0 start.world start.window channel 0)
+      → IsOn d lawful (cycle + 1) most room nothing_kept (cycle + 1) cycle (small_mod cycle few) few (omega arith) channel 0 []
       past.world
   on_way start past =
       let opens = ap opens_cycle past.window_is ∙ start.opens in
@@ -214,7 +224,7 @@ module _ (d : Description) (lawful : IsCluster d) (cycle most : ℕ) (few : cycl
 
   pub comes : (counts : List ℕ) → IsWay d cycle channel counts → has_row_after d.params counts ≡ true
       → 3 * length counts ≤ most
-      → IsCome d lawful (cycle + 1) most room most cycle channel counts (opening_world d (cycle + 1))
+      → IsCome d lawful (cycle + 1) most room nothing_kept most cycle channel counts (opening_world d (cycle + 1))
   comes counts way final enough =
       let start = begins in
       let past = first_row start in
@@ -223,8 +233,8 @@ module _ (d : Description) (lawful : IsCluster d) (cycle most : ℕ) (few : cycl
       let begun : cycles_begun past.world.bus.sealed * opportunities d.params ≡ (cycle + 1) * opportunities d.params =
       ap (λ (n : ℕ). n * opportunities d.params) on.begun_is in
       let fuel = (cycle + 1) * opportunities d.params + 1 - length past.world.bus.sealed in
-      let come = walks d lawful (cycle + 1) most room (cycle + 1) cycle (small_mod cycle few) few (omega arith) channel
-      counts most (omega arith) final fuel 0 counts [] past.world on refl way (omega (arith, enough))
+      let come = walks d lawful (cycle + 1) most room nothing_kept (cycle + 1) cycle (small_mod cycle few) few
+      (omega arith) channel counts most (omega arith) final (λ rs window next course lower. all_mute window) fuel 0 counts [] past.world on refl way (omega (arith, enough))
       (omega (arith, fit, begun)) in
       record {
         world = come.world;
@@ -252,7 +262,7 @@ all_realized d lawful channel cycle slot minislot few dynamic room opens =
       world = come.world;
       leads = come.leads;
       window = come.window;
-      is_open = open_at d (cycle + 1) (3 * slots_before d.params slot) come.world come.window come.is_at come.next;
+      is_open = open_at d (cycle + 1) nothing_kept (3 * slots_before d.params slot) come.world come.window come.is_at come.next;
       cycle_is = come.cycle_is;
       minislot_is = come.minislot_is ∙ row.begins;
       slot_is = come.slot_is ∙ ap Some row.slot_is;

@@ -15,15 +15,15 @@ use Rattle.fr_core.specs.declared.error.StepError.TheVariants.{Host}
 use Rattle.fr_core.specs.declared.event.Event.TheVariants.{Commit, Withdraw}
 use Rattle.fr_core.specs.Steps.{with_interface, offer_of}
 use Rattle.fr_core.specs.Worlds.{WorldState, no_interface, interface_at, carried_at}
-use Rattle.fr_exactness.proofs.CallLemmas.{commit_accepted, withdraw_accepted, IsOnly, empty_only, only_committed}
-use Rattle.fr_exactness.proofs.CallLemmas.{only_after, emptied, emptied_is, committed_ready}
+use Rattle.fr_exactness.proofs.CallLemmas.{HasOthers, others_committed, others_after, emptied, emptied_is}
+use Rattle.fr_exactness.proofs.CallLemmas.{committed_ready}
 use Rattle.fr_exactness.proofs.HeardLemmas.{offer_on}
 use Rattle.fr_exactness.proofs.JournalLemmas.{HasWindows, windows_more, windows_same, hosts_same}
 use Rattle.fr_exactness.proofs.LeadLemmas.{leads_by}
 use Rattle.fr_exactness.proofs.ObservingLemmas.{IsObserved}
 use Rattle.fr_exactness.proofs.OfferingLemmas.{fetched_by}
 use Rattle.fr_exactness.proofs.PassingLemmas.{IsNodeAt}
-use Rattle.fr_exactness.proofs.SilenceLemmas.{IsEmpty, data_bytes}
+use Rattle.fr_exactness.proofs.SilenceLemmas.{Keeps, IsMute, data_bytes}
 use Rattle.fr_exactness.proofs.TurnLemmas.{if_known}
 use Rattle.fr_exactness.proofs.WindowLemmas.{IsBetween}
 use Rattle.fr_exactness.specs.Leading.{Leads}
@@ -171,8 +171,8 @@ frame_is s number b window channel slot bytes payload is slot_is bytes_are =
 
 -- ---- the sender's interface before and after the window
 
-module _ (d : Description) (n : ℕ) (s : State) (many calls number : ℕ) (b : Buffer) (payload : List ℕ)
-    (is : IsNodeAt d n s many calls) where
+module _ (d : Description) (kept : Keeps) (n : ℕ) (s : State) (many calls number : ℕ) (b : Buffer) (payload : List ℕ)
+    (is : IsNodeAt d kept n s many calls) where
   -- with the commit
   pub committed_has : HasWindows (with_entry s (entries.Commit 0 number payload)) many
   committed_has = windows_same s (entries.Commit 0 number payload) many refl refl refl is.has
@@ -192,15 +192,16 @@ module _ (d : Description) (n : ℕ) (s : State) (many calls number : ℕ) (b : 
     past_hosts = subst (λ (m : ℕ). m ≤ calls + 1)
         (sym (hosts_same (with_entry s (entries.Commit 0 number payload)) t window seen)) committed_hosts
 
-    past_only : IsOnly t number
-    past_only = only_after (with_entry s (entries.Commit 0 number payload)) t window number
-        (only_committed s number 0 payload (empty_only s number is.empty)) seen
+    past_others : IsMute kept s.plan window → HasOthers kept t number
+    past_others mute = others_after kept (with_entry s (entries.Commit 0 number payload)) t window number
+        (others_committed kept s number 0 payload (λ m other sends differs. is.ready m other sends)) mute seen
 
     abbrev t2 : State
     t2 = with_entry t (entries.Commit 0 number payload)
 
-    pub emptied_at : IsNodeAt d n (emptied t number payload) (many + 1) (calls + 3)
-    emptied_at =
+    pub emptied_at : IsMute kept s.plan window → kept number ≡ None
+        → IsNodeAt d kept n (emptied t number payload) (many + 1) (calls + 3)
+    emptied_at mute none =
         let has = windows_more (with_entry s (entries.Commit 0 number payload)) t window many committed_has number_is
         seen in
         record {
@@ -214,5 +215,5 @@ module _ (d : Description) (n : ℕ) (s : State) (many calls number : ℕ) (b : 
             count_more is_host t.entries (entries.Commit 0 number payload),
             count_more is_host t2.entries (withdraw_entry t2 0 number),
           );
-          empty = emptied_is t number payload past_only;
+          ready = emptied_is kept t number payload (past_others mute) none;
         }

@@ -16,7 +16,7 @@ use Rattle.fr_exactness.proofs.JournalLemmas.{HasWindows, fetch_ready, windows_m
 use Rattle.fr_exactness.proofs.ObservingLemmas.{IsObserved}
 use Rattle.fr_exactness.proofs.OfferingLemmas.{fetched_by}
 use Rattle.fr_exactness.proofs.ProgressLemmas.{course_next, number_fits}
-use Rattle.fr_exactness.proofs.SilenceLemmas.{IsEmpty, none_offered, no_bytes, empty_after}
+use Rattle.fr_exactness.proofs.SilenceLemmas.{Keeps, HasReady, IsMute, none_offered, no_bytes, kept_after}
 use Rattle.fr_exactness.proofs.WindowLemmas.{recorded_by, IsBetween, HasPassed, has_passed}
 use Rattle.fr_exactness.specs.Exactness.{HasRoom}
 use Rattle.fr_exactness.specs.Leading.{Leads}
@@ -30,38 +30,43 @@ use Rattle.fr_slots.specs.Windows.{Opportunity, is_static, window_fits}
 
 -- ---- worlds on the way
 
--- The interface of this node has journaled so many windows and at most so many calls. It has no commit to send.
-pub record IsNodeAt (d : Description) (n : ℕ) (s : State) (many calls : ℕ) : Type 0 where
+-- The interface of this node has journaled so many windows and at most so many calls. These commits are ready.
+pub record IsNodeAt (d : Description) (kept : Keeps) (n : ℕ) (s : State) (many calls : ℕ) : Type 0 where
   pub params_are : s.params ≡ d.params
   pub plan_at : slice_get d.plans n ≡ Some s.plan
   pub has : HasWindows s many
   pub hosts : count_by is_host s.entries ≤ calls
-  pub empty : IsEmpty s
+  pub ready : HasReady kept s
 
 -- a world of the cluster between two windows, in which no host made more calls
-pub record IsAt (d : Description) (cycles calls : ℕ) (w : WorldState) : Type 0 where
+pub record IsAt (d : Description) (cycles : ℕ) (kept : ℕ → Keeps) (calls : ℕ) (w : WorldState) : Type 0 where
   pub cluster : w.bus.cluster ≡ d
   pub cycles_are : w.bus.cycles ≡ cycles
   pub one_each : length w.interfaces ≡ length d.plans
   pub course : IsCourse (course_of d.params cycles w.bus.sealed)
   pub between : IsBetween w
-  pub nodes : (n : ℕ) → n < length w.interfaces → IsNodeAt d n (interface_at w n) (length w.bus.sealed) calls
+  pub nodes : (n : ℕ) → n < length w.interfaces
+      → IsNodeAt d (kept n) n (interface_at w n) (length w.bus.sealed) calls
+
+-- no node sends a commit that is ready in the window
+abbrev pub AreMute : Description → (ℕ → Keeps) → Opportunity → Type 0
+AreMute d kept window = (n : ℕ) (plan : Plan) → slice_get d.plans n ≡ Some plan → IsMute (kept n) plan window
 
 -- The window has passed. If it was dynamic, the longest transmission on the channel had so many bytes.
-pub record IsPast (d : Description) (cycles calls : ℕ) (w : WorldState) (window : Opportunity) (channel : Channel)
-    (bytes : ℕ) : Type 0 where
+pub record IsPast (d : Description) (cycles : ℕ) (kept : ℕ → Keeps) (calls : ℕ) (w : WorldState) (window : Opportunity)
+    (channel : Channel) (bytes : ℕ) : Type 0 where
   pub world : WorldState
   pub leads : Leads w world
-  pub is_at : IsAt d cycles calls world
+  pub is_at : IsAt d cycles kept calls world
   pub recorded : Recorded
   pub sealed : world.bus.sealed ≡ w.bus.sealed ++ recorded ∷ []
   pub window_is : recorded.window ≡ window
   pub longest_is : is_static window ≡ false → longest channel recorded.sent ≡ bytes
 
 -- no more calls were made than so many more
-pub at_more : (d : Description) (cycles calls more : ℕ) (w : WorldState) → calls ≤ more → IsAt d cycles calls w
-    → IsAt d cycles more w
-at_more d cycles calls more w few here = record {
+pub at_more : (d : Description) (cycles : ℕ) (kept : ℕ → Keeps) (calls more : ℕ) (w : WorldState) → calls ≤ more
+    → IsAt d cycles kept calls w → IsAt d cycles kept more w
+at_more d cycles kept calls more w few here = record {
   cluster = here.cluster;
   cycles_are = here.cycles_are;
   one_each = here.one_each;
@@ -74,28 +79,29 @@ at_more d cycles calls more w few here = record {
       plan_at = node.plan_at;
       has = node.has;
       hosts = omega (arith, node.hosts, few);
-      empty = node.empty;
+      ready = node.ready;
     });
 }
 
-pub past_more : (d : Description) (cycles calls more bytes : ℕ) (w : WorldState) (window : Opportunity)
-    (channel : Channel) → calls ≤ more → IsPast d cycles calls w window channel bytes
-    → IsPast d cycles more w window channel bytes
-past_more d cycles calls more bytes w window channel few past = record {
+pub past_more : (d : Description) (cycles : ℕ) (kept : ℕ → Keeps) (calls more bytes : ℕ) (w : WorldState)
+    (window : Opportunity) (channel : Channel) → calls ≤ more → IsPast d cycles kept calls w window channel bytes
+    → IsPast d cycles kept more w window channel bytes
+past_more d cycles kept calls more bytes w window channel few past = record {
   world = past.world;
   leads = past.leads;
-  is_at = at_more d cycles calls more past.world few past.is_at;
+  is_at = at_more d cycles kept calls more past.world few past.is_at;
   recorded = past.recorded;
   sealed = past.sealed;
   window_is = past.window_is;
   longest_is = past.longest_is;
 }
 
-pub next_here : (d : Description) (cycles calls : ℕ) (w : WorldState) → IsAt d cycles calls w
+pub next_here : (d : Description) (cycles : ℕ) (kept : ℕ → Keeps) (calls : ℕ) (w : WorldState)
+    → IsAt d cycles kept calls w
     → following w.bus.cluster.params w.bus.cycles w.bus.sealed ≡ following d.params cycles w.bus.sealed
-next_here d cycles calls w here = λ i. following (here.cluster i).params (here.cycles_are i) w.bus.sealed
+next_here d cycles kept calls w here = λ i. following (here.cluster i).params (here.cycles_are i) w.bus.sealed
 
-module _ (d : Description) (cycles most : ℕ) (room : HasRoom d cycles most) where
+module _ (d : Description) (cycles most : ℕ) (room : HasRoom d cycles most) (kept : ℕ → Keeps) where
   -- an interface between two windows takes the next one
   pub takes_next : (n : ℕ) (s : State) (rs : List Recorded) (window : Opportunity) → s.params ≡ d.params
       → slice_get d.plans n ≡ Some s.plan → HasWindows s (length rs) → IsCourse (course_of d.params cycles rs)
@@ -110,25 +116,27 @@ module _ (d : Description) (cycles most : ℕ) (room : HasRoom d cycles most) wh
       (omega (arith, fits, many, fitting.number_is))
 
   -- a node after a window
-  pub node_past : (n many calls : ℕ) (s t : State) (window : Opportunity) → IsNodeAt d n s many calls
-      → window.number ≡ many → IsObserved (fetched_by s window) t window → IsNodeAt d n t (many + 1) calls
-  node_past n many calls s t window was number_is seen = record {
+  pub node_past : (n many calls : ℕ) (s t : State) (window : Opportunity) → IsNodeAt d (kept n) n s many calls
+      → AreMute d kept window → window.number ≡ many → IsObserved (fetched_by s window) t window
+      → IsNodeAt d (kept n) n t (many + 1) calls
+  node_past n many calls s t window was mute number_is seen = record {
     params_are = ap (λ (x : State). x.params) seen.is ∙ was.params_are;
     plan_at = was.plan_at ∙ ap (λ (x : State). Some x.plan) (sym seen.is);
     has = windows_more s t window many was.has number_is seen;
     hosts = subst (λ (m : ℕ). m ≤ calls) (sym (hosts_same s t window seen)) was.hosts;
-    empty = empty_after s t window was.empty seen;
+    ready = kept_after (kept n) s t window was.ready (mute n s.plan was.plan_at) seen;
   }
 
   -- nothing is sent in the window
-  pub passes_silent : (calls : ℕ) (w : WorldState) (window : Opportunity) (channel : Channel) → IsAt d cycles calls w
-      → following d.params cycles w.bus.sealed ≡ Some window → IsPast d cycles calls w window channel 0
-  passes_silent calls w window channel here next =
+  pub passes_silent : (calls : ℕ) (w : WorldState) (window : Opportunity) (channel : Channel)
+      → IsAt d cycles kept calls w → following d.params cycles w.bus.sealed ≡ Some window → AreMute d kept window
+      → IsPast d cycles kept calls w window channel 0
+  passes_silent calls w window channel here next mute =
       let ready : (n : ℕ) → n < length w.interfaces → fetch_refusal (interface_at w n) window ≡ None =
       λ n within. (
         let node = here.nodes n within in
         takes_next n (interface_at w n) w.bus.sealed window node.params_are node.plan_at node.has here.course next) in
-      let past = has_passed w window here.between (next_here d cycles calls w here ∙ next) ready in
+      let past = has_passed w window here.between (next_here d cycles kept calls w here ∙ next) ready in
       let v = past.world in
       let r = recorded_by w.bus.cluster window past.stations in
       let fitting = following_fits d.params cycles w.bus.sealed window
@@ -149,9 +157,9 @@ module _ (d : Description) (cycles most : ℕ) (room : HasRoom d cycles most) wh
             let in_old : n < length w.interfaces = subst (λ (m : ℕ). n < m) past.interfaces_long within in
             let many : length w.bus.sealed + 1 ≡ length v.bus.sealed =
             sym (ap (λ (rs : List Recorded). length rs) past.sealed ∙ length-append w.bus.sealed (r ∷ [])) in
-            subst (λ (m : ℕ). IsNodeAt d n (interface_at v n) m calls) many
+            subst (λ (m : ℕ). IsNodeAt d (kept n) n (interface_at v n) m calls) many
             (node_past n (length w.bus.sealed) calls (interface_at w n) (interface_at v n) window
-            (here.nodes n in_old) fitting.number_is (past.interfaces n in_old)));
+            (here.nodes n in_old) mute fitting.number_is (past.interfaces n in_old)));
         };
         recorded = r;
         sealed = past.sealed;
@@ -161,5 +169,6 @@ module _ (d : Description) (cycles most : ℕ) (room : HasRoom d cycles most) wh
             (λ n within. (
               let node = here.nodes n (in_w n within) in
               no_bytes (interface_at w n) window channel dynamic
-              (none_offered (interface_at w n) node.empty window channel)));
+              (none_offered (kept n) (interface_at w n) node.ready window (mute n (interface_at w n).plan node.plan_at)
+              channel)));
       }

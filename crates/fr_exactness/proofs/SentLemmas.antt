@@ -22,9 +22,9 @@ use Rattle.fr_exactness.proofs.HeardLemmas.{offer_on, longest_one}
 use Rattle.fr_exactness.proofs.LeadLemmas.{leads_on}
 use Rattle.fr_exactness.proofs.ObservingLemmas.{IsObserved}
 use Rattle.fr_exactness.proofs.OfferingLemmas.{fetched_by}
-use Rattle.fr_exactness.proofs.PassingLemmas.{IsNodeAt, IsAt, IsPast, next_here, takes_next, node_past}
+use Rattle.fr_exactness.proofs.PassingLemmas.{IsNodeAt, IsAt, AreMute, IsPast, next_here, takes_next, node_past}
 use Rattle.fr_exactness.proofs.ProgressLemmas.{course_next}
-use Rattle.fr_exactness.proofs.SilenceLemmas.{none_offered, no_bytes}
+use Rattle.fr_exactness.proofs.SilenceLemmas.{Keeps, none_offered, no_bytes}
 use Rattle.fr_exactness.proofs.WindowLemmas.{recorded_by, IsBetween, HasPassed, has_passed}
 use Rattle.fr_exactness.specs.Exactness.{HasRoom}
 use Rattle.fr_exactness.specs.Leading.{Leads}
@@ -43,9 +43,10 @@ use Rattle.fr_slots.specs.Parameters.{Parameters}
 use Rattle.fr_slots.specs.Plans.{Plan}
 use Rattle.fr_slots.specs.Windows.{Opportunity, slot_of, is_static}
 
-module _ (d : Description) (lawful : IsCluster d) (cycles most : ℕ) (room : HasRoom d cycles most) (channel : Channel)
-    (calls : ℕ) (few : calls + 3 ≤ most) (w : WorldState) (here : IsAt d cycles calls w) (window : Opportunity)
-    (next : following d.params cycles w.bus.sealed ≡ Some window) (dynamic : is_static window ≡ false) (slot : ℕ)
+module _ (d : Description) (lawful : IsCluster d) (cycles most : ℕ) (room : HasRoom d cycles most) (kept : ℕ → Keeps)
+    (channel : Channel) (calls : ℕ) (few : calls + 3 ≤ most) (w : WorldState) (here : IsAt d cycles kept calls w)
+    (window : Opportunity) (next : following d.params cycles w.bus.sealed ≡ Some window)
+    (mute : AreMute d kept window) (dynamic : is_static window ≡ false) (slot : ℕ)
     (slot_is : slot_of window channel ≡ Some slot) (cycle_fits : window.cycle < 64) (bytes : ℕ)
     (can : CanSend d window.cycle slot channel window.minislot bytes) where
   abbrev k : ℕ
@@ -68,7 +69,7 @@ module _ (d : Description) (lawful : IsCluster d) (cycles most : ℕ) (room : Ha
       let inside = slice_get_within d.plans k can.plan can.plan_at in
       omega (arith, inside, here.one_each)
 
-  node : IsNodeAt d k s (length w.bus.sealed) calls
+  node : IsNodeAt d (kept k) k s (length w.bus.sealed) calls
   node = here.nodes k within
 
   sending : IsSending s.params s.plan can.number can.buffer window channel
@@ -106,20 +107,20 @@ module _ (d : Description) (lawful : IsCluster d) (cycles most : ℕ) (room : Ha
   ready n inside = elim (eqb_tells n k) [
     | inl same ↦ ap (λ (m : ℕ). fetch_refusal (interface_at w1 m) window) same.1
         ∙ ap (λ (x : State). fetch_refusal x window) at_sender
-        ∙ takes_next d cycles most room k s1 w.bus.sealed window node.params_are node.plan_at
-        (committed_has d k s (length w.bus.sealed) calls can.number can.buffer payload node) here.course next
+        ∙ takes_next d cycles most room kept k s1 w.bus.sealed window node.params_are node.plan_at
+        (committed_has d (kept k) k s (length w.bus.sealed) calls can.number can.buffer payload node) here.course next
     | inr other ↦ (
         let inside_w : n < length w.interfaces = subst (λ (m : ℕ). n < m) long inside in
         let at = here.nodes n inside_w in
         ap (λ (x : State). fetch_refusal x window) (at_other n other.1)
-        ∙ takes_next d cycles most room n (interface_at w n) w.bus.sealed window at.params_are at.plan_at at.has
+        ∙ takes_next d cycles most room kept n (interface_at w n) w.bus.sealed window at.params_are at.plan_at at.has
         here.course next)
   ]
 
   -- ---- the window
 
   past : HasPassed w1 window
-  past = has_passed w1 window (between_kept w k s1 here.between) (next_here d cycles calls w here ∙ next) ready
+  past = has_passed w1 window (between_kept w k s1 here.between) (next_here d cycles kept calls w here ∙ next) ready
 
   abbrev v : WorldState
   v = past.world
@@ -150,7 +151,8 @@ module _ (d : Description) (lawful : IsCluster d) (cycles most : ℕ) (room : Ha
       (λ n inside other. (
         let at = here.nodes n (subst (λ (m : ℕ). n < m) long (in_w1 n inside)) in
         ap (λ (x : State). offer_on channel (offer_of x window)) (at_other n other)
-        ∙ no_bytes (interface_at w n) window channel dynamic (none_offered (interface_at w n) at.empty window channel)))
+        ∙ no_bytes (interface_at w n) window channel dynamic (none_offered (kept n) (interface_at w n) at.ready
+        window (mute n (interface_at w n).plan at.plan_at) channel)))
       ∙ frame.long
 
   -- ---- the buffer is emptied
@@ -179,13 +181,13 @@ module _ (d : Description) (lawful : IsCluster d) (cycles most : ℕ) (room : Ha
   v3 = with_interface v2 k (with_entry (interface_at v2 k) (withdraw_entry (interface_at v2 k) 0 can.number))
 
   plan_t : t.plan ≡ s.plan
-  plan_t = past_plan d k s (length w.bus.sealed) calls can.number can.buffer payload node t window number_is seen
+  plan_t = past_plan d (kept k) k s (length w.bus.sealed) calls can.number can.buffer payload node t window number_is seen
 
   params_t : t.params ≡ s.params
-  params_t = past_params d k s (length w.bus.sealed) calls can.number can.buffer payload node t window number_is seen
+  params_t = past_params d (kept k) k s (length w.bus.sealed) calls can.number can.buffer payload node t window number_is seen
 
   hosts_t : count_by is_host t.entries ≤ calls + 1
-  hosts_t = past_hosts d k s (length w.bus.sealed) calls can.number can.buffer payload node t window number_is seen
+  hosts_t = past_hosts d (kept k) k s (length w.bus.sealed) calls can.number can.buffer payload node t window number_is seen
 
   sending_t : IsSending t.params t.plan can.number can.buffer window channel
   sending_t = subst (λ (p : Parameters). IsSending p t.plan can.number can.buffer window channel) (sym params_t)
@@ -242,28 +244,30 @@ module _ (d : Description) (lawful : IsCluster d) (cycles most : ℕ) (room : Ha
       ∙ get_or-set_other v.interfaces k n t2 no_interface other
 
   nodes_at : (n : ℕ) → n < length w.interfaces
-      → IsNodeAt d n (interface_at v3 n) (length w.bus.sealed + 1) (calls + 3)
+      → IsNodeAt d (kept n) n (interface_at v3 n) (length w.bus.sealed + 1) (calls + 3)
   nodes_at n inside = elim (eqb_tells n k) [
-    | inl same ↦ subst (λ (m : ℕ). IsNodeAt d m (interface_at v3 m) (length w.bus.sealed + 1) (calls + 3)) (sym same.1)
-        (subst (λ (x : State). IsNodeAt d k x (length w.bus.sealed + 1) (calls + 3)) (sym sender_at)
-        (emptied_at d k s (length w.bus.sealed) calls can.number can.buffer payload node t window number_is seen))
+    | inl same ↦ subst (λ (m : ℕ). IsNodeAt d (kept m) m (interface_at v3 m) (length w.bus.sealed + 1) (calls + 3)) (sym same.1)
+        (subst (λ (x : State). IsNodeAt d (kept k) k x (length w.bus.sealed + 1) (calls + 3)) (sym sender_at)
+        (emptied_at d (kept k) k s (length w.bus.sealed) calls can.number can.buffer payload node t window number_is seen
+        (mute k s.plan node.plan_at) (mute k s.plan node.plan_at channel can.number sending.transmitter_is
+        sending.begins)))
     | inr other ↦ (
         let was = here.nodes n inside in
         let inside_w1 : n < length w1.interfaces = subst (λ (m : ℕ). n < m) (sym long) inside in
         let seen_n = subst (λ (x : State). IsObserved (fetched_by x window) (interface_at v n) window)
         (at_other n other.1) (past.interfaces n inside_w1) in
-        let at = node_past d cycles most room n (length w.bus.sealed) calls (interface_at w n) (interface_at v n) window was
-        number_is seen_n in
-        subst (λ (x : State). IsNodeAt d n x (length w.bus.sealed + 1) (calls + 3)) (sym (other_at n other.1)) (record {
+        let at = node_past d cycles most room kept n (length w.bus.sealed) calls (interface_at w n) (interface_at v n) window
+        was mute number_is seen_n in
+        subst (λ (x : State). IsNodeAt d (kept n) n x (length w.bus.sealed + 1) (calls + 3)) (sym (other_at n other.1)) (record {
           params_are = at.params_are;
           plan_at = at.plan_at;
           has = at.has;
           hosts = omega (arith, at.hosts);
-          empty = at.empty;
+          ready = at.ready;
         }))
   ]
 
-  pub passes_sending : IsPast d cycles (calls + 3) w window channel bytes
+  pub passes_sending : IsPast d cycles kept (calls + 3) w window channel bytes
   passes_sending = record {
     world = v3;
     leads = leads_on commits (leads_on past.leads (leads_on again withdraws));
@@ -275,7 +279,7 @@ module _ (d : Description) (lawful : IsCluster d) (cycles most : ℕ) (room : Ha
           (course_next d.params cycles w.bus.sealed r here.course next);
       between = between_kept v2 k (with_entry (interface_at v2 k) (withdraw_entry (interface_at v2 k) 0 can.number))
           (between_kept v k t2 past.is_between);
-      nodes = λ n inside. subst (λ (m : ℕ). IsNodeAt d n (interface_at v3 n) m (calls + 3)) more
+      nodes = λ n inside. subst (λ (m : ℕ). IsNodeAt d (kept n) n (interface_at v3 n) m (calls + 3)) more
           (nodes_at n (subst (λ (m : ℕ). n < m) long_v3 inside));
     };
     recorded = r;

@@ -22,8 +22,9 @@ use Rattle.fr_slots.specs.declared.channel.Channel.{Channel}
 use Rattle.fr_slots.specs.declared.channel.Channel.TheVariants.{A, B}
 use Rattle.fr_slots.specs.declared.plan.Buffer.{Buffer}
 use Rattle.fr_slots.specs.declared.plan.Mode.{Mode}
+use Rattle.fr_slots.specs.declared.plan.Mode.TheVariants as mode
 use Rattle.fr_slots.specs.Parameters.{Parameters}
-use Rattle.fr_slots.specs.Plans.{Plan, buffer_at}
+use Rattle.fr_slots.specs.Plans.{Plan, buffer_at, is_receive}
 use Rattle.fr_slots.specs.Windows.{Opportunity, slot_of, is_static}
 
 -- ---- what is offered
@@ -38,31 +39,48 @@ silent_on : (s : State) (window : Opportunity) → IsSilent s window → (channe
 silent_on s window silent A = silent.on_a
 silent_on s window silent B = silent.on_b
 
--- no buffer has a commit to send
-abbrev pub IsEmpty : State → Type 0
-IsEmpty s = (number : ℕ) (b : Buffer) → buffer_at s.plan number ≡ Some b → ready b.mode number s.entries ≡ None
+-- Each buffer has this commit ready in event and in state mode, or none.
+abbrev pub Keeps : Type 0
+Keeps = ℕ → Option ℕ
 
-none_ready : (s : State) → IsEmpty s → (number : ℕ) → ready_in s.plan s.entries number ≡ None
-none_ready s empty number = by (buffer_at s.plan number) refl
+abbrev pub HasReady : Keeps → State → Type 0
+HasReady kept s = (m : Mode) (number : ℕ) → is_receive m ≡ false → ready m number s.entries ≡ kept number
+
+pub not_ready : (entries : List Entry) (number : ℕ) → ((m : Mode) → is_receive m ≡ false → ready m number entries ≡ None)
+    → (m : Mode) → ready m number entries ≡ None
+not_ready entries number none mode.Event = none mode.Event refl
+not_ready entries number none mode.State = none mode.State refl
+not_ready entries number none mode.Receive = refl
+
+-- no buffer of the node with a ready commit sends in the window
+abbrev pub IsMute : Keeps → Plan → Opportunity → Type 0
+IsMute kept plan window = (channel : Channel) (number : ℕ) → transmitter plan window channel ≡ Some number
+    → may_begin plan window channel ≡ true → kept number ≡ None
+
+pub none_offered : (kept : Keeps) (s : State) → HasReady kept s → (window : Opportunity) → IsMute kept s.plan window
+    → (channel : Channel) → commit_offered s.plan s.entries window channel ≡ None
+none_offered kept s has window mute channel =
+    by (may_begin s.plan window channel) refl (transmitter s.plan window channel) refl
   where
-    by : (o : Option Buffer) → buffer_at s.plan number ≡ o
+    none_ready : (number : ℕ) → kept number ≡ None → (o : Option Buffer) → buffer_at s.plan number ≡ o
         → option_and_then (λ (b : Buffer). ready b.mode number s.entries) o ≡ None
-    by None is = refl
-    by (Some b) is = empty number b is
+    none_ready number none None is = refl
+    none_ready number none (Some b) is =
+        not_ready s.entries number (λ m sending. has m number sending ∙ none) b.mode
 
-pub none_offered : (s : State) → IsEmpty s → (window : Opportunity) (channel : Channel)
-    → commit_offered s.plan s.entries window channel ≡ None
-none_offered s empty window channel = by (may_begin s.plan window channel) (transmitter s.plan window channel)
-  where
-    by : (begins : Bool) (o : Option ℕ) → cond begins (option_and_then (ready_in s.plan s.entries) o) None ≡ None
-    by true None = refl
-    by true (Some number) = none_ready s empty number
-    by false o = refl
+    by : (begins : Bool) → may_begin s.plan window channel ≡ begins → (o : Option ℕ)
+        → transmitter s.plan window channel ≡ o
+        → cond begins (option_and_then (ready_in s.plan s.entries) o) None ≡ None
+    by true begins None at = refl
+    by true begins (Some number) at =
+        none_ready number (mute channel number at begins) (buffer_at s.plan number) refl
+    by false begins o at = refl
 
-pub empty_is_silent : (s : State) → IsEmpty s → (window : Opportunity) → IsSilent s window
-empty_is_silent s empty window = record {
-  on_a = none_offered s empty window A;
-  on_b = none_offered s empty window B;
+pub mute_is_silent : (kept : Keeps) (s : State) → HasReady kept s → (window : Opportunity)
+    → IsMute kept s.plan window → IsSilent s window
+mute_is_silent kept s has window mute = record {
+  on_a = none_offered kept s has window mute A;
+  on_b = none_offered kept s has window mute B;
 }
 
 no_data : (s : State) (window : Opportunity) (channel : Channel) (commit : ℕ)
@@ -139,8 +157,7 @@ ready_after s t window silent seen m number =
     ∙ ready-same number s.entries (fetch_entry s window) refl m (λ j last. unsent s window silent j)
     (λ j last. refl)
 
-pub empty_after : (s t : State) (window : Opportunity) → IsEmpty s → IsObserved (fetched_by s window) t window
-    → IsEmpty t
-empty_after s t window empty seen number b at =
-    ready_after s t window (empty_is_silent s empty window) seen b.mode number
-    ∙ empty number b (ap (λ (x : State). buffer_at x.plan number) (sym seen.is) ∙ at)
+pub kept_after : (kept : Keeps) (s t : State) (window : Opportunity) → HasReady kept s → IsMute kept s.plan window
+    → IsObserved (fetched_by s window) t window → HasReady kept t
+kept_after kept s t window has mute seen m number sending =
+    ready_after s t window (mute_is_silent kept s has window mute) seen m number ∙ has m number sending

@@ -13,9 +13,10 @@ use Rattle.fr_bus.specs.Windows.{cycles_begun, this_cycle, counts_on, is_row_of,
 use Rattle.fr_core.proofs.CaseLemmas.{both_first}
 use Rattle.fr_core.specs.Worlds.{WorldState}
 use Rattle.fr_exactness.proofs.LeadLemmas.{leads_not, leads_on}
-use Rattle.fr_exactness.proofs.PassingLemmas.{IsAt, IsPast, at_more, past_more, passes_silent}
+use Rattle.fr_exactness.proofs.PassingLemmas.{IsAt, AreMute, IsPast, at_more, past_more, passes_silent}
 use Rattle.fr_exactness.proofs.ProgressLemmas.{windows_fit, goes_on, next_later, begun_next, counts_first, counts_next}
 use Rattle.fr_exactness.proofs.SentLemmas.{passes_sending}
+use Rattle.fr_exactness.proofs.SilenceLemmas.{Keeps}
 use Rattle.fr_exactness.specs.Exactness.{HasRoom}
 use Rattle.fr_exactness.specs.Leading.{Leads}
 use Rattle.fr_guarantees.proofs.NextRowLemmas.{IsNextRow, row_is, cycle_is}
@@ -24,25 +25,27 @@ use Rattle.fr_guarantees.specs.Ways.{CanSend, IsRow}
 use Rattle.fr_minislot.specs.DynamicRows.{first_minislot, slot_after, has_row_after}
 use Rattle.fr_schedule.specs.Clusters.{IsCluster}
 use Rattle.fr_schedule.specs.Descriptions.{Description}
+use Rattle.fr_slots.proofs.PlaceLemmas.{same_some}
 use Rattle.fr_slots.specs.declared.channel.Channel.{Channel}
 use Rattle.fr_slots.specs.History.{AllAfter}
 use Rattle.fr_slots.specs.Windows.{Opportunity, slot_of, is_static}
 
-module _ (d : Description) (lawful : IsCluster d) (cycles most : ℕ) (room : HasRoom d cycles most) where
+module _ (d : Description) (lawful : IsCluster d) (cycles most : ℕ) (room : HasRoom d cycles most)
+    (kept : ℕ → Keeps) where
   -- ---- to a cycle
 
   -- the next window is the first one of the cycle after so many
   pub record IsStart (calls begun : ℕ) (w : WorldState) : Type 0 where
     pub world : WorldState
     pub leads : Leads w world
-    pub is_at : IsAt d cycles calls world
+    pub is_at : IsAt d cycles kept calls world
     pub begun_is : cycles_begun world.bus.sealed ≡ begun
     pub window : Opportunity
     pub next : following d.params cycles world.bus.sealed ≡ Some window
     pub opens : opens_cycle window ≡ true
 
   after_silence : (calls begun : ℕ) (w : WorldState) (window : Opportunity) (channel : Channel)
-      → (past : IsPast d cycles calls w window channel 0)
+      → (past : IsPast d cycles kept calls w window channel 0)
       → IsStart calls begun past.world → IsStart calls begun w
   after_silence calls begun w window channel past start = record {
     world = start.world;
@@ -58,33 +61,46 @@ module _ (d : Description) (lawful : IsCluster d) (cycles most : ℕ) (room : Ha
       → length w.bus.sealed ≡ length rs + 1
   one_more w rs r is = ap (λ (l : List Recorded). length l) is ∙ length-append rs (r ∷ [])
 
+  -- A property of records that each window keeps before that cycle. In no such window a ready commit is sent.
+  abbrev pub KeepsMute : ℕ → (List Recorded → Type 0) → Type 0
+  KeepsMute begun Good = (rs : List Recorded) (window : Opportunity) → Good rs
+      → following d.params cycles rs ≡ Some window → IsCourse (course_of d.params cycles rs)
+      → cycles_begun rs ≤ begun → (opens_cycle window ≡ true → cycles_begun rs < begun)
+      → AreMute d kept window × ((r : Recorded) → r.window ≡ window → Good (rs ++ r ∷ []))
+
   -- from a world with so many windows left
-  abbrev Starts : ℕ → ℕ → ℕ → Type 0
-  Starts fuel calls begun = (w : WorldState) → IsAt d cycles calls w → cycles_begun w.bus.sealed ≤ begun
+  abbrev Starts : (List Recorded → Type 0) → ℕ → ℕ → ℕ → Type 0
+  Starts Good fuel calls begun = (w : WorldState) → IsAt d cycles kept calls w → Good w.bus.sealed
+      → cycles_begun w.bus.sealed ≤ begun
       → length w.bus.sealed + fuel ≡ begun * opportunities d.params + 1 → IsStart calls begun w
 
-  past_start : (fuel calls begun : ℕ) → Starts fuel calls begun → (w : WorldState) → (window : Opportunity)
-      → (channel : Channel) → (past : IsPast d cycles calls w window channel 0)
+  past_start : (Good : List Recorded → Type 0) (fuel calls begun : ℕ) → Starts Good fuel calls begun → (w : WorldState)
+      → (window : Opportunity) → (channel : Channel)
+      → ((r : Recorded) → r.window ≡ window → Good (w.bus.sealed ++ r ∷ [])) → (past : IsPast d cycles kept calls w window channel 0)
       → (b : Bool) → opens_cycle window ≡ b → cycles_begun w.bus.sealed + cond b 1 0 ≤ begun
       → length w.bus.sealed + suc fuel ≡ begun * opportunities d.params + 1 → IsStart calls begun w
-  past_start fuel calls begun again w window channel past b opens still count =
+  past_start Good fuel calls begun again w window channel good past b opens still count =
       let one = one_more past.world w.bus.sealed past.recorded past.sealed in
       let begun_is : cycles_begun past.world.bus.sealed ≡ cycles_begun w.bus.sealed + cond {A = ℕ} b 1 0 =
       ap cycles_begun past.sealed
       ∙ begun_next w.bus.sealed past.recorded b (ap opens_cycle past.window_is ∙ opens) in
       after_silence calls begun w window channel past
-      (again past.world past.is_at (subst (λ (n : ℕ). n ≤ begun) (sym begun_is) still) (omega (arith, count, one)))
+      (again past.world past.is_at (subst Good (sym past.sealed) (good past.recorded past.window_is)) (subst (λ (n : ℕ). n ≤ begun) (sym begun_is) still) (omega (arith, count, one)))
 
-  next_start : (fuel calls begun : ℕ) → begun < cycles → Starts fuel calls begun → Channel → Starts (suc fuel) calls begun
-  next_start fuel calls begun more again channel w here few count =
+  next_start : (Good : List Recorded → Type 0) (fuel calls begun : ℕ) → KeepsMute begun Good → begun < cycles
+      → Starts Good fuel calls begun → Channel → Starts Good (suc fuel) calls begun
+  next_start Good fuel calls begun keeps more again channel w here good few count =
       let next = goes_on d.params cycles w.bus.sealed (omega (arith, few, more)) in
       by next.window next.follows (opens_cycle next.window) refl
     where
       by : (window : Opportunity) → following d.params cycles w.bus.sealed ≡ Some window → (b : Bool)
           → opens_cycle window ≡ b → IsStart calls begun w
       by window follows false opens =
-          past_start fuel calls begun again w window channel
-          (passes_silent d cycles most room calls w window channel here follows) false opens (omega (arith, few)) count
+          let going = keeps w.bus.sealed window good follows here.course few
+          (λ e. absurd (let none : ⊥ = cc in none)) in
+          past_start Good fuel calls begun again w window channel going.1
+          (passes_silent d cycles most room kept calls w window channel here follows going.0) false opens
+          (omega (arith, few)) count
       by window follows true opens = elim (eqb_tells (cycles_begun w.bus.sealed) begun) [
         | inl same ↦ record {
             world = w;
@@ -95,19 +111,24 @@ module _ (d : Description) (lawful : IsCluster d) (cycles most : ℕ) (room : Ha
             next = follows;
             opens = opens;
           }
-        | inr other ↦ past_start fuel calls begun again w window channel
-            (passes_silent d cycles most room calls w window channel here follows) true opens
-            (omega (arith, few, other.1)) count
+        | inr other ↦ (
+            let going = keeps w.bus.sealed window good follows here.course few
+            (λ e. omega (arith, few, other.1)) in
+            past_start Good fuel calls begun again w window channel going.1
+            (passes_silent d cycles most room kept calls w window channel here follows going.0) true opens
+            (omega (arith, few, other.1)) count)
       ]
 
-  pub reaches_cycle : (fuel calls begun : ℕ) → begun < cycles → Channel → Starts fuel calls begun
-  reaches_cycle zero calls begun more channel w here few count =
+  pub reaches_cycle : (Good : List Recorded → Type 0) (fuel calls begun : ℕ) → KeepsMute begun Good → begun < cycles
+      → Channel → Starts Good fuel calls begun
+  reaches_cycle Good zero calls begun keeps more channel w here good few count =
       let fits = windows_fit d.params cycles w.bus.sealed here.course in
       let most_of : cycles_begun w.bus.sealed * opportunities d.params ≤ begun * opportunities d.params =
       mul-le-mul_right (opportunities d.params) few in
       absurd (let none : ⊥ = omega (arith, fits, most_of, count) in none)
-  reaches_cycle (suc fuel) calls begun more channel w here few count =
-      next_start fuel calls begun more (λ v. reaches_cycle fuel calls begun more channel v) channel w here few count
+  reaches_cycle Good (suc fuel) calls begun keeps more channel w here good few count =
+      next_start Good fuel calls begun keeps more (λ v. reaches_cycle Good fuel calls begun keeps more channel v) channel
+      w here good few count
 
   -- ---- along a way
 
@@ -115,7 +136,7 @@ module _ (d : Description) (lawful : IsCluster d) (cycles most : ℕ) (room : Ha
   pub record IsCome (calls cycle : ℕ) (channel : Channel) (counts : List ℕ) (w : WorldState) : Type 0 where
     pub world : WorldState
     pub leads : Leads w world
-    pub is_at : IsAt d cycles calls world
+    pub is_at : IsAt d cycles kept calls world
     pub window : Opportunity
     pub next : following d.params cycles world.bus.sealed ≡ Some window
     pub dynamic : is_static window ≡ false
@@ -152,13 +173,13 @@ module _ (d : Description) (lawful : IsCluster d) (cycles most : ℕ) (room : Ha
       (channel : Channel) where
     -- a world on the way
     pub record IsOn (calls : ℕ) (counts : List ℕ) (w : WorldState) : Type 0 where
-      pub is_at : IsAt d cycles calls w
+      pub is_at : IsAt d cycles kept calls w
       pub begun_is : cycles_begun w.bus.sealed ≡ begun
       pub counts_are : counts_on channel (this_cycle w.bus.sealed) ≡ counts
 
     goes_past : (calls more bytes : ℕ) (counts : List ℕ) (w : WorldState) (window : Opportunity) (row : Bool)
         → IsOn calls counts w → opens_cycle window ≡ false
-        → (past : IsPast d cycles more w window channel bytes) → is_row_of channel past.recorded ≡ row
+        → (past : IsPast d cycles kept more w window channel bytes) → is_row_of channel past.recorded ≡ row
         → IsOn more (counts ++ cond row (longest channel past.recorded.sent ∷ []) []) past.world
     goes_past calls more bytes counts w window row on later past is = record {
       is_at = past.is_at;
@@ -170,11 +191,20 @@ module _ (d : Description) (lawful : IsCluster d) (cycles most : ℕ) (room : Ha
           ∙ ap (λ (l : List ℕ). l ++ cond row (longest channel past.recorded.sent ∷ []) []) on.counts_are;
     }
 
-    module _ (way : List ℕ) (top : ℕ) (enough : top ≤ most) (final : has_row_after d.params way ≡ true) where
+    module _ (way : List ℕ) (top : ℕ) (enough : top ≤ most) (final : has_row_after d.params way ≡ true)
+        (mute : (rs : List Recorded) (window : Opportunity) → following d.params cycles rs ≡ Some window
+        → IsCourse (course_of d.params cycles rs)
+        → ((slot : ℕ) → is_static window ≡ false → slot_of window channel ≡ Some slot
+        → slot < slot_after d.params way) → AreMute d kept window) where
       abbrev Walks : ℕ → Type 0
       Walks fuel = (calls : ℕ) (rest so_far : List ℕ) (w : WorldState) → IsOn calls so_far w → so_far ++ rest ≡ way
           → AllAfter (IsRow d cycle channel) so_far rest → calls + 3 * length rest ≤ top
           → length w.bus.sealed + fuel ≡ begun * opportunities d.params + 1 → IsCome top cycle channel way w
+
+      no_row : (window : Opportunity) (slot : ℕ) → (is_static window ≡ true) ⊎ (slot_of window channel ≡ None)
+          → is_static window ≡ false → slot_of window channel ≡ Some slot → ⊥
+      no_row window slot (inl static) dynamic at = let none : ⊥ = cc in none
+      no_row window slot (inr none) dynamic at = let no : ⊥ = cc in no
 
       -- a window that has no row of the channel
       past_other : (fuel : ℕ) → Walks fuel → (calls : ℕ) (rest so_far : List ℕ) (w : WorldState)
@@ -184,7 +214,9 @@ module _ (d : Description) (lawful : IsCluster d) (cycles most : ℕ) (room : Ha
           → opens_cycle window ≡ false → (is_static window ≡ true) ⊎ (slot_of window channel ≡ None)
           → IsCome top cycle channel way w
       past_other fuel again calls rest so_far w on split all few count window follows later none =
-          let past = passes_silent d cycles most room calls w window channel on.is_at follows in
+          let past = passes_silent d cycles most room kept calls w window channel on.is_at follows
+          (mute w.bus.sealed window follows on.is_at.course (λ slot dynamic at. absurd (no_row window slot none dynamic at)))
+          in
           let one = one_more past.world w.bus.sealed past.recorded past.sealed in
           let row = no_slot channel past.recorded
           (subst (λ (v : Opportunity). (is_static v ≡ true) ⊎ (slot_of v channel ≡ None)) (sym past.window_is) none) in
@@ -199,7 +231,7 @@ module _ (d : Description) (lawful : IsCluster d) (cycles most : ℕ) (room : Ha
           → AllAfter (IsRow d cycle channel) (so_far ++ bytes ∷ []) rest
           → calls + 3 + 3 * length rest ≤ top → length w.bus.sealed + suc fuel ≡ begun * opportunities d.params + 1
           → (window : Opportunity) (slot : ℕ) → is_static window ≡ false → slot_of window channel ≡ Some slot
-          → opens_cycle window ≡ false → IsPast d cycles (calls + 3) w window channel bytes
+          → opens_cycle window ≡ false → IsPast d cycles kept (calls + 3) w window channel bytes
           → IsCome top cycle channel way w
       past_row fuel again calls bytes rest so_far w on split all few count window slot dynamic slot_is later past =
           let one = one_more past.world w.bus.sealed past.recorded past.sealed in
@@ -242,7 +274,7 @@ module _ (d : Description) (lawful : IsCluster d) (cycles most : ℕ) (room : Ha
           record {
             world = w;
             leads = leads_not w;
-            is_at = at_more d cycles calls top w (omega (arith, few)) on.is_at;
+            is_at = at_more d cycles kept calls top w (omega (arith, few)) on.is_at;
             window = window;
             next = follows;
             dynamic = dynamic;
@@ -254,19 +286,24 @@ module _ (d : Description) (lawful : IsCluster d) (cycles most : ℕ) (room : Ha
       at_row fuel again calls (bytes ∷ rest) so_far w on split all few count window slot follows later dynamic slot_is =
           let here = row_here calls slot so_far w window on follows dynamic slot_is in
           let left : calls + 3 + 3 * length rest ≤ top = omega (arith, few) in
+          let shorter : slot_after d.params so_far < slot_after d.params way =
+          omega (arith, ap (λ (l : List ℕ). length l) split, length-append so_far (bytes ∷ rest)) in
+          let quiet : AreMute d kept window = mute w.bus.sealed window follows on.is_at.course
+          (λ k still at. subst (λ (n : ℕ). n < slot_after d.params way)
+          (here.0 ∙ same_some slot k (sym slot_is ∙ at)) shorter) in
           past_row fuel again calls bytes rest so_far w on split all.1 left count window slot dynamic slot_is later
           (elim all.0.1 [
             | inl none ↦ (
-                let past = passes_silent d cycles most room calls w window channel on.is_at follows in
-                subst (λ (n : ℕ). IsPast d cycles (calls + 3) w window channel n) (sym none)
-                (past_more d cycles calls (calls + 3) 0 w window channel (omega arith) past))
+                let past = passes_silent d cycles most room kept calls w window channel on.is_at follows quiet in
+                subst (λ (n : ℕ). IsPast d cycles kept (calls + 3) w window channel n) (sym none)
+                (past_more d cycles kept calls (calls + 3) 0 w window channel (omega arith) past))
             | inr can ↦ (
                 let there : CanSend d window.cycle slot channel window.minislot bytes =
                 subst (λ (c : ℕ). CanSend d c slot channel window.minislot bytes) (sym here.2)
                 (subst (λ (k : ℕ). CanSend d cycle k channel window.minislot bytes) here.0
                 (subst (λ (m : ℕ). CanSend d cycle (slot_after d.params so_far) channel m bytes) here.1 can)) in
-                passes_sending d lawful cycles most room channel calls (omega (arith, left, enough)) w on.is_at window
-                follows dynamic slot slot_is (subst (λ (c : ℕ). c < 64) (sym here.2) fits) bytes there)
+                passes_sending d lawful cycles most room kept channel calls (omega (arith, left, enough)) w on.is_at window
+                follows quiet dynamic slot slot_is (subst (λ (c : ℕ). c < 64) (sym here.2) fits) bytes there)
           ])
 
       has_row : (rest so_far : List ℕ) → so_far ++ rest ≡ way → AllAfter (IsRow d cycle channel) so_far rest
