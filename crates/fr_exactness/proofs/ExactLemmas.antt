@@ -15,13 +15,14 @@ use Rattle.fr_bus.specs.Windows.{cycles_begun, this_cycle, counts_on, is_first_s
 use Rattle.fr_core.proofs.CaseLemmas.{both_first, kept_if}
 use Rattle.fr_core.specs.Carried.{Idle}
 use Rattle.fr_core.specs.Worlds.{WorldState, no_interface, interface_at, new_interface, opening_world}
+use Rattle.fr_exactness.proofs.HoldingLemmas.{nothing_kept}
 use Rattle.fr_exactness.proofs.JournalLemmas.{HasWindows}
 use Rattle.fr_exactness.proofs.LeadLemmas.{leads_on}
 use Rattle.fr_exactness.proofs.PassingLemmas.{IsNodeAt, IsAt, AreMute, IsPast, passes_silent, next_here}
 use Rattle.fr_exactness.proofs.PointLemmas.{replicate_is}
 use Rattle.fr_exactness.proofs.ProgressLemmas.{course_none, windows_fit, begun_next, counts_first}
 use Rattle.fr_exactness.proofs.SilenceLemmas.{Keeps}
-use Rattle.fr_exactness.proofs.WalkLemmas.{IsStart, reaches_cycle, IsCome, IsOn, walks}
+use Rattle.fr_exactness.proofs.WalkLemmas.{IsStart, reaches_cycle, IsCome, comes_in}
 use Rattle.fr_exactness.proofs.WindowLemmas.{IsBetween}
 use Rattle.fr_exactness.specs.Exactness.{HasRoom, IsOpened, AreRealized}
 use Rattle.fr_exactness.specs.Leading.{Leads}
@@ -47,9 +48,6 @@ use Rattle.fr_slots.specs.Windows.{Opportunity, slot_of, is_static}
 
 -- ---- the opening world
 
--- no buffer has a commit to send
-abbrev pub nothing_kept : ℕ → Keeps
-nothing_kept n number = None
 
 nothing_ready : (m : Mode) (number : ℕ) → ready m number [] ≡ None
 unfolding last_after
@@ -171,9 +169,9 @@ row_of p counts minislot slot e =
 
 -- ---- the run
 
-small_mod : (n : ℕ) → n < 64 → (n + 1 - 1) % 64 ≡ n
+pub small_mod : (n : ℕ) → n < 64 → n % 64 ≡ n
 small_mod n few =
-    let same : n + 1 - 1 ≡ 0 * 64 + n = omega arith in
+    let same : n ≡ 0 * 64 + n = omega arith in
     ap (λ (m : ℕ). m % 64) same ∙ mod-mul-add 0 64 n few
 
 is_collecting : (phase : Phase) (opened : Option Opportunity) (window : Opportunity)
@@ -188,66 +186,26 @@ open_at d cycles kept calls w window here next =
     is_collecting w.bus.phase w.bus.opened window (here.between.phase ∙ ap phase_at follows)
     (here.between.opened ∙ follows)
 
-module _ (d : Description) (lawful : IsCluster d) (cycle most : ℕ) (few : cycle < 64)
-    (room : HasRoom d (cycle + 1) most) (channel : Channel) where
+module _ (d : Description) (lawful : IsCluster d) (cycles cycle most : ℕ) (few : cycle < 64) (more : cycle < cycles)
+    (few_cycles : cycles ≤ 1024) (room : HasRoom d cycles most) (channel : Channel) where
   all_mute : (window : Opportunity) → AreMute d nothing_kept window
   all_mute window n plan at on number is begins = refl
 
-  -- the world after the first window of the cycle
-  first_row : (start : IsStart d lawful (cycle + 1) most room nothing_kept 0 cycle (opening_world d (cycle + 1)))
-      → IsPast d (cycle + 1) nothing_kept 0 start.world start.window channel 0
-  first_row start = passes_silent d (cycle + 1) most room nothing_kept 0 start.world start.window channel start.is_at
-      start.next (all_mute start.window)
+  begins : IsStart d lawful cycles most room nothing_kept 0 cycle (opening_world d cycles)
+  begins = reaches_cycle d lawful cycles most room nothing_kept (λ rs. Unit {0})
+      (cycle * opportunities d.params + 1) 0 cycle
+      (λ rs window good next course before opens. (all_mute window, λ r is. tt)) more channel (opening_world d cycles)
+      (opening_at d lawful cycles (omega (arith, more)) few_cycles) tt (omega arith) (omega arith)
 
-  begins : IsStart d lawful (cycle + 1) most room nothing_kept 0 cycle (opening_world d (cycle + 1))
-  begins = reaches_cycle d lawful (cycle + 1) most room nothing_kept (λ rs. Unit {0}) (cycle * opportunities d.params + 1) 0 cycle
-      (λ rs window good next course few opens. (all_mute window, λ r is. tt)) (omega arith) channel
-      (opening_world d (cycle + 1)) (opening_at d lawful (cycle + 1) (omega arith) (omega (arith, few)))
-      tt (omega arith) (omega arith)
-
-  on_way : (start : IsStart d lawful (cycle + 1) most room nothing_kept 0 cycle (opening_world d (cycle + 1)))
-      → (past : IsPast d (cycle + 1) nothing_kept 0 start.world start.window channel 0)
-      → IsOn d lawful (cycle + 1) most room nothing_kept (cycle + 1) cycle (small_mod cycle few) few (omega arith) channel 0 []
-      past.world
-  on_way start past =
-      let opens = ap opens_cycle past.window_is ∙ start.opens in
-      let r = past.recorded in
-      let static : is_static r.window ≡ true = both_first (is_static r.window) (is_first_slot r.window.a) opens in
-      let row : is_row_of channel r ≡ false = ap (λ (b : Bool). not b && is_some (slot_of r.window channel)) static in
-      record {
-        is_at = past.is_at;
-        begun_is = ap cycles_begun past.sealed ∙ begun_next start.world.bus.sealed r true opens
-            ∙ ap (λ (n : ℕ). n + 1) start.begun_is;
-        counts_are = ap (λ (rs : List Recorded). counts_on channel (this_cycle rs)) past.sealed
-            ∙ counts_first channel start.world.bus.sealed r opens row;
-      }
-
+  -- a run that follows the way in the cycle
   pub comes : (counts : List ℕ) → IsWay d cycle channel counts → has_row_after d.params counts ≡ true
       → 3 * length counts ≤ most
-      → IsCome d lawful (cycle + 1) most room nothing_kept most cycle channel counts (opening_world d (cycle + 1))
+      → IsCome d lawful cycles most room nothing_kept (3 * length counts) (cycle + 1) cycle channel counts
+      (opening_world d cycles)
   comes counts way final enough =
-      let start = begins in
-      let past = first_row start in
-      let on = on_way start past in
-      let fit = windows_fit d.params (cycle + 1) past.world.bus.sealed past.is_at.course in
-      let begun : cycles_begun past.world.bus.sealed * opportunities d.params ≡ (cycle + 1) * opportunities d.params =
-      ap (λ (n : ℕ). n * opportunities d.params) on.begun_is in
-      let fuel = (cycle + 1) * opportunities d.params + 1 - length past.world.bus.sealed in
-      let come = walks d lawful (cycle + 1) most room nothing_kept (cycle + 1) cycle (small_mod cycle few) few
-      (omega arith) channel counts most (omega arith) final (λ rs window next course lower. all_mute window) fuel 0 counts [] past.world on refl way (omega (arith, enough))
-      (omega (arith, fit, begun)) in
-      record {
-        world = come.world;
-        leads = leads_on start.leads (leads_on past.leads come.leads);
-        is_at = come.is_at;
-        window = come.window;
-        next = come.next;
-        dynamic = come.dynamic;
-        cycle_is = come.cycle_is;
-        counts_are = come.counts_are;
-        slot_is = come.slot_is;
-        minislot_is = come.minislot_is;
-      }
+      comes_in d lawful cycles most room nothing_kept 0 cycle cycle (small_mod cycle few) few channel counts
+      (3 * length counts) enough final (λ rs window next course lower. all_mute window) way (omega arith)
+      (opening_world d cycles) begins (all_mute begins.window)
 
 -- each opening of the definition is one of a run
 pub all_realized : (d : Description) → IsCluster d → AreRealized d
@@ -256,13 +214,13 @@ all_realized d lawful channel cycle slot minislot few dynamic room opens =
     ((are_lanes d lawful).opens channel cycle slot minislot dynamic).0 opens in
     let row = row_of d.params lane.counts minislot slot lane.opened in
     let way = is_way d channel cycle lane.counts lane.is_lane lane.are_rows in
-    let come = comes d lawful cycle (3 * slots_before d.params slot) few room channel lane.counts way row.exists
-    (omega (arith, row.slot_is)) in
+    let come = comes d lawful (cycle + 1) cycle (3 * slots_before d.params slot) few (omega arith) (omega (arith, few)) room
+    channel lane.counts way row.exists (omega (arith, row.slot_is)) in
     record {
       world = come.world;
       leads = come.leads;
       window = come.window;
-      is_open = open_at d (cycle + 1) nothing_kept (3 * slots_before d.params slot) come.world come.window come.is_at come.next;
+      is_open = open_at d (cycle + 1) nothing_kept (3 * length lane.counts) come.world come.window come.is_at come.next;
       cycle_is = come.cycle_is;
       minislot_is = come.minislot_is ∙ row.begins;
       slot_is = come.slot_is ∙ ap Some row.slot_is;

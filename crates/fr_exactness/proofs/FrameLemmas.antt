@@ -84,12 +84,12 @@ between_kept w n i is =
 
 -- ---- the sender
 
-each_at : {X : Type 0} (P : X → Type 0) (xs : List X) (k : ℕ) (x : X) → Each P xs → slice_get xs k ≡ Some x → P x
+pub each_at : {X : Type 0} (P : X → Type 0) (xs : List X) (k : ℕ) (x : X) → Each P xs → slice_get xs k ≡ Some x → P x
 each_at P [] k x all at = absurd (let none : ⊥ = cc in none)
 each_at P (y ∷ ys) zero x all at = subst P (same_some y x at) all.0
 each_at P (y ∷ ys) (suc k) x all at = each_at P ys k x all.1 at
 
-unset : (b : Bool) → not b ≡ true → b ≡ false
+pub unset : (b : Bool) → not b ≡ true → b ≡ false
 unset true e = absurd (let none : ⊥ = cc in none)
 unset false e = refl
 

@@ -14,4 +14,6 @@ pub mod PassingLemmas
 pub mod FrameLemmas
 pub mod SentLemmas
 pub mod WalkLemmas
+pub mod HoldingLemmas
 pub mod ExactLemmas
+pub mod DelayLemmas

@@ -142,7 +142,7 @@ data_bytes s window channel slot commit slot_is is =
 
 -- ---- the same commits are ready after the window
 
-unsent : (s : State) (window : Opportunity) → IsSilent s window → (commit : ℕ)
+pub unsent : (s : State) (window : Opportunity) → IsSilent s window → (commit : ℕ)
     → sends commit (fetch_entry s window) ≡ false
 unsent s window silent commit =
     λ i. no_data s window A commit silent.on_a i || no_data s window B commit silent.on_b i

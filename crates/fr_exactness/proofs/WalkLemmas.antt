@@ -133,27 +133,29 @@ module _ (d : Description) (lawful : IsCluster d) (cycles most : ℕ) (room : Ha
   -- ---- along a way
 
   -- The next window opens the row after these on the channel.
-  pub record IsCome (calls cycle : ℕ) (channel : Channel) (counts : List ℕ) (w : WorldState) : Type 0 where
+  pub record IsCome (calls begun cycle : ℕ) (channel : Channel) (counts : List ℕ) (w : WorldState) : Type 0 where
     pub world : WorldState
     pub leads : Leads w world
     pub is_at : IsAt d cycles kept calls world
     pub window : Opportunity
     pub next : following d.params cycles world.bus.sealed ≡ Some window
     pub dynamic : is_static window ≡ false
+    pub begun_is : cycles_begun world.bus.sealed ≡ begun
     pub cycle_is : window.cycle ≡ cycle
     pub counts_are : counts_on channel (this_cycle world.bus.sealed) ≡ counts
     pub slot_is : slot_of window channel ≡ Some (slot_after d.params counts)
     pub minislot_is : window.minislot ≡ first_minislot d.params counts
 
-  come_after : (calls cycle : ℕ) (channel : Channel) (counts : List ℕ) (w v : WorldState) → Leads w v
-      → IsCome calls cycle channel counts v → IsCome calls cycle channel counts w
-  come_after calls cycle channel counts w v leads come = record {
+  come_after : (calls begun cycle : ℕ) (channel : Channel) (counts : List ℕ) (w v : WorldState) → Leads w v
+      → IsCome calls begun cycle channel counts v → IsCome calls begun cycle channel counts w
+  come_after calls begun cycle channel counts w v leads come = record {
     world = come.world;
     leads = leads_on leads come.leads;
     is_at = come.is_at;
     window = come.window;
     next = come.next;
     dynamic = come.dynamic;
+    begun_is = come.begun_is;
     cycle_is = come.cycle_is;
     counts_are = come.counts_are;
     slot_is = come.slot_is;
@@ -199,7 +201,7 @@ module _ (d : Description) (lawful : IsCluster d) (cycles most : ℕ) (room : Ha
       abbrev Walks : ℕ → Type 0
       Walks fuel = (calls : ℕ) (rest so_far : List ℕ) (w : WorldState) → IsOn calls so_far w → so_far ++ rest ≡ way
           → AllAfter (IsRow d cycle channel) so_far rest → calls + 3 * length rest ≤ top
-          → length w.bus.sealed + fuel ≡ begun * opportunities d.params + 1 → IsCome top cycle channel way w
+          → length w.bus.sealed + fuel ≡ begun * opportunities d.params + 1 → IsCome top begun cycle channel way w
 
       no_row : (window : Opportunity) (slot : ℕ) → (is_static window ≡ true) ⊎ (slot_of window channel ≡ None)
           → is_static window ≡ false → slot_of window channel ≡ Some slot → ⊥
@@ -212,7 +214,7 @@ module _ (d : Description) (lawful : IsCluster d) (cycles most : ℕ) (room : Ha
           → calls + 3 * length rest ≤ top → length w.bus.sealed + suc fuel ≡ begun * opportunities d.params + 1
           → (window : Opportunity) → following d.params cycles w.bus.sealed ≡ Some window
           → opens_cycle window ≡ false → (is_static window ≡ true) ⊎ (slot_of window channel ≡ None)
-          → IsCome top cycle channel way w
+          → IsCome top begun cycle channel way w
       past_other fuel again calls rest so_far w on split all few count window follows later none =
           let past = passes_silent d cycles most room kept calls w window channel on.is_at follows
           (mute w.bus.sealed window follows on.is_at.course (λ slot dynamic at. absurd (no_row window slot none dynamic at)))
@@ -222,7 +224,7 @@ module _ (d : Description) (lawful : IsCluster d) (cycles most : ℕ) (room : Ha
           (subst (λ (v : Opportunity). (is_static v ≡ true) ⊎ (slot_of v channel ≡ None)) (sym past.window_is) none) in
           let still : IsOn calls so_far past.world = subst (λ (l : List ℕ). IsOn calls l past.world) (append-nil so_far)
           (goes_past calls calls 0 so_far w window false on later past row) in
-          come_after top cycle channel way w past.world past.leads
+          come_after top begun cycle channel way w past.world past.leads
           (again calls rest so_far past.world still split all few (omega (arith, count, one)))
 
       -- the window of the next row
@@ -232,7 +234,7 @@ module _ (d : Description) (lawful : IsCluster d) (cycles most : ℕ) (room : Ha
           → calls + 3 + 3 * length rest ≤ top → length w.bus.sealed + suc fuel ≡ begun * opportunities d.params + 1
           → (window : Opportunity) (slot : ℕ) → is_static window ≡ false → slot_of window channel ≡ Some slot
           → opens_cycle window ≡ false → IsPast d cycles kept (calls + 3) w window channel bytes
-          → IsCome top cycle channel way w
+          → IsCome top begun cycle channel way w
       past_row fuel again calls bytes rest so_far w on split all few count window slot dynamic slot_is later past =
           let one = one_more past.world w.bus.sealed past.recorded past.sealed in
           let row : is_row_of channel past.recorded ≡ true =
@@ -241,7 +243,7 @@ module _ (d : Description) (lawful : IsCluster d) (cycles most : ℕ) (room : Ha
           let next = goes_past calls (calls + 3) bytes so_far w window true on later past row in
           let still : IsOn (calls + 3) (so_far ++ bytes ∷ []) past.world =
           subst (λ (n : ℕ). IsOn (calls + 3) (so_far ++ n ∷ []) past.world) (past.longest_is dynamic) next in
-          come_after top cycle channel way w past.world past.leads
+          come_after top begun cycle channel way w past.world past.leads
           (again (calls + 3) rest (so_far ++ bytes ∷ []) past.world still
           (append_assoc so_far (bytes ∷ []) rest ∙ split) all few (omega (arith, count, one)))
 
@@ -266,7 +268,7 @@ module _ (d : Description) (lawful : IsCluster d) (cycles most : ℕ) (room : Ha
           → calls + 3 * length rest ≤ top → length w.bus.sealed + suc fuel ≡ begun * opportunities d.params + 1
           → (window : Opportunity) (slot : ℕ) → following d.params cycles w.bus.sealed ≡ Some window
           → opens_cycle window ≡ false → is_static window ≡ false → slot_of window channel ≡ Some slot
-          → IsCome top cycle channel way w
+          → IsCome top begun cycle channel way w
       unfolding AllAfter
       at_row fuel again calls [] so_far w on split all few count window slot follows later dynamic slot_is =
           let whole : so_far ≡ way = sym (append-nil so_far) ∙ split in
@@ -278,6 +280,7 @@ module _ (d : Description) (lawful : IsCluster d) (cycles most : ℕ) (room : Ha
             window = window;
             next = follows;
             dynamic = dynamic;
+            begun_is = on.begun_is;
             cycle_is = here.2;
             counts_are = on.counts_are ∙ whole;
             slot_is = slot_is ∙ ap Some (sym here.0 ∙ ap (slot_after d.params) whole);
@@ -322,7 +325,7 @@ module _ (d : Description) (lawful : IsCluster d) (cycles most : ℕ) (room : Ha
         where
           by : (window : Opportunity) → following d.params cycles w.bus.sealed ≡ Some window
               → opens_cycle window ≡ false → (b : Bool) → is_static window ≡ b → (o : Option ℕ)
-              → slot_of window channel ≡ o → IsCome top cycle channel way w
+              → slot_of window channel ≡ o → IsCome top begun cycle channel way w
           by window follows later true static o slot_is =
               past_other fuel again calls rest so_far w on split all few count window follows later (inl static)
           by window follows later false dynamic None slot_is =
@@ -338,3 +341,45 @@ module _ (d : Description) (lawful : IsCluster d) (cycles most : ℕ) (room : Ha
           absurd (let none : ⊥ = omega (arith, fit, same, count) in none)
       walks (suc fuel) calls rest so_far w on split all few count =
           walks_next fuel (λ c. walks fuel c) calls rest so_far w on split all few count
+
+  -- ---- a way in a cycle that begins
+
+  -- the world after the first window of the cycle
+  on_first : (calls begun cycle : ℕ) (same : (begun + 1 - 1) % 64 ≡ cycle) (fits : cycle < 64) (channel : Channel)
+      (w : WorldState) (start : IsStart calls begun w) (past : IsPast d cycles kept calls start.world start.window channel 0)
+      → IsOn (begun + 1) cycle same fits (omega arith) channel calls [] past.world
+  on_first calls begun cycle same fits channel w start past =
+      let opens = ap opens_cycle past.window_is ∙ start.opens in
+      let r = past.recorded in
+      let static : is_static r.window ≡ true = both_first (is_static r.window) (is_first_slot r.window.a) opens in
+      let row : is_row_of channel r ≡ false = ap (λ (b : Bool). not b && is_some (slot_of r.window channel)) static in
+      record {
+        is_at = past.is_at;
+        begun_is = ap cycles_begun past.sealed ∙ begun_next start.world.bus.sealed r true opens
+            ∙ ap (λ (n : ℕ). n + 1) start.begun_is;
+        counts_are = ap (λ (rs : List Recorded). counts_on channel (this_cycle rs)) past.sealed
+            ∙ counts_first channel start.world.bus.sealed r opens row;
+      }
+
+  pub comes_in : (calls begun cycle : ℕ) → begun % 64 ≡ cycle → cycle < 64 → (channel : Channel) (way : List ℕ) (top : ℕ)
+      → top ≤ most → has_row_after d.params way ≡ true
+      → ((rs : List Recorded) (window : Opportunity) → following d.params cycles rs ≡ Some window
+      → IsCourse (course_of d.params cycles rs)
+      → ((slot : ℕ) → is_static window ≡ false → slot_of window channel ≡ Some slot
+      → slot < slot_after d.params way) → AreMute d kept window)
+      → AllAfter (IsRow d cycle channel) [] way → calls + 3 * length way ≤ top
+      → (w : WorldState) (start : IsStart calls begun w) → AreMute d kept start.window
+      → IsCome top (begun + 1) cycle channel way w
+  comes_in calls begun cycle same fits channel way top enough final mute rows few w start quiet =
+      let past = passes_silent d cycles most room kept calls start.world start.window channel start.is_at start.next quiet
+      in
+      let back : (begun + 1 - 1) % 64 ≡ cycle =
+      ap (λ (n : ℕ). n % 64) (let back : begun + 1 - 1 ≡ begun = omega arith in back) ∙ same in
+      let on = on_first calls begun cycle back fits channel w start past in
+      let fit = windows_fit d.params cycles past.world.bus.sealed past.is_at.course in
+      let begun_is : cycles_begun past.world.bus.sealed * opportunities d.params ≡ (begun + 1) * opportunities d.params =
+      ap (λ (n : ℕ). n * opportunities d.params) on.begun_is in
+      come_after top (begun + 1) cycle channel way w past.world (leads_on start.leads past.leads)
+      (walks (begun + 1) cycle back fits (omega arith) channel way top enough final mute
+      ((begun + 1) * opportunities d.params + 1 - length past.world.bus.sealed) calls way [] past.world on refl rows few
+      (omega (arith, fit, begun_is)))

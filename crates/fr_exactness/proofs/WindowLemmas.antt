@@ -18,7 +18,7 @@ use Rattle.fr_core.specs.Steps.{with_bus, offer_of}
 use Rattle.fr_core.specs.Worlds.{WorldState, interface_at, carried_at}
 use Rattle.fr_exactness.proofs.LeadLemmas.{leads_on, leads_by}
 use Rattle.fr_exactness.proofs.ObservingLemmas.{IsSealed, IsObserved, HasAdvanced, has_advanced}
-use Rattle.fr_exactness.proofs.OfferingLemmas.{IsFresh, fetched_by, all_put_offers}
+use Rattle.fr_exactness.proofs.OfferingLemmas.{IsFresh, HavePut, fetched_by, all_put_offers}
 use Rattle.fr_exactness.proofs.PointLemmas.{all_by}
 use Rattle.fr_exactness.specs.Leading.{Leads}
 use Rattle.fr_interface.specs.State.{State, fetch_entry, fetch_refusal}
@@ -108,7 +108,7 @@ pub record HasPassed (w : WorldState) (window : Opportunity) : Type 0 where
   pub cycles : world.bus.cycles ≡ w.bus.cycles
   pub sealed : world.bus.sealed ≡ w.bus.sealed ++ recorded_by w.bus.cluster window stations ∷ []
 
-fresh_between : (w : WorldState) (window : Opportunity) → IsBetween w
+pub fresh_between : (w : WorldState) (window : Opportunity) → IsBetween w
     → following w.bus.cluster.params w.bus.cycles w.bus.sealed ≡ Some window → IsFresh w window
 fresh_between w window is next = record {
   phase = is.phase ∙ ap phase_at next;
@@ -131,38 +131,29 @@ outcome_is b c window same on_a on_b = λ i. record {
   corrupt_b = (ap (λ (x : BusState). x.corrupt_b) same ∙ on_b) i;
 }
 
-pub has_passed : (w : WorldState) (window : Opportunity) → IsBetween w
-    → following w.bus.cluster.params w.bus.cycles w.bus.sealed ≡ Some window
-    → ((n : ℕ) → n < length w.interfaces → fetch_refusal (interface_at w n) window ≡ None) → HasPassed w window
-has_passed w window is next ready =
-    let fresh = fresh_between w window is next in
-    let put = all_put_offers w window fresh ready in
-    let v = put.world in
-    let shape = put.shape in
-    let in_w : (n : ℕ) → n < length v.interfaces → n < length w.interfaces =
-    λ n within. subst (λ (m : ℕ). n < m) shape.interfaces within in
-    let full : IsFull v window = record {
-      phase = ap (λ (b : BusState). b.phase) shape.bus ∙ fresh.phase;
-      opened = ap (λ (b : BusState). b.opened) shape.bus ∙ fresh.opened;
-      a_controller_each = shape.carried ∙ fresh.a_controller_each ∙ sym shape.interfaces;
-      a_station_each = shape.stations ∙ fresh.a_station_each ∙ sym shape.interfaces;
-      waits = λ n within. (put.done n (in_w n within)).carried;
-      put = λ n within. ap is_put (put.done n (in_w n within)).station;
-      untaken = λ n within. ap is_taken (put.done n (in_w n within)).station;
-      is_open = λ n within. ap (λ (s : State). open_window s.entries) (put.done n (in_w n within)).interface
-          ∙ open_window-snoc (interface_at w n).entries (fetch_entry (interface_at w n) window);
-    } in
-    let sealed = sealed_by v window full in
-    let over = has_advanced sealed window (is_sealed v window full) in
+-- the window that was full is sealed, taken by every node, and passed
+pub record HasEnded (w : WorldState) (window : Opportunity) : Type 0 where
+  pub world : WorldState
+  pub leads : Leads w world
+  pub is_between : IsBetween world
+  pub interfaces_long : length world.interfaces ≡ length w.interfaces
+  pub interfaces : (n : ℕ) → n < length w.interfaces
+      → IsObserved (interface_at w n) (interface_at world n) window
+  pub cluster : world.bus.cluster ≡ w.bus.cluster
+  pub cycles : world.bus.cycles ≡ w.bus.cycles
+  pub sealed : world.bus.sealed ≡ w.bus.sealed ++ outcome_of w.bus window ∷ []
+
+pub has_ended : (w : WorldState) (window : Opportunity) → IsFull w window → HasEnded w window
+has_ended w window full =
+    let sealed = sealed_by w window full in
+    let over = has_advanced sealed window (is_sealed w window full) in
     let end = over.world in
-    let cluster : end.bus.cluster ≡ w.bus.cluster = over.cluster ∙ ap (λ (b : BusState). b.cluster) shape.bus in
-    let cycles : end.bus.cycles ≡ w.bus.cycles = over.cycles ∙ ap (λ (b : BusState). b.cycles) shape.bus in
     let follows : following sealed.bus.cluster.params sealed.bus.cycles sealed.bus.sealed
     ≡ following end.bus.cluster.params end.bus.cycles end.bus.sealed =
     λ i. following ((sym over.cluster) i).params ((sym over.cycles) i) ((sym over.record_is) i) in
     record {
       world = end;
-      leads = leads_on put.leads (leads_on (leads_seal v window full) over.leads);
+      leads = leads_on (leads_seal w window full) over.leads;
       is_between = record {
         a_controller_each = over.a_controller_each;
         a_station_each = over.a_station_each;
@@ -173,8 +164,48 @@ has_passed w window is next ready =
         phase = over.phase ∙ ap phase_at follows;
         opened = over.opened ∙ follows;
       };
+      interfaces_long = over.interfaces_long;
+      interfaces = over.interfaces;
+      cluster = over.cluster;
+      cycles = over.cycles;
+      sealed = over.record_is;
+    }
+
+-- after the first half of a window it is full
+pub full_is : (w : WorldState) (window : Opportunity) → IsFresh w window
+    → (put : HavePut w window (length w.interfaces)) → IsFull put.world window
+full_is w window fresh put =
+    let v = put.world in
+    let shape = put.shape in
+    let in_w : (n : ℕ) → n < length v.interfaces → n < length w.interfaces =
+    λ n within. subst (λ (m : ℕ). n < m) shape.interfaces within in
+    record {
+      phase = ap (λ (b : BusState). b.phase) shape.bus ∙ fresh.phase;
+      opened = ap (λ (b : BusState). b.opened) shape.bus ∙ fresh.opened;
+      a_controller_each = shape.carried ∙ fresh.a_controller_each ∙ sym shape.interfaces;
+      a_station_each = shape.stations ∙ fresh.a_station_each ∙ sym shape.interfaces;
+      waits = λ n within. (put.done n (in_w n within)).carried;
+      put = λ n within. ap is_put (put.done n (in_w n within)).station;
+      untaken = λ n within. ap is_taken (put.done n (in_w n within)).station;
+      is_open = λ n within. ap (λ (s : State). open_window s.entries) (put.done n (in_w n within)).interface
+          ∙ open_window-snoc (interface_at w n).entries (fetch_entry (interface_at w n) window);
+    }
+
+pub has_passed : (w : WorldState) (window : Opportunity) → IsBetween w
+    → following w.bus.cluster.params w.bus.cycles w.bus.sealed ≡ Some window
+    → ((n : ℕ) → n < length w.interfaces → fetch_refusal (interface_at w n) window ≡ None) → HasPassed w window
+has_passed w window is next ready =
+    let fresh = fresh_between w window is next in
+    let put = all_put_offers w window fresh ready in
+    let v = put.world in
+    let shape = put.shape in
+    let over = has_ended v window (full_is w window fresh put) in
+    record {
+      world = over.world;
+      leads = leads_on put.leads over.leads;
+      is_between = over.is_between;
       interfaces_long = over.interfaces_long ∙ shape.interfaces;
-      interfaces = λ n within. subst (λ (s : State). IsObserved s (interface_at end n) window)
+      interfaces = λ n within. subst (λ (s : State). IsObserved s (interface_at over.world n) window)
           (put.done n within).interface
           (over.interfaces n (subst (λ (m : ℕ). n < m) (sym shape.interfaces) within));
       stations = v.bus.stations;
@@ -182,9 +213,9 @@ has_passed w window is next ready =
         one_each = shape.stations ∙ fresh.a_station_each;
         are = λ n within. (put.done n within).station;
       };
-      cluster = cluster;
-      cycles = cycles;
-      sealed = over.record_is
+      cluster = over.cluster ∙ ap (λ (b : BusState). b.cluster) shape.bus;
+      cycles = over.cycles ∙ ap (λ (b : BusState). b.cycles) shape.bus;
+      sealed = over.sealed
           ∙ (λ i. (ap (λ (b : BusState). b.sealed) shape.bus) i
           ++ (outcome_is w.bus v.bus window shape.bus is.whole_a is.whole_b) i ∷ []);
     }
