@@ -67,10 +67,8 @@ unfolding first_from
 first_is test least zero = record { from = omega arith; to = omega arith; passes = inl (omega arith) }
 first_is test least (suc more) = by (test least) refl (first_is test (least + 1) more)
   where
-    abbrev Is : ℕ → Type 0
-    Is n = (least ≤ n) × (n ≤ least + suc more) × ((n ≡ least + suc more) ⊎ (test n ≡ true))
-
-    whole : (n : ℕ) → first_from test least (suc more) ≡ n → Is n → IsFirst test least (suc more)
+    whole : (n : ℕ) → first_from test least (suc more) ≡ n
+        → (least ≤ n) × (n ≤ least + suc more) × ((n ≡ least + suc more) ⊎ (test n ≡ true)) → IsFirst test least (suc more)
     whole n is parts = record {
       from = omega (arith, is, parts.0);
       to = omega (arith, is, parts.1);
@@ -170,11 +168,11 @@ module _ (d : Description) (lawful : IsCluster d) (n number : ℕ) (plan : Plan)
       → AreMute d (only_kept n number j) window
   mute_if j window never m p known on k is begins = elim (eqb_tells m n) [
     | inl same ↦ subst (λ (i : ℕ). only_kept n number j i k ≡ None) (sym same.1) (elim (eqb_tells k number) [
-        | inl this ↦ absurd (never on (turn_of plan number b window on at
-            (ap (λ (q : Plan). transmitter q window on) (same_some plan p
-            (sym plan_at ∙ ap (slice_get d.plans) (sym same.1) ∙ known)) ∙ is ∙ ap Some this.1)))
-        | inr other ↦ other_buffer n number j k other.1
-      ])
+      | inl this ↦ absurd (never on (turn_of plan number b window on at
+          (ap (λ (q : Plan). transmitter q window on) (same_some plan p
+          (sym plan_at ∙ ap (slice_get d.plans) (sym same.1) ∙ known)) ∙ is ∙ ap Some this.1)))
+      | inr other ↦ other_buffer n number j k other.1
+    ])
     | inr other ↦ other_node n number j m k other.1
   ]
 
@@ -182,10 +180,10 @@ module _ (d : Description) (lawful : IsCluster d) (n number : ℕ) (plan : Plan)
     pub static_mute : (j : ℕ) (rs : List Recorded) (window : Opportunity) → following d.params cycles rs ≡ Some window
         → is_static window ≡ true → AreMute d (only_kept n number j) window
     static_mute j rs window follows static = mute_if j window (λ on turn. (
-      let fit = following_fits d.params cycles rs window
-      (let two = lawful.params_are.static_slots_fit.from_least in omega (arith, two)) follows in
-      let no = static_fits d.params window on b.filter.slot fit.fits static turn.slot_is in
-      let none : ⊥ = cc in none))
+        let fit = following_fits d.params cycles rs window
+        (let two = lawful.params_are.static_slots_fit.from_least in omega (arith, two)) follows in
+        let no = static_fits d.params window on b.filter.slot fit.fits static turn.slot_is in
+        let none : ⊥ = cc in none))
 
     -- along a way to the slot
     pub way_mute : (j : ℕ) (way : List ℕ) → slot_after d.params way ≡ b.filter.slot → (rs : List Recorded)
@@ -198,10 +196,10 @@ module _ (d : Description) (lawful : IsCluster d) (n number : ℕ) (plan : Plan)
         by : (t : Bool) → is_static window ≡ t → AreMute d (only_kept n number j) window
         by true static = static_mute j rs window follows static
         by false still = mute_if j window (λ on turn. (
-          let here = subst (λ (c : Channel). slot_of window c ≡ Some b.filter.slot) (on_channel on turn.included)
-          turn.slot_is in
-          let less = lower b.filter.slot still here in
-          omega (arith, less, slot_is)))
+            let here = subst (λ (c : Channel). slot_of window c ≡ Some b.filter.slot) (on_channel on turn.included)
+            turn.slot_is in
+            let less = lower b.filter.slot still here in
+            omega (arith, less, slot_is)))
 
     -- from the slot of a cycle to a later cycle, if the buffer has no cycle between them
     module _ (j c distance : ℕ) (between : (k : ℕ) → 1 ≤ k → k < distance

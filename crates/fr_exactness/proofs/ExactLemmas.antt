@@ -44,10 +44,9 @@ use Rattle.fr_slots.specs.Faults.{words_of}
 use Rattle.fr_slots.specs.History.{AllAfter, last_after}
 use Rattle.fr_slots.specs.Parameters.{Parameters}
 use Rattle.fr_slots.specs.Plans.{Plan, empty_plan}
-use Rattle.fr_slots.specs.Windows.{Opportunity, slot_of, is_static}
+use Rattle.fr_slots.specs.Windows.{Opportunity, slot_of, is_static, static_window}
 
 -- ---- the opening world
-
 
 nothing_ready : (m : Mode) (number : ℕ) → ready m number [] ≡ None
 unfolding last_after
@@ -83,8 +82,8 @@ opening_node d cycles n within =
 opening_between : (d : Description) (cycles : ℕ) → 0 < cycles → IsBetween (opening_world d cycles)
 opening_between d cycles some =
     let many = length-map d.plans (new_interface d.params) in
-    let next : following d.params cycles [] ≡ Some _ =
-    ap (λ (b : Bool). cond b (Some _) None) (lt-ltb 0 cycles some) in
+    let next : following d.params cycles [] ≡ Some (static_window 0 0 1) =
+    ap (λ (b : Bool). cond b (Some (static_window 0 0 1)) None) (lt-ltb 0 cycles some) in
     record {
       a_controller_each = length-replicate (length d.plans) Idle ∙ sym many;
       a_station_each = length-replicate (length d.plans) idle_station ∙ sym many;
@@ -140,10 +139,13 @@ is_way d channel cycle counts lane rows =
     (λ before bytes. (bytes ≡ 0)
     ⊎ CanSendLane d channel cycle (slot_after d.params before) (first_minislot d.params before) bytes)
     (λ before bytes. has_row_after d.params before ≡ true) (IsRow d cycle channel)
-    (λ before bytes choice row. (row, elim choice [
-      | inl none ↦ inl none
-      | inr can ↦ inr (can_send d channel cycle (slot_after d.params before) (first_minislot d.params before) bytes can)
-    ])) [] counts lane rows
+    (λ before bytes choice row. (
+      row,
+      elim choice [
+        | inl none ↦ inl none
+        | inr can ↦ inr (can_send d channel cycle (slot_after d.params before) (first_minislot d.params before) bytes can)
+      ],
+    )) [] counts lane rows
 
 -- ---- the row that opens the slot
 

@@ -34,11 +34,12 @@ static_fitting p number cycle slot w few e =
 
 pub found : (test : ℕ → Bool) (xs : List ℕ) (x : ℕ) → find test xs ≡ Some x → test x ≡ true
 found test [] x e = absurd (let none : ⊥ = cc in none)
-found test (y ∷ ys) x e = by (test y) refl e
+found test (y ∷ ys) x e = by (test y) refl e (found test ys x)
   where
-    by : (b : Bool) → test y ≡ b → cond b (Some y) (find test ys) ≡ Some x → test x ≡ true
-    by true is f = ap test (sym (same_some y x f)) ∙ is
-    by false is f = found test ys x f
+    by : (b : Bool) → test y ≡ b → cond b (Some y) (find test ys) ≡ Some x
+        → (find test ys ≡ Some x → test x ≡ true) → test x ≡ true
+    by true is f rest = ap test (sym (same_some y x f)) ∙ is
+    by false is f rest = rest f
 
 -- a minislot at which a channel opens a slot
 opened_within : (p : Parameters) (counts : List ℕ) (minislot : ℕ) → is_some (opened_after p counts minislot) ≡ true

@@ -1,7 +1,7 @@
 -- A frame that a host commits right before its window is sent there, and the host then empties the buffer.
 use Rattle.std.proofs.Common.{◌≡◌, ◌≢◌, ℕ, ◌+◌, ◌*◌, ◌<◌, ◌≤◌, ◌==◌, Bool, true, false, not, cond, ◌&&◌, ◌||◌, List, []}
 use Rattle.std.proofs.Common.{◌∷◌, ◌++◌, length, length-append, replicate, Option, Some, None, refl, sym, ap, subst, ◌∙◌}
-use Rattle.std.proofs.Common.{arith, slice_get, inl, inr}
+use Rattle.std.proofs.Common.{arith, slice_get, inl, inr, zero, suc}
 use Rattle.std.specs.Prelude.{nat_le, count_by, option_map}
 use Rattle.std.proofs.lemmas.Bool.{eqb-true, le-leb, ne_eqb}
 use Rattle.std.proofs.lemmas.Bool.Decides.{eqb_tells}
@@ -27,7 +27,6 @@ use Rattle.fr_exactness.proofs.SilenceLemmas.{Keeps, IsMute, data_bytes}
 use Rattle.fr_exactness.proofs.TurnLemmas.{if_known}
 use Rattle.fr_exactness.proofs.WindowLemmas.{IsBetween}
 use Rattle.fr_exactness.specs.Leading.{Leads}
-
 use Rattle.fr_frame.specs.Encoding.{encoded}
 use Rattle.fr_guarantees.proofs.OfferLemmas.{length-frame}
 use Rattle.fr_guarantees.specs.Ways.{CanSend}

@@ -33,7 +33,7 @@ same_channel A = refl
 same_channel B = refl
 
 module _ (d : Description) (w : Opportunity) where
-  sent_by : ℕ → Channel → ArrayVec ℕ → Sent
+  abbrev pub sent_by : ℕ → Channel → ArrayVec ℕ → Sent
   sent_by node on bytes = record {
     node = node;
     channel = on;
@@ -46,7 +46,6 @@ module _ (d : Description) (w : Opportunity) where
 
   elsewhere : (channel on : Channel) (node : ℕ) (offer : Option (ArrayVec ℕ)) (slot : Option ℕ)
       → is_channel on channel ≡ false → filter (passed_on channel) (sent_in d w node on (plain_side offer) slot) ≡ []
-  unfolding sent_by
   elsewhere channel on node offer None other = refl
   elsewhere channel on node None (Some slot) other = refl
   elsewhere channel on node (Some bytes) (Some slot) other = by (length bytes.items == 0)
@@ -84,7 +83,6 @@ module _ (d : Description) (w : Opportunity) where
       → passes d node w channel ≡ true
       → filter (passed_on channel) (sent_in d w node channel (plain_side (Some bytes)) (Some slot))
       ≡ sent_by node channel bytes ∷ []
-  unfolding sent_by
   here channel node slot bytes some through =
       ap (λ (b : Bool). filter (passed_on channel) (cond b [] (sent_by node channel bytes ∷ []) ++ [])) some
       ∙ (λ i. cond (same_channel channel i && is_passed (fate_of false (through i))) (sent_by node channel bytes ∷ [])
@@ -162,7 +160,6 @@ module _ (d : Description) (w : Opportunity) where
       → (length bytes.items == 0) ≡ false → passes d k w channel ≡ true
       → ((n : ℕ) → n < length ss → n ≢ k → offer_on channel (offers n) ≡ None)
       → longest channel (sent_from d w 0 ss) ≡ length bytes.items
-  unfolding sent_by
   longest_one channel ss offers k slot bytes are within is slot_is some through silent =
       let first : 0 + k ≡ k = omega arith in
       ap (λ (l : List Sent). fold max 0 (map (λ (t : Sent). length t.bytes.items) l))

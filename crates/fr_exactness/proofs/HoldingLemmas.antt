@@ -43,11 +43,11 @@ nothing_kept n number = None
 abbrev pub only_kept : ℕ → ℕ → ℕ → ℕ → Keeps
 only_kept n number commit m k = cond (m == n && k == number) (Some commit) None
 
-other_node : (n number commit m k : ℕ) → m ≢ n → only_kept n number commit m k ≡ None
+pub other_node : (n number commit m k : ℕ) → m ≢ n → only_kept n number commit m k ≡ None
 other_node n number commit m k other =
     ap (λ (b : Bool). cond {A = Option ℕ} (b && k == number) (Some commit) None) (ne_eqb m n other)
 
-other_buffer : (n number commit k : ℕ) → k ≢ number → only_kept n number commit n k ≡ None
+pub other_buffer : (n number commit k : ℕ) → k ≢ number → only_kept n number commit n k ≡ None
 other_buffer n number commit k other =
     λ i. cond {A = Option ℕ} (eq-eqb n n refl i && ne_eqb k number other i) (Some commit) None
 
@@ -147,14 +147,14 @@ module _ (d : Description) (cycles most : ℕ) (room : HasRoom d cycles most) (c
   fresh : IsFresh w window
   fresh = fresh_between w window here.between (next_here d cycles nothing_kept calls w here ∙ next)
 
-  ready : (m : ℕ) → m < length w.interfaces → fetch_refusal (interface_at w m) window ≡ None
-  ready m inside =
+  takes : (m : ℕ) → m < length w.interfaces → fetch_refusal (interface_at w m) window ≡ None
+  takes m inside =
       let node = here.nodes m inside in
       takes_next d cycles most room nothing_kept m (interface_at w m) w.bus.sealed window node.params_are node.plan_at
       node.has here.course next
 
   put : HavePut w window (length w.interfaces)
-  put = all_put_offers w window fresh ready
+  put = all_put_offers w window fresh takes
 
   abbrev v : WorldState
   v = put.world

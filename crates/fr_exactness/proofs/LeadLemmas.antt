@@ -17,15 +17,15 @@ all_joined test (x ∷ xs) ys e f =
     both (test x) (list_all test (xs ++ ys)) (both_first (test x) (list_all test xs) e)
     (all_joined test xs ys (both_rest (test x) (list_all test xs) e) f)
 
-steps_joined : (u : WorldState) (es : List Event) (as : List Answer) (v : WorldState) (fs : List Event)
-    (bs : List Answer) (w : WorldState) → StepsAll u es as v → StepsAll v fs bs w
-    → StepsAll u (es ++ fs) (as ++ bs) w
+steps_joined : (u : WorldState) (es : List Event) (xs : List Answer) (v : WorldState) (fs : List Event)
+    (ys : List Answer) (w : WorldState) → StepsAll u es xs v → StepsAll v fs ys w
+    → StepsAll u (es ++ fs) (xs ++ ys) w
 unfolding StepsAll
-steps_joined u [] [] v fs bs w first second = subst (λ (x : WorldState). StepsAll x fs bs w) first second
-steps_joined u [] (a ∷ as) v fs bs w first second = absurd first
-steps_joined u (e ∷ es) [] v fs bs w first second = absurd first
-steps_joined u (e ∷ es) (a ∷ as) v fs bs w first second =
-    (first.0, first.1, steps_joined first.0 es as v fs bs w first.2 second)
+steps_joined u [] [] v fs ys w first second = subst (λ (x : WorldState). StepsAll x fs ys w) first second
+steps_joined u [] (x ∷ xs) v fs ys w first second = absurd first
+steps_joined u (e ∷ es) [] v fs ys w first second = absurd first
+steps_joined u (e ∷ es) (x ∷ xs) v fs ys w first second =
+    (first.0, first.1, steps_joined first.0 es xs v fs ys w first.2 second)
 
 pub leads_not : (w : WorldState) → Leads w w
 unfolding StepsAll

@@ -150,16 +150,16 @@ module _ (w : WorldState) (window : Opportunity) (sealed : IsSealed w window) wh
         };
         done = λ n below. elim (eqb_tells n many) [
           | inl same ↦ subst (λ (m : ℕ). HasTaken w next window m) (sym same.1) (record {
-              interface = record {
-                a = seen_last v.bus A many;
-                b = seen_last v.bus B many;
-                is = taken_interface v many window within a_controller a_station
-                    ∙ ap (λ (s : State). with_entry s (Observe window.number (seen_last v.bus A many)
-                    (seen_last v.bus B many))) here.interface;
-              };
-              carried = taken_carried v many window within a_controller a_station;
-              station = ap is_taken (taken_station v many window within a_controller a_station);
-            })
+            interface = record {
+              a = seen_last v.bus A many;
+              b = seen_last v.bus B many;
+              is = taken_interface v many window within a_controller a_station
+                  ∙ ap (λ (s : State). with_entry s (Observe window.number (seen_last v.bus A many)
+                  (seen_last v.bus B many))) here.interface;
+            };
+            carried = taken_carried v many window within a_controller a_station;
+            station = ap is_taken (taken_station v many window within a_controller a_station);
+          })
           | inr other ↦ (
               let was = so_far.done n (omega (arith, below, other.1)) in
               let still = taken_other v many window within a_controller a_station n other.1 in
@@ -171,14 +171,14 @@ module _ (w : WorldState) (window : Opportunity) (sealed : IsSealed w window) wh
               })
         ];
         rest = λ n above. (
-          let was = so_far.rest n (omega (arith, above)) in
-          let still = taken_other v many window within a_controller a_station n
-          (λ same. let none : ⊥ = omega (arith, above, same) in none) in
-          record {
-            interface = still.interface ∙ was.interface;
-            carried = still.carried ∙ was.carried;
-            station = still.station ∙ was.station;
-          });
+            let was = so_far.rest n (omega (arith, above)) in
+            let still = taken_other v many window within a_controller a_station n
+            (λ same. let none : ⊥ = omega (arith, above, same) in none) in
+            record {
+              interface = still.interface ∙ was.interface;
+              carried = still.carried ∙ was.carried;
+              station = still.station ∙ was.station;
+            });
       }
 
   take_some : (many : ℕ) → many ≤ length w.interfaces → HaveTaken w window many

@@ -161,11 +161,11 @@ module _ (w : WorldState) (window : Opportunity) (fresh : IsFresh w window)
         };
         done = λ n below. elim (eqb_tells n many) [
           | inl same ↦ subst (λ (m : ℕ). HasPut w next window m) (sym same.1) (record {
-              interface = put_interface v many window within a_controller a_station
-                  ∙ ap (λ (s : State). fetched_by s window) here.interface;
-              carried = put_carried v many window within a_controller a_station;
-              station = station;
-            })
+            interface = put_interface v many window within a_controller a_station
+                ∙ ap (λ (s : State). fetched_by s window) here.interface;
+            carried = put_carried v many window within a_controller a_station;
+            station = station;
+          })
           | inr other ↦ (
               let was = so_far.done n (omega (arith, below, other.1)) in
               let still = put_other v many window within a_controller a_station n other.1 in
@@ -176,14 +176,14 @@ module _ (w : WorldState) (window : Opportunity) (fresh : IsFresh w window)
               })
         ];
         rest = λ n above. (
-          let was = so_far.rest n (omega (arith, above)) in
-          let still = put_other v many window within a_controller a_station n
-          (λ same. let none : ⊥ = omega (arith, above, same) in none) in
-          record {
-            interface = still.interface ∙ was.interface;
-            carried = still.carried ∙ was.carried;
-            station = still.station ∙ was.station;
-          });
+            let was = so_far.rest n (omega (arith, above)) in
+            let still = put_other v many window within a_controller a_station n
+            (λ same. let none : ⊥ = omega (arith, above, same) in none) in
+            record {
+              interface = still.interface ∙ was.interface;
+              carried = still.carried ∙ was.carried;
+              station = still.station ∙ was.station;
+            });
       }
 
   put_some : (many : ℕ) → many ≤ length w.interfaces → HavePut w window many

@@ -73,14 +73,14 @@ at_more d cycles kept calls more w few here = record {
   course = here.course;
   between = here.between;
   nodes = λ n within. (
-    let node = here.nodes n within in
-    record {
-      params_are = node.params_are;
-      plan_at = node.plan_at;
-      has = node.has;
-      hosts = omega (arith, node.hosts, few);
-      ready = node.ready;
-    });
+      let node = here.nodes n within in
+      record {
+        params_are = node.params_are;
+        plan_at = node.plan_at;
+        has = node.has;
+        hosts = omega (arith, node.hosts, few);
+        ready = node.ready;
+      });
 }
 
 pub past_more : (d : Description) (cycles : ℕ) (kept : ℕ → Keeps) (calls more bytes : ℕ) (w : WorldState)
@@ -134,8 +134,8 @@ module _ (d : Description) (cycles most : ℕ) (room : HasRoom d cycles most) (k
   passes_silent calls w window channel here next mute =
       let ready : (n : ℕ) → n < length w.interfaces → fetch_refusal (interface_at w n) window ≡ None =
       λ n within. (
-        let node = here.nodes n within in
-        takes_next n (interface_at w n) w.bus.sealed window node.params_are node.plan_at node.has here.course next) in
+      let node = here.nodes n within in
+      takes_next n (interface_at w n) w.bus.sealed window node.params_are node.plan_at node.has here.course next) in
       let past = has_passed w window here.between (next_here d cycles kept calls w here ∙ next) ready in
       let v = past.world in
       let r = recorded_by w.bus.cluster window past.stations in
@@ -154,12 +154,12 @@ module _ (d : Description) (cycles most : ℕ) (room : HasRoom d cycles most) (k
               (course_next d.params cycles w.bus.sealed r here.course next);
           between = past.is_between;
           nodes = λ n within. (
-            let in_old : n < length w.interfaces = subst (λ (m : ℕ). n < m) past.interfaces_long within in
-            let many : length w.bus.sealed + 1 ≡ length v.bus.sealed =
-            sym (ap (λ (rs : List Recorded). length rs) past.sealed ∙ length-append w.bus.sealed (r ∷ [])) in
-            subst (λ (m : ℕ). IsNodeAt d (kept n) n (interface_at v n) m calls) many
-            (node_past n (length w.bus.sealed) calls (interface_at w n) (interface_at v n) window
-            (here.nodes n in_old) mute fitting.number_is (past.interfaces n in_old)));
+              let in_old : n < length w.interfaces = subst (λ (m : ℕ). n < m) past.interfaces_long within in
+              let many : length w.bus.sealed + 1 ≡ length v.bus.sealed =
+              sym (ap (λ (rs : List Recorded). length rs) past.sealed ∙ length-append w.bus.sealed (r ∷ [])) in
+              subst (λ (m : ℕ). IsNodeAt d (kept n) n (interface_at v n) m calls) many
+              (node_past n (length w.bus.sealed) calls (interface_at w n) (interface_at v n) window
+              (here.nodes n in_old) mute fitting.number_is (past.interfaces n in_old)));
         };
         recorded = r;
         sealed = past.sealed;
@@ -167,8 +167,8 @@ module _ (d : Description) (cycles most : ℕ) (room : HasRoom d cycles most) (k
         longest_is = λ dynamic. longest_none w.bus.cluster window channel past.stations
             (λ n. offer_of (interface_at w n) window) (λ n within. past.offers.are n (in_w n within))
             (λ n within. (
-              let node = here.nodes n (in_w n within) in
-              no_bytes (interface_at w n) window channel dynamic
-              (none_offered (kept n) (interface_at w n) node.ready window (mute n (interface_at w n).plan node.plan_at)
-              channel)));
+            let node = here.nodes n (in_w n within) in
+            no_bytes (interface_at w n) window channel dynamic
+            (none_offered (kept n) (interface_at w n) node.ready window (mute n (interface_at w n).plan node.plan_at)
+            channel)));
       }

@@ -129,8 +129,11 @@ module _ (d : Description) (lawful : IsCluster d) (cycles most : ℕ) (room : Ha
   r = recorded_by w.bus.cluster window past.stations
 
   frame : HasBytes s1 window channel bytes
-  frame = frame_is s can.number can.buffer window channel slot bytes payload sending slot_is
-      (omega (arith, can.bytes_are, length-replicate (2 * words_of d.params can.buffer) 0))
+  frame =
+      let long : length payload ≡ 2 * words_of d.params can.buffer =
+      length-replicate (2 * words_of d.params can.buffer) 0 in
+      frame_is s can.number can.buffer window channel slot bytes payload sending slot_is
+      (omega (arith, can.bytes_are, long))
 
   through : passes w.bus.cluster k window channel ≡ true
   through =
@@ -149,10 +152,10 @@ module _ (d : Description) (lawful : IsCluster d) (cycles most : ℕ) (room : Ha
       (λ n inside. past.offers.are n (in_w1 n inside)) inside
       (ap (λ (x : State). offer_on channel (offer_of x window)) at_sender ∙ frame.is) slot_is frame.some through
       (λ n inside other. (
-        let at = here.nodes n (subst (λ (m : ℕ). n < m) long (in_w1 n inside)) in
-        ap (λ (x : State). offer_on channel (offer_of x window)) (at_other n other)
-        ∙ no_bytes (interface_at w n) window channel dynamic (none_offered (kept n) (interface_at w n) at.ready
-        window (mute n (interface_at w n).plan at.plan_at) channel)))
+      let at = here.nodes n (subst (λ (m : ℕ). n < m) long (in_w1 n inside)) in
+      ap (λ (x : State). offer_on channel (offer_of x window)) (at_other n other)
+      ∙ no_bytes (interface_at w n) window channel dynamic (none_offered (kept n) (interface_at w n) at.ready
+      window (mute n (interface_at w n).plan at.plan_at) channel)))
       ∙ frame.long
 
   -- ---- the buffer is emptied

@@ -103,14 +103,14 @@ module _ (d : Description) (lawful : IsCluster d) (cycles most : ℕ) (room : Ha
           (omega (arith, few)) count
       by window follows true opens = elim (eqb_tells (cycles_begun w.bus.sealed) begun) [
         | inl same ↦ record {
-            world = w;
-            leads = leads_not w;
-            is_at = here;
-            begun_is = same.1;
-            window = window;
-            next = follows;
-            opens = opens;
-          }
+          world = w;
+          leads = leads_not w;
+          is_at = here;
+          begun_is = same.1;
+          window = window;
+          next = follows;
+          opens = opens;
+        }
         | inr other ↦ (
             let going = keeps w.bus.sealed window good follows here.course few
             (λ e. omega (arith, few, other.1)) in
@@ -345,10 +345,11 @@ module _ (d : Description) (lawful : IsCluster d) (cycles most : ℕ) (room : Ha
   -- ---- a way in a cycle that begins
 
   -- the world after the first window of the cycle
-  on_first : (calls begun cycle : ℕ) (same : (begun + 1 - 1) % 64 ≡ cycle) (fits : cycle < 64) (channel : Channel)
+  on_first : (calls begun cycle : ℕ) (same : (begun + 1 - 1) % 64 ≡ cycle) (fits : cycle < 64) (some : 1 ≤ begun + 1)
+      (channel : Channel)
       (w : WorldState) (start : IsStart calls begun w) (past : IsPast d cycles kept calls start.world start.window channel 0)
-      → IsOn (begun + 1) cycle same fits (omega arith) channel calls [] past.world
-  on_first calls begun cycle same fits channel w start past =
+      → IsOn (begun + 1) cycle same fits some channel calls [] past.world
+  on_first calls begun cycle same fits some channel w start past =
       let opens = ap opens_cycle past.window_is ∙ start.opens in
       let r = past.recorded in
       let static : is_static r.window ≡ true = both_first (is_static r.window) (is_first_slot r.window.a) opens in
@@ -375,11 +376,12 @@ module _ (d : Description) (lawful : IsCluster d) (cycles most : ℕ) (room : Ha
       in
       let back : (begun + 1 - 1) % 64 ≡ cycle =
       ap (λ (n : ℕ). n % 64) (let back : begun + 1 - 1 ≡ begun = omega arith in back) ∙ same in
-      let on = on_first calls begun cycle back fits channel w start past in
+      let some : 1 ≤ begun + 1 = omega arith in
+      let on = on_first calls begun cycle back fits some channel w start past in
       let fit = windows_fit d.params cycles past.world.bus.sealed past.is_at.course in
       let begun_is : cycles_begun past.world.bus.sealed * opportunities d.params ≡ (begun + 1) * opportunities d.params =
       ap (λ (n : ℕ). n * opportunities d.params) on.begun_is in
       come_after top (begun + 1) cycle channel way w past.world (leads_on start.leads past.leads)
-      (walks (begun + 1) cycle back fits (omega arith) channel way top enough final mute
+      (walks (begun + 1) cycle back fits some channel way top enough final mute
       ((begun + 1) * opportunities d.params + 1 - length past.world.bus.sealed) calls way [] past.world on refl rows few
       (omega (arith, fit, begun_is)))
