@@ -149,12 +149,12 @@ is_way d channel cycle counts lane rows =
 
 -- ---- the row that opens the slot
 
-record IsRowOf (p : Parameters) (counts : List ℕ) (minislot slot : ℕ) : Type 0 where
-  exists : has_row_after p counts ≡ true
-  begins : first_minislot p counts ≡ minislot
-  slot_is : slot_after p counts ≡ slot
+pub record IsRowOf (p : Parameters) (counts : List ℕ) (minislot slot : ℕ) : Type 0 where
+  pub exists : has_row_after p counts ≡ true
+  pub begins : first_minislot p counts ≡ minislot
+  pub slot_is : slot_after p counts ≡ slot
 
-row_of : (p : Parameters) (counts : List ℕ) (minislot slot : ℕ) → opened_after p counts minislot ≡ Some slot
+pub row_of : (p : Parameters) (counts : List ℕ) (minislot slot : ℕ) → opened_after p counts minislot ≡ Some slot
     → IsRowOf p counts minislot slot
 row_of p counts minislot slot e =
     by (has_row_after p counts) (first_minislot p counts == minislot) refl refl e

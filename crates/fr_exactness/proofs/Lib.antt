@@ -17,3 +17,4 @@ pub mod WalkLemmas
 pub mod HoldingLemmas
 pub mod ExactLemmas
 pub mod DelayLemmas
+pub mod ReachLemmas
