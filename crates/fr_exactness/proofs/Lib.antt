@@ -18,3 +18,4 @@ pub mod HoldingLemmas
 pub mod ExactLemmas
 pub mod DelayLemmas
 pub mod ReachLemmas
+pub mod WorstLemmas

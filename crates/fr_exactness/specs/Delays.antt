@@ -16,7 +16,8 @@ use Rattle.fr_journal.specs.Fate.{pending_commit}
 use Rattle.fr_journal.specs.Forms.{Entry}
 use Rattle.fr_journal.specs.Offers.{offered}
 use Rattle.fr_latency.specs.Latencies.{before_slot, channel_of, distance, is_always_in_time, is_guaranteed, wait_from}
-use Rattle.fr_latency.specs.Latencies.{earliest_start, latest_end}
+use Rattle.fr_latency.specs.declared.latency.State.TheVariants.{Guaranteed}
+use Rattle.fr_latency.specs.Latencies.{earliest_start, latest_end, state_of, worst_latency}
 use Rattle.fr_schedule.specs.Descriptions.{Description}
 use Rattle.fr_slots.specs.Admission.{cycle_admitted}
 use Rattle.fr_slots.specs.declared.channel.Channel.{Channel}
@@ -75,3 +76,19 @@ AreReached d = (n number : ℕ) (plan : Plan) (b : Buffer) → slice_get d.plans
     → HasRoom d (cycle + cycles_after d plan b cycle + 1) (6 * before_slot d b + 1)
     → IsDelayed d n number b (channel_of b.filter.channels) (cycle + cycles_after d plan b cycle + 1)
     (wait_from d.params.cycle_mt (is_guaranteed d plan b) (earliest_start d b) (latest_end d b) cycle)
+
+-- ---- the table
+
+-- some run has this delay
+pub record HasDelay (d : Description) (n number : ℕ) (b : Buffer) (delay : ℕ) : Type 0 where
+  pub cycles : ℕ
+  pub few : cycles ≤ 128
+  pub delayed : IsDelayed d n number b (channel_of b.filter.channels) cycles delay
+
+-- A dynamic buffer that the table calls guaranteed has its worst latency in some run of at most 128 cycles, if the
+-- journals have room for it.
+abbrev pub IsWorstReached : Description → Type 0
+IsWorstReached d = (n number : ℕ) (plan : Plan) (b : Buffer) → slice_get d.plans n ≡ Some plan
+    → buffer_at plan number ≡ Some b → transmits b ≡ true → is_static_slot d.params b.filter.slot ≡ false
+    → state_of d plan b ≡ Guaranteed → (worst : ℕ) → worst_latency d plan b ≡ Some worst
+    → HasRoom d 128 (6 * before_slot d b + 1) → HasDelay d n number b worst
