@@ -1,6 +1,6 @@
 -- Calls of a host at one buffer: a commit, and a withdraw that empties the buffer again.
-use Rattle.std.proofs.Common.{◌≡◌, ◌≢◌, ℕ, ◌+◌, ◌*◌, ◌<◌, ◌≤◌, Bool, true, false, not, cond, ◌&&◌, ◌||◌, List, [], ◌∷◌}
-use Rattle.std.proofs.Common.{◌++◌, length, replicate, Option, Some, None, refl, sym, ap, subst, ◌∙◌, arith, inl, inr}
+use Rattle.std.proofs.Common.{◌≡◌, ◌≢◌, ℕ, ◌*◌, ◌<◌, ◌≤◌, Bool, true, false, not, cond, ◌||◌, List}
+use Rattle.std.proofs.Common.{length, Option, Some, None, refl, sym, ap, ◌∙◌, arith, inl, inr}
 use Rattle.std.specs.Prelude.{◌==◌, nat_le, count_by}
 use Rattle.std.specs.Option.{option_and_then}
 use Rattle.std.proofs.lemmas.Bool.{eq-eqb, eqb-true, ne_eqb, lt-leb}
@@ -8,15 +8,15 @@ use Rattle.std.proofs.lemmas.Bool.Decides.{eqb_tells}
 use Rattle.fr_core.proofs.CaseLemmas.{kept_if}
 use Rattle.fr_core.proofs.HandingLemmas.{data_is}
 use Rattle.fr_core.proofs.ReadyLemmas.{pending-new, ready-same, ready-new, ready-taken}
-use Rattle.fr_core.proofs.TakingLemmas.{IsOfferedBy, in_slot}
+use Rattle.fr_core.proofs.TakingLemmas.{in_slot}
 use Rattle.fr_exactness.proofs.ObservingLemmas.{IsObserved}
 use Rattle.fr_exactness.proofs.OfferingLemmas.{fetched_by}
 use Rattle.fr_exactness.proofs.SilenceLemmas.{Keeps, HasReady, IsMute, not_ready}
-use Rattle.fr_interface.specs.declared.errors.HostError.TheVariants.{UnknownTask, UnknownBuffer, NotTransmit, WrongLength}
+use Rattle.fr_interface.specs.declared.errors.HostError.TheVariants.{UnknownTask, NotTransmit, WrongLength}
 use Rattle.fr_interface.specs.declared.errors.HostError.TheVariants.{HostFull}
 use Rattle.fr_interface.specs.State.{State, with_entry, fetch_entry, withdraw_entry, has_words, is_host_full}
 use Rattle.fr_interface.specs.State.{unless_transmit, unless_sending, commit_refusal, withdraw_refusal}
-use Rattle.fr_journal.proofs.HeldCommitLemmas.{one_buffer, pending_is}
+use Rattle.fr_journal.proofs.HeldCommitLemmas.{one_buffer}
 use Rattle.fr_journal.proofs.LastCommitLemmas.{last_commit-commit}
 use Rattle.fr_journal.specs.declared.entry.Entry.TheVariants.{Commit, Withdraw, Observe}
 use Rattle.fr_journal.specs.declared.entry.Offered.{Offered}

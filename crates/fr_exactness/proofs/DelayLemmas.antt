@@ -1,31 +1,29 @@
 -- The worst wait of a guaranteed buffer is reached.
-use Rattle.std.proofs.Common.{◌≡◌, ◌≢◌, ℕ, zero, suc, ◌+◌, ◌-◌, ◌*◌, ◌%◌, ◌<◌, ◌≤◌, ◌==◌, Bool, true, false, not, cond}
-use Rattle.std.proofs.Common.{◌&&◌, ◌||◌, ◌⊎◌, inl, inr, List, [], ◌∷◌, ◌++◌, length, length-append, replicate, Option, Some}
-use Rattle.std.proofs.Common.{None, refl, sym, ap, subst, ◌∙◌, arith, slice_get, is_some, option_map}
-use Rattle.std.specs.Prelude.{nat_le, sum_by, count_by}
+use Rattle.std.proofs.Common.{◌≡◌, ℕ, zero, suc, ◌+◌, ◌-◌, ◌%◌, ◌<◌, ◌≤◌, ◌==◌, Bool, true, false, not, cond}
+use Rattle.std.proofs.Common.{◌&&◌, ◌⊎◌, inl, inr, List, [], ◌∷◌, ◌++◌, length, length-append, Option, Some}
+use Rattle.std.proofs.Common.{None, refl, sym, ap, subst, ◌∙◌, arith, slice_get}
+use Rattle.std.specs.Prelude.{nat_le}
 use Rattle.std.specs.List.{list_all}
-use Rattle.std.proofs.lemmas.Bool.{eq-eqb, eqb-true, le-leb, leb-true, leb-false}
+use Rattle.std.proofs.lemmas.Bool.{eqb-true, leb-false}
 use Rattle.std.proofs.lemmas.Bool.Decides.{eqb_tells}
-use Rattle.std.proofs.lemmas.List.{length-replicate}
 use Rattle.std.proofs.lemmas.List.Quantifiers.{position-Some}
-use Rattle.std.proofs.lemmas.Nat.{mod-mul-add, mod_below}
-use Rattle.std.proofs.lemmas.Option.{slice_get_within, get_or_from_slice_get}
+use Rattle.std.proofs.lemmas.Option.{get_or_from_slice_get}
 use Rattle.fr_bus.specs.Record.{Recorded}
 use Rattle.fr_bus.specs.Courses.{IsCourse, course_of}
-use Rattle.fr_bus.specs.Windows.{cycles_begun, this_cycle, counts_on, is_first_slot, is_row_of, opens_cycle, following}
+use Rattle.fr_bus.specs.Windows.{cycles_begun, this_cycle, counts_on, is_row_of, opens_cycle, following}
 use Rattle.fr_bus.specs.Outcome.{longest}
 use Rattle.fr_core.proofs.CaseLemmas.{both, both_first, both_rest}
 use Rattle.fr_exactness.proofs.FollowingLemmas.{following_fits}
-use Rattle.fr_exactness.proofs.FrameLemmas.{each_at, unset}
+use Rattle.fr_exactness.proofs.FrameLemmas.{each_at}
 use Rattle.fr_exactness.proofs.HoldingLemmas.{only_kept, other_node, other_buffer}
 use Rattle.fr_exactness.proofs.PassingLemmas.{AreMute}
 use Rattle.fr_exactness.proofs.ProgressLemmas.{begun_next, counts_next}
 use Rattle.fr_exactness.proofs.WalkLemmas.{KeepsMute}
 use Rattle.fr_exactness.specs.Exactness.{HasRoom}
 use Rattle.fr_guarantees.proofs.NextRowLemmas.{row_is, cycle_is}
-use Rattle.fr_journal.specs.Offers.{may_begin, is_admitting, transmitter}
+use Rattle.fr_journal.specs.Offers.{is_admitting, transmitter}
 use Rattle.fr_latency.specs.Latencies.{before_slot, channel_of, first_from}
-use Rattle.fr_minislot.specs.DynamicRows.{first_minislot, row_length, slot_after}
+use Rattle.fr_minislot.specs.DynamicRows.{slot_after}
 use Rattle.fr_schedule.specs.Clusters.{IsCluster, IsNode}
 use Rattle.fr_schedule.specs.Descriptions.{Description}
 use Rattle.fr_slots.proofs.FaultlessLemmas.{faultless}

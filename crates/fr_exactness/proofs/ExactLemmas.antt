@@ -1,31 +1,26 @@
 -- Wherever the definition lets a dynamic slot open, a run opens it.
-use Rattle.std.proofs.Common.{◌≡◌, ℕ, ◌+◌, ◌-◌, ◌*◌, ◌%◌, ◌<◌, ◌≤◌, ◌==◌, Bool, true, false, not, cond, ◌&&◌, ◌⊎◌, inl, inr}
-use Rattle.std.proofs.Common.{List, [], ◌∷◌, ◌++◌, length, length-append, replicate, map, Option, Some, None, refl, sym, ap}
-use Rattle.std.proofs.Common.{subst, ◌∙◌, arith, slice_get, get_or, is_some}
-use Rattle.std.specs.Prelude.{nat_lt, nat_le}
+use Rattle.std.proofs.Common.{◌≡◌, ℕ, ◌+◌, ◌-◌, ◌*◌, ◌%◌, ◌<◌, ◌≤◌, ◌==◌, Bool, true, false, cond, ◌&&◌, ◌⊎◌, inl, inr}
+use Rattle.std.proofs.Common.{List, [], ◌∷◌, ◌++◌, length, map, Option, Some, None, refl, sym, ap}
+use Rattle.std.proofs.Common.{subst, ◌∙◌, arith, slice_get, get_or}
 use Rattle.std.proofs.lemmas.Bool.{eqb-true, lt-ltb}
 use Rattle.std.proofs.lemmas.List.{length-map, length-replicate}
 use Rattle.std.proofs.lemmas.Nat.{mod-mul-add}
 use Rattle.std.proofs.lemmas.Option.{get_or_from_slice_get, slice_get-get_or}
 use Rattle.fr_bus.specs.Courses.{opportunities}
 use Rattle.fr_bus.specs.declared.error.Phase.{Phase}
-use Rattle.fr_bus.specs.Record.{Recorded}
 use Rattle.fr_bus.specs.States.{collects, collecting_of, idle_station, phase_at}
-use Rattle.fr_bus.specs.Windows.{cycles_begun, this_cycle, counts_on, is_first_slot, is_row_of, opens_cycle, following}
-use Rattle.fr_core.proofs.CaseLemmas.{both_first, kept_if}
+use Rattle.fr_bus.specs.Windows.{following}
 use Rattle.fr_core.specs.Carried.{Idle}
 use Rattle.fr_core.specs.Worlds.{WorldState, no_interface, interface_at, new_interface, opening_world}
 use Rattle.fr_exactness.proofs.HoldingLemmas.{nothing_kept}
 use Rattle.fr_exactness.proofs.JournalLemmas.{HasWindows}
-use Rattle.fr_exactness.proofs.LeadLemmas.{leads_on}
-use Rattle.fr_exactness.proofs.PassingLemmas.{IsNodeAt, IsAt, AreMute, IsPast, passes_silent, next_here}
+use Rattle.fr_exactness.proofs.PassingLemmas.{IsNodeAt, IsAt, AreMute, next_here}
 use Rattle.fr_exactness.proofs.PointLemmas.{replicate_is}
-use Rattle.fr_exactness.proofs.ProgressLemmas.{course_none, windows_fit, begun_next, counts_first}
+use Rattle.fr_exactness.proofs.ProgressLemmas.{course_none}
 use Rattle.fr_exactness.proofs.SilenceLemmas.{Keeps}
 use Rattle.fr_exactness.proofs.WalkLemmas.{IsStart, reaches_cycle, IsCome, comes_in}
 use Rattle.fr_exactness.proofs.WindowLemmas.{IsBetween}
-use Rattle.fr_exactness.specs.Exactness.{HasRoom, IsOpened, AreRealized}
-use Rattle.fr_exactness.specs.Leading.{Leads}
+use Rattle.fr_exactness.specs.Exactness.{HasRoom, AreRealized}
 use Rattle.fr_guarantees.specs.Ways.{IsRow, IsWay}
 use Rattle.fr_guarantees.specs.Ways.{CanSend}
 use Rattle.fr_interface.specs.State.{State}
@@ -40,11 +35,10 @@ use Rattle.fr_slots.proofs.PlaceLemmas.{same_some, map-get}
 use Rattle.fr_slots.specs.declared.channel.Channel.{Channel}
 use Rattle.fr_slots.specs.declared.plan.Mode.{Mode}
 use Rattle.fr_slots.specs.declared.plan.Mode.TheVariants as mode
-use Rattle.fr_slots.specs.Faults.{words_of}
 use Rattle.fr_slots.specs.History.{AllAfter, last_after}
 use Rattle.fr_slots.specs.Parameters.{Parameters}
 use Rattle.fr_slots.specs.Plans.{Plan, empty_plan}
-use Rattle.fr_slots.specs.Windows.{Opportunity, slot_of, is_static, static_window}
+use Rattle.fr_slots.specs.Windows.{Opportunity, static_window}
 
 -- ---- the opening world
 

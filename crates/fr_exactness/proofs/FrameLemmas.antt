@@ -1,12 +1,10 @@
 -- A frame that a host commits right before its window is sent there, and the host then empties the buffer.
-use Rattle.std.proofs.Common.{◌≡◌, ◌≢◌, ℕ, ◌+◌, ◌*◌, ◌<◌, ◌≤◌, ◌==◌, Bool, true, false, not, cond, ◌&&◌, ◌||◌, List, []}
-use Rattle.std.proofs.Common.{◌∷◌, ◌++◌, length, length-append, replicate, Option, Some, None, refl, sym, ap, subst, ◌∙◌}
-use Rattle.std.proofs.Common.{arith, slice_get, inl, inr, zero, suc}
+use Rattle.std.proofs.Common.{◌≡◌, ℕ, ◌+◌, ◌<◌, ◌≤◌, ◌==◌, Bool, true, false, not, ◌&&◌, ◌||◌, List, []}
+use Rattle.std.proofs.Common.{◌∷◌, length, Some, None, refl, sym, ap, subst, ◌∙◌}
+use Rattle.std.proofs.Common.{arith, slice_get, zero, suc}
 use Rattle.std.specs.Prelude.{nat_le, count_by, option_map}
 use Rattle.std.proofs.lemmas.Bool.{eqb-true, le-leb, ne_eqb}
-use Rattle.std.proofs.lemmas.Bool.Decides.{eqb_tells}
-use Rattle.std.proofs.lemmas.List.{length-replicate, length-set, get_or-set_same, get_or-set_other}
-use Rattle.std.proofs.lemmas.Option.{slice_get_within}
+use Rattle.std.proofs.lemmas.List.{length-set}
 use Rattle.arrayvec.specs.ArrayVec.{ArrayVec}
 use Rattle.fr_core.proofs.CaseLemmas.{both_first, both_rest}
 use Rattle.fr_core.proofs.SendingLemmas.{transmits_there, offers_ready}
@@ -14,7 +12,7 @@ use Rattle.fr_core.proofs.TimingLemmas.{count_more}
 use Rattle.fr_core.specs.declared.error.StepError.TheVariants.{Host}
 use Rattle.fr_core.specs.declared.event.Event.TheVariants.{Commit, Withdraw}
 use Rattle.fr_core.specs.Steps.{with_interface, offer_of}
-use Rattle.fr_core.specs.Worlds.{WorldState, no_interface, interface_at, carried_at}
+use Rattle.fr_core.specs.Worlds.{WorldState, interface_at}
 use Rattle.fr_exactness.proofs.CallLemmas.{HasOthers, others_committed, others_after, emptied, emptied_is}
 use Rattle.fr_exactness.proofs.CallLemmas.{committed_ready}
 use Rattle.fr_exactness.proofs.HeardLemmas.{offer_on}
@@ -33,9 +31,8 @@ use Rattle.fr_guarantees.specs.Ways.{CanSend}
 use Rattle.fr_interface.specs.State.{State, with_entry, withdraw_entry, commit_refusal, withdraw_refusal}
 use Rattle.fr_journal.proofs.LastCommitLemmas.{payload_of-next}
 use Rattle.fr_journal.specs.declared.entry.Entry.TheVariants as entries
-use Rattle.fr_journal.specs.declared.entry.Offered.TheVariants.{Data}
 use Rattle.fr_journal.specs.Entries.{is_host}
-use Rattle.fr_journal.specs.Offers.{may_begin, offered, ready, transmitter, data_frame_of}
+use Rattle.fr_journal.specs.Offers.{may_begin, ready, transmitter, data_frame_of}
 use Rattle.fr_schedule.specs.Clusters.{IsCluster, IsNode}
 use Rattle.fr_schedule.specs.Descriptions.{Description}
 use Rattle.fr_slots.proofs.FaultlessLemmas.{faultless}
@@ -43,8 +40,7 @@ use Rattle.fr_slots.proofs.PlaceLemmas.{same_some}
 use Rattle.fr_slots.specs.Admission.{includes, cycle_admitted}
 use Rattle.fr_slots.specs.declared.channel.Channel.{Channel}
 use Rattle.fr_slots.specs.declared.plan.Buffer.{Buffer}
-use Rattle.fr_slots.specs.Faults.{HasOneSender, latest_on, sends_at, transmits, words_of}
-use Rattle.fr_slots.specs.Numbers.{IsSlot}
+use Rattle.fr_slots.specs.Faults.{HasOneSender, latest_on, transmits}
 use Rattle.fr_slots.specs.Parameters.{Parameters}
 use Rattle.fr_slots.specs.Plans.{Plan, Each, IsBuffer, buffer_at, is_receive}
 use Rattle.fr_slots.specs.Windows.{Opportunity, slot_of, is_static}

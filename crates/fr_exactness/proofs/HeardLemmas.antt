@@ -1,14 +1,13 @@
 -- The transmissions of a window without faults that pass on a channel: none, or that of its only sender.
-use Rattle.std.proofs.Common.{◌≡◌, ◌≢◌, ℕ, zero, suc, ◌+◌, ◌<◌, Bool, true, false, not, cond, ◌&&◌, ◌||◌, List, [], ◌∷◌}
+use Rattle.std.proofs.Common.{◌≡◌, ◌≢◌, ℕ, zero, suc, ◌+◌, ◌<◌, Bool, true, false, cond, ◌&&◌, List, [], ◌∷◌}
 use Rattle.std.proofs.Common.{◌++◌, length, map, Option, Some, None, refl, sym, ap, subst, ◌∙◌, arith}
 use Rattle.std.specs.Prelude.{◌==◌, max, slice_index_or}
 use Rattle.std.specs.List.{filter, fold}
 use Rattle.std.proofs.lemmas.List.Elements.{filter-append}
 use Rattle.arrayvec.specs.ArrayVec.{ArrayVec}
 use Rattle.fr_bus.specs.declared.outcome.Sent.{Sent}
-use Rattle.fr_bus.specs.declared.outcome.SentFate.TheVariants.{Passed}
 use Rattle.fr_bus.specs.declared.station.Side.{Side}
-use Rattle.fr_bus.specs.Outcome.{fate_of, is_passed, transmission, sent_on, sent_in, sent_of, sent_from, passed_on}
+use Rattle.fr_bus.specs.Outcome.{fate_of, is_passed, transmission, sent_in, sent_of, sent_from, passed_on}
 use Rattle.fr_bus.specs.Outcome.{all_passed, longest}
 use Rattle.fr_bus.specs.Stations.{Station}
 use Rattle.fr_bus.specs.States.{idle_station, offering}

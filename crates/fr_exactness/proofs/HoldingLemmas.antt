@@ -1,6 +1,6 @@
 -- A window in which a host commits right after the fetch: the commit is ready after it.
-use Rattle.std.proofs.Common.{◌≡◌, ◌≢◌, ℕ, ◌+◌, ◌*◌, ◌<◌, ◌≤◌, ◌==◌, Bool, true, false, not, cond, ◌&&◌, List, [], ◌∷◌}
-use Rattle.std.proofs.Common.{◌++◌, length, length-append, Option, Some, None, refl, sym, ap, subst, ◌∙◌, arith, slice_get}
+use Rattle.std.proofs.Common.{◌≡◌, ◌≢◌, ℕ, ◌+◌, ◌<◌, ◌≤◌, ◌==◌, Bool, cond, ◌&&◌, List, [], ◌∷◌}
+use Rattle.std.proofs.Common.{◌++◌, length, length-append, Option, Some, None, refl, sym, ap, subst, ◌∙◌, arith}
 use Rattle.std.proofs.Common.{inl, inr}
 use Rattle.std.specs.Prelude.{count_by}
 use Rattle.std.proofs.lemmas.Bool.{eq-eqb, lt-leb, ne_eqb}
@@ -16,12 +16,12 @@ use Rattle.fr_core.specs.Carried.{Waits}
 use Rattle.fr_core.specs.Steps.{with_interface}
 use Rattle.fr_core.specs.Worlds.{WorldState, no_interface, interface_at, carried_at}
 use Rattle.fr_exactness.proofs.FollowingLemmas.{following_fits}
-use Rattle.fr_exactness.proofs.JournalLemmas.{HasWindows, windows_more}
+use Rattle.fr_exactness.proofs.JournalLemmas.{HasWindows}
 use Rattle.fr_exactness.proofs.ObservingLemmas.{IsObserved}
 use Rattle.fr_exactness.proofs.OfferingLemmas.{IsFresh, HavePut, fetched_by, all_put_offers}
-use Rattle.fr_exactness.proofs.PassingLemmas.{IsNodeAt, IsAt, AreMute, next_here, takes_next, node_past}
+use Rattle.fr_exactness.proofs.PassingLemmas.{IsNodeAt, IsAt, next_here, takes_next, node_past}
 use Rattle.fr_exactness.proofs.ProgressLemmas.{course_next}
-use Rattle.fr_exactness.proofs.SilenceLemmas.{Keeps, HasReady, IsMute, IsSilent, mute_is_silent, unsent}
+use Rattle.fr_exactness.proofs.SilenceLemmas.{Keeps, HasReady, IsSilent, mute_is_silent, unsent}
 use Rattle.fr_exactness.proofs.WindowLemmas.{IsFull, HasEnded, fresh_between, full_is, has_ended}
 use Rattle.fr_exactness.specs.Exactness.{HasRoom}
 use Rattle.fr_exactness.specs.Leading.{Leads}
@@ -32,8 +32,6 @@ use Rattle.fr_journal.specs.Entries.{is_host, is_slot}
 use Rattle.fr_journal.specs.Offers.{ready}
 use Rattle.fr_journal.specs.OpenWindow.{open_window}
 use Rattle.fr_schedule.specs.Descriptions.{Description}
-use Rattle.fr_slots.specs.declared.plan.Mode.{Mode}
-use Rattle.fr_slots.specs.Plans.{Plan, is_receive}
 use Rattle.fr_slots.specs.Windows.{Opportunity}
 
 -- no other buffer than this one of the node has a ready commit

@@ -1,17 +1,15 @@
 -- The second half of a window: each controller takes and observes, and the bus advances.
-use Rattle.std.proofs.Common.{◌≡◌, ◌≢◌, ℕ, zero, suc, ◌+◌, ◌<◌, ◌≤◌, Bool, true, false, not, cond, List, [], ◌∷◌, ◌++◌}
-use Rattle.std.proofs.Common.{length, replicate, Option, Some, None, refl, sym, ap, subst, ◌∙◌, arith, inl, inr}
+use Rattle.std.proofs.Common.{◌≡◌, ◌≢◌, ℕ, zero, suc, ◌+◌, ◌<◌, ◌≤◌, Bool, true, false, not, cond}
+use Rattle.std.proofs.Common.{length, Some, None, refl, sym, ap, subst, ◌∙◌, arith, inl, inr}
 use Rattle.std.specs.Prelude.{option_map}
 use Rattle.std.proofs.lemmas.Bool.{eq-eqb, lt-ltb}
 use Rattle.std.proofs.lemmas.Bool.Decides.{eqb_tells}
 use Rattle.std.proofs.lemmas.List.{length-set, get_or-set_same, get_or-set_other, length-replicate}
 use Rattle.fr_bus.specs.declared.error.BusError.TheVariants.{UnknownNode, NotSealed, WrongWindow, AlreadyTaken, NotAllTaken}
 use Rattle.fr_bus.specs.declared.error.Phase.TheVariants.{Sealed as InSealed}
-use Rattle.fr_bus.specs.Record.{Recorded}
-use Rattle.fr_bus.specs.Stations.{Station}
 use Rattle.fr_bus.specs.States.{BusState, seals, has_number, is_taken, station_at, idle_station, taking, take_refusal}
 use Rattle.fr_bus.specs.States.{seen_last, all_taken, advance_refusal, advanced, phase_at, next_of_bus}
-use Rattle.fr_core.specs.Carried.{Carried, Idle, Waits, Took}
+use Rattle.fr_core.specs.Carried.{Idle, Waits, Took}
 use Rattle.fr_core.specs.declared.error.StepError.TheVariants.{Bus}
 use Rattle.fr_core.specs.declared.event.Event.TheVariants.{Advance}
 use Rattle.fr_core.specs.Steps.{with_bus, taken, observed}

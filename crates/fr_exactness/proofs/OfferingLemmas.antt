@@ -1,5 +1,5 @@
 -- The first half of a window: each controller looks, fetches and puts.
-use Rattle.std.proofs.Common.{◌≡◌, ◌≢◌, ℕ, zero, suc, ◌+◌, ◌<◌, ◌≤◌, Bool, true, false, not, cond, List, length, Option}
+use Rattle.std.proofs.Common.{◌≡◌, ◌≢◌, ℕ, zero, suc, ◌+◌, ◌<◌, ◌≤◌, not, cond, length}
 use Rattle.std.proofs.Common.{Some, None, refl, sym, ap, subst, ◌∙◌, arith, inl, inr}
 use Rattle.std.proofs.lemmas.Bool.{eq-eqb, lt-ltb}
 use Rattle.std.proofs.lemmas.Bool.Decides.{eqb_tells}
@@ -10,7 +10,7 @@ use Rattle.fr_bus.specs.declared.error.Phase.TheVariants.{Collect}
 use Rattle.fr_bus.specs.Stations.{Station}
 use Rattle.fr_bus.specs.States.{BusState, collects, collecting_of, has_number, is_put, station_at, idle_station, offering}
 use Rattle.fr_bus.specs.States.{put_refusal}
-use Rattle.fr_core.specs.Carried.{Carried, Idle, Knows, Offers, Waits}
+use Rattle.fr_core.specs.Carried.{Idle, Knows, Offers, Waits}
 use Rattle.fr_core.specs.Steps.{offer_of, with_carried, fetched, put_on_bus}
 use Rattle.fr_core.specs.Worlds.{WorldState, no_interface, interface_at, carried_at}
 use Rattle.fr_exactness.proofs.LeadLemmas.{leads_not, leads_on}

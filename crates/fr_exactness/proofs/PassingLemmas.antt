@@ -1,12 +1,11 @@
 -- One more window of a run, in which nothing is sent, or a frame that a host committed right before it.
-use Rattle.std.proofs.Common.{◌≡◌, ◌≢◌, ℕ, ◌+◌, ◌*◌, ◌<◌, ◌≤◌, ◌==◌, Bool, true, false, not, cond, ◌&&◌, List, [], ◌∷◌}
-use Rattle.std.proofs.Common.{◌++◌, length, length-append, replicate, Option, Some, None, refl, sym, ap, subst, ◌∙◌, arith}
+use Rattle.std.proofs.Common.{◌≡◌, ℕ, ◌+◌, ◌<◌, ◌≤◌, false, List, [], ◌∷◌}
+use Rattle.std.proofs.Common.{◌++◌, length, length-append, Some, None, refl, sym, ap, subst, ◌∙◌, arith}
 use Rattle.std.proofs.Common.{slice_get}
 use Rattle.std.specs.Prelude.{count_by}
-use Rattle.fr_bus.specs.Courses.{IsCourse, course_of, opportunities}
+use Rattle.fr_bus.specs.Courses.{IsCourse, course_of}
 use Rattle.fr_bus.specs.Outcome.{longest}
 use Rattle.fr_bus.specs.Record.{Recorded}
-use Rattle.fr_bus.specs.Stations.{Station}
 use Rattle.fr_bus.specs.Windows.{following}
 use Rattle.fr_core.specs.Steps.{offer_of}
 use Rattle.fr_core.specs.Worlds.{WorldState, interface_at}
@@ -17,7 +16,7 @@ use Rattle.fr_exactness.proofs.ObservingLemmas.{IsObserved}
 use Rattle.fr_exactness.proofs.OfferingLemmas.{fetched_by}
 use Rattle.fr_exactness.proofs.ProgressLemmas.{course_next, number_fits}
 use Rattle.fr_exactness.proofs.SilenceLemmas.{Keeps, HasReady, IsMute, none_offered, no_bytes, kept_after}
-use Rattle.fr_exactness.proofs.WindowLemmas.{recorded_by, IsBetween, HasPassed, has_passed}
+use Rattle.fr_exactness.proofs.WindowLemmas.{recorded_by, IsBetween, has_passed}
 use Rattle.fr_exactness.specs.Exactness.{HasRoom}
 use Rattle.fr_exactness.specs.Leading.{Leads}
 use Rattle.fr_interface.specs.State.{State, fetch_refusal}

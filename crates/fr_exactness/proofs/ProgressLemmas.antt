@@ -1,17 +1,16 @@
 -- The progress of a run: room for its windows, and the next window of a cycle in which a channel has a further row.
-use Rattle.std.proofs.Common.{◌≡◌, ℕ, ◌+◌, ◌-◌, ◌*◌, ◌%◌, ◌<◌, ◌≤◌, ◌==◌, Bool, true, false, not, cond, ◌&&◌, List, []}
+use Rattle.std.proofs.Common.{◌≡◌, ℕ, ◌+◌, ◌-◌, ◌*◌, ◌%◌, ◌<◌, ◌≤◌, ◌==◌, Bool, true, false, cond, ◌&&◌, List, []}
 use Rattle.std.proofs.Common.{◌∷◌, ◌++◌, length, length-append, Option, Some, None, refl, sym, ap, subst, ◌∙◌, arith}
-use Rattle.std.proofs.Common.{option_map, is_some}
-use Rattle.std.specs.Prelude.{nat_lt, count_by, min}
+use Rattle.std.proofs.Common.{option_map}
+use Rattle.std.specs.Prelude.{nat_lt, min}
 use Rattle.std.specs.List.{find, range_with_len}
 use Rattle.std.specs.Option.{option_or}
-use Rattle.std.proofs.lemmas.Bool.{ltb-true, ltb-false, ne_eqb}
+use Rattle.std.proofs.lemmas.Bool.{ltb-false, ne_eqb}
 use Rattle.std.proofs.Math.Nat.{mul-le-mul_right}
 use Rattle.fr_bus.proofs.AscendLemmas.{first_stays, later_stays}
 use Rattle.fr_bus.proofs.CourseLemmas.{fold_more, counts_more, course_more}
 use Rattle.fr_bus.proofs.NextLemmas.{next_on, next_is, next_minislot_is}
-use Rattle.fr_bus.specs.Courses.{Standpoint, IsCourse, course_of, first_passed, later_passed, course_after, opportunities}
-use Rattle.fr_bus.specs.Courses.{next_of}
+use Rattle.fr_bus.specs.Courses.{IsCourse, course_of, first_passed, later_passed, course_after, opportunities}
 use Rattle.fr_bus.specs.Outcome.{longest}
 use Rattle.fr_bus.specs.Record.{Recorded}
 use Rattle.fr_bus.specs.Windows.{begins_cycle, cycles_begun, with_window, this_cycle, is_row_of, counts_on, opens_cycle}

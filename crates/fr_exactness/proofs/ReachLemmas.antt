@@ -1,9 +1,9 @@
 -- A run in which a commit on a guaranteed buffer waits for the worst time.
-use Rattle.std.proofs.Common.{◌≡◌, ◌≢◌, ℕ, zero, suc, ◌+◌, ◌-◌, ◌*◌, ◌%◌, ◌<◌, ◌≤◌, ◌==◌, Bool, true, false, not, cond}
-use Rattle.std.proofs.Common.{◌&&◌, ◌||◌, ◌⊎◌, inl, inr, List, [], ◌∷◌, ◌++◌, length, length-append, replicate, Option, Some}
+use Rattle.std.proofs.Common.{◌≡◌, ℕ, zero, suc, ◌+◌, ◌-◌, ◌*◌, ◌%◌, ◌<◌, ◌≤◌, ◌==◌, Bool, true, false, not, cond}
+use Rattle.std.proofs.Common.{◌&&◌, ◌||◌, ◌⊎◌, inl, inr, List, [], ◌∷◌, ◌++◌, length, length-append, replicate, Some}
 use Rattle.std.proofs.Common.{None, refl, sym, ap, subst, ◌∙◌, arith, slice_get, is_some, option_map}
 use Rattle.std.specs.Prelude.{nat_le, sum_by, count_by}
-use Rattle.std.proofs.lemmas.Bool.{eq-eqb, le-leb, leb-true, lt-leb}
+use Rattle.std.proofs.lemmas.Bool.{eq-eqb, le-leb, leb-true}
 use Rattle.std.proofs.lemmas.List.{length-replicate}
 use Rattle.std.proofs.lemmas.List.Sums.{sum_by-append}
 use Rattle.std.proofs.lemmas.Nat.{mod-mul-add, mod_below}
@@ -13,7 +13,7 @@ use Rattle.fr_bus.specs.Courses.{opportunities}
 use Rattle.fr_bus.specs.Outcome.{longest}
 use Rattle.fr_bus.specs.Record.{Recorded}
 use Rattle.fr_bus.specs.States.{BusState}
-use Rattle.fr_bus.specs.Windows.{cycles_begun, this_cycle, counts_on, is_first_slot, is_row_of, opens_cycle, following}
+use Rattle.fr_bus.specs.Windows.{cycles_begun, this_cycle, counts_on, is_first_slot, is_row_of, opens_cycle}
 use Rattle.fr_core.proofs.CaseLemmas.{both, both_first}
 use Rattle.fr_core.proofs.SendingLemmas.{offers_ready}
 use Rattle.fr_core.specs.declared.error.StepError.TheVariants.{Host}
@@ -22,11 +22,11 @@ use Rattle.fr_exactness.proofs.CallLemmas.{commit_accepted}
 use Rattle.fr_exactness.proofs.DelayLemmas.{first_below, first_is, has_channel, fits, above, way_mute, static_mute}
 use Rattle.fr_exactness.proofs.DelayLemmas.{IsLater, keeps_mute}
 use Rattle.fr_exactness.proofs.ExactLemmas.{is_way, row_of, IsRowOf, open_at, comes}
-use Rattle.fr_exactness.proofs.FrameLemmas.{each_at, unset, sending_is, IsSending}
+use Rattle.fr_exactness.proofs.FrameLemmas.{each_at, unset, sending_is}
 use Rattle.fr_exactness.proofs.HoldingLemmas.{nothing_kept, only_kept, this_buffer, IsHeld, is_held}
 use Rattle.fr_exactness.proofs.LeadLemmas.{leads_on}
 use Rattle.fr_exactness.proofs.OfferingLemmas.{fetched_by}
-use Rattle.fr_exactness.proofs.PassingLemmas.{IsNodeAt, IsAt, AreMute}
+use Rattle.fr_exactness.proofs.PassingLemmas.{IsNodeAt, AreMute}
 use Rattle.fr_exactness.proofs.ProgressLemmas.{begun_next, counts_next, windows_fit}
 use Rattle.fr_exactness.proofs.SilenceLemmas.{Keeps}
 use Rattle.fr_exactness.proofs.TurnLemmas.{if_known}
@@ -42,11 +42,11 @@ use Rattle.fr_journal.specs.Offers.{offered}
 use Rattle.fr_journal.specs.declared.entry.Offered.TheVariants.{Data}
 use Rattle.fr_journal.specs.declared.entry.Entry.TheVariants as entries
 use Rattle.fr_latency.proofs.LaneLemmas.{are_lanes, latest_is}
-use Rattle.fr_latency.specs.Lanes.{CanSend as CanSendLane, IsLane, Opens}
-use Rattle.fr_latency.specs.Latencies.{before_slot, channel_of, distance, is_after, is_guaranteed, is_always_in_time}
+use Rattle.fr_latency.specs.Lanes.{CanSend as CanSendLane, Opens}
+use Rattle.fr_latency.specs.Latencies.{before_slot, channel_of, is_after, is_guaranteed, is_always_in_time}
 use Rattle.fr_latency.specs.Latencies.{last_begin_of, latest_for, wait_from, earliest_start, latest_end}
 use Rattle.fr_latency.specs.Openings.{can_begin, last_begin, opens}
-use Rattle.fr_minislot.specs.DynamicRows.{first_minislot, row_length, slot_after, has_row_after, is_row, last_slot}
+use Rattle.fr_minislot.specs.DynamicRows.{first_minislot, row_length, slot_after, is_row, last_slot}
 use Rattle.fr_schedule.specs.Clusters.{IsCluster, IsNode}
 use Rattle.fr_schedule.specs.Descriptions.{Description}
 use Rattle.fr_slots.proofs.PlaceLemmas.{same_some}

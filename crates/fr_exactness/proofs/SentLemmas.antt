@@ -1,13 +1,13 @@
 -- One more window of a run, in which a chosen frame is sent.
-use Rattle.std.proofs.Common.{◌≡◌, ◌≢◌, ℕ, ◌+◌, ◌*◌, ◌<◌, ◌≤◌, ◌==◌, Bool, true, false, not, cond, ◌&&◌, ◌||◌, List, []}
-use Rattle.std.proofs.Common.{◌∷◌, ◌++◌, length, length-append, replicate, Option, Some, None, refl, sym, ap, subst, ◌∙◌}
+use Rattle.std.proofs.Common.{◌≡◌, ◌≢◌, ℕ, ◌+◌, ◌*◌, ◌<◌, ◌≤◌, Bool, true, false, not, ◌&&◌, ◌||◌, List, []}
+use Rattle.std.proofs.Common.{◌∷◌, ◌++◌, length, length-append, replicate, Some, None, refl, sym, ap, subst, ◌∙◌}
 use Rattle.std.proofs.Common.{arith, slice_get, inl, inr}
 use Rattle.std.specs.Prelude.{count_by}
 use Rattle.std.proofs.lemmas.Bool.Decides.{eqb_tells}
 use Rattle.std.proofs.lemmas.List.{length-replicate, length-set, get_or-set_same, get_or-set_other}
 use Rattle.std.proofs.lemmas.Option.{slice_get_within}
 use Rattle.fr_bus.specs.Courses.{IsCourse, course_of}
-use Rattle.fr_bus.specs.Outcome.{longest, sent_from}
+use Rattle.fr_bus.specs.Outcome.{longest}
 use Rattle.fr_bus.specs.Record.{Recorded}
 use Rattle.fr_bus.specs.Windows.{following}
 use Rattle.fr_core.proofs.TimingLemmas.{count_more}
@@ -16,7 +16,7 @@ use Rattle.fr_core.specs.Worlds.{WorldState, no_interface, interface_at}
 use Rattle.fr_exactness.proofs.CallLemmas.{commit_accepted, withdraw_accepted, emptied}
 use Rattle.fr_exactness.proofs.FollowingLemmas.{following_fits}
 use Rattle.fr_exactness.proofs.FrameLemmas.{leads_commit, leads_withdraw, between_kept, IsSending, sending_is, HasBytes}
-use Rattle.fr_exactness.proofs.FrameLemmas.{frame_is, committed_has, committed_hosts, past_plan, past_params, past_hosts}
+use Rattle.fr_exactness.proofs.FrameLemmas.{frame_is, committed_has, past_plan, past_params, past_hosts}
 use Rattle.fr_exactness.proofs.FrameLemmas.{emptied_at}
 use Rattle.fr_exactness.proofs.HeardLemmas.{offer_on, longest_one}
 use Rattle.fr_exactness.proofs.LeadLemmas.{leads_on}
@@ -25,19 +25,18 @@ use Rattle.fr_exactness.proofs.OfferingLemmas.{fetched_by}
 use Rattle.fr_exactness.proofs.PassingLemmas.{IsNodeAt, IsAt, AreMute, IsPast, next_here, takes_next, node_past}
 use Rattle.fr_exactness.proofs.ProgressLemmas.{course_next}
 use Rattle.fr_exactness.proofs.SilenceLemmas.{Keeps, none_offered, no_bytes}
-use Rattle.fr_exactness.proofs.WindowLemmas.{recorded_by, IsBetween, HasPassed, has_passed}
+use Rattle.fr_exactness.proofs.WindowLemmas.{recorded_by, HasPassed, has_passed}
 use Rattle.fr_exactness.specs.Exactness.{HasRoom}
 use Rattle.fr_exactness.specs.Leading.{Leads}
 use Rattle.fr_guardian.specs.Guarding.{passes, passes_in}
 use Rattle.fr_guarantees.specs.Ways.{CanSend}
-use Rattle.fr_interface.specs.State.{State, with_entry, withdraw_entry, fetch_refusal, commit_refusal, withdraw_refusal}
+use Rattle.fr_interface.specs.State.{State, with_entry, withdraw_entry, fetch_refusal, withdraw_refusal}
 use Rattle.fr_journal.specs.declared.entry.Entry.TheVariants as entries
 use Rattle.fr_journal.specs.Entries.{is_host}
 use Rattle.fr_schedule.specs.Clusters.{IsCluster}
 use Rattle.fr_schedule.specs.Descriptions.{Description, is_guarded}
 use Rattle.fr_slots.proofs.PlaceLemmas.{same_some}
 use Rattle.fr_slots.specs.declared.channel.Channel.{Channel}
-use Rattle.fr_slots.specs.declared.plan.Buffer.{Buffer}
 use Rattle.fr_slots.specs.Faults.{is_owned, words_of}
 use Rattle.fr_slots.specs.Parameters.{Parameters}
 use Rattle.fr_slots.specs.Plans.{Plan}

@@ -1,15 +1,12 @@
 -- Interfaces without a commit to send: they offer nothing in a dynamic window, and a fetch sends nothing.
-use Rattle.std.proofs.Common.{◌≡◌, ℕ, Bool, true, false, not, cond, ◌&&◌, ◌||◌, List, [], ◌∷◌, ◌++◌, Option, Some, None}
-use Rattle.std.proofs.Common.{refl, sym, ap, ◌∙◌, is_some}
+use Rattle.std.proofs.Common.{◌≡◌, ℕ, Bool, true, false, cond, ◌||◌, List, Option, Some, None}
+use Rattle.std.proofs.Common.{refl, ap, ◌∙◌, is_some}
 use Rattle.std.specs.Option.{option_and_then}
-use Rattle.arrayvec.specs.ArrayVec.{ArrayVec}
-use Rattle.fr_core.proofs.CaseLemmas.{differ}
 use Rattle.fr_core.proofs.ReadyLemmas.{ready-same}
 use Rattle.fr_core.specs.Steps.{offer_of}
 use Rattle.fr_exactness.proofs.HeardLemmas.{offer_on}
 use Rattle.fr_exactness.proofs.ObservingLemmas.{IsObserved}
 use Rattle.fr_exactness.proofs.OfferingLemmas.{fetched_by}
-use Rattle.fr_frame.specs.Fields.{Fields}
 use Rattle.fr_interface.specs.State.{State, fetch_entry}
 use Rattle.fr_journal.specs.declared.entry.Entry.TheVariants.{Observe}
 use Rattle.fr_journal.specs.declared.entry.Offered.{Offered}
@@ -23,7 +20,6 @@ use Rattle.fr_slots.specs.declared.channel.Channel.TheVariants.{A, B}
 use Rattle.fr_slots.specs.declared.plan.Buffer.{Buffer}
 use Rattle.fr_slots.specs.declared.plan.Mode.{Mode}
 use Rattle.fr_slots.specs.declared.plan.Mode.TheVariants as mode
-use Rattle.fr_slots.specs.Parameters.{Parameters}
 use Rattle.fr_slots.specs.Plans.{Plan, buffer_at, is_receive}
 use Rattle.fr_slots.specs.Windows.{Opportunity, slot_of, is_static}
 

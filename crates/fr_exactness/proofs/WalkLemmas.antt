@@ -1,10 +1,9 @@
 -- Runs that come to a cycle in which nothing was sent so far, and that follow a chosen way in it.
-use Rattle.std.proofs.Common.{◌≡◌, ℕ, zero, suc, ◌+◌, ◌-◌, ◌*◌, ◌%◌, ◌<◌, ◌≤◌, ◌==◌, Bool, true, false, not, cond, ◌&&◌}
-use Rattle.std.proofs.Common.{◌⊎◌, inl, inr, List, [], ◌∷◌, ◌++◌, length, length-append, replicate, map, Option, Some, None}
-use Rattle.std.proofs.Common.{refl, sym, ap, subst, ◌∙◌, arith, slice_get, is_some}
-use Rattle.std.proofs.lemmas.Bool.{eqb-true, ne_eqb}
+use Rattle.std.proofs.Common.{◌≡◌, ℕ, zero, suc, ◌+◌, ◌-◌, ◌*◌, ◌%◌, ◌<◌, ◌≤◌, Bool, true, false, not, cond, ◌&&◌}
+use Rattle.std.proofs.Common.{◌⊎◌, inl, inr, List, [], ◌∷◌, ◌++◌, length, length-append, Option, Some, None}
+use Rattle.std.proofs.Common.{refl, sym, ap, subst, ◌∙◌, arith, is_some}
 use Rattle.std.proofs.lemmas.Bool.Decides.{eqb_tells}
-use Rattle.std.proofs.lemmas.List.{append-nil, append_assoc, length-replicate, length-map}
+use Rattle.std.proofs.lemmas.List.{append-nil, append_assoc}
 use Rattle.std.proofs.Math.Nat.{mul-le-mul_right}
 use Rattle.fr_bus.specs.Courses.{IsCourse, course_of, opportunities}
 use Rattle.fr_bus.specs.Outcome.{longest}
@@ -19,8 +18,7 @@ use Rattle.fr_exactness.proofs.SentLemmas.{passes_sending}
 use Rattle.fr_exactness.proofs.SilenceLemmas.{Keeps}
 use Rattle.fr_exactness.specs.Exactness.{HasRoom}
 use Rattle.fr_exactness.specs.Leading.{Leads}
-use Rattle.fr_guarantees.proofs.NextRowLemmas.{IsNextRow, row_is, cycle_is}
-use Rattle.fr_guarantees.specs.Guarantees.{cycle_of}
+use Rattle.fr_guarantees.proofs.NextRowLemmas.{row_is, cycle_is}
 use Rattle.fr_guarantees.specs.Ways.{CanSend, IsRow}
 use Rattle.fr_minislot.specs.DynamicRows.{first_minislot, slot_after, has_row_after}
 use Rattle.fr_schedule.specs.Clusters.{IsCluster}

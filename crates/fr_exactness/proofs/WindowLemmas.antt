@@ -1,10 +1,9 @@
 -- A whole window: every controller offers, the bus seals, every controller observes, and the bus advances.
-use Rattle.std.proofs.Common.{◌≡◌, ℕ, ◌<◌, Bool, true, false, not, cond, List, [], ◌∷◌, ◌++◌, length, Option, Some, None}
-use Rattle.std.proofs.Common.{refl, sym, ap, subst, ◌∙◌, arith}
+use Rattle.std.proofs.Common.{◌≡◌, ℕ, ◌<◌, true, false, not, cond, List, [], ◌∷◌, ◌++◌, length, Option, Some, None}
+use Rattle.std.proofs.Common.{refl, sym, ap, subst, ◌∙◌}
 use Rattle.std.specs.Prelude.{option_map, slice_index_or}
 use Rattle.fr_bus.specs.declared.error.BusError.TheVariants.{NotCollecting, NotAllPut}
-use Rattle.fr_bus.specs.declared.error.Phase.{Phase}
-use Rattle.fr_bus.specs.declared.error.Phase.TheVariants.{Collect, Sealed as InSealed}
+use Rattle.fr_bus.specs.declared.error.Phase.TheVariants.{Collect}
 use Rattle.fr_bus.specs.Outcome.{sent_from}
 use Rattle.fr_bus.specs.Record.{Recorded}
 use Rattle.fr_bus.specs.Stations.{Station}
@@ -17,7 +16,7 @@ use Rattle.fr_core.specs.declared.event.Event.TheVariants.{Seal}
 use Rattle.fr_core.specs.Steps.{with_bus, offer_of}
 use Rattle.fr_core.specs.Worlds.{WorldState, interface_at, carried_at}
 use Rattle.fr_exactness.proofs.LeadLemmas.{leads_on, leads_by}
-use Rattle.fr_exactness.proofs.ObservingLemmas.{IsSealed, IsObserved, HasAdvanced, has_advanced}
+use Rattle.fr_exactness.proofs.ObservingLemmas.{IsSealed, IsObserved, has_advanced}
 use Rattle.fr_exactness.proofs.OfferingLemmas.{IsFresh, HavePut, fetched_by, all_put_offers}
 use Rattle.fr_exactness.proofs.PointLemmas.{all_by}
 use Rattle.fr_exactness.specs.Leading.{Leads}

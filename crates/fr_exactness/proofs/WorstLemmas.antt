@@ -1,21 +1,20 @@
 -- The worst latency of the table is that of a run.
-use Rattle.std.proofs.Common.{◌≡◌, ℕ, zero, suc, ◌+◌, ◌*◌, ◌<◌, ◌≤◌, ◌==◌, Bool, true, false, not, cond, ◌&&◌, ◌||◌}
-use Rattle.std.proofs.Common.{◌⊎◌, inl, inr, Option, Some, None, refl, sym, ap, subst, ◌∙◌, arith, slice_get}
+use Rattle.std.proofs.Common.{◌≡◌, ℕ, zero, suc, ◌+◌, ◌*◌, ◌<◌, ◌≤◌, ◌==◌, Bool, true, false, not, cond, ◌||◌}
+use Rattle.std.proofs.Common.{◌⊎◌, inl, inr, Some, None, refl, sym, ap, subst, ◌∙◌, arith}
 use Rattle.std.specs.Prelude.{max, nat_le}
-use Rattle.std.proofs.lemmas.Bool.{leb-false, leb-true, eqb-true}
+use Rattle.std.proofs.lemmas.Bool.{leb-false, leb-true}
 use Rattle.std.proofs.lemmas.Bool.Decides.{eqb_tells}
 use Rattle.std.proofs.Math.Nat.{mul-le-mul_right, max-eq_left, max-eq_right}
 use Rattle.fr_bus.specs.Courses.{opportunities}
 use Rattle.fr_core.proofs.CaseLemmas.{both_first, both_rest}
 use Rattle.fr_exactness.proofs.DelayLemmas.{first_is}
 use Rattle.fr_exactness.proofs.ReachLemmas.{all_reached}
-use Rattle.fr_exactness.specs.Delays.{HasDelay, IsDelayed, IsWorstReached, cycles_after}
+use Rattle.fr_exactness.specs.Delays.{IsDelayed, IsWorstReached, cycles_after}
 use Rattle.fr_exactness.specs.Exactness.{HasRoom}
 use Rattle.fr_latency.specs.Below.{all_below, any_below, most_below}
-use Rattle.fr_latency.specs.declared.latency.State.{State}
-use Rattle.fr_latency.specs.declared.latency.State.TheVariants.{Guaranteed, Possible, Blocked, Idle}
+use Rattle.fr_latency.specs.declared.latency.State.TheVariants.{Guaranteed}
 use Rattle.fr_latency.specs.Latencies.{before_slot, channel_of, earliest_start, has_tasks, is_after, is_always_in_time, is_guaranteed}
-use Rattle.fr_latency.specs.Latencies.{is_possible, latest_end, state_by, state_of, unless_zero, wait_from, wait_if}
+use Rattle.fr_latency.specs.Latencies.{is_possible, latest_end, state_by, unless_zero, wait_from, wait_if}
 use Rattle.fr_latency.specs.Latencies.{worst_latency, worst_of}
 use Rattle.fr_schedule.specs.Clusters.{IsCluster}
 use Rattle.fr_schedule.specs.Descriptions.{Description}

@@ -1,5 +1,5 @@
 -- Events that a world accepts one by one, without injected faults (project-defined).
-use Rattle.std.specs.Prelude.{◌≡◌, ℕ, Bool, true, false, List}
+use Rattle.std.specs.Prelude.{◌≡◌, Bool, true, false, List}
 use Rattle.std.specs.List.{list_all}
 use Rattle.std.specs.Result.{is_ok}
 use Rattle.fr_core.specs.declared.event.Event.{Event}
