@@ -108,6 +108,25 @@ class Ways(Shows):
         earlier = [run[0], self.written("scenario", f"frscenario 1\n{lines[-1]}end\n"), *run[2:]]
         self.assertEqual(self.values("commit", "fate", "commits", *earlier), [("sent",)])
 
+    def test_a_run_with_the_worst_latency(self) -> None:
+        """A commit just after the fetch of its slot is sent two cycles later, after the frames of the way.
+
+        The frame of 127 words fills 66 minislots of 5 macroticks. Slot 62 begins at minislot 2 if slot 61 is silent, and
+        two cycles have 10000 macroticks.
+        """
+        cluster = str(EXAMPLES / "ten-nodes/cluster.toml")
+        worst, = (row["worst_mt"] for row in self.rows("latency", "latency", cluster)
+                  if (row["slot"], row["channels"]) == (62, "A"))
+        *frames, last = self.rows("way", "latency", cluster, "--slot", "62", "--channel", "A")
+        words = {row["slot"]: row["words"] for row in self.rows("sender", "plan", cluster) if row["channel"] == "A"}
+        end = last["cycle"] + 2
+        calls = [(end - 1, 7, 7, 62)] + [(end, row["node"], row["buffer"], row["slot"]) for row in frames]
+        lines = [f"commit {node} 0 {cycle} {buffer} x{'00' * 2 * words[slot]}\n" for cycle, node, buffer, slot in calls]
+        run = [cluster, self.written("scenario", f"frscenario 1\n{''.join(lines)}end\n"), "--cycles", str(end + 1)]
+        (cycle, minislot), = self.values("transmission", "cycle minislot", "log", *run, "--slot", "62", "--channel", "A")
+        self.assertEqual((cycle, minislot), (end, last["minislot"]))
+        self.assertEqual(10000 + (minislot - 2 + 66) * 5, worst)
+
 
 class Guarantees(Shows):
     def linted(self, network: str, *words: str) -> tuple[int | str | None, str, str]:

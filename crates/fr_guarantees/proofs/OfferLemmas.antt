@@ -50,7 +50,7 @@ five n = refl
 three : (n : ℕ) → length (bytes_high_first 3 n) ≡ 3
 three n = refl
 
-length-frame : (f : Fields) (channel : Channel) → length (encoded f channel) ≡ 8 + length f.payload
+pub length-frame : (f : Fields) (channel : Channel) → length (encoded f channel) ≡ 8 + length f.payload
 unfolding encoded
 length-frame f channel =
     omega (

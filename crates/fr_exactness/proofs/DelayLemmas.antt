@@ -1,0 +1,260 @@
+-- The worst wait of a guaranteed buffer is reached.
+use Rattle.std.proofs.Common.{◌≡◌, ℕ, zero, suc, ◌+◌, ◌-◌, ◌%◌, ◌<◌, ◌≤◌, ◌==◌, Bool, true, false, not, cond}
+use Rattle.std.proofs.Common.{◌&&◌, ◌⊎◌, inl, inr, List, [], ◌∷◌, ◌++◌, length, length-append, Option, Some}
+use Rattle.std.proofs.Common.{None, refl, sym, ap, subst, ◌∙◌, arith, slice_get}
+use Rattle.std.specs.Prelude.{nat_le}
+use Rattle.std.specs.List.{list_all}
+use Rattle.std.proofs.lemmas.Bool.{eqb-true, leb-false}
+use Rattle.std.proofs.lemmas.Bool.Decides.{eqb_tells}
+use Rattle.std.proofs.lemmas.List.Quantifiers.{position-Some}
+use Rattle.std.proofs.lemmas.Option.{get_or_from_slice_get}
+use Rattle.fr_bus.specs.Record.{Recorded}
+use Rattle.fr_bus.specs.Courses.{IsCourse, course_of}
+use Rattle.fr_bus.specs.Windows.{cycles_begun, this_cycle, counts_on, is_row_of, opens_cycle, following}
+use Rattle.fr_bus.specs.Outcome.{longest}
+use Rattle.fr_core.proofs.CaseLemmas.{both, both_first, both_rest}
+use Rattle.fr_exactness.proofs.FollowingLemmas.{following_fits}
+use Rattle.fr_exactness.proofs.FrameLemmas.{each_at}
+use Rattle.fr_exactness.proofs.HoldingLemmas.{only_kept, other_node, other_buffer}
+use Rattle.fr_exactness.proofs.PassingLemmas.{AreMute}
+use Rattle.fr_exactness.proofs.ProgressLemmas.{begun_next, counts_next}
+use Rattle.fr_exactness.proofs.WalkLemmas.{KeepsMute}
+use Rattle.fr_exactness.specs.Exactness.{HasRoom}
+use Rattle.fr_guarantees.proofs.NextRowLemmas.{row_is, cycle_is}
+use Rattle.fr_journal.specs.Offers.{is_admitting, transmitter}
+use Rattle.fr_latency.specs.Latencies.{before_slot, channel_of, first_from}
+use Rattle.fr_minislot.specs.DynamicRows.{slot_after}
+use Rattle.fr_schedule.specs.Clusters.{IsCluster, IsNode}
+use Rattle.fr_schedule.specs.Descriptions.{Description}
+use Rattle.fr_slots.proofs.FaultlessLemmas.{faultless}
+use Rattle.fr_slots.proofs.PlaceLemmas.{same_some}
+use Rattle.fr_slots.specs.Admission.{includes, cycle_admitted}
+use Rattle.fr_slots.specs.declared.channel.Channel.{Channel}
+use Rattle.fr_slots.specs.declared.channel.Channel.TheVariants.{A, B}
+use Rattle.fr_slots.specs.declared.channel.Channels.{Channels}
+use Rattle.fr_slots.specs.declared.channel.Channels.TheVariants as lines
+use Rattle.fr_slots.specs.declared.plan.Buffer.{Buffer}
+use Rattle.fr_slots.specs.Faults.{channels, transmits, IsFaultless}
+use Rattle.fr_slots.specs.Parameters.{Parameters, is_static_slot}
+use Rattle.fr_slots.specs.Plans.{Plan, buffer_at, admits_slot}
+use Rattle.fr_slots.specs.Windows.{Opportunity, slot_of, is_static, static_slot_fits, dynamic_slot_fits, window_fits}
+
+-- ---- the first number that passes
+
+pub first_below : (test : ℕ → Bool) (least more k : ℕ) → least ≤ k → k < first_from test least more → test k ≡ false
+unfolding first_from
+first_below test least zero k from below = absurd (let none : ⊥ = omega (arith, from, below) in none)
+first_below test least (suc more) k from below = by (test least) refl below (first_below test (least + 1) more k)
+  where
+    by : (b : Bool) → test least ≡ b → k < cond b least (first_from test (least + 1) more)
+        → (least + 1 ≤ k → k < first_from test (least + 1) more → test k ≡ false) → test k ≡ false
+    by true is small again = absurd (let none : ⊥ = omega (arith, from, small) in none)
+    by false is small again = elim (eqb_tells k least) [
+      | inl same ↦ ap test same.1 ∙ is
+      | inr other ↦ again (omega (arith, from, other.1)) small
+    ]
+
+-- it lies in the range, and passes unless it is the end of the range
+pub record IsFirst (test : ℕ → Bool) (least more : ℕ) : Type 0 where
+  pub from : least ≤ first_from test least more
+  pub to : first_from test least more ≤ least + more
+  pub passes : (first_from test least more ≡ least + more) ⊎ (test (first_from test least more) ≡ true)
+
+pub first_is : (test : ℕ → Bool) (least more : ℕ) → IsFirst test least more
+unfolding first_from
+first_is test least zero = record { from = omega arith; to = omega arith; passes = inl (omega arith) }
+first_is test least (suc more) = by (test least) refl (first_is test (least + 1) more)
+  where
+    whole : (n : ℕ) → first_from test least (suc more) ≡ n
+        → (least ≤ n) × (n ≤ least + suc more) × ((n ≡ least + suc more) ⊎ (test n ≡ true)) → IsFirst test least (suc more)
+    whole n is parts = record {
+      from = omega (arith, is, parts.0);
+      to = omega (arith, is, parts.1);
+      passes = elim parts.2 [
+        | inl end ↦ inl (is ∙ end)
+        | inr passing ↦ inr (ap test is ∙ passing)
+      ];
+    }
+
+    by : (b : Bool) → test least ≡ b → IsFirst test (least + 1) more → IsFirst test least (suc more)
+    by true is rest = whole least (ap (λ (t : Bool). cond t least (first_from test (least + 1) more)) is)
+        (omega arith, omega arith, inr is)
+    by false is rest = whole (first_from test (least + 1) more)
+        (ap (λ (t : Bool). cond t least (first_from test (least + 1) more)) is) (
+          (let low = rest.from in omega (arith, low)),
+          (let high = rest.to in omega (arith, high)),
+          elim rest.passes [
+            | inl end ↦ inl (omega (arith, end))
+            | inr passing ↦ inr passing
+          ],
+        )
+
+-- ---- the turns of the buffer
+
+only_channel : (cs : Channels) (on : Channel) → includes cs on ≡ true → list_all (includes cs) channels ≡ false
+    → on ≡ channel_of cs
+only_channel lines.A A e one = refl
+only_channel lines.A B e one = absurd (let none : ⊥ = cc in none)
+only_channel lines.B A e one = absurd (let none : ⊥ = cc in none)
+only_channel lines.B B e one = refl
+only_channel lines.Both on e one = absurd (let none : ⊥ = cc in none)
+
+pub has_channel : (cs : Channels) → includes cs (channel_of cs) ≡ true
+has_channel lines.A = refl
+has_channel lines.B = refl
+has_channel lines.Both = refl
+
+-- the filter of the buffer admits the window on its channel
+record IsTurn (b : Buffer) (window : Opportunity) (on : Channel) : Type 0 where
+  slot_is : slot_of window on ≡ Some b.filter.slot
+  included : includes b.filter.channels on ≡ true
+  cycle : cycle_admitted b.filter.cycles window.cycle ≡ true
+
+turn_in : (b : Buffer) (window : Opportunity) (on : Channel) (o : Option ℕ) → slot_of window on ≡ o
+    → admits_slot b.filter window.cycle on o ≡ true → IsTurn b window on
+turn_in b window on None is e = absurd (let none : ⊥ = cc in none)
+turn_in b window on (Some s) is e =
+    let there = b.filter.slot == s in
+    let among = includes b.filter.channels on in
+    let cycles = cycle_admitted b.filter.cycles window.cycle in
+    let first = both_first (there && among) cycles e in
+    record {
+      slot_is = is ∙ ap Some (sym (eqb-true b.filter.slot s (both_first there among first)));
+      included = both_rest there among first;
+      cycle = both_rest (there && among) cycles e;
+    }
+
+turn_of : (plan : Plan) (number : ℕ) (b : Buffer) (window : Opportunity) (on : Channel)
+    → buffer_at plan number ≡ Some b → transmitter plan window on ≡ Some number → IsTurn b window on
+turn_of plan number b window on at e =
+    let found = position-Some (is_admitting window on) plan.buffers number b e in
+    let passes : is_admitting window on b ≡ true = ap (is_admitting window on)
+    (sym (get_or_from_slice_get plan.buffers number b b at)) ∙ found.1 in
+    turn_in b window on (slot_of window on) refl (both_rest (transmits b)
+    (admits_slot b.filter window.cycle on (slot_of window on)) passes)
+
+static_fits : (p : Parameters) (w : Opportunity) (on : Channel) (slot : ℕ) → window_fits p w ≡ true
+    → is_static w ≡ true → slot_of w on ≡ Some slot → is_static_slot p slot ≡ true
+static_fits p w on slot fits static is = by on is
+  where
+    both_fit : (static_slot_fits p w.a && static_slot_fits p w.b) ≡ true
+    both_fit = ap (λ (b : Bool). cond b (static_slot_fits p w.a && static_slot_fits p w.b)
+        (nat_le w.minislot p.minislots && dynamic_slot_fits p w.a && dynamic_slot_fits p w.b)) (sym static) ∙ fits
+
+    by : (c : Channel) → slot_of w c ≡ Some slot → is_static_slot p slot ≡ true
+    by A e = ap (static_slot_fits p) (sym e) ∙ both_first (static_slot_fits p w.a) (static_slot_fits p w.b) both_fit
+    by B e = ap (static_slot_fits p) (sym e) ∙ both_rest (static_slot_fits p w.a) (static_slot_fits p w.b) both_fit
+
+module _ (d : Description) (lawful : IsCluster d) (n number : ℕ) (plan : Plan) (b : Buffer)
+    (plan_at : slice_get d.plans n ≡ Some plan) (at : buffer_at plan number ≡ Some b) (transmitting : transmits b ≡ true)
+    (dynamic : is_static_slot d.params b.filter.slot ≡ false) where
+  pub of_node : IsNode d.params plan
+  of_node = each_at (IsNode d.params) d.plans n plan lawful.nodes_are plan_at
+
+  pub fits : IsFaultless d.params plan
+  fits = faultless d.params plan of_node.1
+
+  pub above : d.params.static_slots < b.filter.slot
+  above = leb-false b.filter.slot d.params.static_slots dynamic
+
+  on_channel : (on : Channel) → includes b.filter.channels on ≡ true → on ≡ channel_of b.filter.channels
+  on_channel on included = only_channel b.filter.channels on included (fits.dynamic_fit number b at
+      (both (transmits b) (not (is_static_slot d.params b.filter.slot)) transmitting (ap not dynamic))).one_channel
+
+  -- without a turn of the buffer the window is mute
+  mute_if : (j : ℕ) (window : Opportunity) → ((on : Channel) → IsTurn b window on → ⊥)
+      → AreMute d (only_kept n number j) window
+  mute_if j window never m p known on k is begins = elim (eqb_tells m n) [
+    | inl same ↦ subst (λ (i : ℕ). only_kept n number j i k ≡ None) (sym same.1) (elim (eqb_tells k number) [
+      | inl this ↦ absurd (never on (turn_of plan number b window on at
+          (ap (λ (q : Plan). transmitter q window on) (same_some plan p
+          (sym plan_at ∙ ap (slice_get d.plans) (sym same.1) ∙ known)) ∙ is ∙ ap Some this.1)))
+      | inr other ↦ other_buffer n number j k other.1
+    ])
+    | inr other ↦ other_node n number j m k other.1
+  ]
+
+  module _ (cycles : ℕ) where
+    pub static_mute : (j : ℕ) (rs : List Recorded) (window : Opportunity) → following d.params cycles rs ≡ Some window
+        → is_static window ≡ true → AreMute d (only_kept n number j) window
+    static_mute j rs window follows static = mute_if j window (λ on turn. (
+        let fit = following_fits d.params cycles rs window
+        (let two = lawful.params_are.static_slots_fit.from_least in omega (arith, two)) follows in
+        let no = static_fits d.params window on b.filter.slot fit.fits static turn.slot_is in
+        let none : ⊥ = cc in none))
+
+    -- along a way to the slot
+    pub way_mute : (j : ℕ) (way : List ℕ) → slot_after d.params way ≡ b.filter.slot → (rs : List Recorded)
+        (window : Opportunity) → following d.params cycles rs ≡ Some window
+        → IsCourse (course_of d.params cycles rs)
+        → ((slot : ℕ) → is_static window ≡ false → slot_of window (channel_of b.filter.channels) ≡ Some slot
+        → slot < slot_after d.params way) → AreMute d (only_kept n number j) window
+    way_mute j way slot_is rs window follows course lower = by (is_static window) refl
+      where
+        by : (t : Bool) → is_static window ≡ t → AreMute d (only_kept n number j) window
+        by true static = static_mute j rs window follows static
+        by false still = mute_if j window (λ on turn. (
+            let here = subst (λ (c : Channel). slot_of window c ≡ Some b.filter.slot) (on_channel on turn.included)
+            turn.slot_is in
+            let less = lower b.filter.slot still here in
+            omega (arith, less, slot_is)))
+
+    -- from the slot of a cycle to a later cycle, if the buffer has no cycle between them
+    module _ (j c distance : ℕ) (between : (k : ℕ) → 1 ≤ k → k < distance
+        → cycle_admitted b.filter.cycles ((c + k) % 64) ≡ false) where
+      abbrev channel : Channel
+      channel = channel_of b.filter.channels
+
+      abbrev pub IsLater : List Recorded → Type 0
+      IsLater rs = (c + 1 ≤ cycles_begun rs)
+          × (cycles_begun rs ≡ c + 1 → before_slot d b < length (counts_on channel (this_cycle rs)))
+
+      no_turn : (rs : List Recorded) (window : Opportunity) → IsLater rs → following d.params cycles rs ≡ Some window
+          → cycles_begun rs ≤ c + distance → is_static window ≡ false → (on : Channel) → IsTurn b window on → ⊥
+      no_turn rs window good follows few still on turn = elim (eqb_tells (cycles_begun rs) (c + 1)) [
+        | inl same ↦ (
+            let here = subst (λ (x : Channel). slot_of window x ≡ Some b.filter.slot) (on_channel on turn.included)
+            turn.slot_is in
+            let row = row_is d.params cycles rs window channel b.filter.slot follows still here in
+            let past = good.1 same.1 in
+            omega (arith, past, row.slot_is))
+        | inr other ↦ (
+            let k = cycles_begun rs - 1 - c in
+            let low = good.0 in
+            let no = between k (omega (arith, low, other.1)) (omega (arith, low, other.1, few)) in
+            let same : c + k ≡ cycles_begun rs - 1 = omega (arith, low) in
+            let cycle : window.cycle ≡ (c + k) % 64 = cycle_is d.params cycles rs window follows still
+            ∙ ap (λ (m : ℕ). m % 64) (sym same) in
+            let yes = ap (cycle_admitted b.filter.cycles) (sym cycle) ∙ turn.cycle in
+            let none : ⊥ = cc in none)
+      ]
+
+      later_next : (rs : List Recorded) (window : Opportunity) (t : Bool) → opens_cycle window ≡ t → IsLater rs
+          → (r : Recorded) → r.window ≡ window → IsLater (rs ++ r ∷ [])
+      later_next rs window true opens good r is =
+          let more = begun_next rs r true (ap opens_cycle is ∙ opens) in
+          let low = good.0 in (
+            omega (arith, low, more),
+            λ same. absurd (let none : ⊥ = omega (arith, low, more, same) in none),
+          )
+      later_next rs window false opens good r is =
+          let more = begun_next rs r false (ap opens_cycle is ∙ opens) in
+          let counts = counts_next channel rs r (is_row_of channel r) (ap opens_cycle is ∙ opens) refl in
+          let longer = ap (λ (l : List ℕ). length l) counts
+          ∙ length-append (counts_on channel (this_cycle rs))
+          (cond (is_row_of channel r) (longest channel r.sent ∷ []) []) in
+          let low = good.0 in (
+            omega (arith, low, more),
+            λ same. (let past = good.1 (omega (arith, same, more)) in omega (arith, past, longer)),
+          )
+
+      module _ (most : ℕ) (room : HasRoom d cycles most) where
+        pub keeps_mute : KeepsMute d lawful cycles most room (only_kept n number j) (c + distance) IsLater
+        keeps_mute rs window good follows course few opens = (
+          by (is_static window) refl,
+          later_next rs window (opens_cycle window) refl good,
+        )
+          where
+            by : (t : Bool) → is_static window ≡ t → AreMute d (only_kept n number j) window
+            by true static = static_mute j rs window follows static
+            by false still = mute_if j window (no_turn rs window good follows few still)

@@ -1,0 +1,166 @@
+-- The worst latency of the table is that of a run.
+use Rattle.std.proofs.Common.{◌≡◌, ℕ, zero, suc, ◌+◌, ◌*◌, ◌<◌, ◌≤◌, ◌==◌, Bool, true, false, not, cond, ◌||◌}
+use Rattle.std.proofs.Common.{◌⊎◌, inl, inr, Some, None, refl, sym, ap, subst, ◌∙◌, arith}
+use Rattle.std.specs.Prelude.{max, nat_le}
+use Rattle.std.proofs.lemmas.Bool.{leb-false, leb-true}
+use Rattle.std.proofs.lemmas.Bool.Decides.{eqb_tells}
+use Rattle.std.proofs.Math.Nat.{mul-le-mul_right, max-eq_left, max-eq_right}
+use Rattle.fr_bus.specs.Courses.{opportunities}
+use Rattle.fr_core.proofs.CaseLemmas.{both_first, both_rest}
+use Rattle.fr_exactness.proofs.DelayLemmas.{first_is}
+use Rattle.fr_exactness.proofs.ReachLemmas.{all_reached}
+use Rattle.fr_exactness.specs.Delays.{IsDelayed, IsWorstReached, cycles_after}
+use Rattle.fr_exactness.specs.Exactness.{HasRoom}
+use Rattle.fr_latency.specs.Below.{all_below, any_below, most_below}
+use Rattle.fr_latency.specs.declared.latency.State.TheVariants.{Guaranteed}
+use Rattle.fr_latency.specs.Latencies.{before_slot, channel_of, earliest_start, has_tasks, is_after, is_always_in_time, is_guaranteed}
+use Rattle.fr_latency.specs.Latencies.{is_possible, latest_end, state_by, unless_zero, wait_from, wait_if}
+use Rattle.fr_latency.specs.Latencies.{worst_latency, worst_of}
+use Rattle.fr_schedule.specs.Clusters.{IsCluster}
+use Rattle.fr_schedule.specs.Descriptions.{Description}
+use Rattle.fr_slots.proofs.PlaceLemmas.{same_some}
+use Rattle.fr_slots.specs.Admission.{cycle_admitted}
+use Rattle.fr_slots.specs.declared.plan.Buffer.{Buffer}
+use Rattle.fr_slots.specs.Numbers.{cycle_count}
+use Rattle.fr_slots.specs.Parameters.{is_static_slot}
+use Rattle.fr_slots.specs.Plans.{Plan}
+
+-- ---- numbers below a number
+
+all_at : (test : ℕ → Bool) (many k : ℕ) → all_below test many ≡ true → k < many → test k ≡ true
+unfolding all_below
+all_at test zero k all below = absurd (let none : ⊥ = omega (arith, below) in none)
+all_at test (suc many) k all below = elim (eqb_tells k many) [
+  | inl same ↦ ap test same.1 ∙ both_rest (all_below test many) (test many) all
+  | inr other ↦ all_at test many k (both_first (all_below test many) (test many) all) (omega (arith, below, other.1))
+]
+
+-- a number has the greatest value, unless that is 0
+record IsMost (value : ℕ → ℕ) (many : ℕ) : Type 0 where
+  place : ℕ
+  below : place < many
+  is : value place ≡ most_below value many
+
+most_at : (value : ℕ → ℕ) (many : ℕ) → (most_below value many ≡ 0) ⊎ IsMost value many
+unfolding most_below
+most_at value zero = inl refl
+most_at value (suc many) = by (nat_le (most_below value many) (value many)) refl (most_at value many)
+  where
+    by : (b : Bool) → nat_le (most_below value many) (value many) ≡ b
+        → ((most_below value many ≡ 0) ⊎ IsMost value many)
+        → ((max (most_below value many) (value many) ≡ 0) ⊎ IsMost value (suc many))
+    by true e rest = inr (record {
+      place = many;
+      below = omega arith;
+      is = sym (max-eq_right (leb-true (most_below value many) (value many) e));
+    })
+    by false e (inl none) = (let above = leb-false (most_below value many) (value many) e in
+        absurd (let no : ⊥ = omega (arith, above, none) in no))
+    by false e (inr most) =
+        let above = leb-false (most_below value many) (value many) e in
+        let earlier = most.below in
+        inr (record {
+          place = most.place;
+          below = omega (arith, earlier);
+          is = most.is ∙ sym (max-eq_left (let low : value many ≤ most_below value many = omega (arith, above) in low));
+        })
+
+-- ---- a guaranteed buffer
+
+state_all : (tasks all ever : Bool) → state_by tasks all ever ≡ Guaranteed → (tasks ≡ true) × (all ≡ true)
+state_all true true ever e = (refl, refl)
+state_all true false true e = absurd (let none : ⊥ = cc in none)
+state_all true false false e = absurd (let none : ⊥ = cc in none)
+state_all false all ever e = absurd (let none : ⊥ = cc in none)
+
+from_either : (p q : Bool) → (not p || q) ≡ true → p ≡ true → q ≡ true
+from_either true q e f = e
+from_either false q e f = absurd (let none : ⊥ = cc in none)
+
+some_number : (n m : ℕ) → unless_zero n ≡ Some m → (n ≡ m) × ((n ≡ 0) → ⊥)
+some_number n m e = by (n == 0) refl e
+  where
+    by : (b : Bool) → (n == 0) ≡ b → cond b None (Some n) ≡ Some m → (n ≡ m) × ((n ≡ 0) → ⊥)
+    by true is f = absurd (let none : ⊥ = cc in none)
+    by false is f = (
+      same_some n m f,
+      λ none. (let no : (n == 0) ≡ true = ap (λ (k : ℕ). k == 0) none in let not_so : ⊥ = cc in not_so),
+    )
+
+less_room : (d : Description) (cycles calls : ℕ) → cycles ≤ 128 → HasRoom d 128 calls → HasRoom d cycles calls
+less_room d cycles calls few room = record {
+  for_windows = λ n plan at. (
+      let enough = room.for_windows n plan at in
+      let fewer : cycles * opportunities d.params ≤ 128 * opportunities d.params =
+      mul-le-mul_right (opportunities d.params) few in
+      omega (arith, enough, fewer));
+  for_calls = room.for_calls;
+}
+
+module _ (d : Description) (lawful : IsCluster d) (n number : ℕ) (plan : Plan) (b : Buffer) where
+  abbrev passes : ℕ → Bool
+  passes = is_guaranteed d plan b
+
+  abbrev wait : ℕ → ℕ
+  wait = wait_from d.params.cycle_mt passes (earliest_start d b) (latest_end d b)
+
+  abbrev value : ℕ → ℕ
+  value = wait_if d.params.cycle_mt passes (earliest_start d b) (latest_end d b)
+
+  record IsWait (worst : ℕ) : Type 0 where
+    cycle : ℕ
+    few : cycle < 64
+    guaranteed : passes cycle ≡ true
+    is : wait cycle ≡ worst
+
+  waits_so : (worst : ℕ) → has_tasks plan ≡ true → worst_latency d plan b ≡ Some worst → IsWait worst
+  waits_so worst tasks is =
+      let number_is = some_number (worst_of d plan b) worst
+      (ap (λ (t : Bool). cond t (unless_zero (worst_of d plan b)) None) (sym tasks) ∙ is) in
+      elim (most_at value cycle_count) [
+        | inl none ↦ absurd (number_is.1 none)
+        | inr most ↦ by most (passes most.place) refl number_is
+      ]
+    where
+      by : (most : IsMost value cycle_count) (t : Bool) → passes most.place ≡ t
+          → ((worst_of d plan b ≡ worst) × ((worst_of d plan b ≡ 0) → ⊥)) → IsWait worst
+      by most true e number_is = record {
+        cycle = most.place;
+        few = most.below;
+        guaranteed = e;
+        is = ap (λ (t : Bool). cond t (wait most.place) 0) (sym e) ∙ most.is ∙ number_is.0;
+      }
+      by most false e number_is = absurd (number_is.1 (sym most.is
+          ∙ ap (λ (t : Bool). cond t (wait most.place) 0) e))
+
+-- the worst latency of a guaranteed dynamic buffer is that of a run
+pub worst_reached : (d : Description) → IsCluster d → IsWorstReached d
+worst_reached d lawful n number plan b plan_at at transmitting dynamic state worst is room =
+    let parts = state_all (has_tasks plan)
+    (all_below (λ cycle. not (cycle_admitted b.filter.cycles cycle) || is_guaranteed d plan b cycle) cycle_count)
+    (any_below (is_possible d plan b) cycle_count) state in
+    let w = waits_so d lawful n number plan b worst parts.0 is in
+    let c = w.cycle in
+    let step = (first_is (is_after (is_guaranteed d plan b) c) 1 63).to in
+    let below = w.few in
+    let few : c + cycles_after d plan b c + 1 ≤ 128 = omega (arith, below, step) in
+    let some_task = leb-true 1 plan.tasks parts.0 in
+    let always : (cycle : ℕ) → cycle < 64 → cycle_admitted b.filter.cycles cycle ≡ true
+    → is_always_in_time d plan b cycle ≡ true =
+    λ cycle inside admitted. (
+    let passes = from_either (cycle_admitted b.filter.cycles cycle) (is_guaranteed d plan b cycle)
+    (all_at (λ k. not (cycle_admitted b.filter.cycles k) || is_guaranteed d plan b k) cycle_count cycle parts.1
+    inside) admitted in
+    ap (λ (t : Bool). t || is_always_in_time d plan b cycle) (sym dynamic)
+    ∙ both_rest (cycle_admitted b.filter.cycles cycle)
+    (is_static_slot d.params b.filter.slot || is_always_in_time d plan b cycle) passes) in
+    record {
+      cycles = c + cycles_after d plan b c + 1;
+      few = few;
+      delayed = subst (λ (delay : ℕ). IsDelayed d n number b (channel_of b.filter.channels) (c + cycles_after d plan b c + 1) delay)
+          w.is
+          (all_reached d lawful n number plan b plan_at some_task at transmitting dynamic always c w.few
+          (both_first (cycle_admitted b.filter.cycles c)
+          (is_static_slot d.params b.filter.slot || is_always_in_time d plan b c) w.guaranteed)
+          (less_room d (c + cycles_after d plan b c + 1) (6 * before_slot d b + 1) few room));
+    }

@@ -1,0 +1,18 @@
+//! Runs that reach what `fr_latency` computes, as laws on lists of events. The crate has no code.
+//!
+//! *(project-defined)* marks a rule of this project, and makes no claim about the standard.
+//!
+//! # Definitions
+//!
+//! - `Leading`, `Exactness`: events that are accepted one by one, the room that a run needs, and runs that open a slot.
+//! - `Delays`: runs in which a commit waits as long as the table of latencies says.
+//!
+//! # Laws
+//!
+//! - `ExactLemmas`: `all_realized` holds of each cluster. Wherever the definition lets a dynamic slot open, some run
+//!   opens it.
+//! - `ReachLemmas`, `WorstLemmas`: `all_reached` and `worst_reached` hold, too. The worst latency of a dynamic buffer
+//!   that is guaranteed in all its cycles is that of some run.
+//! - `WindowLemmas`, `PassingLemmas`, `SentLemmas`, `WalkLemmas`: the events of a window without frames or with one that
+//!   a host commits right before it, and of a cycle that follows a chosen way.
+#![tactic(auto)]
