@@ -1,0 +1,9 @@
+mod CoreLemmas
+mod FrameLemmas
+mod CameLemmas
+mod CountLemmas
+mod OpenLemmas
+mod StepLemmas
+mod CourseLemmas
+mod RecordLemmas
+pub mod AlarmLaws
