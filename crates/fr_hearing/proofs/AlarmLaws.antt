@@ -136,7 +136,7 @@ turned_on : (r : Rules) (channel : Channel) (t u : State) (fs : List Fields) →
     → IsOn r channel (turn t channel) fs
 turned_on r channel t u fs e on =
     subst (λ (v : State). IsOn r channel v fs)
-    (sym (turn_none t channel (ap (λ (v : State). v.channel) e ∙ channel_on r channel u fs on)) ) 
+    (sym (turn_none t channel (ap (λ (v : State). v.channel) e ∙ channel_on r channel u fs on)))
     (subst (λ (v : State). IsOn r channel v fs) (sym e) on)
 
 own_record : (r : Rules) (channel : Channel) (s : State) (rec : Record) (f : Fields) (fs : List Fields)

@@ -94,7 +94,7 @@ freed s = record s { mine = record s.mine { held = None; ill_held = 0 } }
 abbrev free_core : Core → Core
 free_core c = record c { held = None }
 
-settle_none : (s : State) (next : Option Next) → s.mine.held ≡ None → settle s next ≡ s
+pub settle_none : (s : State) (next : Option Next) → s.mine.held ≡ None → settle s next ≡ s
 unfolding settle
 settle_none s next none = ap (settle_with s next) none
 
