@@ -14,7 +14,6 @@ import unittest
 from pathlib import Path
 from unittest.mock import patch
 
-from musmyrtle.cluster import PARAMETERS
 from musmyrtle.show.monitor import explained
 from musmyrtle.show.recordings import MEANINGS, SPECIAL, WORDS
 from tests.shows import NETWORK, Shows
@@ -80,11 +79,12 @@ class Recordings(Monitor):
         self.assertIn("1 A pedal (0) 0 3 0 0 200 200".split(), lines)
 
     def test_a_missing_frame_comes_back(self) -> None:
+        """The frame of slot 2 on A is missing in cycles 1 and 2, which is told once."""
         records = frames(4)
         del records[6], records[9]
         self.assertEqual(self.found(records, "--whole"), [
-            (7, 1, "A", 2, "brake", "Missing", "no frame of brake (1)"),
-            (11, 3, "A", 1, "pedal", "Missing", "no frame of pedal (0)")] if False else self.found(records, "--whole"))
+            (8, 1, "A", 2, "brake", "Missing", "no frame of brake (1)"),
+            (13, 3, "A", 2, "brake", "back", "brake (1) is back after it was missing 2 times")])
 
     def test_reasons(self) -> None:
         """A flipped bit, a frame of nobody, data without a buffer, and a slot after the latest minislot."""
@@ -159,8 +159,12 @@ class Refusals(Monitor):
             self.assertEqual((status, error), (1, told))
 
     def test_a_cluster_without_a_clock(self) -> None:
-        cluster = self.written("clockless.toml", NETWORK.replace('sync = true}', 'sync = true, repetition = 2}').replace(
-            'own = [{slot = 2, channels = "AB"}]', 'own = [{slot = 2, channels = "AB", repetition = 2}]'))
+        """Both nodes own their slots in even cycles alone."""
+        network = NETWORK.replace('channels = "AB", sync = true}', 'channels = "AB", sync = true, repetition = 2}').replace(
+            'slot = 2, channels = "AB"}', 'slot = 2, channels = "AB", repetition = 2}').replace(
+            'slot = 1, channels = "AB"}', 'slot = 1, channels = "AB", repetition = 2}').replace(
+            'slot = 2, channels = "A"}', 'slot = 2, channels = "A", repetition = 2}')
+        cluster = self.written("clockless.toml", network)
         status, output, told = self.asked("monitor", cluster, self.recording(frames(1)))
         self.assertEqual((status, output), (1, ""))
         self.assertTrue(told.startswith("musmyrtle: refused NoClock A 1: channel A has a sender, "), told)

@@ -13,7 +13,7 @@ from musmyrtle.breaking import BrokenOff, breaking_off
 from musmyrtle.findings import counted
 from musmyrtle.lint.command import FINE, USAGE, Parser, add_forms, formed, is_bold_on, printed, shown_examples
 from musmyrtle.output import Stop, pass_on, write
-from musmyrtle.program import itself, is_launcher, places
+from musmyrtle.program import Answer, is_launcher, itself, no_answer, places
 from musmyrtle.show.engines import COMMAND, Inputs, opened
 from musmyrtle.show.network import Network
 from musmyrtle.show.options import CLUSTER
@@ -173,7 +173,7 @@ def outcome(given: argparse.Namespace, inputs: Inputs, source: IO[bytes]) -> int
     program = inputs.program("fr_monitor")
     status, told = asked(inputs, itself(program) if is_launcher(program) else program, words, source, tables, given.json)
     if status not in (FINE, FOUND, REFUSED):
-        raise Stop(USAGE, f"{program} ended with status {status}: {' '.join(told)[-300:]}")
+        raise Stop(USAGE, no_answer(program, words, Answer(status, " ".join(told).strip() or f"status {status}", False)))
     if not given.json and any(tables.rows.values()):
         printed(shown(given, tables.sections()))
     for line in told:
