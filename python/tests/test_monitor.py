@@ -79,7 +79,7 @@ class Recordings(Monitor):
         self.assertIn("1 A pedal (0) 0 3 0 0 200 200".split(), lines)
 
     def test_a_missing_frame_comes_back(self) -> None:
-        """The frame of slot 2 on A is missing in cycles 1 and 2, which is told once."""
+        """The frame of slot 2 on A is missing in cycles 1 and 2, with one finding."""
         records = frames(4)
         del records[6], records[9]
         self.assertEqual(self.found(records, "--whole"), [
@@ -87,7 +87,7 @@ class Recordings(Monitor):
             (13, 3, "A", 2, "brake", "back", "brake (1) is back after it was missing 2 times")])
 
     def test_reasons(self) -> None:
-        """A flipped bit, a frame of nobody, data without a buffer, and a slot after the latest minislot."""
+        """A flipped bit, a frame that no node sends, data without a buffer, and a payload that is too long."""
         broken = bytearray(frame("A", 2, 0))
         broken[5] ^= 0x40
         for records, expected in (

@@ -7,3 +7,6 @@ mod StepLemmas
 mod CourseLemmas
 mod RecordLemmas
 pub mod AlarmLaws
+mod FirstLemmas
+mod DueLemmas
+pub mod OfferLaws
