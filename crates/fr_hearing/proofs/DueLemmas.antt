@@ -63,6 +63,8 @@ due_is_owners d slot channel cycle n plan own one fits static at is =
     cond-true (is_static_slot d.params slot) (owner_from d.params slot channel cycle 0 d.plans)
     (sender_from d.params slot channel cycle 0 d.plans) static
     ∙ owner_at d.params slot channel cycle d.plans 0 n plan own at is earlier
+    ∙ ap (λ (m : ℕ). Some (static_due d.params m plan own (buffer_in slot channel cycle plan)))
+    (let same : 0 + n ≡ n = omega arith in same)
   where
     mine : IsSender d cycle slot channel n
     mine = static_sender d slot channel cycle n plan static at (any_found_in (claims slot channel cycle) plan.owned own is)
@@ -71,7 +73,7 @@ due_is_owners d slot channel cycle n plan own one fits static at is =
         → is_owned q.owned slot channel cycle ≡ true → ⊥
     not_other j q lt there owned =
         let same : j ≡ n = one cycle slot channel j n fits (static_sender d slot channel cycle j q static there owned)
-            mine in
+        mine in
         omega arith
 
     earlier : (j : ℕ) (q : Plan) → j < n → slice_get d.plans j ≡ Some q → line_in slot channel cycle q ≡ None

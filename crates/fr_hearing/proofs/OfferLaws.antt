@@ -108,7 +108,7 @@ line_is plan w channel slot static =
 half : (n : ℕ) → 2 * n / 2 ≡ n
 half n = omega arith
 
-length_zeros : (n : ℕ) → length (replicate n 0) ≡ n
+length_zeros : (n : ℕ) → length {A = ℕ} (replicate n 0) ≡ n
 length_zeros zero = refl
 length_zeros (suc n) = ap suc (length_zeros n)
 
