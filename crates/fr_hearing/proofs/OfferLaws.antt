@@ -1,13 +1,14 @@
 -- In each static window its owner hands over the frame that is due.
 use Rattle.std.proofs.Common.{◌≡◌, ℕ, zero, suc, ◌+◌, ◌*◌, ◌/◌, ◌<◌, ◌≤◌, Bool, true, false, cond, ◌&&◌, List, [], ◌∷◌, ◌++◌}
 use Rattle.std.proofs.Common.{length, refl, sym, ap, subst, ◌∙◌, arith, Option, Some, None, slice_get, get_or, replicate}
-use Rattle.std.proofs.lemmas.Bool.{cond-true, cond-false, eqb-true, ne_eqb}
+use Rattle.std.proofs.lemmas.Bool.{cond-true, cond-false, eqb-true, ne_eqb, leb-true}
 use Rattle.std.proofs.lemmas.List.Quantifiers.{position-Some}
 use Rattle.std.proofs.lemmas.Option.{get_or_from_slice_get}
-use Rattle.std.specs.Prelude.{IfSome, IsSomeAnd, is_some, ◌==◌}
+use Rattle.std.specs.Prelude.{IfSome, IsSomeAnd, is_some, ◌==◌, ◌||◌, nat_le}
 use Rattle.std.specs.List.{find, position, list_all}
 use Rattle.std.specs.Option.{option_and_then}
-use Rattle.fr_core.proofs.HandingLemmas.{offer_is}
+use Rattle.fr_core.proofs.CaseLemmas.{kept_if}
+use Rattle.fr_core.proofs.HandingLemmas.{offer_is, data_is}
 use Rattle.fr_core.proofs.TakingLemmas.{IsOfferedBy, in_slot, Admits, transmitter_admits}
 use Rattle.fr_core.specs.Receivers.{offered_on}
 use Rattle.fr_frame.specs.Fields.{Fields}
@@ -20,13 +21,15 @@ use Rattle.fr_journal.specs.declared.entry.Offered.TheVariants.{Nothing, Null, D
 use Rattle.fr_journal.specs.Fate.{is_commit_on, last_commit}
 use Rattle.fr_journal.specs.Forms.{Entry}
 use Rattle.fr_journal.specs.Legal.{IsLegal, IsLegalFetch}
+use Rattle.fr_journal.specs.Offers.{may_begin}
 use Rattle.fr_journal.specs.Offers.{transmitter, is_admitting, ready, ready_in, commit_offered, owns, ownership, line_of}
 use Rattle.fr_journal.specs.Offers.{data_or, offered_at, offered, payload_in, payload_of, sync_of, startup_of}
 use Rattle.fr_journal.specs.Offers.{preamble_of, preamble_in, null_frame, data_frame_of, frame_of_offer, frame_with}
-use Rattle.fr_hearing.proofs.DueLemmas.{due_is_owners}
+use Rattle.fr_hearing.proofs.DueLemmas.{due_is_owners, due_is_senders}
 use Rattle.fr_hearing.proofs.FirstLemmas.{find_position, IsThere, there}
-use Rattle.fr_hearing.specs.Offering.{IsFetched, IsOwnWindow, HandsDue, OwnersSend}
-use Rattle.fr_logged.specs.Dues.{line_in, buffer_in, static_due, preamble_of as due_preamble, due_of}
+use Rattle.fr_hearing.specs.Offering.{IsFetched, IsOwnWindow, HandsDue, OwnersSend, IsOpenWindow}
+use Rattle.fr_hearing.specs.Offering.{IsDueThere, SendersSend}
+use Rattle.fr_logged.specs.Dues.{line_in, buffer_in, static_due, dynamic_due, preamble_of as due_preamble, due_of}
 use Rattle.fr_logged.specs.Rules.{is_zero}
 use Rattle.fr_logged.specs.declared.due.Due.{Due}
 use Rattle.fr_schedule.specs.Clusters.{IsCluster}
@@ -35,7 +38,7 @@ use Rattle.fr_slots.proofs.PlaceLemmas.{same_some, get-append, AllAfter-at, AllA
 use Rattle.fr_slots.specs.declared.channel.Channel.{Channel}
 use Rattle.fr_slots.specs.declared.plan.Buffer.{Buffer}
 use Rattle.fr_slots.specs.declared.plan.Own.{Own}
-use Rattle.fr_slots.specs.Faults.{claims, sends_at, transmits, words_of}
+use Rattle.fr_slots.specs.Faults.{claims, sends_at, transmits, words_of, latest_on}
 use Rattle.fr_slots.specs.History.{AllAfter}
 use Rattle.fr_slots.specs.Parameters.{Parameters, is_static_slot}
 use Rattle.fr_slots.specs.Plans.{Plan, buffer_at, admits_slot, is_receive}
@@ -215,3 +218,92 @@ owners_send d node s before w a b channel slot cluster fetched window =
     let own = there (line_of s.plan w channel slot) window.owned in
     hands_due d node s before w a b channel slot cluster fetched window own.value
     (sym (line_is s.plan w channel slot window.static) ∙ own.is)
+
+-- ---- dynamic windows
+
+not_owned : (plan : Plan) (w : Opportunity) (channel : Channel) (slot : ℕ) → is_static w ≡ false
+    → line_of plan w channel slot ≡ None
+not_owned plan w channel slot dynamic =
+    cond-false (is_static w) (ownership plan.owned slot channel w.cycle) None dynamic
+
+begins_in_time : (w : Opportunity) (latest : ℕ) → is_static w ≡ false
+    → (is_static w || nat_le w.minislot latest) ≡ true → w.minislot ≤ latest
+begins_in_time w latest dynamic e =
+    leb-true w.minislot latest (ap (λ (b : Bool). b || nat_le w.minislot latest) (sym dynamic) ∙ e)
+
+module _ (d : Description) (node : ℕ) (s : State) (before : List Entry) (w : Opportunity) (x y : Offered)
+    (channel : Channel) (slot : ℕ) (cluster : IsCluster d) (fetched : IsFetched d node s before w x y)
+    (window : IsOpenWindow d w channel slot) where
+  data_there : (commit : ℕ) → offered s.plan before w channel ≡ Data commit
+      → IsDueThere d w channel slot (data_frame_of s.plan before w channel slot commit)
+  data_there commit is =
+      let o = in_slot s.plan before w channel commit (slot_of w channel) is in
+      let b = some_buffer s.plan before o.buffer commit o.is_ready in
+      let fits = fits_buffer s fetched.lawful o.buffer commit before (Fetch w x y ∷ fetched.after) fetched.cut b.buffer b.at
+      o.last in
+      let buffer_is : option_and_then (buffer_at s.plan) (transmitter s.plan w channel) ≡ Some b.buffer =
+      ap (option_and_then (buffer_at s.plan)) o.at ∙ b.at in
+      let found : buffer_in slot channel w.cycle s.plan ≡ Some b.buffer =
+      transmitter_is s.plan w channel slot window.slot_is ∙ buffer_is in
+      let here = ap (offered_at s.plan before w channel) (sym window.slot_is) ∙ is in
+      let begins : may_begin s.plan w channel ≡ true = kept_if (may_begin s.plan w channel)
+      (option_and_then (ready_in s.plan before) (transmitter s.plan w channel)) commit
+      (data_is (owns s.plan w channel slot) (commit_offered s.plan before w channel) commit here) in
+      let line : line_of s.plan w channel slot ≡ None = not_owned s.plan w channel slot window.dynamic in
+      let due_some : dynamic_due d.params channel node s.plan b.buffer ≡ Some (due_in b.buffer) =
+      cond-false (s.plan.tasks == 0) None (Some (due_in b.buffer))
+      (ne_eqb s.plan.tasks 0 (λ z. let some : 1 ≤ s.plan.tasks = fits.some_task in omega arith)) in
+      record {
+        id_is = refl;
+        cycle_is = refl;
+        due = due_in b.buffer;
+        due_is = due_is_senders d slot channel w.cycle node s.plan b.buffer cluster.one_sender window.cycle_fits
+            window.dynamic_slot fetched.plan_at found ∙ due_some;
+        has_data = refl;
+        no_sync = ap sync_of line;
+        no_startup = ap startup_of line;
+        words = ap (λ (n : ℕ). n / 2) fits.words ∙ half (words_of s.params b.buffer)
+            ∙ ap (λ (p : Parameters). words_of p b.buffer) fetched.params_are;
+        preamble = ap Some (sym (ap preamble_of buffer_is));
+        in_time = begins_in_time w (latest_on s.plan channel) window.dynamic begins;
+      }
+    where
+      due_in : Buffer → Due
+      due_in b = record {
+        node = node;
+        sync = false;
+        startup = false;
+        words = words_of d.params b;
+        preamble = Some b.preamble;
+        both = false;
+        latest = latest_on s.plan channel;
+      }
+
+  offer_there : (o : Offered) → offered s.plan before w channel ≡ o → (f : Fields)
+      → frame_of_offer s.params s.plan before w channel slot o ≡ Some f → IsDueThere d w channel slot f
+  offer_there Nothing is f e = absurd (let none : ⊥ = cc in none)
+  offer_there Null is f e = absurd (none_null (commit_offered s.plan before w channel)
+      (ap (λ (l : Option Own). data_or (cond (is_some l) Null Nothing) (commit_offered s.plan before w channel))
+      (sym (not_owned s.plan w channel slot window.dynamic))
+      ∙ ap (offered_at s.plan before w channel) (sym window.slot_is) ∙ is))
+    where
+      none_null : (o : Option ℕ) → data_or Nothing o ≡ Null → ⊥
+      none_null None g = let none : ⊥ = cc in none
+      none_null (Some k) g = let none : ⊥ = cc in none
+  offer_there (Data commit) is f e =
+      subst (λ (g : Fields). IsDueThere d w channel slot g)
+      (same_some (data_frame_of s.plan before w channel slot commit) f e) (data_there commit is)
+
+  sent_there : (f : Fields) → frame_with s.params s.plan before w channel (offered_on channel x y) ≡ Some f
+      → IsDueThere d w channel slot f
+  sent_there f e =
+      let legal : IsLegalFetch s.params s.plan before w x y =
+      AllAfter-cut (IsLegal s.params s.plan) [] before (Fetch w x y) fetched.after
+      (subst (λ (l : List Entry). AllAfter (IsLegal s.params s.plan) [] l) fetched.cut fetched.lawful.legal) in
+      offer_there (offered_on channel x y) (offer_is s before w x y channel legal) f
+      (ap (option_and_then (λ slot. frame_of_offer s.params s.plan before w channel slot (offered_on channel x y)))
+      (sym window.slot_is) ∙ e)
+
+pub senders_send : SendersSend
+senders_send d node s before w a b channel slot f cluster fetched window handed =
+    sent_there d node s before w a b channel slot cluster fetched window f handed
