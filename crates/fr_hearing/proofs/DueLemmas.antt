@@ -137,7 +137,7 @@ due_is_senders d slot channel cycle n plan b one fits dynamic at is =
         → list_any (sends_at slot channel cycle) q.buffers ≡ true → ⊥
     not_other j q lt there some =
         let same : j ≡ n = one cycle slot channel j n fits
-            (dynamic_sender d slot channel cycle j q dynamic there some) mine in
+        (dynamic_sender d slot channel cycle j q dynamic there some) mine in
         omega arith
 
     earlier : (j : ℕ) (q : Plan) → j < n → slice_get d.plans j ≡ Some q → buffer_in slot channel cycle q ≡ None
