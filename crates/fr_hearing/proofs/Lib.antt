@@ -10,3 +10,4 @@ pub mod AlarmLaws
 mod FirstLemmas
 mod DueLemmas
 pub mod OfferLaws
+pub mod CaptureLaws
