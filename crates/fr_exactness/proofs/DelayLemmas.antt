@@ -66,7 +66,8 @@ first_is test least zero = record { from = omega arith; to = omega arith; passes
 first_is test least (suc more) = by (test least) refl (first_is test (least + 1) more)
   where
     whole : (n : ℕ) → first_from test least (suc more) ≡ n
-        → (least ≤ n) × (n ≤ least + suc more) × ((n ≡ least + suc more) ⊎ (test n ≡ true)) → IsFirst test least (suc more)
+        → (least ≤ n) × (n ≤ least + suc more) × ((n ≡ least + suc more) ⊎ (test n ≡ true))
+        → IsFirst test least (suc more)
     whole n is parts = record {
       from = omega (arith, is, parts.0);
       to = omega (arith, is, parts.1);
@@ -146,7 +147,8 @@ static_fits p w on slot fits static is = by on is
     by B e = ap (static_slot_fits p) (sym e) ∙ both_rest (static_slot_fits p w.a) (static_slot_fits p w.b) both_fit
 
 module _ (d : Description) (lawful : IsCluster d) (n number : ℕ) (plan : Plan) (b : Buffer)
-    (plan_at : slice_get d.plans n ≡ Some plan) (at : buffer_at plan number ≡ Some b) (transmitting : transmits b ≡ true)
+    (plan_at : slice_get d.plans n ≡ Some plan) (at : buffer_at plan number ≡ Some b) (transmitting : transmits b
+    ≡ true)
     (dynamic : is_static_slot d.params b.filter.slot ≡ false) where
   pub of_node : IsNode d.params plan
   of_node = each_at (IsNode d.params) d.plans n plan lawful.nodes_are plan_at

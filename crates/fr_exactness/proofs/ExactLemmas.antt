@@ -137,7 +137,8 @@ is_way d channel cycle counts lane rows =
       row,
       elim choice [
         | inl none ↦ inl none
-        | inr can ↦ inr (can_send d channel cycle (slot_after d.params before) (first_minislot d.params before) bytes can)
+        | inr can ↦ inr (can_send d channel cycle (slot_after d.params before)
+            (first_minislot d.params before) bytes can)
       ],
     )) [] counts lane rows
 
@@ -210,7 +211,8 @@ all_realized d lawful channel cycle slot minislot few dynamic room opens =
     ((are_lanes d lawful).opens channel cycle slot minislot dynamic).0 opens in
     let row = row_of d.params lane.counts minislot slot lane.opened in
     let way = is_way d channel cycle lane.counts lane.is_lane lane.are_rows in
-    let come = comes d lawful (cycle + 1) cycle (3 * slots_before d.params slot) few (omega arith) (omega (arith, few)) room
+    let come = comes d lawful (cycle + 1) cycle (3 * slots_before d.params slot) few (omega arith) (omega
+    (arith, few)) room
     channel lane.counts way row.exists (omega (arith, row.slot_is)) in
     record {
       world = come.world;

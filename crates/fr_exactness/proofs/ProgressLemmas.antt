@@ -14,7 +14,8 @@ use Rattle.fr_bus.specs.Courses.{IsCourse, course_of, first_passed, later_passed
 use Rattle.fr_bus.specs.Outcome.{longest}
 use Rattle.fr_bus.specs.Record.{Recorded}
 use Rattle.fr_bus.specs.Windows.{begins_cycle, cycles_begun, with_window, this_cycle, is_row_of, counts_on, opens_cycle}
-use Rattle.fr_bus.specs.Windows.{opens_any, window_at, next_dynamic, statics_of, next_in_cycle, first_of_cycle, following}
+use Rattle.fr_bus.specs.Windows.{opens_any, window_at, next_dynamic, statics_of, next_in_cycle, first_of_cycle}
+use Rattle.fr_bus.specs.Windows.{following}
 use Rattle.fr_bus.specs.Windows.{least_of, is_first_slot}
 use Rattle.fr_core.proofs.TimingLemmas.{count_more}
 use Rattle.fr_exactness.proofs.FollowingLemmas.{found, either_within}

@@ -241,7 +241,8 @@ module _ (d : Description) (lawful : IsCluster d) (n number : ℕ) (plan : Plan)
       last_long : 3 * length last_opens.counts ≤ 3 * early
       last_long = (let row = last_row.slot_is in omega (arith, row))
 
-      come : IsCome d lawful cycles most room nothing_kept (3 * length first_opens.counts) (c + 1) c on first_opens.counts
+      come : IsCome d lawful cycles most room nothing_kept (3 * length first_opens.counts)
+          (c + 1) c on first_opens.counts
           (opening_world d cycles)
       come =
           let short = first_long in
@@ -272,7 +273,8 @@ module _ (d : Description) (lawful : IsCluster d) (n number : ℕ) (plan : Plan)
       payload = replicate (2 * words_of d.params b) 0
 
       held : IsHeld d cycles (3 * length first_opens.counts + 1) w0 come.window n number payload
-      held = is_held d cycles most room (3 * length first_opens.counts) w0 come.window come.is_at come.next n number payload
+      held = is_held d cycles most room (3 * length first_opens.counts) w0 come.window come.is_at come.next n number
+          payload
           within
 
       abbrev f0 : State
@@ -362,7 +364,8 @@ module _ (d : Description) (lawful : IsCluster d) (n number : ℕ) (plan : Plan)
           let last_short = last_long in
           comes_in d lawful cycles most room kept (3 * length first_opens.counts + 1) (c + step) then refl then_fits on
           last_opens.counts most (omega arith) last_row.exists
-          (way_mute d lawful n number plan b plan_at at transmitting dynamic cycles j last_opens.counts last_row.slot_is)
+          (way_mute d lawful n number plan b plan_at at transmitting dynamic cycles j last_opens.counts
+          last_row.slot_is)
           (is_way d on then last_opens.counts last_opens.is_lane last_opens.are_rows)
           (omega (arith, first_short, last_short)) held.world start start_mute
 
@@ -436,13 +439,15 @@ module _ (d : Description) (lawful : IsCluster d) (n number : ℕ) (plan : Plan)
           let filled = minislots_filled d.params (words_of d.params b) in
           let order = first_in_time in
           let first_start = ap (start_of held.first_world) first_minislot_is
-          ∙ start_is held.first_world d c (early + 1) (ap (λ (x : BusState). x.cluster) held.same_bus ∙ come.is_at.cluster)
+          ∙ start_is held.first_world d c (early + 1) (ap (λ (x : BusState). x.cluster) held.same_bus
+          ∙ come.is_at.cluster)
           (ap (λ (x : BusState). cycles_begun x.sealed) held.same_bus ∙ come.begun_is) in
           let back : early + 1 - 1 ≡ early = omega arith in
           let ends : end.window.minislot + filled - 1 ≡ last - 1 + filled =
           (let there = last_minislot in omega (arith, order, there)) in
           let last_start = start_is w1 d (c + step) (end.window.minislot + filled) end.is_at.cluster end.begun_is in
-          first_part first_start back ∙ (λ i. times c step d.params.cycle_mt d.params.minislot_mt (dynamic_start d.params)
+          first_part first_start back ∙ (λ i. times c step d.params.cycle_mt d.params.minislot_mt
+          (dynamic_start d.params)
           early (last - 1 + filled) (omega (arith, order)) i) ∙ sym (last_start
           ∙ ap (λ (m : ℕ). (c + step) * d.params.cycle_mt + (dynamic_start d.params + m * d.params.minislot_mt)) ends)
         where
@@ -463,7 +468,8 @@ module _ (d : Description) (lawful : IsCluster d) (n number : ℕ) (plan : Plan)
               + (last - 1 + minislots_filled d.params (words_of d.params b)) * d.params.minislot_mt =
               ap (λ (t : Bool). cond t (b.filter.slot * d.params.static_mt) (dynamic_start d.params
               + (last - 1 + minislots_filled d.params (words_of d.params b)) * d.params.minislot_mt)) dynamic in
-              λ i. (is ∙ ap (λ (m : ℕ). c * d.params.cycle_mt + (dynamic_start d.params + m * d.params.minislot_mt)) back) i
+              λ i. (is ∙ ap (λ (m : ℕ). c * d.params.cycle_mt +
+              (dynamic_start d.params + m * d.params.minislot_mt)) back) i
               + (step * d.params.cycle_mt + ends i - begins i)
 
       reached : IsDelayed d n number b on cycles

@@ -13,7 +13,8 @@ use Rattle.fr_exactness.specs.Delays.{IsDelayed, IsWorstReached, cycles_after}
 use Rattle.fr_exactness.specs.Exactness.{HasRoom}
 use Rattle.fr_latency.specs.Below.{all_below, any_below, most_below}
 use Rattle.fr_latency.specs.declared.latency.State.TheVariants.{Guaranteed}
-use Rattle.fr_latency.specs.Latencies.{before_slot, channel_of, earliest_start, has_tasks, is_after, is_always_in_time, is_guaranteed}
+use Rattle.fr_latency.specs.Latencies.{before_slot, channel_of, earliest_start, has_tasks, is_after}
+use Rattle.fr_latency.specs.Latencies.{is_always_in_time, is_guaranteed}
 use Rattle.fr_latency.specs.Latencies.{is_possible, latest_end, state_by, unless_zero, wait_from, wait_if}
 use Rattle.fr_latency.specs.Latencies.{worst_latency, worst_of}
 use Rattle.fr_schedule.specs.Clusters.{IsCluster}
@@ -157,7 +158,8 @@ worst_reached d lawful n number plan b plan_at at transmitting dynamic state wor
     record {
       cycles = c + cycles_after d plan b c + 1;
       few = few;
-      delayed = subst (λ (delay : ℕ). IsDelayed d n number b (channel_of b.filter.channels) (c + cycles_after d plan b c + 1) delay)
+      delayed = subst (λ (delay : ℕ). IsDelayed d n number b (channel_of b.filter.channels)
+          (c + cycles_after d plan b c + 1) delay)
           w.is
           (all_reached d lawful n number plan b plan_at some_task at transmitting dynamic always c w.few
           (both_first (cycle_admitted b.filter.cycles c)

@@ -34,7 +34,8 @@ start_of w minislot =
     (cycles_begun w.bus.sealed - 1) * w.bus.cluster.params.cycle_mt
     + (dynamic_start w.bus.cluster.params + (minislot - 1) * w.bus.cluster.params.minislot_mt)
 
--- A node fetches a window of the buffer's slot, and right after that a host commits on the buffer. The commit is pending
+-- A node fetches a window of the buffer's slot, and right after that a host commits on the buffer. The commit is
+-- pending
 -- until the node fetches a later window of the slot, where it is offered. From the start of the first window to the end
 -- of the frame there are so many macroticks.
 pub record IsDelayed (d : Description) (n number : ℕ) (b : Buffer) (channel : Channel) (cycles delay : ℕ) : Type 0 where
