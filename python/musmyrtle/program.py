@@ -15,7 +15,8 @@ from typing import IO, Any
 from musmyrtle.output import pass_on
 
 CHECKOUT = Path(__file__).resolve().parents[2]
-VARIABLES = {"fr_bench": "MUSMYRTLE_BENCH", "fr_view": "MUSMYRTLE_VIEW", "fr_world": "MUSMYRTLE_WORLD"}
+VARIABLES = {"fr_bench": "MUSMYRTLE_BENCH", "fr_view": "MUSMYRTLE_VIEW", "fr_world": "MUSMYRTLE_WORLD",
+             "fr_monitor": "MUSMYRTLE_MONITOR"}
 """The variables that name the programs."""
 REFUSED_LINE = re.compile(r"refused [A-Z][A-Za-z]*( .*)?")
 MOST_TOLD, LONGEST_TOLD, MOST_SAID = 20, 4096, 300

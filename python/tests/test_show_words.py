@@ -90,7 +90,9 @@ class Keys(Shows):
             ("lint", [self.written("two.toml", TWO_STARTUP_NODES)]),
             ("faults", [*run, "--kinds", "lost"]), ("faults --list", [*run, "--kinds", "lost"]),
             ("lint", [guarded, "--load"]), ("lint", [guarded, "--guaranteed", "brake", "state"]),
-            ("latency", [guarded, "--slot", "4", "--channel", "A"]), ("check", [guarded]), ("plan", [guarded]), *((it, run) for it in ("run", "log", "commits", "reads")),
+            ("latency", [guarded, "--slot", "4", "--channel", "A"]), ("check", [guarded]), ("plan", [guarded]),
+            ("monitor", [THREE[0], str(TOP / "examples/recordings/disturbed.pcap")]),
+            *((it, run) for it in ("run", "log", "commits", "reads")),
         ):
             for line in self.asked(*command.split(), *words, "--json")[1].splitlines():
                 row = json.loads(line)
@@ -321,7 +323,8 @@ class Help(Shows):
                 with self.subTest(example):
                     words = example.partition(" > ")[0].replace("examples/", f"{TOP}/examples/").split()
                     words = [str(self.folder / it) if it.endswith(".html") else it for it in words]
-                    self.assertEqual(self.asked(*words)[0], 0)
+                    # The recording of the examples has a finding.
+                    self.assertEqual(self.asked(*words)[0], 3 if it.name == "monitor" else 0)
 
     def test_version(self) -> None:
         self.assertEqual(self.printed("--version"), f"musmyrtle {version()}\n")

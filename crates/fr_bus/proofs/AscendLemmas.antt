@@ -3,7 +3,8 @@ use Rattle.std.proofs.Common.{◌≡◌, ◌⊎◌, ℕ, ◌+◌, ◌*◌, ◌<�
 use Rattle.std.proofs.Common.{inr, refl, sym, ap, ◌∙◌, subst, arith}
 use Rattle.std.proofs.lemmas.Bool.{ltb-true, leb-true, eqb-true, ne_eqb}
 use Rattle.std.proofs.lemmas.Bool.Decides.{eqb_tells}
-use Rattle.std.specs.Prelude.{◌&&◌, ◌==◌, ◌%◌, not, nat_lt, nat_le, is_some, min, option_map}
+use Rattle.std.proofs.Math.Nat.{mul-le-mul_right}
+use Rattle.std.specs.Prelude.{◌^◌, ◌&&◌, ◌==◌, ◌%◌, not, nat_lt, nat_le, is_some, min, option_map}
 use Rattle.std.specs.Option.{option_or}
 use Rattle.fr_bus.proofs.NextLemmas.{some_if, and_left}
 use Rattle.fr_bus.specs.Courses.{Standpoint, IsAhead, IsCourse, opportunities, first_passed, later_passed, first_next}
@@ -81,7 +82,7 @@ first_is_course c course further = record {
   lawful = course.lawful;
   ahead_a = new_ahead c.params;
   ahead_b = new_ahead c.params;
-  few_cycles = course.few_cycles;
+  few_windows = course.few_windows;
   begun_fit = omega (arith, further);
   statics_fit = omega (arith, course.lawful.static_slots_fit.from_least);
   used_fit = omega arith;
@@ -106,7 +107,7 @@ static_is_course c cycle a b course some further =
       lawful = course.lawful;
       ahead_a = course.ahead_a;
       ahead_b = course.ahead_b;
-      few_cycles = course.few_cycles;
+      few_windows = course.few_windows;
       begun_fit = course.begun_fit;
       statics_fit = omega (arith, further);
       used_fit = course.used_fit;
@@ -234,7 +235,7 @@ dynamic_is_course c m a b course some least =
           (sym (some_if (row_of c.a && c.a.begins == m) c.a.slot)) least_one.first;
       ahead_b = ahead_more c.params course.used m b c.b (is_some (opened_in c.b m)) course.lawful course.ahead_b
           (sym (some_if (row_of c.b && c.b.begins == m) c.b.slot)) least_one.second;
-      few_cycles = course.few_cycles;
+      few_windows = course.few_windows;
       begun_fit = course.begun_fit;
       statics_fit = omega (arith, course.statics_fit);
       used_fit = between.1;
@@ -281,3 +282,17 @@ first_stays c w course next opens = elim (next_case c w next) [
         (ap opens_cycle (sym dynamic.is) ∙ opens) in
         let not_so = not_static c w course dynamic in
         cc
+
+-- ---- the number of every window fits
+
+windows_few : (c : Standpoint) → IsCourse c → c.windows ≤ c.cycles * opportunities c.params
+windows_few c course = elim (eqb_tells c.windows 0) [
+  | inl none ↦ omega (arith, none.1)
+  | inr other ↦ (let way = course.under_way (omega (arith, other.1)) in
+      let more : c.begun * opportunities c.params ≤ c.cycles * opportunities c.params =
+      mul-le-mul_right (opportunities c.params) course.begun_fit in
+      omega (arith, way.2, more, course.statics_fit, course.used_fit))
+]
+
+pub windows_fit : (c : Standpoint) → IsCourse c → c.windows < 2 ^ 32
+windows_fit c course = omega (arith, windows_few c course, course.few_windows)

@@ -1,10 +1,11 @@
 -- The number of items of a list that pass a test, if none does, and if all do.
-use Rattle.std.proofs.Common.{◌≡◌, ℕ, suc, ◌+◌, ◌*◌, ◌≤◌, Bool, true, false, cond, List, [], ◌∷◌, length, replicate}
+use Rattle.std.proofs.Common.{◌≡◌, ℕ, suc, ◌+◌, ◌*◌, ◌<◌, ◌≤◌, Bool, true, false, cond, List, [], ◌∷◌, length}
+use Rattle.std.proofs.Common.{replicate}
 use Rattle.std.proofs.Common.{refl, sym, ap, ◌∙◌, arith}
-use Rattle.std.specs.Prelude.{◌&&◌, ◌==◌}
+use Rattle.std.specs.Prelude.{◌&&◌, ◌==◌, slice_set, slice_index_or}
 use Rattle.std.specs.List.{count_by, list_all}
 use Rattle.std.proofs.lemmas.List.Folds.{sum_by-replicate}
-use Rattle.std.proofs.lemmas.List.Sums.{count_by-le-length, sum_by-cons}
+use Rattle.std.proofs.lemmas.List.Sums.{count_by-le-length, sum_by-cons, sum_by-set}
 use Rattle.std.proofs.lemmas.Grind.{common_steps}
 
 pub count_none : {X : Type 0} (p : X → Bool) (n : ℕ) (x : X) → p x ≡ false → count_by p (replicate n x) ≡ 0
@@ -26,3 +27,27 @@ count_all p (x ∷ xs) =
 pub all_counted : {X : Type 0} (p : X → Bool) (xs : List X) (count n : ℕ) → count ≡ count_by p xs → n ≡ length xs
     → (count == n) ≡ list_all p xs
 all_counted p xs count n counted many = (λ i. counted i == many i) ∙ sym (count_all p xs)
+
+-- ---- one item is changed
+
+module _ {X : Type 0} (p : X → Bool) (xs ys : List X) (place count : ℕ) (y d : X) (changed : ys ≡ slice_set xs place y)
+    (within : place < length xs) (counted : count ≡ count_by p xs) where
+  after_change : count_by p ys + cond (p (slice_index_or xs place d)) 1 0 ≡ count + cond (p y) 1 0
+  after_change = omega (
+    arith,
+    ap (count_by p) changed,
+    counted,
+    sum_by-set (λ x. cond (p x) 1 0) xs place y d within,
+  )
+
+  pub counted_more : p (slice_index_or xs place d) ≡ false → p y ≡ true → count + 1 ≡ count_by p ys
+  counted_more before after =
+      let none : cond {A = ℕ} (p (slice_index_or xs place d)) 1 0 ≡ 0 = ap (λ (b : Bool). cond {A = ℕ} b 1 0) before in
+      let one : cond {A = ℕ} (p y) 1 0 ≡ 1 = ap (λ (b : Bool). cond {A = ℕ} b 1 0) after in
+      omega (arith, after_change, none, one)
+
+  pub counted_same : p y ≡ p (slice_index_or xs place d) → count ≡ count_by p ys
+  counted_same same =
+      let as_before : cond {A = ℕ} (p y) 1 0 ≡ cond {A = ℕ} (p (slice_index_or xs place d)) 1 0 =
+      ap (λ (b : Bool). cond {A = ℕ} b 1 0) same in
+      omega (arith, after_change, as_before)

@@ -20,7 +20,8 @@ use Rattle.fr_slots.specs.Parameters.{Parameters}
 zero_more : (n : ℕ) → n + 0 ≡ n
 zero_more n = omega arith
 
-pub fold_more : {X Y : Type 0} (f : Y → X → Y) (y : Y) (xs : List X) (x : X) → fold f y (xs ++ x ∷ []) ≡ f (fold f y xs) x
+pub fold_more : {X Y : Type 0} (f : Y → X → Y) (y : Y) (xs : List X) (x : X)
+    → fold f y (xs ++ x ∷ []) ≡ f (fold f y xs) x
 fold_more f y [] x = refl
 fold_more f y (z ∷ xs) x = fold_more f (f y z) xs x
 

@@ -1,13 +1,14 @@
 -- A new bus, a seal and an advance keep the properties of every bus.
-use Rattle.std.proofs.Common.{◌≡◌, ℕ, ◌-◌, ◌≤◌, Bool, true, false, cond, List, [], ◌∷◌, ◌++◌, length, length-append}
-use Rattle.std.proofs.Common.{replicate, Option, Some, None, slice_get, refl, subst, sym, ap, ◌∙◌, arith}
+use Rattle.std.proofs.Common.{◌≡◌, ℕ, ◌-◌, ◌*◌, ◌^◌, ◌<◌, ◌≤◌, Bool, true, false, cond, List, [], ◌∷◌, ◌++◌}
+use Rattle.std.proofs.Common.{length, length-append, replicate, Option, Some, None, slice_get, refl, subst, sym, ap}
+use Rattle.std.proofs.Common.{◌∙◌, arith}
 use Rattle.std.proofs.lemmas.Bool.{lt-ltb, ltb-false}
 use Rattle.std.proofs.lemmas.List.{length-replicate}
 use Rattle.std.specs.Prelude.{◌%◌, is_some, nat_lt, option_map}
 use Rattle.std.specs.Option.{option_or}
 use Rattle.fr_bus.proofs.CourseLemmas.{course_more}
 use Rattle.fr_bus.proofs.NextLemmas.{next_is}
-use Rattle.fr_bus.specs.Courses.{Standpoint, IsCourse, course_of, passed, next_of}
+use Rattle.fr_bus.specs.Courses.{Standpoint, IsCourse, opportunities, course_of, passed, next_of}
 use Rattle.fr_bus.specs.declared.error.Phase.{Phase}
 use Rattle.fr_bus.specs.declared.error.Phase.TheVariants.{Collect, Sealed as InSealed, Finished}
 use Rattle.fr_bus.specs.Stations.{Station}
@@ -30,12 +31,13 @@ begins : (p : Parameters) (cycles : ℕ) → 1 ≤ cycles → is_some (following
 begins p cycles some = ap (λ b. is_some (cond b (Some (static_window 0 0 1)) None))
     (lt-ltb 0 cycles (omega (arith, some)))
 
-pub run_new : (d : Description) (cycles : ℕ) → IsCluster d → 1 ≤ cycles → cycles ≤ 1024 → IsRun (new_bus d cycles)
+pub run_new : (d : Description) (cycles : ℕ) → IsCluster d → 1 ≤ cycles
+    → cycles * opportunities d.params < 2 ^ 32 → IsRun (new_bus d cycles)
 unfolding AllAfter
 run_new d cycles lawful some few = record {
   lawful = lawful;
   some_cycles = some;
-  few_cycles = few;
+  few_windows = few;
   one_each = length-replicate (length d.plans) idle_station;
   recorded = tt;
   stands = (refl, begins d.params cycles some);
@@ -61,7 +63,7 @@ at_end : {X : Type 0} (xs : List X) (x : X) → slice_get (xs ++ x ∷ []) (leng
 at_end [] x = refl
 at_end (y ∷ ys) x = at_end ys x
 
-last_more : {X : Type 0} (xs : List X) (x : X) → slice_get (xs ++ x ∷ []) (length (xs ++ x ∷ []) - 1) ≡ Some x
+pub last_more : {X : Type 0} (xs : List X) (x : X) → slice_get (xs ++ x ∷ []) (length (xs ++ x ∷ []) - 1) ≡ Some x
 last_more xs x =
     let place : length (xs ++ x ∷ []) - 1 ≡ length xs = omega (arith, length-append xs (x ∷ [])) in
     ap (slice_get (xs ++ x ∷ [])) place ∙ at_end xs x
@@ -83,7 +85,7 @@ run_sealed b w sealed same run collecting opened =
     subst (λ rs. IsRun (with_sealed b rs)) (sym same) (record {
       lawful = run.lawful;
       some_cycles = run.some_cycles;
-      few_cycles = run.few_cycles;
+      few_windows = run.few_windows;
       one_each = run.one_each;
       recorded = AllAfter-snoc (IsRecorded b.cluster b.cycles) b.sealed (outcome_of b w) run.recorded
           (recorded_more b w run collecting opened);
@@ -116,7 +118,7 @@ pub run_advanced : (b : BusState) → IsRun b → IsRun (advanced b)
 run_advanced b run = record {
   lawful = run.lawful;
   some_cycles = run.some_cycles;
-  few_cycles = run.few_cycles;
+  few_windows = run.few_windows;
   one_each = length-replicate (length b.stations) idle_station ∙ run.one_each;
   recorded = run.recorded;
   stands = stands_at (next_of_bus b) (advanced b) refl refl;

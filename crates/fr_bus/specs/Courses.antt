@@ -1,5 +1,6 @@
 -- The progress of a run, as a bus keeps it, and the next window by it.
-use Rattle.std.specs.Prelude.{◌≡◌, ℕ, ◌+◌, ◌-◌, ◌*◌, ◌%◌, ◌<◌, ◌≤◌, ◌==◌, nat_lt, true, List, [], length, Option, Some}
+use Rattle.std.specs.Prelude.{◌≡◌, ℕ, ◌+◌, ◌-◌, ◌*◌, ◌^◌, ◌%◌, ◌<◌, ◌≤◌, ◌==◌, nat_lt, true, List, [], length, Option}
+use Rattle.std.specs.Prelude.{Some}
 use Rattle.std.specs.Prelude.{option_map, if◌then◌else◌}
 use Rattle.std.specs.Option.{option_or}
 use Rattle.fr_bus.specs.Windows.{opens_cycle, has_row, cycles_begun, this_cycle, counts_on, statics_of, first_of_cycle}
@@ -113,7 +114,7 @@ pub record IsCourse (c : Standpoint) : Type 0 where
   pub lawful : IsParameters c.params
   pub ahead_a : IsAhead c.params used c.a
   pub ahead_b : IsAhead c.params used c.b
-  pub few_cycles : c.cycles ≤ 1024
+  pub few_windows : c.cycles * opportunities c.params < 2 ^ 32
   pub begun_fit : c.begun ≤ c.cycles
   pub statics_fit : c.statics ≤ c.params.static_slots
   pub used_fit : used ≤ c.params.minislots

@@ -10,3 +10,7 @@ pub mod BusFields
 pub mod Courses
 pub mod CourseFields
 pub mod ErrorNames
+pub mod Standing
+pub mod KeptFields
+pub mod LiveFields
+pub mod Live

@@ -1,5 +1,6 @@
 -- The view of a bus, the answers and effects of its calls, and the properties of every bus.
-use Rattle.std.specs.Prelude.{◌≡◌, ℕ, ◌≤◌, ◌-◌, ◌==◌, nat_lt, nat_le, Bool, true, false, not, ◌&&◌, List, [], ◌∷◌, ◌++◌}
+use Rattle.std.specs.Prelude.{◌≡◌, ℕ, ◌≤◌, ◌<◌, ◌-◌, ◌*◌, ◌^◌, ◌==◌, nat_lt, nat_le, Bool, true, false, not, ◌&&◌, List}
+use Rattle.std.specs.Prelude.{[], ◌∷◌, ◌++◌}
 use Rattle.std.specs.Prelude.{length, replicate, Option, Some, None, is_some, option_map, Result, Ok, Err, Contains}
 use Rattle.std.specs.Prelude.{slice_set, slice_index_or, slice_get, if◌then◌else◌}
 use Rattle.std.specs.List.{list_all}
@@ -16,6 +17,7 @@ use Rattle.fr_bus.specs.declared.outcome.Sent.{Sent}
 use Rattle.fr_bus.specs.declared.station.Side.{Side}
 use Rattle.fr_bus.specs.Stations.{Station}
 pub use Rattle.fr_bus.specs.Stations.{silent_side}
+use Rattle.fr_bus.specs.Courses.{opportunities}
 use Rattle.fr_bus.specs.Windows.{following}
 use Rattle.fr_bus.specs.Outcome.{sent_from, all_passed}
 use Rattle.fr_bus.specs.Record.{Recorded, IsOutcome, seen_by, side_on}
@@ -69,10 +71,11 @@ Stands Collect b = (b.opened ≡ next_of_bus b) × (is_some b.opened ≡ true)
 Stands InSealed b = (b.opened ≡ option_map (λ (r : Recorded). r.window) (last_recorded b)) × (is_some b.opened ≡ true)
 Stands Finished b = (b.opened ≡ None) × (next_of_bus b ≡ None)
 
+-- a run of the cluster, in which the number of every window fits
 pub record IsRun (b : BusState) : Type 0 where
   pub lawful : IsCluster b.cluster
   pub some_cycles : 1 ≤ b.cycles
-  pub few_cycles : b.cycles ≤ 1024
+  pub few_windows : b.cycles * opportunities b.cluster.params < 2 ^ 32
   pub one_each : length b.stations ≡ length b.cluster.plans
   pub recorded : AllAfter (IsRecorded b.cluster b.cycles) [] b.sealed
   pub stands : Stands b.phase b

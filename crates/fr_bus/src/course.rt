@@ -22,11 +22,11 @@ use std::marker::Model;
 pub(crate) struct RunCourse {
     params: Params,
     /// The cycles of the run.
-    cycles: u16,
+    cycles: u32,
     /// The number of windows that it passed.
     windows: u32,
     /// The number of cycles that began.
-    begun: u16,
+    begun: u32,
     /// The number of static windows that it passed in the last cycle.
     statics: u16,
     /// The progress of channel A's dynamic segment in it.
@@ -59,7 +59,7 @@ fn least_of(a: Option<u16>, b: Option<u16>) -> Option<u16>
 }
 
 /// Returns the cycle number of a run's cycle, which wraps to 0 after 63.
-fn cycle_of(number: u16) -> Cycle
+fn cycle_of(number: u32) -> Cycle
     ensures { result ≡ number % 64 }
 {
     Cycle::from_bits((number % 64) as u8)
@@ -106,12 +106,13 @@ fn lane_after(channel: Channel, lane: &Lane, window: &Window, bytes: u16) -> Lan
 }
 
 impl RunCourse {
-    ghost use Rattle.std.specs.Prelude.{◌≡◌, ◌≤◌, [], Some};
-    ghost use Rattle.fr_bus.specs.Courses.{IsCourse, course_of, passed, first_next, inner_next, dynamic_next, next_of};
+    ghost use Rattle.std.specs.Prelude.{◌≡◌, ◌≤◌, ◌<◌, ◌*◌, ◌^◌, [], Some};
+    ghost use Rattle.fr_bus.specs.Courses.{IsCourse, opportunities, course_of, passed, first_next, inner_next};
+    ghost use Rattle.fr_bus.specs.Courses.{dynamic_next, next_of};
 
     /// Returns the course of a run of so many cycles, at its start.
-    pub(crate) fn new(params: &Params, cycles: u16) -> RunCourse
-        requires { cycles ≤ 1024 }
+    pub(crate) fn new(params: &Params, cycles: u32) -> RunCourse
+        requires { cycles * opportunities params.now < 2 ^ 32 }
         ensures { result ≡ course_of params.now cycles [] }
     {
         // For the prover: a copy field by field, since reading a field states the properties of parameters.
@@ -135,7 +136,7 @@ impl RunCourse {
     }
 
     /// Returns the number of cycles that began, with the windows passed.
-    pub(crate) fn begun(&self) -> u16
+    pub(crate) fn begun(&self) -> u32
         ensures { result ≡ self.now.begun }
     {
         self.begun

@@ -18,6 +18,7 @@
 //! - `Outcome`, `Corruption`, `Record`: the transmissions of a window, the outcome of each, each node's observation; a
 //!   flipped bit; the record.
 //! - `States`, `Stations`, `Courses`: the state of a bus, its refusals, effects and invariant; the progress of a run.
+//! - `Standing`, `Live`: the data that a bus keeps in place of its record, and the runs that lead to them.
 //! - `ErrorNames`: the printed names of refusals.
 //!
 //! Modules that follow the steps of the code, for private functions, with the module that has the meaning:
@@ -27,11 +28,14 @@
 //!
 //! # Inner workings
 //!
+//! A `Bus` is a `KeptBus` and the record. A `LiveBus` is a `KeptBus` and the last window, so a run of any length has
+//! room.
+//!
 //! - `Bus::new` makes the guardians, a station for each node, and the course of the run at its first window.
 //! - `put` copies an offer into its station (`station`).
 //! - `inject` keeps a fault there, or among the flipped bits.
 //! - `seal` lists the outcome of each transmission of each station (`outcome`), appends the list to the record, and
-//!   then advances the course. The list reserves its whole room first, so both allocations come before any change.
+//!   then closes the window. The list reserves its whole room first, so both allocations come before any change.
 //! - `take` reads only the last window of the record.
 //! - `advance` clears the stations and opens the next window.
 //!
@@ -47,6 +51,8 @@ pub mod bus;
 mod course;
 pub mod error;
 pub mod fault;
+mod kept;
+pub mod live;
 pub mod outcome;
 mod station;
 pub mod windows;

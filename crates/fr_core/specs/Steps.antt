@@ -17,14 +17,13 @@ use Rattle.fr_interface.specs.declared.call.Answer.{Answer}
 use Rattle.fr_interface.specs.declared.call.Answer.TheVariants as answer
 use Rattle.fr_interface.specs.declared.call.Call.{Call}
 use Rattle.fr_interface.specs.declared.call.Call.TheVariants as host_call
-use Rattle.fr_interface.specs.declared.interface.Offer.{Offer}
+pub use Rattle.fr_interface.specs.Handing.{offer_of}
 use Rattle.fr_interface.specs.State.{State, with_entry, withdraw_entry, read_entry, pop_entry, fetch_entry}
 use Rattle.fr_interface.specs.State.{received_by, oldest_of, commit_refusal, withdraw_refusal, read_refusal}
 use Rattle.fr_interface.specs.State.{pop_refusal, fetch_refusal, observe_refusal}
 use Rattle.fr_journal.specs.declared.entry.Entry.TheVariants as entries
 use Rattle.fr_journal.specs.Fate.{pending_commit}
 use Rattle.fr_journal.specs.Held.{frame_of}
-use Rattle.fr_journal.specs.Offers.{frame_offered, bytes_of}
 use Rattle.fr_slots.specs.declared.channel.Channel.TheVariants.{A, B}
 use Rattle.fr_slots.specs.Windows.{Opportunity}
 
@@ -82,12 +81,6 @@ observe_in_turn w n (Waits window) = Some WrongTurn
 observe_in_turn w n (Took window a b) = option_map Slot (observe_refusal (interface_at w n) window.number)
 
 -- ---- the world after a controller's step
-
-abbrev pub offer_of : State → Opportunity → Offer
-offer_of s window = record {
-  a = bytes_of A (frame_offered s.params s.plan s.entries window A);
-  b = bytes_of B (frame_offered s.params s.plan s.entries window B);
-}
 
 abbrev pub looked : WorldState → ℕ → Option Opportunity → WorldState
 looked w n None = w

@@ -22,14 +22,17 @@ pub enum Due {
 
 // Moving the offer and the observations took three fifths of a single-threaded run, so they stay in place. `Carried` is
 // a definition that contracts cite, since it specifies events.
-/// A controller: its due step, and room for the data that it carries to that step. The offer counts if a put is due,
-/// and the observations if an observe is due.
+/// A controller: its due step, and room for the data that it carries to that step (project-defined).
 #[derive(Drop)]
-pub(crate) struct Controller {
-    pub(crate) due: Due,
-    pub(crate) offer: Offer,
-    pub(crate) a: Seen,
-    pub(crate) b: Seen,
+pub struct Controller {
+    /// The step that is due.
+    pub due: Due,
+    /// The offer, if a put is due.
+    pub offer: Offer,
+    /// The observation on channel A, if an observe is due.
+    pub a: Seen,
+    /// The observation on channel B, if an observe is due.
+    pub b: Seen,
 }
 
 impl Model for Controller {
@@ -42,7 +45,7 @@ impl Model for Controller {
 
 impl Controller {
     /// Returns an idle controller.
-    pub(crate) fn idle() -> Controller
+    pub fn idle() -> Controller
         ensures { result ≡ Idle }
     {
         Controller {
@@ -54,7 +57,7 @@ impl Controller {
     }
 
     /// Returns whether the controller has observed every window that it fetched.
-    pub(crate) fn is_between(&self) -> bool
+    pub fn is_between(&self) -> bool
         ensures { result ≡ is_between self.now }
     {
         matches!(self.due, Due::Look | Due::Fetch(_))

@@ -7,7 +7,7 @@ use Rattle.fr_interface.specs.State.{with_entry}
 use Rattle.fr_journal.specs.Forms.{Entry}
 use Rattle.fr_journal.specs.Kept.{Kept}
 use Rattle.fr_slots.specs.Faults.{plan_fault}
-use Rattle.fr_slots.specs.Plans.{Plan, IsPlan}
+use Rattle.fr_slots.specs.Plans.{Plan, IsNodePlan}
 
 pub state-more : (i : Inside) (standing : Standing) (journal : Kept) (e : Entry)
     → journal ≡ record i.journal { entries = i.journal.entries ++ e ∷ [] } → KeepsTerms i.state standing
@@ -27,7 +27,7 @@ lawful-more i standing journal e lawful is terms history = record {
       (sym terms.plan);
   slot_limit = ap (λ (k : Kept). k.slot_limit) is ∙ lawful.slot_limit ∙ ap (λ (p : Plan). p.slot_entries)
       (sym terms.plan);
-  plan_is = subst IsPlan (sym terms.plan) lawful.plan_is;
+  plan_is = subst IsNodePlan (sym terms.plan) lawful.plan_is;
   faultless = (λ j. plan_fault (terms.params j) (terms.plan j)) ∙ lawful.faultless;
   history = subst (IsHistory standing) (state-more i standing journal e is terms) history;
 }

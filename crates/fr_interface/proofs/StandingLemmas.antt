@@ -66,7 +66,7 @@ use Rattle.fr_slots.specs.declared.channel.Channel.TheVariants.{A, B}
 use Rattle.fr_slots.specs.declared.channel.Channel.{Channel}
 use Rattle.fr_slots.specs.declared.plan.Buffer.{Buffer}
 use Rattle.fr_slots.specs.declared.plan.Queue.{Queue}
-use Rattle.fr_slots.specs.Plans.{Plan, is_receive, buffer_at}
+use Rattle.fr_slots.specs.Plans.{Plan, is_receive, buffer_at, with_limits}
 use Rattle.fr_slots.specs.Parameters.{Parameters}
 use Rattle.fr_slots.specs.declared.plan.Own.{Own}
 use Rattle.fr_slots.specs.Windows.{Opportunity, IsInRange, slot_of}

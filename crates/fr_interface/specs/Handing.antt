@@ -6,11 +6,13 @@ use Rattle.fr_interface.specs.State.{State}
 use Rattle.fr_journal.specs.Forms.{Entry}
 use Rattle.fr_journal.specs.declared.entry.Entry.TheVariants.{Commit, Withdraw, Read, Pop, Fetch, Observe}
 use Rattle.fr_journal.specs.declared.entry.Offered.{Offered}
-use Rattle.fr_journal.specs.Offers.{frame_with, bytes_of}
+use Rattle.fr_interface.specs.declared.interface.Offer.{Offer}
+use Rattle.fr_journal.specs.Offers.{frame_with, frame_offered, bytes_of}
 use Rattle.fr_slots.specs.declared.channel.Channel.{Channel}
 use Rattle.fr_slots.specs.declared.channel.Channel.TheVariants.{A, B}
 use Rattle.fr_slots.specs.Parameters.{Parameters}
 use Rattle.fr_slots.specs.Plans.{Plan}
+use Rattle.fr_slots.specs.Windows.{Opportunity}
 
 -- the offer on one of the two channels
 abbrev pub offered_on : Channel → Offered → Offered → Offered
@@ -31,3 +33,10 @@ bytes_in_entry params plan before channel (Observe window a b) = None
 abbrev pub bytes_handed : State → ℕ → Channel → Option (ArrayVec ℕ)
 bytes_handed s number channel =
     option_and_then (bytes_in_entry s.params s.plan (take number s.entries) channel) (slice_get s.entries number)
+
+-- the bytes that a fetch of the window hands to the bus on both channels
+abbrev pub offer_of : State → Opportunity → Offer
+offer_of s window = record {
+  a = bytes_of A (frame_offered s.params s.plan s.entries window A);
+  b = bytes_of B (frame_offered s.params s.plan s.entries window B);
+}

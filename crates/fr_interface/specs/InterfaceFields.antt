@@ -4,7 +4,7 @@ use Rattle.fr_interface.specs.declared.interface.Interface.TheInside.{Inside}
 use Rattle.fr_interface.specs.Standing.{IsHistory}
 use Rattle.fr_interface.specs.State.{State}
 use Rattle.fr_slots.specs.Faults.{plan_fault}
-use Rattle.fr_slots.specs.Plans.{IsPlan}
+use Rattle.fr_slots.specs.Plans.{IsNodePlan}
 
 abbrev pub state_in : Inside → State
 state_in i = record { params = i.state.params; plan = i.state.plan; entries = i.journal.entries }
@@ -13,6 +13,6 @@ state_in i = record { params = i.state.params; plan = i.state.plan; entries = i.
 pub record IsLawful (i : Inside) : Type 0 where
   pub host_limit : i.journal.host_limit ≡ i.state.plan.host_entries
   pub slot_limit : i.journal.slot_limit ≡ i.state.plan.slot_entries
-  pub plan_is : IsPlan i.state.plan
+  pub plan_is : IsNodePlan i.state.plan
   pub faultless : plan_fault i.state.params i.state.plan ≡ None
   pub history : IsHistory i.state (state_in i)

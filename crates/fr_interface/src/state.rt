@@ -2,10 +2,11 @@
 
 ghost use Rattle.fr_interface.specs.Standing.{IsHistory, ForEachHistory};
 
+use crate::call::{Answer, Call};
 use crate::errors::{HostError, InterfaceError, SlotError};
 use crate::index::IndexedPlan;
 use crate::interface::{
-    has_words, is_not_above, kept_payload, kept_window, origin_in, seen_within,
+    Offer, Receipt, has_words, is_not_above, kept_payload, kept_window, origin_in, seen_within,
 };
 use crate::observed::{Told, arrive_all, count_seen, store_all};
 use crate::offers::{Outgoing, outgoing_on, spelled_by};
@@ -78,6 +79,8 @@ impl InterfaceState {
     ghost use Rattle.fr_slots.specs.Plans.{with_limits};
     ghost use Rattle.fr_interface.specs.Sending.{outgoing_on, pending_at, frame_by};
     ghost use Rattle.fr_journal.specs.Offers.{IsHandedOut, bytes_of};
+    ghost use Rattle.fr_interface.specs.Calls.{call_refusal, call_answer, call_entry};
+    ghost use Rattle.fr_interface.specs.Handing.{offer_of};
 
     /// Returns the data before any call, with room for so many entries of the host and of the controller. The room that
     /// the plan gives doesn't count. Fails only with `Memory`.
@@ -237,6 +240,35 @@ impl InterfaceState {
         Ok(oldest)
     }
 
+    /// Makes a call for a task as `Interface::call` does, and returns its answer with the origin of a frame.
+    pub fn call(&mut self, task: TaskId, call: &Call) -> Result<Answer, HostError>
+        ensures refusal { ForEachHistory self.old (λ s. result_err result ≡ call_refusal s task call.now) }
+        ensures answer { ForEachHistory self.old (λ s. IfOk result (λ a. a ≡ call_answer s task call.now)) }
+        ensures history { ForEachHistory self.old (λ s. OnOk result
+            (IsHistory self.new (with_entry s (call_entry s task call.now)))) }
+        ensures refused { OnErr result (self.new ≡ self.old) }
+        ensures terms { KeepsTerms self.old self.new }
+    {
+        match call {
+            Call::Commit { buffer, payload } => {
+                let entry = self.commit(task, *buffer, payload)?;
+                Ok(Answer::Committed(Receipt { task, entry }))
+            }
+            Call::Withdraw { buffer } => {
+                let of = self.withdraw(task, *buffer)?;
+                Ok(Answer::Withdrawn(of))
+            }
+            Call::Read { buffer } => {
+                let arrival = self.read(task, *buffer)?;
+                Ok(Answer::Frame(arrival))
+            }
+            Call::Pop => {
+                let arrival = self.pop(task)?;
+                Ok(Answer::Frame(arrival))
+            }
+        }
+    }
+
     /// Fails if `fetch` refuses the window.
     pub fn check_fetch(&self, window: &Window) -> Result<(), SlotError>
         ensures { result_err result ≡ fetch_refused self.now window.now }
@@ -309,6 +341,26 @@ impl InterfaceState {
         let b = self.outgoing_on(window, Channel::B);
         self.fetch(window, &a, &b);
         Ok((a.offered, b.offered))
+    }
+
+    /// Opens a window as `Interface::fetch_into` does, and writes the node's frames to `offer`. A refusal leaves the
+    /// offer unchanged.
+    pub fn fetch_into(&mut self, window: &Window, offer: &mut Offer) -> Result<(), SlotError>
+        ensures refusal { result_err result ≡ fetch_refused self.old window.now }
+        ensures offer { ForEachHistory self.old (λ s. OnOk result (offer.new ≡ offer_of s window.now)) }
+        ensures history { ForEachHistory self.old (λ s. OnOk result
+            (IsHistory self.new (with_entry s (fetch_entry s window.now)))) }
+        ensures refused { OnErr result (self.new ≡ self.old) }
+        ensures kept { OnErr result (offer.new ≡ offer.old) }
+        ensures terms { KeepsTerms self.old self.new }
+    {
+        self.check_fetch(window)?;
+        let on_a = self.outgoing_on(window, Channel::A);
+        let on_b = self.outgoing_on(window, Channel::B);
+        self.hand_out(window, Channel::A, &on_a, &mut offer.a);
+        self.hand_out(window, Channel::B, &on_b, &mut offer.b);
+        self.fetch(window, &on_a, &on_b);
+        Ok(())
     }
 
     /// Fetches the window, with these offers.

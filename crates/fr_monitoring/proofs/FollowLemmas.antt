@@ -197,7 +197,7 @@ monitors r q t text rest old mid new followed (Err failure.Read) follows ends =
     monitors_read r q t (Some text) (Some left) old mid new follows end =
         (follows.0, follows.1, front_text r q t old mid new follows.0 false follows.2 end)
 monitors r q t text rest old mid new followed (Err failure.Write) follows ends = tt
-monitors r q t text rest old mid new followed (Err failure.Memory) follows ends = tt
+monitors r q t text rest old mid new followed (Err failure.Memory) follows ends = absurd ends
 monitors r q t text rest old mid new followed (Err (failure.NoClock channel cycle)) follows ends = absurd ends
 
 -- ---- a cluster without a clock
@@ -225,4 +225,7 @@ unclocked r (failure.NoClock channel cycle) text old is = (is, keeps_all text, k
 unclocked r (failure.Capture refusal) text old is = absurd (clock_is (no_clock_on r A) (no_clock_on r B) _ is)
 unclocked r failure.Read text old is = absurd (clock_is (no_clock_on r A) (no_clock_on r B) _ is)
 unclocked r failure.Write text old is = tt
-unclocked r failure.Memory text old is = tt
+unclocked r failure.Memory text old is = absurd (clock_is (no_clock_on r A) (no_clock_on r B) _ is)
+
+pub without_memory : (r : Rules) (text old : Option (List ℕ)) → Monitors r text text old old (Err failure.Memory)
+without_memory r text old = (keeps_all text, keeps_all old)

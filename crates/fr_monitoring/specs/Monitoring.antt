@@ -14,7 +14,7 @@ use Rattle.fr_monitoring.specs.SummaryText.{summary_text}
 use Rattle.fr_monitoring.specs.declared.error.MonitorError.{MonitorError}
 use Rattle.fr_monitoring.specs.declared.error.StreamError.{StreamError}
 use Rattle.fr_monitoring.specs.declared.error.StreamError.TheVariants as stream
-use Rattle.fr_monitoring.specs.declared.error.MonitorError.TheVariants.{NoClock, Capture, Read}
+use Rattle.fr_monitoring.specs.declared.error.MonitorError.TheVariants.{NoClock, Capture, Read, Memory}
 
 -- ---- records
 
@@ -65,9 +65,9 @@ ReadFront (Some text) (Some rest) P = (front : List ℕ) × (text ≡ front ++ r
 abbrev pub StopsThere : List ℕ → List ℕ → Type 0
 StopsThere front rest = (rest ≡ []) ⊎ (is_refused (take_bytes fresh front).state.phase ≡ true)
 
--- A channel has no clock, and nothing was read. Or the whole input was read and accepted, or a front of it shows the
--- refusal, or a front of it was read before the reader failed. Then the text of what was read is written, and the
--- result says whether there is a finding.
+-- A channel has no clock or an allocation failed, and nothing was read or written. Or the whole input was read and
+-- accepted, or a front of it shows the refusal, or a front of it was read before the reader failed. Then the text of what
+-- was read is written, and the result says whether there is a finding.
 abbrev pub Monitors : Rules → Option (List ℕ) → Option (List ℕ) → Option (List ℕ) → Option (List ℕ)
     → Result Bool MonitorError → Type 0
 Monitors r text rest old new (Ok some) = ReadFront text rest (λ front left.
@@ -80,6 +80,7 @@ Monitors r text rest old new (Err Read) = ReadFront text rest (λ front left.
     Appends old new (recording_text r front false))
 Monitors r text rest old new (Err (NoClock channel cycle)) =
     (clock_refusal r ≡ Some (NoClock channel cycle)) × Keeps text rest × Keeps old new
+Monitors r text rest old new (Err Memory) = Keeps text rest × Keeps old new
 Monitors r text rest old new (Err e) = Unit {0}
 
 -- ---- the steps of the command
@@ -111,4 +112,5 @@ Ends q t followed old new (Err (Capture refusal)) =
 Ends q t followed old new (Err Read) =
     (followed ≡ Err stream.Read) × Appends old new (end_text (finish t false) q.state.skipped)
 Ends q t followed old new (Err (NoClock channel cycle)) = ⊥
+Ends q t followed old new (Err Memory) = ⊥
 Ends q t followed old new (Err e) = Unit {0}

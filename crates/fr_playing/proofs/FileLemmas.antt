@@ -11,6 +11,7 @@ use Rattle.fr_playing.specs.declared.error.PlayError.TheVariants as refusal
 use Rattle.fr_playing.specs.declared.play.Played.{Played}
 use Rattle.fr_playing.specs.Files.{IsPlayOf}
 use Rattle.fr_playing.specs.Playing.{IsPlayed}
+use Rattle.fr_playing.specs.Settled.{IsSettled}
 use Rattle.fr_playing.specs.Refusals.{failure_of_file, refusal_of, IsOfRun}
 use Rattle.fr_runs.specs.declared.fault_line.FaultLine.{FaultLine}
 use Rattle.fr_runs.specs.Refusing.{Refuses}
@@ -75,14 +76,17 @@ pub played_of : (d : Description) (cycles : ℕ) (text : Option (List ℕ)) (con
     (faults : List FaultLine) (played : Played)
     → scripts ≡ contents.scripts → faults ≡ contents.faults → IfSome text (λ t. IsScenarioOf t (Ok contents))
     → Refuses d scripts faults cycles None
-    → IsPlayed d scripts faults cycles played → IfSome text (λ t. IsPlayOf d cycles t
-    (Ok (record { scenario = contents; played = played })))
-played_of d cycles None contents scripts faults played same_scripts same_faults read refuses is = tt
-played_of d cycles (Some t) contents scripts faults played same_scripts same_faults read refuses is =
+    → IsPlayed d scripts faults cycles played → IsSettled d scripts faults cycles played
+    → IfSome text (λ t. IsPlayOf d cycles t (Ok (record { scenario = contents; played = played })))
+played_of d cycles None contents scripts faults played same_scripts same_faults read refuses is settled = tt
+played_of d cycles (Some t) contents scripts faults played same_scripts same_faults read refuses is settled =
     let refused : Refuses d contents.scripts contents.faults cycles None =
     subst (λ (ss : List Scripted). Refuses d ss contents.faults cycles None) same_scripts
     (subst (λ (fs : List FaultLine). Refuses d scripts fs cycles None) same_faults refuses) in
     let run : IsPlayed d contents.scripts contents.faults cycles played =
     subst (λ (ss : List Scripted). IsPlayed d ss contents.faults cycles played) same_scripts
     (subst (λ (fs : List FaultLine). IsPlayed d scripts fs cycles played) same_faults is) in
-    ((read.0, (contents, read.1, refused)), (read.1, run))
+    let compared : IsSettled d contents.scripts contents.faults cycles played =
+    subst (λ (ss : List Scripted). IsSettled d ss contents.faults cycles played) same_scripts
+    (subst (λ (fs : List FaultLine). IsSettled d scripts fs cycles played) same_faults settled) in
+    ((read.0, (contents, read.1, refused)), (read.1, run, compared))

@@ -6,14 +6,16 @@ use Rattle.fr_playing.specs.declared.error.PlayError.{PlayError}
 use Rattle.fr_playing.specs.declared.error.PlayError.TheVariants as refusal
 use Rattle.fr_playing.specs.declared.file.PlayedFile.{PlayedFile}
 use Rattle.fr_playing.specs.Playing.{IsPlayed}
+use Rattle.fr_playing.specs.Settled.{IsSettled}
 use Rattle.fr_scenario.specs.ScenarioText.{IsScenarioText}
 use Rattle.fr_schedule.specs.Descriptions.{Description}
 
--- the scenario is the one that the text spells, and the run is one of the cluster with it
+-- the scenario is the one that the text spells, and the run is a settled one of the cluster with it
 abbrev pub IsPlayIn : Description → ℕ → List ℕ → PlayedFile → Type 0
 IsPlayIn d cycles text file =
     IsScenarioText text file.scenario
     × IsPlayed d file.scenario.scripts file.scenario.faults cycles file.played
+    × IsSettled d file.scenario.scripts file.scenario.faults cycles file.played
 
 -- The run with the scenario that the text spells, or the reason why there is none: the text is rejected with this
 -- error, or the run with it. Nothing is stated for a failing reader, a failed allocation, or an event that the world

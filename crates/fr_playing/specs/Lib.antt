@@ -3,6 +3,7 @@ pub mod Moving
 pub mod Laws
 pub mod Calls
 pub mod Files
+pub mod Settled
 pub mod Playing
 pub mod Refusals
 pub mod Windows

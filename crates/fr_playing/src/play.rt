@@ -4,6 +4,7 @@ ghost use Rattle.fr_core.specs.Headline.{Headline};
 ghost use Rattle.fr_runs.specs.Refusing.{Refuses};
 ghost use Rattle.fr_playing.specs.Playing.{AddsCycle, PlaysCycles, IsPlayed};
 ghost use Rattle.fr_playing.specs.Refusals.{refusal_told, IsOfRun};
+ghost use Rattle.fr_playing.specs.Settled.{IsSettled};
 
 use crate::call::{ExecutedCall, do_lines};
 use crate::error::PlayError;
@@ -109,6 +110,8 @@ pub fn play(
     ensures kind { IfErr result IsOfRun }
     ensures played { IfOk result (IsPlayed cluster.now scripts.now faults.now cycles) }
     ensures headline { IfOk result (λ played. Headline played.world) }
+    // Journals, record, scripts and answers agree, and each fault and each call comes in its window and its cycle.
+    ensures settled { IfOk result (IsSettled cluster.now scripts.now faults.now cycles) }
 {
     if let Err(refusal) = check_run(cluster, scripts, faults, cycles) {
         return Err(PlayError::Run(refusal));

@@ -3,7 +3,7 @@ import argparse
 from collections.abc import Iterator
 from dataclasses import dataclass
 
-FILES = ("FILE", "CLUSTER", "SCENARIO", "TABLE")
+FILES = ("FILE", "CLUSTER", "SCENARIO", "TABLE", "RECORDING")
 """The words for values that are names of files."""
 
 

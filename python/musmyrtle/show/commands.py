@@ -10,7 +10,7 @@ import musmyrtle.lint.command
 from musmyrtle.breaking import BrokenOff, breaking_off
 from musmyrtle.lint.command import FINE, formed, is_bold_on, printed
 from musmyrtle.output import Stop
-from musmyrtle.show import options, page
+from musmyrtle.show import monitor, options, page
 from musmyrtle.show.commits import commits
 from musmyrtle.show.engines import COMMAND, Inputs, opened
 from musmyrtle.show.facts import Facts
@@ -121,5 +121,6 @@ COMMANDS = (
     Command("faults", "Runs a scenario once for each single fault, and prints what each receiver loses.",
             musmyrtle.faults.options.EXAMPLES, musmyrtle.faults.options.arguments, musmyrtle.faults.command.main),
     *TABLES,
+    Command("monitor", monitor.PURPOSE, monitor.EXAMPLES, monitor.arguments, monitor.main),
     Command("page", page.PURPOSE, page.EXAMPLE, page.arguments, page.main),
 )

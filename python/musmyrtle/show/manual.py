@@ -8,12 +8,12 @@ from musmyrtle.show.engines import COMMAND
 from musmyrtle.version import version
 
 ABOUT = f"""Runs FlexRay 2.1 clusters before there is hardware, and shows what came of them. All facts come from the
-programs fr_bench, fr_view and fr_world. {COMMAND} gives them names and microseconds."""
+programs fr_bench, fr_view, fr_world and fr_monitor. {COMMAND} gives them names and microseconds."""
 STATUSES = (
     ("0", "it is done; also if the reader of the output ends early"),
     ("1", "the cluster file, the scenario, the trace or the run is refused"),
     ("2", "the words are no command, a program can't be run or fails, or the output can't be written"),
-    ("3", "faults: a fault costs one of --fail-on"),
+    ("3", "faults: a fault costs one of --fail-on; monitor: there is a finding"),
     ("4", "lint: there are warnings, with --strict; faults: a run was refused or has no answer"),
     ("129, 130, 143", "SIGHUP, SIGINT or SIGTERM broke it off"),
 )

@@ -22,4 +22,4 @@ returns g c =
     played_of c.args.cluster.now c.args.cycles (g.R.Read.remaining c.args.reader.now) c.in_ok-scenario.scenario
     c.scripts.result.now c.faults.result.now
     c.in_ok-played.played c.scripts.ensures.value c.faults.ensures c.in_ok-scenario.ensures
-    c.in_ok-played.ensures.refused c.in_ok-played.ensures.played
+    c.in_ok-played.ensures.refused c.in_ok-played.ensures.played c.in_ok-played.ensures.settled

@@ -1,0 +1,25 @@
+use Rattle.std.proofs.Common.{sym, subst, ap, ◌∙◌}
+use Rattle.fr_bus.proofs.StandingLemmas.{live_seal}
+use Rattle.fr_bus.specs.LiveFields.{standing_in}
+use Rattle.fr_bus.specs.Standing.{LiveStanding, IsLiveHistory, bare}
+use Rattle.fr_bus.specs.States.{seal_refusal, sealed_now}
+use Rattle.fr_bus.proofs.live.LiveBus.seal.Goals as goal
+
+pub invariant_of-self : goal.invariant_of-self
+invariant_of-self c =
+    let had = c.self.invariant in (
+      sealed_now had.0,
+      live_seal (standing_in c.self.inside) c.close.new.self had.0 c.in_ok-sealed.sealed.window c.in_ok-sealed.sealed
+          had.1 (c.close.ensures.history had.0 had.1.of_bus) c.in_ok-sealed.ensures.1 c.in_ok-sealed.ensures.2,
+    )
+
+pub returns : goal.returns
+returns c = (
+  ap (λ (h : LiveStanding). seal_refusal (bare h.bus)) (sym c.self.view_is) ∙ c.in_ok-sealed.ensures.0,
+  λ b is. (
+      let before : IsLiveHistory (standing_in c.self.inside) b =
+      subst (λ (h : LiveStanding). IsLiveHistory h b) (sym c.self.view_is) is in
+      live_seal (standing_in c.self.inside) c.close.new.self b c.in_ok-sealed.sealed.window c.in_ok-sealed.sealed before
+      (c.close.ensures.history b before.of_bus) c.in_ok-sealed.ensures.1 c.in_ok-sealed.ensures.2
+      ),
+)

@@ -1,0 +1,13 @@
+mod CoreLemmas
+mod FrameLemmas
+mod CameLemmas
+mod CountLemmas
+mod OpenLemmas
+mod StepLemmas
+mod CourseLemmas
+mod RecordLemmas
+pub mod AlarmLaws
+mod FirstLemmas
+mod DueLemmas
+pub mod OfferLaws
+pub mod CaptureLaws

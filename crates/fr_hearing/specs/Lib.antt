@@ -1,0 +1,4 @@
+pub mod Heard
+pub mod Alarms
+pub mod Offering
+pub mod Captured

@@ -1,0 +1,4 @@
+pub mod LeadLemmas
+pub mod RefusalLemmas
+pub mod StepLemmas
+pub mod RoomLemmas

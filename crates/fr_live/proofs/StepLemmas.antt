@@ -1,0 +1,98 @@
+-- A step of the kept data is a step of each world that leads to them.
+use Rattle.std.proofs.Common.{◌≡◌, ℕ, Option, Some, None, refl, sym, subst, ap, ◌∙◌}
+use Rattle.std.specs.Prelude.{option_map, Result, Ok, Err, IfOk, OnOk, OnErr}
+use Rattle.std.specs.Result.{result_err}
+use Rattle.fr_bus.specs.declared.error.BusError.TheVariants as bus
+use Rattle.fr_bus.specs.Standing.{bare}
+use Rattle.fr_bus.specs.States.{seal_refusal}
+use Rattle.fr_core.proofs.WorldLemmas.{kept_step}
+use Rattle.fr_core.specs.declared.error.StepError.{StepError}
+use Rattle.fr_core.specs.declared.error.StepError.TheVariants.{UnknownNode, WrongTurn, Host, Slot, Bus}
+use Rattle.fr_core.specs.declared.event.Event.{Event}
+use Rattle.fr_core.specs.declared.event.Event.TheVariants.{Seal}
+use Rattle.fr_core.specs.declared.event.Reply.{Reply}
+use Rattle.fr_core.specs.declared.event.Reply.TheVariants.{Done}
+use Rattle.fr_core.specs.Steps.{Steps, Refuses, step_refusal, step_reply, step_done, answered}
+use Rattle.fr_core.specs.Worlds.{WorldState}
+use Rattle.fr_live.proofs.RefusalLemmas.{seal_refuses}
+use Rattle.fr_live.specs.LiveSteps.{LiveSteps, StepsAlike, SealsMachine}
+use Rattle.fr_live.specs.LiveWorlds.{LiveState, Leads, IsWorldHistory}
+
+-- the answer with this reply in place of the value
+abbrev pub replied : {X : Type 0} → (X → Reply) → Result X StepError → Result Reply StepError
+replied reply (Ok x) = Ok (reply x)
+replied reply (Err e) = Err e
+
+module _ {X : Type 0} (old new : LiveState) (event : Event) (reply : X → Reply)
+    (plain : (e : StepError) (found : Option StepError) → found ≡ Some e → Refuses event e found) where
+  pub step_so : (r : Result X StepError) → ((w : WorldState) → Leads w old → result_err r ≡ step_refusal w event)
+      → ((w : WorldState) → Leads w old → OnOk r (Leads (step_done w event) new)) → OnErr r (new ≡ old)
+      → ((w : WorldState) → Leads w old → IfOk r (λ x. reply x ≡ step_reply w event))
+      → LiveSteps old event (replied reply r) new
+  step_so (Ok x) refusal leads refused replies w is =
+      (step_done w event, (sym (refusal w is), replies w is, refl), leads w is)
+  step_so (Err e) refusal leads refused replies w is =
+      (w, (plain e (step_refusal w event) (sym (refusal w is)), refl), subst (Leads w) (sym refused) is)
+
+done_replied : (r : Result (Unit {0}) StepError) → replied (λ x. Done) r ≡ answered Done r
+done_replied (Ok x) = refl
+done_replied (Err e) = refl
+
+module _ (old new : LiveState) (event : Event)
+    (plain : (e : StepError) (found : Option StepError) → found ≡ Some e → Refuses event e found)
+    (silent : (w : WorldState) → Done ≡ step_reply w event) where
+  -- the same for an event without a reply of its own
+  pub done_so : (r : Result (Unit {0}) StepError)
+      → ((w : WorldState) → Leads w old → result_err r ≡ step_refusal w event)
+      → ((w : WorldState) → Leads w old → OnOk r (Leads (step_done w event) new)) → OnErr r (new ≡ old)
+      → LiveSteps old event (answered Done r) new
+  done_so r refusal leads refused =
+      subst (λ a. LiveSteps old event a new) (done_replied r)
+      (step_so old new event (λ x. Done) plain r refusal leads refused (λ w is. on_ok w r))
+    where
+      on_ok : (w : WorldState) (a : Result (Unit {0}) StepError) → IfOk a (λ x. Done ≡ step_reply w event)
+      on_ok w (Ok x) = silent w
+      on_ok w (Err e) = tt
+
+pub seal_so : (old new : LiveState) (r : Result (Unit {0}) StepError) → SealsMachine old r new
+    → LiveSteps old Seal (answered Done r) new
+seal_so old new (Ok x) seals w is =
+    (step_done w Seal, (sym (ap (option_map Bus) (sym seals.0) ∙ seal_refuses w old is), refl, refl), seals.1 w is)
+seal_so old new (Err (Bus bus.Memory)) seals w is =
+    (w, (sym (ap (option_map Bus) (sym seals.0) ∙ seal_refuses w old is), refl), subst (Leads w) (sym seals.1) is)
+seal_so old new (Err UnknownNode) seals w is =
+    (w, (sym (seal_refuses w old is) ∙ seals.0, refl), subst (Leads w) (sym seals.1) is)
+seal_so old new (Err WrongTurn) seals w is =
+    (w, (sym (seal_refuses w old is) ∙ seals.0, refl), subst (Leads w) (sym seals.1) is)
+seal_so old new (Err (Host h)) seals w is =
+    (w, (sym (seal_refuses w old is) ∙ seals.0, refl), subst (Leads w) (sym seals.1) is)
+seal_so old new (Err (Slot s)) seals w is =
+    (w, (sym (seal_refuses w old is) ∙ seals.0, refl), subst (Leads w) (sym seals.1) is)
+seal_so old new (Err (Bus bus.UnknownNode)) seals w is =
+    (w, (sym (seal_refuses w old is) ∙ seals.0, refl), subst (Leads w) (sym seals.1) is)
+seal_so old new (Err (Bus bus.NotCollecting)) seals w is =
+    (w, (sym (seal_refuses w old is) ∙ seals.0, refl), subst (Leads w) (sym seals.1) is)
+seal_so old new (Err (Bus bus.WrongWindow)) seals w is =
+    (w, (sym (seal_refuses w old is) ∙ seals.0, refl), subst (Leads w) (sym seals.1) is)
+seal_so old new (Err (Bus bus.AlreadyPut)) seals w is =
+    (w, (sym (seal_refuses w old is) ∙ seals.0, refl), subst (Leads w) (sym seals.1) is)
+seal_so old new (Err (Bus bus.TooManyFaults)) seals w is =
+    (w, (sym (seal_refuses w old is) ∙ seals.0, refl), subst (Leads w) (sym seals.1) is)
+seal_so old new (Err (Bus bus.NotAllPut)) seals w is =
+    (w, (sym (seal_refuses w old is) ∙ seals.0, refl), subst (Leads w) (sym seals.1) is)
+seal_so old new (Err (Bus bus.NotSealed)) seals w is =
+    (w, (sym (seal_refuses w old is) ∙ seals.0, refl), subst (Leads w) (sym seals.1) is)
+seal_so old new (Err (Bus bus.AlreadyTaken)) seals w is =
+    (w, (sym (seal_refuses w old is) ∙ seals.0, refl), subst (Leads w) (sym seals.1) is)
+seal_so old new (Err (Bus bus.NotAllTaken)) seals w is =
+    (w, (sym (seal_refuses w old is) ∙ seals.0, refl), subst (Leads w) (sym seals.1) is)
+seal_so old new (Err (Bus bus.BadCycles)) seals w is =
+    (w, (sym (seal_refuses w old is) ∙ seals.0, refl), subst (Leads w) (sym seals.1) is)
+
+-- ---- worlds
+
+pub alike : (old new : LiveState) (event : Event) (answer : Result Reply StepError) → LiveSteps old event answer new
+    → StepsAlike old event answer new
+alike old new event answer steps w is =
+    let step = steps w is.leads in
+    (step.0, step.1, record { leads = step.2; world_is = kept_step w event answer step.0 step.1 is.world_is })

@@ -1,0 +1,3 @@
+pub mod LiveWorlds
+pub mod LiveSteps
+pub mod RoomFields

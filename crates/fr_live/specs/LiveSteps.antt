@@ -1,0 +1,80 @@
+-- One step of a world that keeps no history (project-defined): when it is refused, by the kept data, and the world with
+-- its history after it.
+use Rattle.std.specs.Prelude.{◌≡◌, ℕ, Option, Some, None, option_map, Result, Ok, Err, if◌then◌else◌}
+use Rattle.fr_bus.specs.declared.error.BusError.TheVariants.{NotCollecting, Memory}
+use Rattle.fr_bus.specs.Standing.{bare}
+use Rattle.fr_bus.specs.States.{collecting_of, put_refusal, take_refusal, inject_refusal, seal_refusal, advance_refusal}
+use Rattle.fr_core.specs.Carried.{Carried, Idle, Knows, Offers, Waits, Took}
+use Rattle.fr_core.specs.declared.error.StepError.{StepError}
+use Rattle.fr_core.specs.declared.error.StepError.TheVariants.{UnknownNode, WrongTurn, Host, Slot, Bus}
+use Rattle.fr_core.specs.declared.event.Event.{Event}
+use Rattle.fr_core.specs.declared.event.Reply.{Reply}
+use Rattle.fr_core.specs.declared.event.Event.TheVariants.{Seal}
+use Rattle.fr_core.specs.Steps.{Steps, Applies, step_done, unless_collecting}
+use Rattle.fr_core.specs.Worlds.{WorldState}
+use Rattle.fr_interface.specs.Standing.{commit_refused, fetch_refused, observe_refused}
+use Rattle.fr_live.specs.LiveWorlds.{LiveState, Leads, IsWorldHistory, has_node, standing_at, carried_at}
+
+-- ---- the refusals by the kept data
+
+abbrev pub look_in_turn : LiveState → Carried → Option StepError
+look_in_turn l Idle = unless_collecting (collecting_of (bare l.bus.bus))
+look_in_turn l (Knows window) = Some WrongTurn
+look_in_turn l (Offers window offer) = Some WrongTurn
+look_in_turn l (Waits window) = Some WrongTurn
+look_in_turn l (Took window a b) = Some WrongTurn
+
+abbrev pub fetch_in_turn : LiveState → ℕ → Carried → Option StepError
+fetch_in_turn l n Idle = Some WrongTurn
+fetch_in_turn l n (Knows window) = option_map Slot (fetch_refused (standing_at l n) window)
+fetch_in_turn l n (Offers window offer) = Some WrongTurn
+fetch_in_turn l n (Waits window) = Some WrongTurn
+fetch_in_turn l n (Took window a b) = Some WrongTurn
+
+abbrev pub put_in_turn : LiveState → ℕ → Carried → Option StepError
+put_in_turn l n Idle = Some WrongTurn
+put_in_turn l n (Knows window) = Some WrongTurn
+put_in_turn l n (Offers window offer) = option_map Bus (put_refusal (bare l.bus.bus) n window.number)
+put_in_turn l n (Waits window) = Some WrongTurn
+put_in_turn l n (Took window a b) = Some WrongTurn
+
+abbrev pub take_in_turn : LiveState → ℕ → Carried → Option StepError
+take_in_turn l n Idle = Some WrongTurn
+take_in_turn l n (Knows window) = Some WrongTurn
+take_in_turn l n (Offers window offer) = Some WrongTurn
+take_in_turn l n (Waits window) = option_map Bus (take_refusal (bare l.bus.bus) n window.number)
+take_in_turn l n (Took window a b) = Some WrongTurn
+
+abbrev pub observe_in_turn : LiveState → ℕ → Carried → Option StepError
+observe_in_turn l n Idle = Some WrongTurn
+observe_in_turn l n (Knows window) = Some WrongTurn
+observe_in_turn l n (Offers window offer) = Some WrongTurn
+observe_in_turn l n (Waits window) = Some WrongTurn
+observe_in_turn l n (Took window a b) = option_map Slot (observe_refused (standing_at l n) window.number)
+
+abbrev pub if_node : LiveState → ℕ → Option StepError → Option StepError
+if_node l n refusal = if has_node l n then refusal else Some UnknownNode
+
+-- ---- a step
+
+-- Each world that leads to the data before the step takes this step, with this answer, and then leads to the data after
+-- it.
+abbrev pub LiveSteps : LiveState → Event → Result Reply StepError → LiveState → Type 0
+LiveSteps old event answer new =
+    (w : WorldState) → Leads w old → (v : WorldState) × Steps w event answer v × Leads v new
+
+-- the same for worlds
+abbrev pub StepsAlike : LiveState → Event → Result Reply StepError → LiveState → Type 0
+StepsAlike old event answer new =
+    (w : WorldState) → IsWorldHistory old w → (v : WorldState) × Steps w event answer v × IsWorldHistory new v
+
+abbrev pub AppliesAlike : LiveState → Event → Result (Unit {0}) StepError → LiveState → Type 0
+AppliesAlike old event outcome new =
+    (w : WorldState) → IsWorldHistory old w → (v : WorldState) × Applies w event outcome v × IsWorldHistory new v
+
+-- the answer of a seal; the allocation of one that is otherwise lawful may fail
+abbrev pub SealsMachine : LiveState → Result (Unit {0}) StepError → LiveState → Type 0
+SealsMachine old (Ok x) new = (seal_refusal (bare old.bus.bus) ≡ None)
+    × ((w : WorldState) → Leads w old → Leads (step_done w Seal) new)
+SealsMachine old (Err (Bus Memory)) new = (seal_refusal (bare old.bus.bus) ≡ None) × (new ≡ old)
+SealsMachine old (Err e) new = (option_map Bus (seal_refusal (bare old.bus.bus)) ≡ Some e) × (new ≡ old)

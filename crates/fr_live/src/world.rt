@@ -1,0 +1,97 @@
+//! The world of a cluster, without its history.
+
+use crate::machine::LiveMachine;
+use crate::room::Room;
+use fr_bus::error::BusError;
+use fr_bus::live::LiveBus;
+use fr_core::error::StepError;
+use fr_core::event::{Event, Reply};
+use fr_interface::state::InterfaceState;
+use fr_schedule::cluster::Cluster;
+use std::alloc::Global;
+use std::marker::Model;
+
+/// The world of a cluster in a run of up to 4,000,000 cycles, without journals and record (project-defined). It does the
+/// same as a `World`.
+#[derive(Drop)]
+pub struct LiveWorld {
+    machine: LiveMachine,
+}
+
+impl Model for LiveWorld {
+    ghost use Rattle.fr_core.specs.Worlds.{WorldState};
+    ghost use Rattle.fr_live.specs.LiveWorlds.{LiveState, IsWorldHistory};
+
+    ghost Value = { LiveState };
+
+    ghost view = { λ w. w.machine };
+
+    ghost invariant = { λ w. (v : WorldState) × IsWorldHistory w.machine v };
+}
+
+impl LiveWorld {
+    ghost use Rattle.std.specs.Prelude.{◌≡◌};
+    ghost use Rattle.std.specs.List.{list_all};
+    ghost use Rattle.fr_core.specs.Headline.{Headline};
+    ghost use Rattle.fr_core.specs.Worlds.{is_between};
+    ghost use Rattle.fr_live.specs.LiveSteps.{StepsAlike};
+    ghost use Rattle.fr_live.specs.LiveWorlds.{OpensLiveWorld, ForEachWorld};
+
+    /// Returns the opening world of a cluster for a run of so many cycles, 1 to 4,000,000. The bus is at cycle 0, slot 1,
+    /// and all controllers are idle. Each interface accepts as many calls as the room says, whatever room its node's plan
+    /// gives to a journal.
+    ///
+    /// Fails with `BadCycles` for a number of cycles that `LiveBus::new` refuses, then with `Memory` if an allocation
+    /// fails.
+    pub fn new(
+        alloc: Global,
+        cluster: &Cluster,
+        cycles: u32,
+        room: Room,
+    ) -> Result<LiveWorld, BusError>
+        ensures { OpensLiveWorld cluster.now cycles room result }
+    {
+        match LiveMachine::new(alloc, cluster, cycles, room) {
+            Ok(machine) => Ok(LiveWorld { machine }),
+            Err(error) => Err(error),
+        }
+    }
+
+    /// Executes one event as `World::step` does, and fails as that does. `HostFull` and `SlotFull` are told by the room
+    /// of this world.
+    pub fn step(&mut self, event: &Event) -> Result<Reply, StepError>
+        ensures { StepsAlike self.old event.now result self.new }
+    {
+        self.machine.step(event)
+    }
+
+    /// Returns the data of the interfaces, in the order of the nodes.
+    pub fn interfaces(&self) -> &[InterfaceState]
+        ensures { result.now ≡ self.now.interfaces }
+    {
+        self.machine.interfaces()
+    }
+
+    /// Returns the bus.
+    pub fn bus(&self) -> &LiveBus
+        ensures { result.now ≡ self.now.bus }
+    {
+        self.machine.bus()
+    }
+
+    /// Returns whether each controller has observed every window that it fetched.
+    pub fn between_windows(&self) -> bool
+        ensures { result ≡ list_all is_between self.now.carried }
+    {
+        self.machine.between_windows()
+    }
+
+    /// States the headline promise of each world that leads to the data, and has no effect (project-defined). `World`
+    /// says what it is.
+    pub fn known(&self)
+        ensures headline { ForEachWorld self.now Headline }
+    {
+        // For the prover: the invariant.
+        let _ = &self.machine;
+    }
+}

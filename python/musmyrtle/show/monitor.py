@@ -1,0 +1,235 @@
+"""The command `monitor`: a recording of a real bus against the cluster, with the reason of each finding."""
+import argparse
+import os
+import re
+import subprocess
+import sys
+from collections.abc import Iterable, Iterator
+from contextlib import ExitStack
+from tempfile import TemporaryFile
+from typing import IO
+
+from musmyrtle.breaking import BrokenOff, breaking_off
+from musmyrtle.findings import counted
+from musmyrtle.lint.command import FINE, USAGE, Parser, add_forms, formed, is_bold_on, printed, shown_examples
+from musmyrtle.output import Stop, pass_on, write
+from musmyrtle.program import Answer, is_launcher, itself, no_answer, places
+from musmyrtle.show.engines import COMMAND, Inputs, opened
+from musmyrtle.show.network import Network
+from musmyrtle.show.options import CLUSTER
+from musmyrtle.show.recordings import BACK, FINDING, back_row, channel_row, finding_row, found_row, slot_row, total_row
+from musmyrtle.show.tables import Column, Row, Section, as_json, as_text
+
+FOUND, REFUSED = 3, 1
+MOST_NUMBER = 4294967295
+STANDARD_INPUT = "-"
+PURPOSE = ("Compares a recording of a real bus with the cluster. Prints each frame that the schedule doesn't allow, and\n"
+           "each missing one, with the reason.")
+CLUSTER_FILE, RECORDING_FILE = "examples/three-nodes/cluster.toml", "examples/recordings/disturbed.pcap"
+EXAMPLES = (f"monitor {CLUSTER_FILE} {RECORDING_FILE} --whole", f"monitor {CLUSTER_FILE} {RECORDING_FILE} --json")
+STATUSES = """status: 0 without a finding, 3 with one, 1 if the cluster file or the recording is refused, 2 if the words
+are no command, a program can't be run or fails, or the output can't be written, 130, 143 or 129 if SIGINT, SIGTERM or
+SIGHUP broke it off"""
+FINDINGS = (Column("record", "record"), Column("seconds", "at [s]"), Column("cycle", "cycle"),
+            Column("channel", "channel"), Column("slot", "slot"), Column("node", "node", "name"), Column("name", "finding"),
+            Column("expected", ""), Column("found", ""), Column("why", "reason"))
+TOTALS = (Column("records", "records"), Column("foreign", "foreign"), Column("symbols", "symbols"),
+          Column("skipped", "skipped blocks"))
+SPANS = (Column("shortest_us", "shortest [us]"), Column("longest_us", "longest [us]"))
+CHANNELS = (Column("channel", "channel"), Column("frames", "frames"), Column("cycles", "cycles"),
+            Column("gaps", "gaps"), Column("lost", "lost cycles"), *SPANS)
+SLOTS = (Column("slot", "slot"), Column("channel", "channel"), Column("nodes", ""), Column("names", "sender"),
+         Column("data", "data"), Column("null", "null"), Column("missing", "missing"), Column("other", "findings"), *SPANS)
+COUNTS = (Column("name", "finding"), Column("count", "count"), Column("meaning", "meaning"))
+
+
+def number_of(word: str, least: int) -> int:
+    """Returns the number of a word. Raises `ArgumentTypeError` for another word."""
+    if not re.fullmatch(r"[0-9]{1,10}", word) or not least <= int(word) <= MOST_NUMBER:
+        raise argparse.ArgumentTypeError(f"{word!r} is no number from {least} to {MOST_NUMBER}")
+    return int(word)
+
+
+def arguments() -> argparse.ArgumentParser:
+    """Returns the parser of the command's words."""
+    parser = Parser(prog=f"{COMMAND} monitor", description=PURPOSE, epilog=f"{shown_examples(EXAMPLES)}\n{STATUSES}",
+                    allow_abbrev=False, formatter_class=argparse.RawDescriptionHelpFormatter)
+    add = parser.add_argument
+    add("cluster", metavar=CLUSTER, help="a cluster file")
+    add("recording", metavar="RECORDING", nargs="?", default=STANDARD_INPUT,
+        help="a capture (pcap or pcapng, link type 210) of any length; without it, or for -, standard input")
+    add("--findings", metavar="N", type=lambda word: number_of(word, 0), default=20,
+        help=f"the most findings of each name to print, 0 to {MOST_NUMBER} (20); all are counted")
+    add("--whole", action="store_true", help="the recording begins and ends with whole cycles")
+    add("--channel", choices=("A", "B"), help="the only channel to judge")
+    times = parser.add_mutually_exclusive_group()
+    times.add_argument("--times", action="store_true",
+                       help="judge times, too, with the macrotick_us of the cluster file")
+    times.add_argument("--macrotick", metavar="NS", type=lambda word: number_of(word, 1),
+                       help=f"judge times, too, with a macrotick of so many nanoseconds, 1 to {MOST_NUMBER}")
+    add_forms(parser)
+    return parser
+
+
+def macrotick(given: argparse.Namespace, network: Network) -> int | None:
+    """Returns the nanoseconds of a macrotick, if times are judged."""
+    if not given.times:
+        return None if given.macrotick is None else int(given.macrotick)
+    if network.macrotick is None:
+        raise Stop(USAGE, f"{given.cluster} has no macrotick_us; give --macrotick NS")
+    nanoseconds = round(network.macrotick * 1000)
+    if abs(network.macrotick * 1000 - nanoseconds) > 1e-6 or not 1 <= nanoseconds <= MOST_NUMBER:
+        raise Stop(USAGE, f"the macrotick_us of {given.cluster} is no whole number of nanoseconds; give --macrotick NS")
+    return nanoseconds
+
+
+def words_of(given: argparse.Namespace, inputs: Inputs, nanoseconds: int | None) -> list[str]:
+    """Returns the words by which the program is asked."""
+    words = ["--findings", str(given.findings)]
+    words += ["--whole"] if given.whole else []
+    words += [] if given.channel is None else ["--channel", given.channel]
+    words += [] if nanoseconds is None else ["--macrotick", str(nanoseconds)]
+    return [*words, "--", inputs.task.file(inputs.task.cluster)]
+
+
+def recording_of(name: str, files: ExitStack) -> IO[bytes]:
+    """Returns the recording, opened."""
+    if name == STANDARD_INPUT:
+        return sys.stdin.buffer
+    try:
+        return files.enter_context(open(name, "rb"))
+    except (OSError, ValueError) as error:
+        reason = error.strerror if isinstance(error, OSError) else str(error)
+        raise Stop(USAGE, f"{name} can't be read: {reason}") from None
+
+
+class Tables:
+    """The rows of a recording by their kinds, in the order of the program's lines."""
+
+    def __init__(self, network: Network) -> None:
+        self.network = network
+        self.rows: dict[str, list[Row]] = {it: [] for it in KINDS}
+
+    def add(self, line: str) -> Section | None:
+        """Adds the row of a line, and returns it as a table of its own. Lines of other kinds have none."""
+        words = line.split(" ")
+        if words[0] in (FINDING, BACK):
+            kind, row = FINDING, (finding_row if words[0] == FINDING else back_row)(self.network, words)
+        elif words[0] == "records":
+            kind, row = "total", total_row(words)
+        elif words[0] == "channel":
+            kind, row = "channel", channel_row(words)
+        elif words[0] == "slot":
+            kind, row = "slot", slot_row(self.network, words)
+        elif words[0] == "found":
+            kind, row = "count", found_row(words)
+        else:
+            return None
+        self.rows[kind].append(row)
+        return Section(kind, "", KINDS[kind][1], [row])
+
+    def sections(self) -> list[Section]:
+        """Returns all tables."""
+        return [Section(kind, title, columns, self.rows[kind], nothing)
+                for kind, (title, columns, nothing) in KINDS.items()]
+
+
+KINDS: dict[str, tuple[str, tuple[Column, ...], str]] = {
+    FINDING: ("Findings", FINDINGS, ""), "count": ("Counts of findings", COUNTS, "There is no finding."),
+    "total": ("Records", TOTALS, ""), "channel": ("Channels", CHANNELS, ""), "slot": ("Slots", SLOTS, ""),
+}
+"""The kinds of rows, each with a title, columns, and a line for a table without rows."""
+
+
+def asked(inputs: Inputs, program: str, words: list[str], source: IO[bytes], tables: Tables,
+          is_live: bool) -> tuple[int, list[str]]:
+    """Runs the program on a recording, and returns its status and messages.
+
+    With IS_LIVE each row is printed as it comes.
+    """
+    # A pipe for the messages could fill while the rows are read.
+    try:
+        with (TemporaryFile() as messages, inputs.children.started(
+                [program, *words], stdin=source, stdout=subprocess.PIPE, stderr=messages) as process):
+            for line in process.stdout or ():
+                section = tables.add(line.decode(errors="replace").rstrip("\n"))
+                if section is not None and is_live:
+                    write(sys.stdout, as_json([section]))
+            process.wait()
+            messages.seek(0)
+            told = messages.read().decode(errors="replace").splitlines()
+    except OSError as error:
+        raise Stop(USAGE, f"{program} can't be run: {error.strerror}. fr_monitor is looked for in this order: "
+                          f"{places('fr_monitor')}") from None
+    return process.returncode, told
+
+
+def outcome(given: argparse.Namespace, inputs: Inputs, source: IO[bytes]) -> int:
+    """Prints the tables of a recording, and returns the status."""
+    # Only an accepted cluster has names, and the reason of a refusal is explained.
+    inputs.of_cluster("fr_bench", "check")
+    tables = Tables(inputs.network)
+    words = words_of(given, inputs, macrotick(given, inputs.network))
+    program = inputs.program("fr_monitor")
+    status, told = asked(inputs, itself(program) if is_launcher(program) else program, words, source, tables, given.json)
+    if status not in (FINE, FOUND, REFUSED):
+        raise Stop(USAGE, no_answer(program, words, Answer(status, " ".join(told).strip() or f"status {status}", False)))
+    if not given.json and any(tables.rows.values()):
+        printed(shown(given, tables.sections()))
+    for line in told:
+        pass_on(f"{COMMAND}: {explained(line)}" if line.startswith("refused ") else line)
+    return status
+
+
+def shown(given: argparse.Namespace, sections: list[Section]) -> Iterable[str]:
+    """Returns the tables in the form that is asked for, and for people the number of findings that aren't printed."""
+    return formed(given, sections, told_text(sections))
+
+
+def told_text(sections: list[Section]) -> Iterator[str]:
+    """Yields the tables for people."""
+    yield from as_text(sections, is_bold_on(sys.stdout))
+    by_kind = {it.kind: it.rows for it in sections}
+    count = sum(int(str(row.values["count"])) for row in by_kind["count"])
+    more = count - sum(row.values["name"] != BACK for row in by_kind[FINDING])
+    if more > 0:
+        yield f"\n{counted(more, 'further finding')} isn't printed; --findings N prints more\n" if more == 1 else \
+            f"\n{counted(more, 'further finding')} aren't printed; --findings N prints more\n"
+
+
+REASONS = {
+    "NoCapture": "the recording is no pcap or pcapng file",
+    "BadBlock": "the block or record that begins at byte {} is broken; the tables have what came before",
+    "Truncated": "the recording ends within the block that begins at byte {}; the tables have what came before",
+    "NoClock": "channel {} has a sender, and no static slot with an owner in cycle {}: without a clock its cycles aren't "
+               "known",
+    "Read": "the recording can't be read on", "Write": "the tables can't be written", "Memory": "out of memory",
+}
+"""The reasons of refusals, with the words after their names."""
+
+
+def explained(line: str) -> str:
+    """Returns a refusal with its reason."""
+    name, *words = line.removeprefix("refused ").split(" ")
+    reason = REASONS.get(name)
+    if reason is None or reason.count("{}") != len(words):
+        return line
+    return f"{line}: {reason.format(*words)}"
+
+
+def main(words: list[str]) -> int:
+    """Does the command, and returns the status."""
+    try:
+        with breaking_off(), ExitStack() as files:
+            given = arguments().parse_args(words)
+            if os.path.realpath(given.cluster) == os.path.realpath("/dev/stdin") and given.recording == STANDARD_INPUT:
+                raise Stop(USAGE, "the cluster file and the recording can't both come from standard input")
+            source = recording_of(given.recording, files)
+            with opened(given.cluster) as inputs:
+                return outcome(given, inputs, source)
+    except Stop as stop:
+        return stop.tell(COMMAND)
+    except BrokenOff as signal:
+        return signal.status
+    except BrokenPipeError:
+        return FINE
