@@ -66,7 +66,8 @@ first_is test least zero = record { from = omega arith; to = omega arith; passes
 first_is test least (suc more) = by (test least) refl (first_is test (least + 1) more)
   where
     whole : (n : ℕ) → first_from test least (suc more) ≡ n
-        → (least ≤ n) × (n ≤ least + suc more) × ((n ≡ least + suc more) ⊎ (test n ≡ true)) → IsFirst test least (suc more)
+        → (least ≤ n) × (n ≤ least + suc more) × ((n ≡ least + suc more) ⊎ (test n ≡ true))
+        → IsFirst test least (suc more)
     whole n is parts = record {
       from = omega (arith, is, parts.0);
       to = omega (arith, is, parts.1);
@@ -105,10 +106,10 @@ has_channel lines.B = refl
 has_channel lines.Both = refl
 
 -- the filter of the buffer admits the window on its channel
-record IsTurn (b : Buffer) (window : Opportunity) (on : Channel) : Type 0 where
-  slot_is : slot_of window on ≡ Some b.filter.slot
-  included : includes b.filter.channels on ≡ true
-  cycle : cycle_admitted b.filter.cycles window.cycle ≡ true
+pub record IsTurn (b : Buffer) (window : Opportunity) (on : Channel) : Type 0 where
+  pub slot_is : slot_of window on ≡ Some b.filter.slot
+  pub included : includes b.filter.channels on ≡ true
+  pub cycle : cycle_admitted b.filter.cycles window.cycle ≡ true
 
 turn_in : (b : Buffer) (window : Opportunity) (on : Channel) (o : Option ℕ) → slot_of window on ≡ o
     → admits_slot b.filter window.cycle on o ≡ true → IsTurn b window on
@@ -145,8 +146,24 @@ static_fits p w on slot fits static is = by on is
     by A e = ap (static_slot_fits p) (sym e) ∙ both_first (static_slot_fits p w.a) (static_slot_fits p w.b) both_fit
     by B e = ap (static_slot_fits p) (sym e) ∙ both_rest (static_slot_fits p w.a) (static_slot_fits p w.b) both_fit
 
+module _ (d : Description) (n number : ℕ) (plan : Plan) (b : Buffer) (plan_at : slice_get d.plans n ≡ Some plan)
+    (at : buffer_at plan number ≡ Some b) where
+  -- without a turn of the buffer the window is mute
+  pub mute_if : (j : ℕ) (window : Opportunity) → ((on : Channel) → IsTurn b window on → ⊥)
+      → AreMute d (only_kept n number j) window
+  mute_if j window never m p known on k is begins = elim (eqb_tells m n) [
+    | inl same ↦ subst (λ (i : ℕ). only_kept n number j i k ≡ None) (sym same.1) (elim (eqb_tells k number) [
+      | inl this ↦ absurd (never on (turn_of plan number b window on at
+          (ap (λ (q : Plan). transmitter q window on) (same_some plan p
+          (sym plan_at ∙ ap (slice_get d.plans) (sym same.1) ∙ known)) ∙ is ∙ ap Some this.1)))
+      | inr other ↦ other_buffer n number j k other.1
+    ])
+    | inr other ↦ other_node n number j m k other.1
+  ]
+
 module _ (d : Description) (lawful : IsCluster d) (n number : ℕ) (plan : Plan) (b : Buffer)
-    (plan_at : slice_get d.plans n ≡ Some plan) (at : buffer_at plan number ≡ Some b) (transmitting : transmits b ≡ true)
+    (plan_at : slice_get d.plans n ≡ Some plan) (at : buffer_at plan number ≡ Some b) (transmitting : transmits b
+    ≡ true)
     (dynamic : is_static_slot d.params b.filter.slot ≡ false) where
   pub of_node : IsNode d.params plan
   of_node = each_at (IsNode d.params) d.plans n plan lawful.nodes_are plan_at
@@ -161,23 +178,10 @@ module _ (d : Description) (lawful : IsCluster d) (n number : ℕ) (plan : Plan)
   on_channel on included = only_channel b.filter.channels on included (fits.dynamic_fit number b at
       (both (transmits b) (not (is_static_slot d.params b.filter.slot)) transmitting (ap not dynamic))).one_channel
 
-  -- without a turn of the buffer the window is mute
-  mute_if : (j : ℕ) (window : Opportunity) → ((on : Channel) → IsTurn b window on → ⊥)
-      → AreMute d (only_kept n number j) window
-  mute_if j window never m p known on k is begins = elim (eqb_tells m n) [
-    | inl same ↦ subst (λ (i : ℕ). only_kept n number j i k ≡ None) (sym same.1) (elim (eqb_tells k number) [
-      | inl this ↦ absurd (never on (turn_of plan number b window on at
-          (ap (λ (q : Plan). transmitter q window on) (same_some plan p
-          (sym plan_at ∙ ap (slice_get d.plans) (sym same.1) ∙ known)) ∙ is ∙ ap Some this.1)))
-      | inr other ↦ other_buffer n number j k other.1
-    ])
-    | inr other ↦ other_node n number j m k other.1
-  ]
-
   module _ (cycles : ℕ) where
     pub static_mute : (j : ℕ) (rs : List Recorded) (window : Opportunity) → following d.params cycles rs ≡ Some window
         → is_static window ≡ true → AreMute d (only_kept n number j) window
-    static_mute j rs window follows static = mute_if j window (λ on turn. (
+    static_mute j rs window follows static = mute_if d n number plan b plan_at at j window (λ on turn. (
         let fit = following_fits d.params cycles rs window
         (let two = lawful.params_are.static_slots_fit.from_least in omega (arith, two)) follows in
         let no = static_fits d.params window on b.filter.slot fit.fits static turn.slot_is in
@@ -193,7 +197,7 @@ module _ (d : Description) (lawful : IsCluster d) (n number : ℕ) (plan : Plan)
       where
         by : (t : Bool) → is_static window ≡ t → AreMute d (only_kept n number j) window
         by true static = static_mute j rs window follows static
-        by false still = mute_if j window (λ on turn. (
+        by false still = mute_if d n number plan b plan_at at j window (λ on turn. (
             let here = subst (λ (c : Channel). slot_of window c ≡ Some b.filter.slot) (on_channel on turn.included)
             turn.slot_is in
             let less = lower b.filter.slot still here in
@@ -257,4 +261,4 @@ module _ (d : Description) (lawful : IsCluster d) (n number : ℕ) (plan : Plan)
           where
             by : (t : Bool) → is_static window ≡ t → AreMute d (only_kept n number j) window
             by true static = static_mute j rs window follows static
-            by false still = mute_if j window (no_turn rs window good follows few still)
+            by false still = mute_if d n number plan b plan_at at j window (no_turn rs window good follows few still)

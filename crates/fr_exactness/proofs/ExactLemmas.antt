@@ -1,8 +1,10 @@
 -- Wherever the definition lets a dynamic slot open, a run opens it.
+use Rattle.std.proofs.Common.{◌^◌}
 use Rattle.std.proofs.Common.{◌≡◌, ℕ, ◌+◌, ◌-◌, ◌*◌, ◌%◌, ◌<◌, ◌≤◌, ◌==◌, Bool, true, false, cond, ◌&&◌, ◌⊎◌, inl, inr}
 use Rattle.std.proofs.Common.{List, [], ◌∷◌, ◌++◌, length, map, Option, Some, None, refl, sym, ap}
 use Rattle.std.proofs.Common.{subst, ◌∙◌, arith, slice_get, get_or}
 use Rattle.std.proofs.lemmas.Bool.{eqb-true, lt-ltb}
+use Rattle.std.proofs.Math.Nat.{mul-le-mul_right}
 use Rattle.std.proofs.lemmas.List.{length-map, length-replicate}
 use Rattle.std.proofs.lemmas.Nat.{mod-mul-add}
 use Rattle.std.proofs.lemmas.Option.{get_or_from_slice_get, slice_get-get_or}
@@ -36,7 +38,7 @@ use Rattle.fr_slots.specs.declared.channel.Channel.{Channel}
 use Rattle.fr_slots.specs.declared.plan.Mode.{Mode}
 use Rattle.fr_slots.specs.declared.plan.Mode.TheVariants as mode
 use Rattle.fr_slots.specs.History.{AllAfter, last_after}
-use Rattle.fr_slots.specs.Parameters.{Parameters}
+use Rattle.fr_slots.specs.Parameters.{Parameters, IsParameters}
 use Rattle.fr_slots.specs.Plans.{Plan, empty_plan}
 use Rattle.fr_slots.specs.Windows.{Opportunity, static_window}
 
@@ -89,13 +91,20 @@ opening_between d cycles some =
       opened = refl;
     }
 
+-- the number of every window of so many cycles fits
+few_windows : (p : Parameters) → IsParameters p → (cycles : ℕ) → cycles ≤ 1024 → cycles * opportunities p < 2 ^ 32
+few_windows p lawful cycles few =
+    let most : cycles * opportunities p ≤ 1024 * opportunities p = mul-le-mul_right (opportunities p) few in
+    omega (arith, most, lawful.static_slots_fit.at_most, lawful.minislots_fit.at_most)
+
 pub opening_at : (d : Description) → IsCluster d → (cycles : ℕ) → 0 < cycles → cycles ≤ 1024
     → IsAt d cycles nothing_kept 0 (opening_world d cycles)
 opening_at d lawful cycles some few = record {
   cluster = refl;
   cycles_are = refl;
   one_each = length-map d.plans (new_interface d.params);
-  course = course_none d.params cycles lawful.params_are few;
+  course = course_none d.params cycles lawful.params_are
+      (few_windows d.params lawful.params_are cycles few);
   between = opening_between d cycles some;
   nodes = λ n within. opening_node d cycles n (subst (λ (m : ℕ). n < m) (length-map d.plans (new_interface d.params))
       within);
@@ -137,7 +146,8 @@ is_way d channel cycle counts lane rows =
       row,
       elim choice [
         | inl none ↦ inl none
-        | inr can ↦ inr (can_send d channel cycle (slot_after d.params before) (first_minislot d.params before) bytes can)
+        | inr can ↦ inr (can_send d channel cycle (slot_after d.params before)
+            (first_minislot d.params before) bytes can)
       ],
     )) [] counts lane rows
 
@@ -210,7 +220,8 @@ all_realized d lawful channel cycle slot minislot few dynamic room opens =
     ((are_lanes d lawful).opens channel cycle slot minislot dynamic).0 opens in
     let row = row_of d.params lane.counts minislot slot lane.opened in
     let way = is_way d channel cycle lane.counts lane.is_lane lane.are_rows in
-    let come = comes d lawful (cycle + 1) cycle (3 * slots_before d.params slot) few (omega arith) (omega (arith, few)) room
+    let come = comes d lawful (cycle + 1) cycle (3 * slots_before d.params slot) few (omega arith) (omega
+    (arith, few)) room
     channel lane.counts way row.exists (omega (arith, row.slot_is)) in
     record {
       world = come.world;

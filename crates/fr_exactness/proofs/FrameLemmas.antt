@@ -161,7 +161,8 @@ frame_is s number b window channel slot bytes payload is slot_is bytes_are =
       frame = record { items = encoded frame channel };
       is = data_bytes s1 window channel slot (length s.entries) slot_is offers;
       long = long;
-      some = ne_eqb (length (encoded frame channel)) 0 (λ none. let no : ⊥ = omega (arith, none, long, bytes_are) in no);
+      some = ne_eqb (length (encoded frame channel)) 0 (λ none. let no : ⊥ = omega
+          (arith, none, long, bytes_are) in no);
     }
 
 -- ---- the sender's interface before and after the window

@@ -64,7 +64,8 @@ hosts_same s t window seen =
 pub windows_same : (s : State) (e : Entry) (many : ℕ) → window_mark s.entries e ≡ None
     → fetched_number s.entries e ≡ None → is_host e ≡ true → HasWindows s many → HasWindows (with_entry s e) many
 windows_same s e many mark number host has = record {
-  closed = open_window-snoc s.entries e ∙ ap (λ (o : Option (Option Opportunity)). option_and_then (λ (w : Option Opportunity). w)
+  closed = open_window-snoc s.entries e ∙ ap (λ (o : Option (Option Opportunity)). option_and_then (λ
+      (w : Option Opportunity). w)
       (option_or o (last_after window_mark [] s.entries))) mark
       ∙ has.closed;
   earlier = ap (is_not_above many) (last_number-snoc s.entries e

@@ -17,5 +17,7 @@ pub mod WalkLemmas
 pub mod HoldingLemmas
 pub mod ExactLemmas
 pub mod DelayLemmas
+pub mod StaticLemmas
 pub mod ReachLemmas
+pub mod StaticReachLemmas
 pub mod WorstLemmas

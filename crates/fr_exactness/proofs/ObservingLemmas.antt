@@ -5,7 +5,8 @@ use Rattle.std.specs.Prelude.{option_map}
 use Rattle.std.proofs.lemmas.Bool.{eq-eqb, lt-ltb}
 use Rattle.std.proofs.lemmas.Bool.Decides.{eqb_tells}
 use Rattle.std.proofs.lemmas.List.{length-set, get_or-set_same, get_or-set_other, length-replicate}
-use Rattle.fr_bus.specs.declared.error.BusError.TheVariants.{UnknownNode, NotSealed, WrongWindow, AlreadyTaken, NotAllTaken}
+use Rattle.fr_bus.specs.declared.error.BusError.TheVariants.{UnknownNode, NotSealed, WrongWindow, AlreadyTaken}
+use Rattle.fr_bus.specs.declared.error.BusError.TheVariants.{NotAllTaken}
 use Rattle.fr_bus.specs.declared.error.Phase.TheVariants.{Sealed as InSealed}
 use Rattle.fr_bus.specs.States.{BusState, seals, has_number, is_taken, station_at, idle_station, taking, take_refusal}
 use Rattle.fr_bus.specs.States.{seen_last, all_taken, advance_refusal, advanced, phase_at, next_of_bus}

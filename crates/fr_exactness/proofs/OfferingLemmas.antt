@@ -8,7 +8,8 @@ use Rattle.fr_bus.specs.declared.error.BusError.TheVariants.{UnknownNode, NotCol
 use Rattle.fr_bus.specs.declared.error.Phase.{Phase}
 use Rattle.fr_bus.specs.declared.error.Phase.TheVariants.{Collect}
 use Rattle.fr_bus.specs.Stations.{Station}
-use Rattle.fr_bus.specs.States.{BusState, collects, collecting_of, has_number, is_put, station_at, idle_station, offering}
+use Rattle.fr_bus.specs.States.{BusState, collects, collecting_of, has_number, is_put, station_at, idle_station}
+use Rattle.fr_bus.specs.States.{offering}
 use Rattle.fr_bus.specs.States.{put_refusal}
 use Rattle.fr_core.specs.Carried.{Idle, Knows, Offers, Waits}
 use Rattle.fr_core.specs.Steps.{offer_of, with_carried, fetched, put_on_bus}

@@ -1,5 +1,5 @@
 -- The progress of a run: room for its windows, and the next window of a cycle in which a channel has a further row.
-use Rattle.std.proofs.Common.{◌≡◌, ℕ, ◌+◌, ◌-◌, ◌*◌, ◌%◌, ◌<◌, ◌≤◌, ◌==◌, Bool, true, false, cond, ◌&&◌, List, []}
+use Rattle.std.proofs.Common.{◌≡◌, ℕ, ◌+◌, ◌-◌, ◌*◌, ◌^◌, ◌%◌, ◌<◌, ◌≤◌, ◌==◌, Bool, true, false, cond, ◌&&◌, List, []}
 use Rattle.std.proofs.Common.{◌∷◌, ◌++◌, length, length-append, Option, Some, None, refl, sym, ap, subst, ◌∙◌, arith}
 use Rattle.std.proofs.Common.{option_map}
 use Rattle.std.specs.Prelude.{nat_lt, min}
@@ -14,7 +14,8 @@ use Rattle.fr_bus.specs.Courses.{IsCourse, course_of, first_passed, later_passed
 use Rattle.fr_bus.specs.Outcome.{longest}
 use Rattle.fr_bus.specs.Record.{Recorded}
 use Rattle.fr_bus.specs.Windows.{begins_cycle, cycles_begun, with_window, this_cycle, is_row_of, counts_on, opens_cycle}
-use Rattle.fr_bus.specs.Windows.{opens_any, window_at, next_dynamic, statics_of, next_in_cycle, first_of_cycle, following}
+use Rattle.fr_bus.specs.Windows.{opens_any, window_at, next_dynamic, statics_of, next_in_cycle, first_of_cycle}
+use Rattle.fr_bus.specs.Windows.{following}
 use Rattle.fr_bus.specs.Windows.{least_of, is_first_slot}
 use Rattle.fr_core.proofs.TimingLemmas.{count_more}
 use Rattle.fr_exactness.proofs.FollowingLemmas.{found, either_within}
@@ -28,13 +29,13 @@ use Rattle.fr_slots.specs.Windows.{Opportunity, static_window}
 module _ (p : Parameters) (cycles : ℕ) where
   -- ---- the course along the record
 
-  pub course_none : IsParameters p → cycles ≤ 1024 → IsCourse (course_of p cycles [])
+  pub course_none : IsParameters p → cycles * opportunities p < 2 ^ 32 → IsCourse (course_of p cycles [])
   course_none lawful few = record {
     used = 0;
     lawful = lawful;
     ahead_a = record { params_are = refl; later = λ row. omega arith };
     ahead_b = record { params_are = refl; later = λ row. omega arith };
-    few_cycles = few;
+    few_windows = few;
     begun_fit = omega arith;
     statics_fit = omega arith;
     used_fit = omega arith;

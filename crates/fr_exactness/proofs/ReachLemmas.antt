@@ -1,4 +1,4 @@
--- A run in which a commit on a guaranteed buffer waits for the worst time.
+-- A run in which a commit on a guaranteed dynamic buffer waits for the worst time.
 use Rattle.std.proofs.Common.{◌≡◌, ℕ, zero, suc, ◌+◌, ◌-◌, ◌*◌, ◌%◌, ◌<◌, ◌≤◌, ◌==◌, Bool, true, false, not, cond}
 use Rattle.std.proofs.Common.{◌&&◌, ◌||◌, ◌⊎◌, inl, inr, List, [], ◌∷◌, ◌++◌, length, length-append, replicate, Some}
 use Rattle.std.proofs.Common.{None, refl, sym, ap, subst, ◌∙◌, arith, slice_get, is_some, option_map}
@@ -31,7 +31,7 @@ use Rattle.fr_exactness.proofs.ProgressLemmas.{begun_next, counts_next, windows_
 use Rattle.fr_exactness.proofs.SilenceLemmas.{Keeps}
 use Rattle.fr_exactness.proofs.TurnLemmas.{if_known}
 use Rattle.fr_exactness.proofs.WalkLemmas.{IsStart, IsCome, reaches_cycle, comes_in}
-use Rattle.fr_exactness.specs.Delays.{start_of, IsDelayed, AreReached, cycles_after}
+use Rattle.fr_exactness.specs.Delays.{run_cycle, start_of, end_of, IsDelayed, cycles_after}
 use Rattle.fr_exactness.specs.Exactness.{HasRoom}
 use Rattle.fr_guarantees.specs.Ways.{CanSend}
 use Rattle.fr_core.proofs.TimingLemmas.{count_more}
@@ -80,23 +80,39 @@ silent_length p (suc many) =
 
 -- ---- times
 
-start_is : (w : WorldState) (d : Description) (begun minislot : ℕ) → w.bus.cluster ≡ d
-    → cycles_begun w.bus.sealed ≡ begun + 1
-    → start_of w minislot ≡ begun * d.params.cycle_mt
-    + (dynamic_start d.params + (minislot - 1) * d.params.minislot_mt)
-start_is w d begun minislot cluster is =
-    let back : cycles_begun w.bus.sealed - 1 ≡ begun = omega (arith, is) in
-    λ i. back i * (cluster i).params.cycle_mt
-    + (dynamic_start (cluster i).params + (minislot - 1) * (cluster i).params.minislot_mt)
+cycle_of_run : (w : WorldState) (window : Opportunity) (begun : ℕ) → is_static window ≡ false
+    → cycles_begun w.bus.sealed ≡ begun + 1 → run_cycle w window ≡ begun
+cycle_of_run w window begun still is =
+    ap (λ (t : Bool). cycles_begun w.bus.sealed - cond (t && is_first_slot window.a) 0 1) still
+    ∙ (let back : cycles_begun w.bus.sealed - 1 ≡ begun = omega (arith, is) in back)
 
-times : (c k mt dmt s x y : ℕ) → x ≤ y
+start_is : (w : WorldState) (d : Description) (window : Opportunity) (slot begun minislot : ℕ) → w.bus.cluster ≡ d
+    → is_static window ≡ false → cycles_begun w.bus.sealed ≡ begun + 1 → window.minislot ≡ minislot
+    → start_of w window slot ≡ begun * d.params.cycle_mt
+    + (dynamic_start d.params + (minislot - 1) * d.params.minislot_mt)
+start_is w d window slot begun minislot cluster still is at =
+    λ i. cycle_of_run w window begun still is i * (cluster i).params.cycle_mt
+    + cond (still i) ((slot - 1) * (cluster i).params.static_mt)
+    (dynamic_start (cluster i).params + (at i - 1) * (cluster i).params.minislot_mt)
+
+end_is : (w : WorldState) (d : Description) (window : Opportunity) (b : Buffer) (begun minislot : ℕ)
+    → w.bus.cluster ≡ d → is_static window ≡ false → cycles_begun w.bus.sealed ≡ begun + 1
+    → window.minislot ≡ minislot → end_of w window b ≡ begun * d.params.cycle_mt
+    + (dynamic_start d.params + (minislot - 1 + minislots_filled d.params (words_of d.params b)) * d.params.minislot_mt)
+end_is w d window b begun minislot cluster still is at =
+    λ i. cycle_of_run w window begun still is i * (cluster i).params.cycle_mt
+    + cond (still i) (b.filter.slot * (cluster i).params.static_mt)
+    (dynamic_start (cluster i).params
+    + (at i - 1 + minislots_filled (cluster i).params (words_of (cluster i).params b)) * (cluster i).params.minislot_mt)
+
+pub times : (c k mt dmt s x y : ℕ) → x ≤ y
     → c * mt + (s + x * dmt) + (k * mt + (s + y * dmt) - (s + x * dmt)) ≡ (c + k) * mt + (s + y * dmt)
 times c k mt dmt s x y few =
     let less : x * dmt ≤ y * dmt = mul-le-mul_right dmt few in
     omega (arith, less, add-mul c k mt)
 
 -- a fetch is no call of the host
-no_host : (s : State) (window : Opportunity)
+pub no_host : (s : State) (window : Opportunity)
     → count_by is_host (fetched_by s window).entries ≡ count_by is_host s.entries
 no_host s window = omega (arith, count_more is_host s.entries (fetch_entry s window))
 
@@ -241,7 +257,8 @@ module _ (d : Description) (lawful : IsCluster d) (n number : ℕ) (plan : Plan)
       last_long : 3 * length last_opens.counts ≤ 3 * early
       last_long = (let row = last_row.slot_is in omega (arith, row))
 
-      come : IsCome d lawful cycles most room nothing_kept (3 * length first_opens.counts) (c + 1) c on first_opens.counts
+      come : IsCome d lawful cycles most room nothing_kept (3 * length first_opens.counts)
+          (c + 1) c on first_opens.counts
           (opening_world d cycles)
       come =
           let short = first_long in
@@ -272,7 +289,8 @@ module _ (d : Description) (lawful : IsCluster d) (n number : ℕ) (plan : Plan)
       payload = replicate (2 * words_of d.params b) 0
 
       held : IsHeld d cycles (3 * length first_opens.counts + 1) w0 come.window n number payload
-      held = is_held d cycles most room (3 * length first_opens.counts) w0 come.window come.is_at come.next n number payload
+      held = is_held d cycles most room (3 * length first_opens.counts) w0 come.window come.is_at come.next n number
+          payload
           within
 
       abbrev f0 : State
@@ -362,7 +380,8 @@ module _ (d : Description) (lawful : IsCluster d) (n number : ℕ) (plan : Plan)
           let last_short = last_long in
           comes_in d lawful cycles most room kept (3 * length first_opens.counts + 1) (c + step) then refl then_fits on
           last_opens.counts most (omega arith) last_row.exists
-          (way_mute d lawful n number plan b plan_at at transmitting dynamic cycles j last_opens.counts last_row.slot_is)
+          (way_mute d lawful n number plan b plan_at at transmitting dynamic cycles j last_opens.counts
+          last_row.slot_is)
           (is_way d on then last_opens.counts last_opens.is_lane last_opens.are_rows)
           (omega (arith, first_short, last_short)) held.world start start_mute
 
@@ -429,44 +448,31 @@ module _ (d : Description) (lawful : IsCluster d) (n number : ℕ) (plan : Plan)
       first_minislot_is : come.window.minislot ≡ early + 1
       first_minislot_is = come.minislot_is ∙ first_row.begins
 
-      delay_is : start_of held.first_world come.window.minislot
+      delay_is : start_of held.first_world come.window slot
           + wait_from d.params.cycle_mt (is_guaranteed d plan b) (earliest_start d b) (latest_end d b) c
-          ≡ start_of w1 (end.window.minislot + minislots_filled d.params (words_of d.params b))
+          ≡ end_of w1 end.window b
       delay_is =
-          let filled = minislots_filled d.params (words_of d.params b) in
           let order = first_in_time in
-          let first_start = ap (start_of held.first_world) first_minislot_is
-          ∙ start_is held.first_world d c (early + 1) (ap (λ (x : BusState). x.cluster) held.same_bus ∙ come.is_at.cluster)
-          (ap (λ (x : BusState). cycles_begun x.sealed) held.same_bus ∙ come.begun_is) in
           let back : early + 1 - 1 ≡ early = omega arith in
-          let ends : end.window.minislot + filled - 1 ≡ last - 1 + filled =
-          (let there = last_minislot in omega (arith, order, there)) in
-          let last_start = start_is w1 d (c + step) (end.window.minislot + filled) end.is_at.cluster end.begun_is in
-          first_part first_start back ∙ (λ i. times c step d.params.cycle_mt d.params.minislot_mt (dynamic_start d.params)
-          early (last - 1 + filled) (omega (arith, order)) i) ∙ sym (last_start
-          ∙ ap (λ (m : ℕ). (c + step) * d.params.cycle_mt + (dynamic_start d.params + m * d.params.minislot_mt)) ends)
-        where
-          first_part : start_of held.first_world come.window.minislot
-              ≡ c * d.params.cycle_mt + (dynamic_start d.params + (early + 1 - 1) * d.params.minislot_mt)
-              → early + 1 - 1 ≡ early
-              → start_of held.first_world come.window.minislot
-              + wait_from d.params.cycle_mt (is_guaranteed d plan b) (earliest_start d b) (latest_end d b) c
-              ≡ c * d.params.cycle_mt + (dynamic_start d.params + early * d.params.minislot_mt)
-              + (step * d.params.cycle_mt + (dynamic_start d.params
-              + (last - 1 + minislots_filled d.params (words_of d.params b)) * d.params.minislot_mt)
-              - (dynamic_start d.params + early * d.params.minislot_mt))
-          first_part is back =
-              let begins : earliest_start d b ≡ dynamic_start d.params + early * d.params.minislot_mt =
-              ap (λ (t : Bool). cond t ((b.filter.slot - 1) * d.params.static_mt)
-              (dynamic_start d.params + early * d.params.minislot_mt)) dynamic in
-              let ends : latest_end d b then ≡ dynamic_start d.params
-              + (last - 1 + minislots_filled d.params (words_of d.params b)) * d.params.minislot_mt =
-              ap (λ (t : Bool). cond t (b.filter.slot * d.params.static_mt) (dynamic_start d.params
-              + (last - 1 + minislots_filled d.params (words_of d.params b)) * d.params.minislot_mt)) dynamic in
-              λ i. (is ∙ ap (λ (m : ℕ). c * d.params.cycle_mt + (dynamic_start d.params + m * d.params.minislot_mt)) back) i
-              + (step * d.params.cycle_mt + ends i - begins i)
+          let first_start : start_of held.first_world come.window slot ≡ c * d.params.cycle_mt
+          + (dynamic_start d.params + early * d.params.minislot_mt) =
+          start_is held.first_world d come.window slot c (early + 1)
+          (ap (λ (x : BusState). x.cluster) held.same_bus ∙ come.is_at.cluster) come.dynamic
+          (ap (λ (x : BusState). cycles_begun x.sealed) held.same_bus ∙ come.begun_is) first_minislot_is
+          ∙ ap (λ (m : ℕ). c * d.params.cycle_mt + (dynamic_start d.params + m * d.params.minislot_mt)) back in
+          let begins : earliest_start d b ≡ dynamic_start d.params + early * d.params.minislot_mt =
+          ap (λ (t : Bool). cond t ((b.filter.slot - 1) * d.params.static_mt)
+          (dynamic_start d.params + early * d.params.minislot_mt)) dynamic in
+          let ends : latest_end d b then ≡ dynamic_start d.params
+          + (last - 1 + minislots_filled d.params (words_of d.params b)) * d.params.minislot_mt =
+          ap (λ (t : Bool). cond t (b.filter.slot * d.params.static_mt) (dynamic_start d.params
+          + (last - 1 + minislots_filled d.params (words_of d.params b)) * d.params.minislot_mt)) dynamic in
+          (λ i. first_start i + (step * d.params.cycle_mt + ends i - begins i))
+          ∙ times c step d.params.cycle_mt d.params.minislot_mt (dynamic_start d.params)
+          early (last - 1 + minislots_filled d.params (words_of d.params b)) (omega (arith, order))
+          ∙ sym (end_is w1 d end.window b (c + step) last end.is_at.cluster end.dynamic end.begun_is last_minislot)
 
-      reached : IsDelayed d n number b on cycles
+      pub reached : IsDelayed d n number b on cycles
           (wait_from d.params.cycle_mt (is_guaranteed d plan b) (earliest_start d b) (latest_end d b) c)
       reached = record {
         first_world = held.first_world;
@@ -492,8 +498,3 @@ module _ (d : Description) (lawful : IsCluster d) (n number : ℕ) (plan : Plan)
         offers = offers_end ∙ ap (λ (s : State). Data (length s.entries)) (sym held.fetched);
         delay_is = delay_is;
       }
-
--- each worst wait of a guaranteed buffer is that of a run
-pub all_reached : (d : Description) → IsCluster d → AreReached d
-all_reached d lawful n number plan b plan_at some_task at transmitting dynamic always c few admitted room =
-    reached d lawful n number plan b plan_at some_task at transmitting dynamic always c few admitted room

@@ -147,7 +147,8 @@ module _ (d : Description) (lawful : IsCluster d) (cycles most : ℕ) (room : Ha
       let in_w1 : (n : ℕ) → n < length past.stations → n < length w1.interfaces =
       λ n inside. subst (λ (m : ℕ). n < m) past.offers.one_each inside in
       let inside : k < length past.stations = omega (arith, within, long, past.offers.one_each) in
-      longest_one w.bus.cluster window channel past.stations (λ n. offer_of (interface_at w1 n) window) k slot frame.frame
+      longest_one w.bus.cluster window channel past.stations (λ n. offer_of
+      (interface_at w1 n) window) k slot frame.frame
       (λ n inside. past.offers.are n (in_w1 n inside)) inside
       (ap (λ (x : State). offer_on channel (offer_of x window)) at_sender ∙ frame.is) slot_is frame.some through
       (λ n inside other. (
@@ -183,13 +184,16 @@ module _ (d : Description) (lawful : IsCluster d) (cycles most : ℕ) (room : Ha
   v3 = with_interface v2 k (with_entry (interface_at v2 k) (withdraw_entry (interface_at v2 k) 0 can.number))
 
   plan_t : t.plan ≡ s.plan
-  plan_t = past_plan d (kept k) k s (length w.bus.sealed) calls can.number can.buffer payload node t window number_is seen
+  plan_t = past_plan d (kept k) k s (length w.bus.sealed) calls can.number can.buffer payload node t window number_is
+      seen
 
   params_t : t.params ≡ s.params
-  params_t = past_params d (kept k) k s (length w.bus.sealed) calls can.number can.buffer payload node t window number_is seen
+  params_t = past_params d (kept k) k s (length w.bus.sealed) calls can.number can.buffer payload node t window
+      number_is seen
 
   hosts_t : count_by is_host t.entries ≤ calls + 1
-  hosts_t = past_hosts d (kept k) k s (length w.bus.sealed) calls can.number can.buffer payload node t window number_is seen
+  hosts_t = past_hosts d (kept k) k s (length w.bus.sealed) calls can.number can.buffer payload node t window
+      number_is seen
 
   sending_t : IsSending t.params t.plan can.number can.buffer window channel
   sending_t = subst (λ (p : Parameters). IsSending p t.plan can.number can.buffer window channel) (sym params_t)
@@ -248,9 +252,11 @@ module _ (d : Description) (lawful : IsCluster d) (cycles most : ℕ) (room : Ha
   nodes_at : (n : ℕ) → n < length w.interfaces
       → IsNodeAt d (kept n) n (interface_at v3 n) (length w.bus.sealed + 1) (calls + 3)
   nodes_at n inside = elim (eqb_tells n k) [
-    | inl same ↦ subst (λ (m : ℕ). IsNodeAt d (kept m) m (interface_at v3 m) (length w.bus.sealed + 1) (calls + 3)) (sym same.1)
+    | inl same ↦ subst (λ (m : ℕ). IsNodeAt d (kept m) m (interface_at v3 m) (length w.bus.sealed + 1) (calls + 3))
+        (sym same.1)
         (subst (λ (x : State). IsNodeAt d (kept k) k x (length w.bus.sealed + 1) (calls + 3)) (sym sender_at)
-        (emptied_at d (kept k) k s (length w.bus.sealed) calls can.number can.buffer payload node t window number_is seen
+        (emptied_at d (kept k) k s (length w.bus.sealed) calls can.number can.buffer payload node t window number_is
+        seen
         (mute k s.plan node.plan_at) (mute k s.plan node.plan_at channel can.number sending.transmitter_is
         sending.begins)))
     | inr other ↦ (
@@ -258,9 +264,11 @@ module _ (d : Description) (lawful : IsCluster d) (cycles most : ℕ) (room : Ha
         let inside_w1 : n < length w1.interfaces = subst (λ (m : ℕ). n < m) (sym long) inside in
         let seen_n = subst (λ (x : State). IsObserved (fetched_by x window) (interface_at v n) window)
         (at_other n other.1) (past.interfaces n inside_w1) in
-        let at = node_past d cycles most room kept n (length w.bus.sealed) calls (interface_at w n) (interface_at v n) window
+        let at = node_past d cycles most room kept n (length w.bus.sealed) calls (interface_at w n)
+        (interface_at v n) window
         was mute number_is seen_n in
-        subst (λ (x : State). IsNodeAt d (kept n) n x (length w.bus.sealed + 1) (calls + 3)) (sym (other_at n other.1)) (record {
+        subst (λ (x : State). IsNodeAt d (kept n) n x (length w.bus.sealed + 1) (calls + 3)) (sym
+        (other_at n other.1)) (record {
           params_are = at.params_are;
           plan_at = at.plan_at;
           has = at.has;

@@ -42,7 +42,8 @@ Keeps = ℕ → Option ℕ
 abbrev pub HasReady : Keeps → State → Type 0
 HasReady kept s = (m : Mode) (number : ℕ) → is_receive m ≡ false → ready m number s.entries ≡ kept number
 
-pub not_ready : (entries : List Entry) (number : ℕ) → ((m : Mode) → is_receive m ≡ false → ready m number entries ≡ None)
+pub not_ready : (entries : List Entry) (number : ℕ) → ((m : Mode) → is_receive m ≡ false → ready m number entries
+    ≡ None)
     → (m : Mode) → ready m number entries ≡ None
 not_ready entries number none mode.Event = none mode.Event refl
 not_ready entries number none mode.State = none mode.State refl

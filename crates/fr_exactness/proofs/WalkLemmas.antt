@@ -74,7 +74,8 @@ module _ (d : Description) (lawful : IsCluster d) (cycles most : ℕ) (room : Ha
 
   past_start : (Good : List Recorded → Type 0) (fuel calls begun : ℕ) → Starts Good fuel calls begun → (w : WorldState)
       → (window : Opportunity) → (channel : Channel)
-      → ((r : Recorded) → r.window ≡ window → Good (w.bus.sealed ++ r ∷ [])) → (past : IsPast d cycles kept calls w window channel 0)
+      → ((r : Recorded) → r.window ≡ window → Good (w.bus.sealed ++ r ∷ []))
+      → (past : IsPast d cycles kept calls w window channel 0)
       → (b : Bool) → opens_cycle window ≡ b → cycles_begun w.bus.sealed + cond b 1 0 ≤ begun
       → length w.bus.sealed + suc fuel ≡ begun * opportunities d.params + 1 → IsStart calls begun w
   past_start Good fuel calls begun again w window channel good past b opens still count =
@@ -83,7 +84,8 @@ module _ (d : Description) (lawful : IsCluster d) (cycles most : ℕ) (room : Ha
       ap cycles_begun past.sealed
       ∙ begun_next w.bus.sealed past.recorded b (ap opens_cycle past.window_is ∙ opens) in
       after_silence calls begun w window channel past
-      (again past.world past.is_at (subst Good (sym past.sealed) (good past.recorded past.window_is)) (subst (λ (n : ℕ). n ≤ begun) (sym begun_is) still) (omega (arith, count, one)))
+      (again past.world past.is_at (subst Good (sym past.sealed) (good past.recorded past.window_is)) (subst (λ
+      (n : ℕ). n ≤ begun) (sym begun_is) still) (omega (arith, count, one)))
 
   next_start : (Good : List Recorded → Type 0) (fuel calls begun : ℕ) → KeepsMute begun Good → begun < cycles
       → Starts Good fuel calls begun → Channel → Starts Good (suc fuel) calls begun
@@ -125,7 +127,8 @@ module _ (d : Description) (lawful : IsCluster d) (cycles most : ℕ) (room : Ha
       mul-le-mul_right (opportunities d.params) few in
       absurd (let none : ⊥ = omega (arith, fits, most_of, count) in none)
   reaches_cycle Good (suc fuel) calls begun keeps more channel w here good few count =
-      next_start Good fuel calls begun keeps more (λ v. reaches_cycle Good fuel calls begun keeps more channel v) channel
+      next_start Good fuel calls begun keeps more (λ v. reaches_cycle Good fuel calls begun keeps more channel v)
+      channel
       w here good few count
 
   -- ---- along a way
@@ -215,7 +218,8 @@ module _ (d : Description) (lawful : IsCluster d) (cycles most : ℕ) (room : Ha
           → IsCome top begun cycle channel way w
       past_other fuel again calls rest so_far w on split all few count window follows later none =
           let past = passes_silent d cycles most room kept calls w window channel on.is_at follows
-          (mute w.bus.sealed window follows on.is_at.course (λ slot dynamic at. absurd (no_row window slot none dynamic at)))
+          (mute w.bus.sealed window follows on.is_at.course (λ slot dynamic at. absurd
+          (no_row window slot none dynamic at)))
           in
           let one = one_more past.world w.bus.sealed past.recorded past.sealed in
           let row = no_slot channel past.recorded
@@ -247,7 +251,8 @@ module _ (d : Description) (lawful : IsCluster d) (cycles most : ℕ) (room : Ha
 
       -- the window is the next row of the channel
       abbrev IsHere : List ℕ → WorldState → Opportunity → ℕ → Type 0
-      IsHere so_far w window slot = (slot_after d.params so_far ≡ slot) × (first_minislot d.params so_far ≡ window.minislot)
+      IsHere so_far w window slot = (slot_after d.params so_far ≡ slot) × (first_minislot d.params so_far
+          ≡ window.minislot)
           × (window.cycle ≡ cycle)
 
       row_here : (calls slot : ℕ) (so_far : List ℕ) (w : WorldState) (window : Opportunity) → IsOn calls so_far w
@@ -303,7 +308,8 @@ module _ (d : Description) (lawful : IsCluster d) (cycles most : ℕ) (room : Ha
                 subst (λ (c : ℕ). CanSend d c slot channel window.minislot bytes) (sym here.2)
                 (subst (λ (k : ℕ). CanSend d cycle k channel window.minislot bytes) here.0
                 (subst (λ (m : ℕ). CanSend d cycle (slot_after d.params so_far) channel m bytes) here.1 can)) in
-                passes_sending d lawful cycles most room kept channel calls (omega (arith, left, enough)) w on.is_at window
+                passes_sending d lawful cycles most room kept channel calls (omega
+                (arith, left, enough)) w on.is_at window
                 follows quiet dynamic slot slot_is (subst (λ (c : ℕ). c < 64) (sym here.2) fits) bytes there)
           ])
 
@@ -345,7 +351,8 @@ module _ (d : Description) (lawful : IsCluster d) (cycles most : ℕ) (room : Ha
   -- the world after the first window of the cycle
   on_first : (calls begun cycle : ℕ) (same : (begun + 1 - 1) % 64 ≡ cycle) (fits : cycle < 64) (some : 1 ≤ begun + 1)
       (channel : Channel)
-      (w : WorldState) (start : IsStart calls begun w) (past : IsPast d cycles kept calls start.world start.window channel 0)
+      (w : WorldState) (start : IsStart calls begun w) (past : IsPast d cycles kept calls start.world start.window
+      channel 0)
       → IsOn (begun + 1) cycle same fits some channel calls [] past.world
   on_first calls begun cycle same fits some channel w start past =
       let opens = ap opens_cycle past.window_is ∙ start.opens in
@@ -360,7 +367,8 @@ module _ (d : Description) (lawful : IsCluster d) (cycles most : ℕ) (room : Ha
             ∙ counts_first channel start.world.bus.sealed r opens row;
       }
 
-  pub comes_in : (calls begun cycle : ℕ) → begun % 64 ≡ cycle → cycle < 64 → (channel : Channel) (way : List ℕ) (top : ℕ)
+  pub comes_in : (calls begun cycle : ℕ) → begun % 64 ≡ cycle → cycle < 64
+      → (channel : Channel) (way : List ℕ) (top : ℕ)
       → top ≤ most → has_row_after d.params way ≡ true
       → ((rs : List Recorded) (window : Opportunity) → following d.params cycles rs ≡ Some window
       → IsCourse (course_of d.params cycles rs)
@@ -370,14 +378,16 @@ module _ (d : Description) (lawful : IsCluster d) (cycles most : ℕ) (room : Ha
       → (w : WorldState) (start : IsStart calls begun w) → AreMute d kept start.window
       → IsCome top (begun + 1) cycle channel way w
   comes_in calls begun cycle same fits channel way top enough final mute rows few w start quiet =
-      let past = passes_silent d cycles most room kept calls start.world start.window channel start.is_at start.next quiet
+      let past = passes_silent d cycles most room kept calls start.world start.window channel start.is_at start.next
+      quiet
       in
       let back : (begun + 1 - 1) % 64 ≡ cycle =
       ap (λ (n : ℕ). n % 64) (let back : begun + 1 - 1 ≡ begun = omega arith in back) ∙ same in
       let some : 1 ≤ begun + 1 = omega arith in
       let on = on_first calls begun cycle back fits some channel w start past in
       let fit = windows_fit d.params cycles past.world.bus.sealed past.is_at.course in
-      let begun_is : cycles_begun past.world.bus.sealed * opportunities d.params ≡ (begun + 1) * opportunities d.params =
+      let begun_is : cycles_begun past.world.bus.sealed * opportunities d.params
+      ≡ (begun + 1) * opportunities d.params =
       ap (λ (n : ℕ). n * opportunities d.params) on.begun_is in
       come_after top (begun + 1) cycle channel way w past.world (leads_on start.leads past.leads)
       (walks (begun + 1) cycle back fits some channel way top enough final mute

@@ -8,12 +8,14 @@ use Rattle.std.proofs.Math.Nat.{mul-le-mul_right, max-eq_left, max-eq_right}
 use Rattle.fr_bus.specs.Courses.{opportunities}
 use Rattle.fr_core.proofs.CaseLemmas.{both_first, both_rest}
 use Rattle.fr_exactness.proofs.DelayLemmas.{first_is}
-use Rattle.fr_exactness.proofs.ReachLemmas.{all_reached}
-use Rattle.fr_exactness.specs.Delays.{IsDelayed, IsWorstReached, cycles_after}
+use Rattle.fr_exactness.proofs.ReachLemmas.{reached}
+use Rattle.fr_exactness.proofs.StaticReachLemmas.{reached_static}
+use Rattle.fr_exactness.specs.Delays.{IsDelayed, AreReached, HasDelay, IsWorstReached, cycles_after}
 use Rattle.fr_exactness.specs.Exactness.{HasRoom}
 use Rattle.fr_latency.specs.Below.{all_below, any_below, most_below}
 use Rattle.fr_latency.specs.declared.latency.State.TheVariants.{Guaranteed}
-use Rattle.fr_latency.specs.Latencies.{before_slot, channel_of, earliest_start, has_tasks, is_after, is_always_in_time, is_guaranteed}
+use Rattle.fr_latency.specs.Latencies.{before_slot, channel_of, earliest_start, has_tasks, is_after}
+use Rattle.fr_latency.specs.Latencies.{is_always_in_time, is_guaranteed}
 use Rattle.fr_latency.specs.Latencies.{is_possible, latest_end, state_by, unless_zero, wait_from, wait_if}
 use Rattle.fr_latency.specs.Latencies.{worst_latency, worst_of}
 use Rattle.fr_schedule.specs.Clusters.{IsCluster}
@@ -133,9 +135,26 @@ module _ (d : Description) (lawful : IsCluster d) (n number : ℕ) (plan : Plan)
       by most false e number_is = absurd (number_is.1 (sym most.is
           ∙ ap (λ (t : Bool). cond t (wait most.place) 0) e))
 
--- the worst latency of a guaranteed dynamic buffer is that of a run
+-- each worst wait of a guaranteed buffer is that of a run
+pub all_reached : (d : Description) → IsCluster d → AreReached d
+all_reached d lawful n number plan b plan_at some_task at transmitting always c few admitted room =
+    by (is_static_slot d.params b.filter.slot) refl
+  where
+    by : (t : Bool) → is_static_slot d.params b.filter.slot ≡ t
+        → IsDelayed d n number b (channel_of b.filter.channels) (c + cycles_after d plan b c + 1)
+        (wait_from d.params.cycle_mt (is_guaranteed d plan b) (earliest_start d b) (latest_end d b) c)
+    by true static =
+        reached_static d lawful n number plan b plan_at some_task at transmitting static c few admitted room
+    by false dynamic =
+        reached d lawful n number plan b plan_at some_task at transmitting dynamic
+        (λ cycle inside mine. ap (λ (t : Bool). t || is_always_in_time d plan b cycle) (sym dynamic)
+        ∙ both_rest (cycle_admitted b.filter.cycles cycle)
+        (is_static_slot d.params b.filter.slot || is_always_in_time d plan b cycle) (always cycle inside mine))
+        c few admitted room
+
+-- the worst latency of a guaranteed buffer is that of a run
 pub worst_reached : (d : Description) → IsCluster d → IsWorstReached d
-worst_reached d lawful n number plan b plan_at at transmitting dynamic state worst is room =
+worst_reached d lawful n number plan b plan_at at transmitting state worst is room =
     let parts = state_all (has_tasks plan)
     (all_below (λ cycle. not (cycle_admitted b.filter.cycles cycle) || is_guaranteed d plan b cycle) cycle_count)
     (any_below (is_possible d plan b) cycle_count) state in
@@ -145,21 +164,15 @@ worst_reached d lawful n number plan b plan_at at transmitting dynamic state wor
     let below = w.few in
     let few : c + cycles_after d plan b c + 1 ≤ 128 = omega (arith, below, step) in
     let some_task = leb-true 1 plan.tasks parts.0 in
-    let always : (cycle : ℕ) → cycle < 64 → cycle_admitted b.filter.cycles cycle ≡ true
-    → is_always_in_time d plan b cycle ≡ true =
-    λ cycle inside admitted. (
-    let passes = from_either (cycle_admitted b.filter.cycles cycle) (is_guaranteed d plan b cycle)
-    (all_at (λ k. not (cycle_admitted b.filter.cycles k) || is_guaranteed d plan b k) cycle_count cycle parts.1
-    inside) admitted in
-    ap (λ (t : Bool). t || is_always_in_time d plan b cycle) (sym dynamic)
-    ∙ both_rest (cycle_admitted b.filter.cycles cycle)
-    (is_static_slot d.params b.filter.slot || is_always_in_time d plan b cycle) passes) in
     record {
       cycles = c + cycles_after d plan b c + 1;
       few = few;
-      delayed = subst (λ (delay : ℕ). IsDelayed d n number b (channel_of b.filter.channels) (c + cycles_after d plan b c + 1) delay)
-          w.is
-          (all_reached d lawful n number plan b plan_at some_task at transmitting dynamic always c w.few
+      delayed = subst (λ (delay : ℕ). IsDelayed d n number b (channel_of b.filter.channels)
+          (c + cycles_after d plan b c + 1) delay) w.is
+          (all_reached d lawful n number plan b plan_at some_task at transmitting
+          (λ cycle inside mine. from_either (cycle_admitted b.filter.cycles cycle) (is_guaranteed d plan b cycle)
+          (all_at (λ k. not (cycle_admitted b.filter.cycles k) || is_guaranteed d plan b k) cycle_count cycle parts.1
+          inside) mine) c w.few
           (both_first (cycle_admitted b.filter.cycles c)
           (is_static_slot d.params b.filter.slot || is_always_in_time d plan b c) w.guaranteed)
           (less_room d (c + cycles_after d plan b c + 1) (6 * before_slot d b + 1) few room));

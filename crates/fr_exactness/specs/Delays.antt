@@ -1,8 +1,8 @@
 -- Runs in which a commit waits as long as the table of latencies says.
 use Rattle.std.specs.Prelude.{◌≡◌, ℕ, ◌+◌, ◌-◌, ◌*◌, ◌≤◌, ◌<◌, true, false, List, [], ◌∷◌, ◌++◌, length, Some, None}
-use Rattle.std.specs.Prelude.{slice_get}
+use Rattle.std.specs.Prelude.{slice_get, if◌then◌else◌}
 use Rattle.fr_bus.specs.States.{collecting_of}
-use Rattle.fr_bus.specs.Windows.{cycles_begun}
+use Rattle.fr_bus.specs.Windows.{cycles_begun, opens_cycle}
 use Rattle.fr_core.specs.Carried.{Waits}
 use Rattle.fr_core.specs.declared.event.Event.TheVariants.{Commit}
 use Rattle.fr_core.specs.Steps.{step_refusal, step_done}
@@ -25,16 +25,31 @@ use Rattle.fr_slots.specs.declared.plan.Buffer.{Buffer}
 use Rattle.fr_slots.specs.Faults.{minislots_filled, transmits, words_of}
 use Rattle.fr_slots.specs.Parameters.{is_static_slot}
 use Rattle.fr_slots.specs.Plans.{Plan, buffer_at}
-use Rattle.fr_slots.specs.Windows.{Opportunity, slot_of}
+use Rattle.fr_slots.specs.Windows.{Opportunity, slot_of, is_static}
 use Rattle.fr_timing.specs.Segments.{dynamic_start}
 
--- macroticks from the start of the run to the start of a minislot in the cycle that began last
-abbrev pub start_of : WorldState → ℕ → ℕ
-start_of w minislot =
-    (cycles_begun w.bus.sealed - 1) * w.bus.cluster.params.cycle_mt
-    + (dynamic_start w.bus.cluster.params + (minislot - 1) * w.bus.cluster.params.minislot_mt)
+-- the cycle of the run that has the window, if the window comes next
+abbrev pub run_cycle : WorldState → Opportunity → ℕ
+run_cycle w window = cycles_begun w.bus.sealed - (if opens_cycle window then 0 else 1)
 
--- A node fetches a window of the buffer's slot, and right after that a host commits on the buffer. The commit is pending
+-- macroticks from the start of the run to the start of the window, in which the channel has this slot
+abbrev pub start_of : WorldState → Opportunity → ℕ → ℕ
+start_of w window slot =
+    run_cycle w window * w.bus.cluster.params.cycle_mt
+    + (if is_static window then (slot - 1) * w.bus.cluster.params.static_mt
+    else dynamic_start w.bus.cluster.params + (window.minislot - 1) * w.bus.cluster.params.minislot_mt)
+
+-- to the end of the buffer's frame that begins there: of its static slot, or of the last minislot that it fills
+abbrev pub end_of : WorldState → Opportunity → Buffer → ℕ
+end_of w window b =
+    run_cycle w window * w.bus.cluster.params.cycle_mt
+    + (if is_static window then b.filter.slot * w.bus.cluster.params.static_mt
+    else dynamic_start w.bus.cluster.params
+    + (window.minislot - 1 + minislots_filled w.bus.cluster.params (words_of w.bus.cluster.params b))
+    * w.bus.cluster.params.minislot_mt)
+
+-- A node fetches a window of the buffer's slot, and right after that a host commits on the buffer. The commit is
+-- pending
 -- until the node fetches a later window of the slot, where it is offered. From the start of the first window to the end
 -- of the frame there are so many macroticks.
 pub record IsDelayed (d : Description) (n number : ℕ) (b : Buffer) (channel : Channel) (cycles delay : ℕ) : Type 0 where
@@ -58,20 +73,18 @@ pub record IsDelayed (d : Description) (n number : ℕ) (b : Buffer) (channel : 
       ≡ Some (length (interface_at first_world n).entries)
   pub offers : offered (interface_at last_world n).plan (interface_at last_world n).entries last channel
       ≡ Data (length (interface_at first_world n).entries)
-  pub delay_is : start_of first_world first.minislot + delay
-      ≡ start_of last_world (last.minislot + minislots_filled d.params (words_of d.params b))
+  pub delay_is : start_of first_world first b.filter.slot + delay ≡ end_of last_world last b
 
 -- the cycles until the next one in which the buffer is guaranteed
 abbrev pub cycles_after : Description → Plan → Buffer → ℕ → ℕ
 cycles_after d plan b cycle = distance (is_guaranteed d plan b) cycle
 
--- From each cycle of a dynamic transmit buffer that is guaranteed in all its cycles some run has the worst wait, if the
--- journals have room for it.
+-- From each cycle of a transmit buffer that is guaranteed in all its cycles some run has the worst wait, if the journals
+-- have room for it.
 abbrev pub AreReached : Description → Type 0
 AreReached d = (n number : ℕ) (plan : Plan) (b : Buffer) → slice_get d.plans n ≡ Some plan → 1 ≤ plan.tasks
-    → buffer_at plan number ≡ Some b → transmits b ≡ true → is_static_slot d.params b.filter.slot ≡ false
-    → ((cycle : ℕ) → cycle < 64 → cycle_admitted b.filter.cycles cycle ≡ true
-    → is_always_in_time d plan b cycle ≡ true)
+    → buffer_at plan number ≡ Some b → transmits b ≡ true
+    → ((cycle : ℕ) → cycle < 64 → cycle_admitted b.filter.cycles cycle ≡ true → is_guaranteed d plan b cycle ≡ true)
     → (cycle : ℕ) → cycle < 64 → cycle_admitted b.filter.cycles cycle ≡ true
     → HasRoom d (cycle + cycles_after d plan b cycle + 1) (6 * before_slot d b + 1)
     → IsDelayed d n number b (channel_of b.filter.channels) (cycle + cycles_after d plan b cycle + 1)
@@ -85,10 +98,9 @@ pub record HasDelay (d : Description) (n number : ℕ) (b : Buffer) (delay : ℕ
   pub few : cycles ≤ 128
   pub delayed : IsDelayed d n number b (channel_of b.filter.channels) cycles delay
 
--- A dynamic buffer that the table calls guaranteed has its worst latency in some run of at most 128 cycles, if the
--- journals have room for it.
+-- A buffer that the table calls guaranteed has its worst latency in some run of at most 128 cycles, if the journals have
+-- room for it.
 abbrev pub IsWorstReached : Description → Type 0
 IsWorstReached d = (n number : ℕ) (plan : Plan) (b : Buffer) → slice_get d.plans n ≡ Some plan
-    → buffer_at plan number ≡ Some b → transmits b ≡ true → is_static_slot d.params b.filter.slot ≡ false
-    → state_of d plan b ≡ Guaranteed → (worst : ℕ) → worst_latency d plan b ≡ Some worst
-    → HasRoom d 128 (6 * before_slot d b + 1) → HasDelay d n number b worst
+    → buffer_at plan number ≡ Some b → transmits b ≡ true → state_of d plan b ≡ Guaranteed → (worst : ℕ)
+    → worst_latency d plan b ≡ Some worst → HasRoom d 128 (6 * before_slot d b + 1) → HasDelay d n number b worst

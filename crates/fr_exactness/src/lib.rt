@@ -13,6 +13,7 @@
 //!   opens it.
 //! - `ReachLemmas`, `WorstLemmas`: `all_reached` and `worst_reached` hold, too. The worst latency of a dynamic buffer
 //!   that is guaranteed in all its cycles is that of some run.
-//! - `WindowLemmas`, `PassingLemmas`, `SentLemmas`, `WalkLemmas`: the events of a window without frames or with one that
+//! - `WindowLemmas`, `PassingLemmas`, `SentLemmas`, `WalkLemmas`: the events of a window without frames or with one
+//!   that
 //!   a host commits right before it, and of a cycle that follows a chosen way.
 #![tactic(auto)]
