@@ -90,17 +90,17 @@ kept_more test y xs x k = record { place = suc k.place; at = k.at; passing = k.p
 filter_from : {X : Type 0} (test : X → Bool) (xs : List X) (k : ℕ) (x : X) → slice_get (filter test xs) k ≡ Some x
     → IsKept test xs x
 filter_from test [] k x at = absurd (let none : ⊥ = cc in none)
-filter_from test (y ∷ xs) k x at = by (test y) refl k at
+filter_from test (y ∷ xs) k x at = by (test y) refl k at (λ j there. filter_from test xs j x there)
   where
     by : (b : Bool) → test y ≡ b → (j : ℕ) → slice_get (cond b (y ∷ filter test xs) (filter test xs)) j ≡ Some x
-        → IsKept test (y ∷ xs) x
-    by true is zero there = record {
+        → ((i : ℕ) → slice_get (filter test xs) i ≡ Some x → IsKept test xs x) → IsKept test (y ∷ xs) x
+    by true is zero there more = record {
       place = 0;
       at = there;
       passing = ap test (sym (same_some y x there)) ∙ is;
     }
-    by true is (suc j) there = kept_more test y xs x (filter_from test xs j x there)
-    by false is j there = kept_more test y xs x (filter_from test xs j x there)
+    by true is (suc j) there more = kept_more test y xs x (more j there)
+    by false is j there more = kept_more test y xs x (more j there)
 
 -- ---- the only transmission
 
@@ -169,8 +169,13 @@ offered_alone n channel fate other offer babble k t at silent = by_offer offer a
         mine : Sent
         mine = record { node = n; channel = channel; babble = false; bytes = bytes; fate = fate }
 
-        found : cond (is_offer_of channel n (record { node = n; channel = channel; babble = false; bytes = bytes;
-            fate = fate })) (Some bytes) (offer_in channel n (transmission n channel true other babble)) ≡ Some bytes
+        found : cond (is_offer_of channel n (record {
+          node = n;
+          channel = channel;
+          babble = false;
+          bytes = bytes;
+          fate = fate;
+        })) (Some bytes) (offer_in channel n (transmission n channel true other babble)) ≡ Some bytes
         found = ap (λ (b : Bool). cond (b && is_channel channel channel && true) (Some bytes)
             (offer_in channel n (transmission n channel true other babble))) (eq-eqb n n refl)
             ∙ on_channel channel
