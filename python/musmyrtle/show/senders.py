@@ -39,7 +39,7 @@ def senders(network: Network, words: list[str]) -> Iterator[Row]:
     buffers = list(network.senders(slot, channel, node, cycles))
     if kind == "dynamic":
         buffers = [it for it in buffers if it.cycles == cycles]
-    for buffer in buffers or [None]:
+    for buffer in [*buffers] or [None]:
         shown = cycles if buffer is None or buffer.cycles.repetition < repetition else buffer.cycles
         name: Name | None = None if buffer is None else network.buffer(node, buffer.number)
         values: dict[str, Value] = {
