@@ -11,3 +11,5 @@ mod FirstLemmas
 mod DueLemmas
 pub mod OfferLaws
 pub mod CaptureLaws
+mod OwnedLemmas
+pub mod ListenLaws

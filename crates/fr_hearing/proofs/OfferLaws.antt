@@ -79,11 +79,11 @@ module _ (s : State) (lawful : IsLegalInterface s) (number commit : ℕ) (before
 
 -- ---- the buffer and the ownership line
 
-record IsBuffer (plan : Plan) (number : ℕ) : Type 0 where
-  buffer : Buffer
-  at : buffer_at plan number ≡ Some buffer
+pub record IsBuffer (plan : Plan) (number : ℕ) : Type 0 where
+  pub buffer : Buffer
+  pub at : buffer_at plan number ≡ Some buffer
 
-some_buffer : (plan : Plan) (before : List Entry) (number commit : ℕ) → ready_in plan before number ≡ Some commit
+pub some_buffer : (plan : Plan) (before : List Entry) (number commit : ℕ) → ready_in plan before number ≡ Some commit
     → IsBuffer plan number
 some_buffer plan before number commit e = by (buffer_at plan number) refl e
   where
@@ -100,7 +100,7 @@ transmitter_is plan w channel slot slot_is =
     ∙ ap (λ (o : Option ℕ). option_and_then (slice_get plan.buffers)
     (position (λ (b : Buffer). transmits b && admits_slot b.filter w.cycle channel o) plan.buffers)) (sym slot_is)
 
-line_is : (plan : Plan) (w : Opportunity) (channel : Channel) (slot : ℕ) → is_static w ≡ true
+pub line_is : (plan : Plan) (w : Opportunity) (channel : Channel) (slot : ℕ) → is_static w ≡ true
     → line_of plan w channel slot ≡ line_in slot channel w.cycle plan
 line_is plan w channel slot static =
     cond-true (is_static w) (ownership plan.owned slot channel w.cycle) None static

@@ -2,3 +2,4 @@ pub mod Heard
 pub mod Alarms
 pub mod Offering
 pub mod Captured
+pub mod Listening

@@ -6,10 +6,15 @@
 //!
 //! - `Heard`: the frames of some whole cycles of a channel, by the rules of the cluster alone.
 //! - `Alarms`: recordings of such frames, and the law that they have no finding.
-//! - `Offering`: the frame that the owner of a static slot hands to the bus, and the one that is due there.
+//! - `Offering`: the frames that nodes hand to the bus, and those that are due there.
+//! - `Listening`: the frames that a listener receives in the windows of a run without faults of senders.
+//! - `Captured`: the record of a frame in a capture.
 //!
 //! # Laws
 //!
 //! - `AlarmLaws`: each channel by itself, without times, has no false alarm.
-//! - `OfferLaws`: in each static window its owner hands over a frame, and it is the one that is due.
+//! - `OfferLaws`: in each static window its owner hands over the frame that is due, and so does each node that sends in a
+//!   dynamic one.
+//! - `ListenLaws`: each frame that a listener receives without faults is due in its window.
+//! - `CaptureLaws`: the record of a frame spells it.
 #![tactic(auto)]

@@ -1,10 +1,11 @@
 -- The kept data change as the world that leads to them does.
-use Rattle.std.proofs.Common.{◌≡◌, ℕ, zero, suc, ◌<◌, Bool, true, false, List, [], ◌∷◌, length, refl, sym, ap, ◌∙◌, arith}
+use Rattle.std.proofs.Common.{◌≡◌, ℕ, zero, suc, ◌<◌, Bool, true, false, cond, List, [], ◌∷◌, length, refl, sym, ap, subst, ◌∙◌, arith}
 use Rattle.std.proofs.lemmas.Bool.{ltb-true}
-use Rattle.std.specs.Prelude.{nat_lt, slice_index_or, slice_set}
+use Rattle.std.specs.Prelude.{nat_lt, slice_index_or, slice_set, Ok, Err}
 use Rattle.fr_bus.specs.Standing.{LiveStanding, IsLiveHistory}
 use Rattle.fr_bus.specs.States.{BusState}
 use Rattle.fr_core.specs.Carried.{Carried, Idle}
+use Rattle.fr_core.specs.declared.error.StepError.TheVariants.{UnknownNode}
 use Rattle.fr_core.specs.Steps.{with_interface, with_carried, with_bus}
 use Rattle.fr_core.specs.Worlds.{WorldState, no_interface, interface_at}
 use Rattle.fr_core.specs.Worlds as worlds
@@ -14,18 +15,18 @@ use Rattle.fr_live.specs.LiveWorlds.{LiveState, AreHistories, Leads, no_standing
 
 -- ---- lists of data and of histories
 
-as_many : (hs : List Standing) (ss : List State) → AreHistories hs ss → length hs ≡ length ss
+pub as_many : (hs : List Standing) (ss : List State) → AreHistories hs ss → length hs ≡ length ss
 as_many [] [] are = refl
 as_many [] (s ∷ ss) are = absurd are
 as_many (h ∷ hs) [] are = absurd are
 as_many (h ∷ hs) (s ∷ ss) are = ap suc (as_many hs ss are.1)
 
-history_in : (hs : List Standing) (ss : List State) (n : ℕ) → AreHistories hs ss → n < length hs
-    → IsHistory (slice_index_or hs n no_standing) (slice_index_or ss n no_interface)
-history_in [] ss n are within = absurd (let none : ⊥ = omega (arith, within) in none)
-history_in (h ∷ hs) [] n are within = absurd are
-history_in (h ∷ hs) (s ∷ ss) zero are within = are.0
-history_in (h ∷ hs) (s ∷ ss) (suc n) are within = history_in hs ss n are.1 (omega (arith, within))
+history_in : (hs : List Standing) (ss : List State) (n : ℕ) (d : Standing) → AreHistories hs ss → n < length hs
+    → IsHistory (slice_index_or hs n d) (slice_index_or ss n no_interface)
+history_in [] ss n d are within = absurd (let none : ⊥ = omega (arith, within) in none)
+history_in (h ∷ hs) [] n d are within = absurd are
+history_in (h ∷ hs) (s ∷ ss) zero d are within = are.0
+history_in (h ∷ hs) (s ∷ ss) (suc n) d are within = history_in hs ss n d are.1 (omega (arith, within))
 
 history_set : (hs : List Standing) (ss : List State) (n : ℕ) (h : Standing) (s : State) → AreHistories hs ss
     → IsHistory h s → AreHistories (slice_set hs n h) (slice_set ss n s)
@@ -34,6 +35,16 @@ history_set [] (t ∷ ss) n h s are is = absurd are
 history_set (g ∷ hs) [] n h s are is = absurd are
 history_set (g ∷ hs) (t ∷ ss) zero h s are is = (is, are.1)
 history_set (g ∷ hs) (t ∷ ss) (suc n) h s are is = (are.0, history_set hs ss n h s are.1 is)
+
+pub index_any : {X : Type 0} (xs : List X) (n : ℕ) (d e : X) → n < length xs → slice_index_or xs n d ≡ slice_index_or xs n e
+index_any [] n d e within = absurd (let none : ⊥ = omega (arith, within) in none)
+index_any (x ∷ xs) zero d e within = refl
+index_any (x ∷ xs) (suc n) d e within = index_any xs n d e (omega (arith, within))
+
+-- the place of a node that there is
+pub place_ok : (there : Bool) (n place : ℕ) → Ok place ≡ cond there (Ok n) (Err UnknownNode) → (there ≡ true) × (place ≡ n)
+place_ok true n place e = (refl, let same : place ≡ n = cc in same)
+place_ok false n place e = absurd (let none : ⊥ = cc in none)
 
 -- ---- a world that leads to the data
 
@@ -45,7 +56,13 @@ module _ (w : WorldState) (l : LiveState) (is : Leads w l) where
   carried_same n = ap (λ (c : List Carried). slice_index_or c n Idle) (sym is.carried_are)
 
   pub history_at : (n : ℕ) → n < length l.interfaces → IsHistory (standing_at l n) (interface_at w n)
-  history_at n within = history_in l.interfaces w.interfaces n is.interfaces_are within
+  history_at n within = history_in l.interfaces w.interfaces n no_standing is.interfaces_are within
+
+  -- the same of data that were lent
+  pub history_lent : (n : ℕ) (h : Standing) → h ≡ slice_index_or l.interfaces n h → n < length l.interfaces
+      → IsHistory h (interface_at w n)
+  history_lent n h lent within = subst (λ (x : Standing). IsHistory x (interface_at w n)) (sym lent)
+      (history_in l.interfaces w.interfaces n h is.interfaces_are within)
 
   -- ---- one change
 

@@ -2,3 +2,4 @@ pub mod LeadLemmas
 pub mod RefusalLemmas
 pub mod StepLemmas
 pub mod RoomLemmas
+pub mod HeadlineLemmas

@@ -2,7 +2,9 @@
 use Rattle.std.proofs.Common.{◌≡◌, ℕ, zero, suc, ◌≤◌, List, [], ◌∷◌, ◌++◌, length, map, Option, Some, None, refl, sym}
 use Rattle.std.proofs.Common.{subst, ap, ◌∙◌}
 use Rattle.std.proofs.lemmas.List.{length-map}
-use Rattle.std.specs.Prelude.{slice_get}
+use Rattle.std.specs.Prelude.{slice_get, ◌&&◌}
+use Rattle.std.specs.List.{list_any}
+use Rattle.std.specs.Option.{option_or}
 use Rattle.fr_bus.specs.Standing.{no_room, roomless}
 use Rattle.fr_core.specs.Worlds.{new_interface}
 use Rattle.fr_interface.specs.Standing.{Standing, IsHistory}
@@ -12,7 +14,12 @@ use Rattle.fr_schedule.specs.Clusters.{IsCluster, IsNode}
 use Rattle.fr_schedule.specs.Descriptions.{Description}
 use Rattle.fr_schedule.specs.SenderTable.{IsSender, HasOneSender, may_send}
 use Rattle.fr_slots.specs.declared.channel.Channel.{Channel}
-use Rattle.fr_slots.specs.Faults.{plan_fault}
+use Rattle.fr_slots.specs.declared.channel.Channel.TheVariants.{A, B}
+use Rattle.fr_slots.specs.declared.fault.PlanFault.TheVariants.{DynamicBoth, TooLong}
+use Rattle.fr_slots.specs.declared.plan.Buffer.{Buffer}
+use Rattle.fr_slots.specs.Admission.{includes}
+use Rattle.fr_slots.specs.Faults.{plan_fault, ownership_fault, buffer_fault, ends_late, too_long, transmits_dynamic}
+use Rattle.fr_slots.specs.Faults.{words_of, channels, first_buffer, dynamic_both, first_overlap}
 use Rattle.fr_slots.specs.Numbers.{last_host_limit, last_slot_limit}
 use Rattle.fr_slots.specs.Parameters.{Parameters}
 use Rattle.fr_slots.specs.Plans.{Plan, IsPlan, Each, with_limits}
@@ -27,10 +34,31 @@ pub record IsRoom (room : Entries) : Type 0 where
 module _ (room : Entries) where
   -- ---- the room has no other effect
 
+  ends_late_same : (params : Parameters) (p : Plan) (words : ℕ) (channel : Channel)
+      → ends_late params (with_limits p room.host room.slot) words channel ≡ ends_late params p words channel
+  ends_late_same params p words A = refl
+  ends_late_same params p words B = refl
+
+  too_long_same : (params : Parameters) (p : Plan) (b : Buffer)
+      → too_long params (with_limits p room.host room.slot) b ≡ too_long params p b
+  too_long_same params p b = λ i. transmits_dynamic params b && list_any
+      (λ channel. includes b.filter.channels channel && ends_late_same params p (words_of params b) channel i) channels
+
+  buffer_fault_same : (params : Parameters) (p : Plan)
+      → buffer_fault params (with_limits p room.host room.slot) ≡ buffer_fault params p
+  unfolding buffer_fault
+  buffer_fault_same params p = λ i. option_or (first_buffer DynamicBoth (dynamic_both params) p.buffers)
+      (option_or (first_overlap p.owned p.buffers) (first_buffer TooLong (λ b. too_long_same params p b i) p.buffers))
+
+  ownership_fault_same : (params : Parameters) (p : Plan)
+      → ownership_fault params (with_limits p room.host room.slot) ≡ ownership_fault params p
+  unfolding ownership_fault
+  ownership_fault_same params p = refl
+
   fault_same : (params : Parameters) (p : Plan)
       → plan_fault params (with_limits p room.host room.slot) ≡ plan_fault params p
   unfolding plan_fault
-  fault_same params p = refl
+  fault_same params p = λ i. option_or (ownership_fault_same params p i) (buffer_fault_same params p i)
 
   roomless_plans : (ps : List Plan)
       → map no_room (map (λ (p : Plan). with_limits p room.host room.slot) ps) ≡ map no_room ps

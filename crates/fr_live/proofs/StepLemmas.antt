@@ -11,11 +11,13 @@ use Rattle.fr_core.specs.declared.error.StepError.TheVariants.{UnknownNode, Wron
 use Rattle.fr_core.specs.declared.event.Event.{Event}
 use Rattle.fr_core.specs.declared.event.Event.TheVariants.{Seal}
 use Rattle.fr_core.specs.declared.event.Reply.{Reply}
-use Rattle.fr_core.specs.declared.event.Reply.TheVariants.{Done}
-use Rattle.fr_core.specs.Steps.{Steps, Refuses, step_refusal, step_reply, step_done, answered}
+use Rattle.fr_core.specs.declared.event.Reply.TheVariants.{Done, Committed, Window}
+use Rattle.fr_interface.specs.declared.interface.Receipt.{Receipt}
+use Rattle.fr_slots.specs.Windows.{Opportunity}
+use Rattle.fr_core.specs.Steps.{Steps, Refuses, step_refusal, step_reply, step_done, answered, with_window}
 use Rattle.fr_core.specs.Worlds.{WorldState}
 use Rattle.fr_live.proofs.RefusalLemmas.{seal_refuses}
-use Rattle.fr_live.specs.LiveSteps.{LiveSteps, StepsAlike, SealsMachine}
+use Rattle.fr_live.specs.LiveSteps.{LiveSteps, StepsAlike, SealsMachine, with_receipt}
 use Rattle.fr_live.specs.LiveWorlds.{LiveState, Leads, IsWorldHistory}
 
 -- the answer with this reply in place of the value
@@ -38,21 +40,50 @@ done_replied : (r : Result (Unit {0}) StepError) → replied (λ x. Done) r ≡ 
 done_replied (Ok x) = refl
 done_replied (Err e) = refl
 
+receipt_replied : (r : Result Receipt StepError) → replied Committed r ≡ with_receipt r
+receipt_replied (Ok x) = refl
+receipt_replied (Err e) = refl
+
+window_replied : (r : Result Opportunity StepError) → replied Window r ≡ with_window r
+window_replied (Ok x) = refl
+window_replied (Err e) = refl
+
 module _ (old new : LiveState) (event : Event)
-    (plain : (e : StepError) (found : Option StepError) → found ≡ Some e → Refuses event e found)
-    (silent : (w : WorldState) → Done ≡ step_reply w event) where
+    (plain : (e : StepError) (found : Option StepError) → found ≡ Some e → Refuses event e found) where
   -- the same for an event without a reply of its own
-  pub done_so : (r : Result (Unit {0}) StepError)
+  pub done_so : ((w : WorldState) → Done ≡ step_reply w event) → (r : Result (Unit {0}) StepError)
       → ((w : WorldState) → Leads w old → result_err r ≡ step_refusal w event)
       → ((w : WorldState) → Leads w old → OnOk r (Leads (step_done w event) new)) → OnErr r (new ≡ old)
       → LiveSteps old event (answered Done r) new
-  done_so r refusal leads refused =
+  done_so silent r refusal leads refused =
       subst (λ a. LiveSteps old event a new) (done_replied r)
       (step_so old new event (λ x. Done) plain r refusal leads refused (λ w is. on_ok w r))
     where
       on_ok : (w : WorldState) (a : Result (Unit {0}) StepError) → IfOk a (λ x. Done ≡ step_reply w event)
       on_ok w (Ok x) = silent w
       on_ok w (Err e) = tt
+
+  -- the same for a commit and for a look
+  pub receipt_so : (r : Result Receipt StepError)
+      → ((w : WorldState) → Leads w old → result_err r ≡ step_refusal w event)
+      → ((w : WorldState) → Leads w old → OnOk r (Leads (step_done w event) new)) → OnErr r (new ≡ old)
+      → ((w : WorldState) → Leads w old → IfOk r (λ x. Committed x ≡ step_reply w event))
+      → LiveSteps old event (with_receipt r) new
+  receipt_so r refusal leads refused replies = subst (λ a. LiveSteps old event a new) (receipt_replied r)
+      (step_so old new event Committed plain r refusal leads refused replies)
+
+  pub window_so : (r : Result Opportunity StepError)
+      → ((w : WorldState) → Leads w old → result_err r ≡ step_refusal w event)
+      → ((w : WorldState) → Leads w old → OnOk r (Leads (step_done w event) new)) → OnErr r (new ≡ old)
+      → ((w : WorldState) → Leads w old → IfOk r (λ x. Window x ≡ step_reply w event))
+      → LiveSteps old event (with_window r) new
+  window_so r refusal leads refused replies = subst (λ a. LiveSteps old event a new) (window_replied r)
+      (step_so old new event Window plain r refusal leads refused replies)
+
+-- a fact about the value in an accepted answer gives another
+pub on_value : {X : Type 0} {P Q : X → Type 0} (r : Result X StepError) → ((x : X) → P x → Q x) → IfOk r P → IfOk r Q
+on_value (Ok x) so h = so x h
+on_value (Err e) so h = tt
 
 pub seal_so : (old new : LiveState) (r : Result (Unit {0}) StepError) → SealsMachine old r new
     → LiveSteps old Seal (answered Done r) new

@@ -9,6 +9,8 @@ use Rattle.fr_core.specs.declared.error.StepError.{StepError}
 use Rattle.fr_core.specs.declared.error.StepError.TheVariants.{UnknownNode, WrongTurn, Host, Slot, Bus}
 use Rattle.fr_core.specs.declared.event.Event.{Event}
 use Rattle.fr_core.specs.declared.event.Reply.{Reply}
+use Rattle.fr_core.specs.declared.event.Reply.TheVariants.{Committed}
+use Rattle.fr_interface.specs.declared.interface.Receipt.{Receipt}
 use Rattle.fr_core.specs.declared.event.Event.TheVariants.{Seal}
 use Rattle.fr_core.specs.Steps.{Steps, Applies, step_done, unless_collecting}
 use Rattle.fr_core.specs.Worlds.{WorldState}
@@ -56,6 +58,11 @@ abbrev pub if_node : LiveState → ℕ → Option StepError → Option StepError
 if_node l n refusal = if has_node l n then refusal else Some UnknownNode
 
 -- ---- a step
+
+-- the reply that has the receipt of an accepted commit
+abbrev pub with_receipt : Result Receipt StepError → Result Reply StepError
+with_receipt (Ok receipt) = Ok (Committed receipt)
+with_receipt (Err e) = Err e
 
 -- Each world that leads to the data before the step takes this step, with this answer, and then leads to the data after
 -- it.

@@ -2,7 +2,7 @@
 //! needs the same memory in each cycle, so a run of hours has room.
 //!
 //! ```text
-//! let mut world = LiveWorld::new(alloc, &cluster, cycles, Room::GREATEST)?;
+//! let mut world = LiveWorld::new(alloc, &cluster, cycles, &Room::greatest())?;
 //! world.step(&Event::Look(node))?; // one event, as in a `World`
 //! world.interfaces(); // what each interface holds now
 //! world.bus().last(); // and the window that was sealed last

@@ -2,8 +2,9 @@
 
 ghost use Rattle.std.specs.Prelude.{◌≡◌, replicate, map, IfOk};
 ghost use Rattle.fr_core.specs.Carried.{Idle};
-ghost use Rattle.fr_core.specs.Steps.{answered};
+ghost use Rattle.fr_core.specs.Steps.{answered, with_window};
 ghost use Rattle.fr_core.specs.declared.event.Reply.TheVariants.{Done};
+ghost use Rattle.fr_live.specs.LiveSteps.{with_receipt};
 ghost use Rattle.fr_live.specs.LiveWorlds.{AreHistories, new_with};
 
 use crate::room::Room;
@@ -50,9 +51,9 @@ fn interfaces_of(
     alloc: Global,
     params: &Params,
     plans: &[NodePlan],
-    room: Room,
+    room: &Room,
 ) -> Result<Vec<InterfaceState>, InterfaceError>
-    ensures { IfOk result (λ list. AreHistories list.items (map (new_with params.now room) plans.now)) }
+    ensures { IfOk result (λ list. AreHistories list.items (map (new_with params.now room.now) plans.now)) }
 {
     let mut list = Vec::new(alloc);
     for plan in plans {
@@ -73,6 +74,22 @@ fn idle_controllers(alloc: Global, count: usize) -> Result<Vec<Controller>, Allo
         list.push(Controller::idle())?;
     }
     Ok(list)
+}
+
+/// Returns the reply that has the receipt of an accepted commit.
+fn committed(outcome: Result<Receipt, StepError>) -> Result<Reply, StepError>
+    ensures { result ≡ with_receipt outcome }
+{
+    let receipt = outcome?;
+    Ok(Reply::Committed(receipt))
+}
+
+/// Returns the reply that has the window of an accepted look.
+fn looked(outcome: Result<Window, StepError>) -> Result<Reply, StepError>
+    ensures { result ≡ with_window outcome }
+{
+    let window = outcome?;
+    Ok(Reply::Window(window))
 }
 
 /// Returns `Done` for an accepted event.
@@ -103,10 +120,12 @@ impl LiveMachine {
         alloc: Global,
         cluster: &Cluster,
         cycles: u32,
-        room: Room,
+        room: &Room,
     ) -> Result<LiveMachine, BusError>
-        ensures { OpensMachine cluster.now cycles room result }
+        ensures { OpensMachine cluster.now cycles room.now result }
     {
+        // For the prover: the ranges of the room.
+        let (_host, _slot) = (room.host(), room.slot());
         let bus = LiveBus::new(alloc, cluster, cycles)?;
         let Ok(interfaces) = interfaces_of(alloc, cluster.params(), cluster.plans(), room) else {
             return Err(BusError::Memory);
@@ -321,10 +340,7 @@ impl LiveMachine {
                 task,
                 buffer,
                 payload,
-            } => {
-                let receipt = self.commit(*node, *task, *buffer, payload)?;
-                Ok(Reply::Committed(receipt))
-            }
+            } => committed(self.commit(*node, *task, *buffer, payload)),
             Event::Withdraw { node, task, buffer } => {
                 self.call(*node, *task, &Call::Withdraw { buffer: *buffer })
             }
@@ -332,10 +348,7 @@ impl LiveMachine {
                 self.call(*node, *task, &Call::Read { buffer: *buffer })
             }
             Event::Pop { node, task } => self.call(*node, *task, &Call::Pop),
-            Event::Look(node) => {
-                let window = self.look(*node)?;
-                Ok(Reply::Window(window))
-            }
+            Event::Look(node) => looked(self.look(*node)),
             Event::Fetch(node) => done(self.fetch(*node)),
             Event::Put(node) => done(self.put(*node)),
             Event::Take(node) => done(self.take(*node)),

@@ -10,7 +10,7 @@ const SLOT: u32 = 3_221_225_469;
 
 /// The numbers of host calls and of controller calls that each interface of a world accepts (project-defined). No
 /// memory is kept for them: entries are numbered in 32 bits, as those of a journal are.
-#[derive(Clone, Copy, PartialEq, Eq)]
+#[derive(Drop)]
 pub struct Room {
     host: u32,
     slot: u32,

@@ -47,9 +47,9 @@ impl LiveWorld {
         alloc: Global,
         cluster: &Cluster,
         cycles: u32,
-        room: Room,
+        room: &Room,
     ) -> Result<LiveWorld, BusError>
-        ensures { OpensLiveWorld cluster.now cycles room result }
+        ensures { OpensLiveWorld cluster.now cycles room.now result }
     {
         match LiveMachine::new(alloc, cluster, cycles, room) {
             Ok(machine) => Ok(LiveWorld { machine }),

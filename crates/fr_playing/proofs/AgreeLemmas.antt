@@ -1,12 +1,14 @@
 -- A world in which all controllers are idle: its journals and scripts agree with its record.
-use Rattle.std.proofs.Common.{◌≡◌, ◌<◌, ◌≤◌, ℕ, zero, suc, ◌+◌, Bool, true, false, not, ◌&&◌, ◌||◌, List, [], ◌∷◌, ◌++◌, cond}
-use Rattle.std.proofs.Common.{length, map, Option, Some, None, refl, sym, ap, subst, ◌∙◌, inl, inr, arith, append-nil, slice_get, get_or}
+use Rattle.std.proofs.Common.{◌≡◌, ◌<◌, ℕ, zero, suc, ◌+◌, Bool, true, false, not, ◌&&◌, ◌||◌, List, [], ◌∷◌, ◌++◌}
+use Rattle.std.proofs.Common.{cond}
+use Rattle.std.proofs.Common.{length, map, Option, Some, None, refl, sym, ap, subst, ◌∙◌, inl, inr, arith, append-nil}
+use Rattle.std.proofs.Common.{slice_get, get_or}
 use Rattle.std.specs.Prelude.{nat_lt, ◌==◌, IfSome}
 use Rattle.std.specs.List.{list_all, list_any}
 use Rattle.std.proofs.lemmas.Bool.{lt-ltb}
 use Rattle.std.proofs.lemmas.Bool.Decides.{eqb_tells}
 use Rattle.std.proofs.lemmas.List.{length-map}
-use Rattle.std.proofs.lemmas.Option.{slice_get_within, slice_get_past, get_or_from_slice_get}
+use Rattle.std.proofs.lemmas.Option.{slice_get_within, get_or_from_slice_get}
 use Rattle.arrayvec.specs.ArrayVec.{ArrayVec}
 use Rattle.fr_bus.specs.Outcome.{fate_of}
 use Rattle.fr_bus.specs.Record.{Recorded, IsOutcome}
@@ -19,10 +21,10 @@ use Rattle.fr_core.specs.Agreement.{view_for, ahead, behind, AgreesAt, IsWorld}
 use Rattle.fr_core.specs.Answers.{without_answer, without_answers}
 use Rattle.fr_core.specs.Carried.{Carried, Idle}
 use Rattle.fr_core.specs.declared.script.Line.{Line}
-use Rattle.fr_core.specs.Scripts.{Scripted, Executed, is_for, IsLine, AreLines, IsScript, IsScriptAt, ScriptAgrees, calls_of}
+use Rattle.fr_core.specs.Scripts.{Scripted, Executed, is_for, IsLine, AreLines, IsScript, ScriptAgrees}
 use Rattle.fr_core.specs.Scripts.{calls_at, calls_in}
-use Rattle.fr_core.specs.Settling.{IfThere, ArePlanned, PlansAgree, HasWindows, WindowsAgree, windows_of, is_due, is_right}
-use Rattle.fr_core.specs.Settling.{are_right, IsFatedAt, IsHandedAt, IsOfferedAt, OffersAgree, IsShownAt, IsSeenAt, SightsAgree}
+use Rattle.fr_core.specs.Settling.{IfThere, ArePlanned, HasWindows, WindowsAgree, windows_of, is_due, is_right}
+use Rattle.fr_core.specs.Settling.{are_right, IsFatedAt, IsHandedAt, OffersAgree, IsShownAt, SightsAgree}
 use Rattle.fr_core.specs.Settling.{Agrees}
 use Rattle.fr_core.specs.Worlds.{WorldState, interface_at, carried_at, no_interface, new_interface, without_entries}
 use Rattle.fr_guardian.specs.Guarding.{passes}
@@ -155,7 +157,8 @@ module _ (w : WorldState) (world : IsWorld w) (run : IsRun w.bus) (idle : (n : �
   windows_agree n =
       let rs : List Recorded = w.bus.sealed in
       if_there w.interfaces n (HasWindows rs) (λ s at. record {
-        fetches = sym (fetched_windows s) ∙ ap (map (λ (h : Handed). h.window)) (level n s at).fetches ∙ offered_windows n rs;
+        fetches = sym (fetched_windows s) ∙ ap (map (λ (h : Handed). h.window)) (level n s at).fetches
+            ∙ offered_windows n rs;
         observes = sym (observed_windows s) ∙ ap (map (λ (x : Sight). x.window)) (level n s at).sees
             ∙ shown_windows w.bus.cluster.params n rs;
       })
@@ -212,7 +215,8 @@ any_at : (p : Scripted → Bool) (scripts : List Scripted) (k : ℕ) (script : S
 any_at p [] k script at passes = absurd (let none : ⊥ = cc in none)
 any_at p (s ∷ scripts) zero script at passes =
     ap (λ (b : Bool). b || list_any p scripts) (ap p (same_some s script at) ∙ passes)
-any_at p (s ∷ scripts) (suc k) script at passes = either (p s) (list_any p scripts) (any_at p scripts k script at passes)
+any_at p (s ∷ scripts) (suc k) script at passes = either (p s) (list_any p scripts) (any_at p scripts k script at
+    passes)
   where
     either : (a b : Bool) → b ≡ true → (a || b) ≡ true
     either true b e = refl

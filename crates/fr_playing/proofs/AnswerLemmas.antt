@@ -1,7 +1,8 @@
 -- The answers of executed calls are those that their node's journal gives, however it goes on.
-use Rattle.std.proofs.Common.{◌≡◌, ◌<◌, ℕ, zero, suc, ◌+◌, Bool, true, false, cond, ◌&&◌, List, [], ◌∷◌, ◌++◌, length, map}
-use Rattle.std.proofs.Common.{take, get_or, set, Option, Some, None, refl, sym, ap, ap₂, subst, ◌∙◌, inl, inr, append_assoc}
-use Rattle.std.proofs.Common.{append-nil, slice_get, arith}
+use Rattle.std.proofs.Common.{◌≡◌, ◌<◌, ℕ, ◌+◌, Bool, true, false, cond, ◌&&◌, List, [], ◌∷◌, ◌++◌, length, map}
+use Rattle.std.proofs.Common.{take, get_or, set, Option, Some, None, refl, sym, ap, ap₂, subst, ◌∙◌, inl, inr}
+use Rattle.std.proofs.Common.{append_assoc}
+use Rattle.std.proofs.Common.{append-nil, slice_get}
 use Rattle.std.specs.Prelude.{◌==◌, filter, option_map, option_to_list}
 use Rattle.std.specs.Option.{option_and_then}
 use Rattle.std.proofs.lemmas.Bool.{eq-eqb, ne_eqb}
@@ -10,9 +11,9 @@ use Rattle.std.proofs.lemmas.List.{get_or-set_same, get_or-set_other, map-append
 use Rattle.std.proofs.lemmas.List.Elements.{filter-append}
 use Rattle.fr_core.proofs.ReceiverLemmas.{holds_is_seen}
 use Rattle.fr_core.specs.declared.event.Reply.{Reply}
-use Rattle.fr_core.specs.declared.event.Reply.TheVariants.{Committed, Withdrawn, Frame}
+use Rattle.fr_core.specs.declared.event.Reply.TheVariants.{Frame}
 use Rattle.fr_core.specs.Receivers.{Holds}
-use Rattle.fr_core.specs.Scripts.{Executed, frame_reply, call_in, call_at, calls_of, calls_in}
+use Rattle.fr_core.specs.Scripts.{Executed, frame_reply, call_in, call_at, calls_of}
 use Rattle.fr_core.specs.Steps.{event_of, step_reply, with_interface}
 use Rattle.fr_core.specs.Worlds.{WorldState, interface_at, no_interface}
 use Rattle.fr_interface.specs.declared.call.Call.{Call}

@@ -1,7 +1,7 @@
 -- The calls of one task among those of a run: the lines of its script, in their order.
-use Rattle.std.proofs.Common.{◌≡◌, ◌<◌, ℕ, zero, suc, ◌+◌, Bool, true, false, cond, ◌&&◌, ◌||◌, List, [], ◌∷◌, ◌++◌}
+use Rattle.std.proofs.Common.{◌≡◌, ℕ, zero, suc, ◌+◌, Bool, true, false, cond, ◌&&◌, ◌||◌, List, [], ◌∷◌, ◌++◌}
 use Rattle.std.proofs.Common.{map, refl, sym, ap, ap₂, subst, ◌∙◌, append-nil, arith}
-use Rattle.std.specs.Prelude.{◌==◌, nat_lt, filter}
+use Rattle.std.specs.Prelude.{◌==◌, filter}
 use Rattle.std.specs.List.{flat_map, range_with_len, list_any, list_all}
 use Rattle.std.proofs.lemmas.Bool.{eq-eqb, eqb-true}
 use Rattle.std.proofs.lemmas.Grind.{flat_map-append}
@@ -48,12 +48,14 @@ module _ (n task : ℕ) where
   of_script lines cycle = flat_map (asked_in_line cycle n task) lines
 
   line_at : (cycle : ℕ) (line : Line) (rest : List Line) (b : Bool) → (line.cycle == cycle) ≡ b
-      → cond b (asked_as n task cycle line ∷ []) [] ++ map (ask n task) rest ≡ map (ask n task) (cond b (line ∷ rest) rest)
+      → cond b (asked_as n task cycle line ∷ []) [] ++ map (ask n task) rest
+      ≡ map (ask n task) (cond b (line ∷ rest) rest)
   line_at cycle line rest true is =
       ap (λ (k : ℕ). asked_as n task k line ∷ map (ask n task) rest) (sym (eqb-true line.cycle cycle is))
   line_at cycle line rest false is = refl
 
-  lines_at : (cycle : ℕ) (lines : List Line) → of_script lines cycle ≡ map (ask n task) (filter (is_at cycle_of cycle) lines)
+  lines_at : (cycle : ℕ) (lines : List Line) → of_script lines cycle ≡ map (ask n task) (filter (is_at cycle_of cycle)
+      lines)
   lines_at cycle [] = refl
   lines_at cycle (line ∷ lines) =
       ap (λ (l : List Asked). asked_in_line cycle n task line ++ l) (lines_at cycle lines)
@@ -63,7 +65,8 @@ module _ (n task : ℕ) where
   IsUpTo lines count = flat_map (of_script lines) (range_with_len 0 count)
       ≡ map (ask n task) (filter (is_below cycle_of count) lines)
 
-  up_to_next : (lines : List Line) → Rises cycle_of 0 lines → (count : ℕ) → IsUpTo lines count → IsUpTo lines (count + 1)
+  up_to_next : (lines : List Line) → Rises cycle_of 0 lines → (count : ℕ) → IsUpTo lines count
+      → IsUpTo lines (count + 1)
   up_to_next lines rises count so_far =
       let place : 0 + count ≡ count = omega arith in
       ap (flat_map (of_script lines)) (range-more 0 count)
@@ -80,7 +83,8 @@ module _ (n task : ℕ) where
 
   -- ---- the scripts
 
-  mine_line : (cycle : ℕ) (line : Line) (b : Bool) → filter (is_mine n task) (cond b (asked_as n task cycle line ∷ []) [])
+  mine_line : (cycle : ℕ) (line : Line) (b : Bool) → filter (is_mine n task) (cond b (asked_as n task cycle line ∷ [])
+      [])
       ≡ cond b (asked_as n task cycle line ∷ []) []
   mine_line cycle line true =
       ap (λ (b : Bool). cond b (asked_as n task cycle line ∷ []) [])

@@ -1,8 +1,8 @@
 -- The calls of a cycle: each is its task's next line, and comes before the first window of its cycle.
-use Rattle.std.proofs.Common.{◌≡◌, ◌<◌, ℕ, zero, suc, ◌+◌, Bool, true, false, cond, ◌&&◌, List, [], ◌∷◌, ◌++◌, length, map}
-use Rattle.std.proofs.Common.{Option, Some, None, refl, sym, ap, ap₂, subst, ◌∙◌, inl, inr, arith, append_assoc, append-nil}
-use Rattle.std.proofs.Common.{take, get_or, set, length-append, slice_get, Ok}
-use Rattle.std.specs.Prelude.{◌==◌, count_by, IfSome, filter}
+use Rattle.std.proofs.Common.{◌≡◌, ◌<◌, ℕ, ◌+◌, Bool, true, false, cond, ◌&&◌, List, [], ◌∷◌, ◌++◌, length, map}
+use Rattle.std.proofs.Common.{Option, None, refl, sym, ap, ap₂, subst, ◌∙◌, inl, inr, arith, append_assoc, append-nil}
+use Rattle.std.proofs.Common.{take, get_or, set, slice_get}
+use Rattle.std.specs.Prelude.{◌==◌, count_by, IfSome}
 use Rattle.std.specs.List.{flat_map}
 use Rattle.std.proofs.lemmas.Bool.{eq-eqb, ne_eqb}
 use Rattle.std.proofs.lemmas.Bool.Decides.{eqb_tells}
@@ -12,20 +12,20 @@ use Rattle.fr_bus.specs.Record.{Recorded}
 use Rattle.fr_bus.specs.Windows.{cycles_begun}
 use Rattle.fr_core.specs.Agreeing.{offers_of}
 use Rattle.fr_core.specs.Agreement.{ahead, AgreesAt, view_for, IsWorld}
-use Rattle.fr_core.specs.Carried.{Carried, Idle}
+use Rattle.fr_core.specs.Carried.{Carried}
 use Rattle.fr_core.specs.declared.event.Event.{Event}
 use Rattle.fr_core.specs.declared.script.Line.{Line}
 use Rattle.fr_core.specs.Scripts.{Scripted}
-use Rattle.fr_core.specs.Steps.{event_of, step_done, step_refusal, with_interface}
+use Rattle.fr_core.specs.Steps.{event_of, step_refusal, with_interface}
 use Rattle.fr_core.specs.Worlds.{WorldState, interface_at, carried_at, no_interface}
 use Rattle.fr_interface.specs.declared.call.Call.{Call}
 use Rattle.fr_interface.specs.State.{State, with_entry}
 use Rattle.fr_journal.specs.Forms.{Entry}
 use Rattle.fr_playing.proofs.AnswerLemmas.{AreTold, told_next}
 use Rattle.fr_playing.proofs.AskedLemmas.{is_mine, mine}
-use Rattle.fr_playing.proofs.EntryLemmas.{call_by, calls_by, calls_more, as_many_calls, as_many_fetches, host_entry}
-use Rattle.fr_playing.proofs.EntryLemmas.{host_done, host_there, host_task, host_call_by, no_call}
-use Rattle.fr_playing.proofs.EventLemmas.{IsKept, AreBalanced, balanced_host, unobserved}
+use Rattle.fr_playing.proofs.EntryLemmas.{calls_by, calls_more, as_many_calls, as_many_fetches, host_entry}
+use Rattle.fr_playing.proofs.EntryLemmas.{host_done, host_there, host_task, host_call_by}
+use Rattle.fr_playing.proofs.EventLemmas.{IsKept, balanced_host, unobserved}
 use Rattle.fr_playing.proofs.PassLemmas.{IsSound, world_done}
 use Rattle.fr_playing.proofs.ScriptLemmas.{IsGiven, line_of}
 use Rattle.fr_playing.proofs.WindowLemmas.{IsFresh}
@@ -33,7 +33,7 @@ use Rattle.fr_playing.specs.Calls.{Asked, asked_of, asked_in, asked_in_line, ask
 use Rattle.fr_playing.specs.declared.call.ExecutedCall.{ExecutedCall}
 use Rattle.fr_playing.specs.Playing.{asked_by}
 use Rattle.fr_runs.specs.Refusing.{EachScriptSuits}
-use Rattle.fr_runs.specs.Stepping.{is_fetch, is_observe, is_by, is_beginning, task_of, lines_given, IsInStep, IsInTurn}
+use Rattle.fr_runs.specs.Stepping.{is_fetch, is_observe, is_by, is_beginning, lines_given, IsInStep, IsInTurn}
 use Rattle.fr_schedule.specs.Descriptions.{Description}
 use Rattle.fr_slots.proofs.HistoryLemmas.{AllAfter-snoc}
 use Rattle.fr_slots.specs.History.{AllAfter}
@@ -162,7 +162,8 @@ module _ (d : Description) (scripts : List Scripted) (record_of : List Recorded)
       (begun : cycles_begun (take (length start.bus.sealed) record_of) ≡ cycle)
       (begins : is_beginning (slice_get record_of (length start.bus.sealed)) ≡ true) where
     -- an idle node has fetched and observed each window of the record
-    as_many : (before : List ExecutedCall) (w : WorldState) → IsCalled before start w → (n : ℕ) → n < length w.interfaces
+    as_many : (before : List ExecutedCall) (w : WorldState) → IsCalled before start w → (n : ℕ)
+        → n < length w.interfaces
         → (count_by is_fetch (interface_at w n).entries ≡ length start.bus.sealed)
         × (count_by is_observe (interface_at w n).entries ≡ count_by is_fetch (interface_at w n).entries)
     as_many before w called n within =
@@ -211,7 +212,8 @@ module _ (d : Description) (scripts : List Scripted) (record_of : List Recorded)
       in_step =
           let counts = as_many before w called n within in
           record {
-            cycle_is = ap (λ (k : ℕ). cycles_begun (take k record_of)) counts.0 ∙ begun ∙ sym of_cycle ∙ sym given.cycle_is;
+            cycle_is = ap (λ (k : ℕ). cycles_begun (take k record_of)) counts.0 ∙ begun ∙ sym of_cycle
+                ∙ sym given.cycle_is;
             beginning = ap (λ (k : ℕ). is_beginning (slice_get record_of k)) counts.0 ∙ begins;
             observed = counts.1;
           }
@@ -237,7 +239,8 @@ module _ (d : Description) (scripts : List Scripted) (record_of : List Recorded)
                 (AllAfter-snoc (IsInTurn record_of scripts n) here.entries entry (called.in_turn n) turn))
             | inr other ↦
                 subst (λ (s : State). AllAfter (IsInTurn record_of scripts m) [] s.entries)
-                (sym (get_or-set_other w.interfaces n m (with_entry here entry) no_interface other.1)) (called.in_turn m)
+                (sym (get_or-set_other w.interfaces n m (with_entry here entry) no_interface other.1)) (called.in_turn
+                m)
           ]
 
       mine_own : (task : ℕ) → cond (call.node == n && call.task == task) (call.call ∷ []) []
@@ -259,7 +262,8 @@ module _ (d : Description) (scripts : List Scripted) (record_of : List Recorded)
       made_next m task =
           elim (eqb_tells m n) [
             | inl own ↦
-                subst (λ (k : ℕ). calls_by task (get_or (set w.interfaces n (with_entry here entry)) k no_interface).entries
+                subst (λ (k : ℕ). calls_by task (get_or (set w.interfaces n (with_entry here entry)) k
+                no_interface).entries
                 ≡ map action_of (mine k task (map asked_of (before ++ call ∷ [])))) (sym own.1)
                 (ap (λ (s : State). calls_by task s.entries) own_is ∙ made_own task)
             | inr other ↦

@@ -1,6 +1,6 @@
 -- The cycles of a single-threaded run: the properties of the world after each.
-use Rattle.std.proofs.Common.{◌≡◌, ◌<◌, ℕ, zero, suc, ◌+◌, Bool, true, false, cond, List, [], ◌∷◌, ◌++◌, length, map}
-use Rattle.std.proofs.Common.{take, get_or, replicate, Option, Some, None, refl, sym, ap, subst, ◌∙◌, arith, append_assoc}
+use Rattle.std.proofs.Common.{◌≡◌, ℕ, zero, suc, ◌+◌, Bool, true, false, cond, List, [], ◌∷◌, ◌++◌, length, map}
+use Rattle.std.proofs.Common.{take, get_or, replicate, Some, None, refl, sym, ap, subst, ◌∙◌, arith, append_assoc}
 use Rattle.std.proofs.Common.{append-nil, slice_get}
 use Rattle.std.specs.Prelude.{nat_lt, count_by, ◌%◌}
 use Rattle.fr_bus.specs.Record.{Recorded, side_on}
@@ -14,7 +14,8 @@ use Rattle.fr_core.specs.Worlds.{WorldState, interface_at, carried_at, no_interf
 use Rattle.fr_interface.specs.declared.call.Call.{Call}
 use Rattle.fr_interface.specs.State.{State}
 use Rattle.fr_journal.specs.Forms.{Entry}
-use Rattle.fr_playing.proofs.CallLemmas.{AreOf, of_cycle, AreMade, AreInTurn, turn_kept, IsCalled, calls_made, action_of, IsReady}
+use Rattle.fr_playing.proofs.CallLemmas.{AreOf, of_cycle, AreMade, AreInTurn, turn_kept, IsCalled, calls_made}
+use Rattle.fr_playing.proofs.CallLemmas.{action_of, IsReady}
 use Rattle.fr_playing.proofs.CallLemmas.{calls_ready}
 use Rattle.fr_core.specs.Scripts.{call_at}
 use Rattle.fr_playing.proofs.AnswerLemmas.{longer, Tells, AreTold, told_kept}
@@ -25,11 +26,10 @@ use Rattle.fr_playing.proofs.EventLemmas.{AreBalanced, IsBalanced, IsKept}
 use Rattle.fr_playing.proofs.PassLemmas.{IsSound}
 use Rattle.fr_playing.proofs.StageLemmas.{AreFaulted, Stands, Passed, windows_passed, windows_keep}
 use Rattle.fr_playing.proofs.WindowLemmas.{IsFresh}
-use Rattle.fr_playing.specs.Calls.{Asked, asked_of, asked_in, DoesCalls}
+use Rattle.fr_playing.specs.Calls.{asked_of}
 use Rattle.fr_playing.specs.declared.call.ExecutedCall.{ExecutedCall}
 use Rattle.fr_playing.specs.Moving.{is_at_cycle, whole_window}
 use Rattle.fr_playing.specs.Playing.{PlaysCycle, PlaysCycles, asked_by}
-use Rattle.fr_playing.specs.Windows.{PlaysWindows}
 use Rattle.fr_runs.specs.declared.fault_line.FaultLine.{FaultLine}
 use Rattle.fr_runs.specs.Refusing.{EachScriptSuits}
 use Rattle.fr_runs.specs.Stepping.{is_beginning, is_fetch, is_observe, IsInTurn}
@@ -63,7 +63,8 @@ front (x ∷ xs) ys = ap (λ (l : List _). x ∷ l) (front xs ys)
 balanced_empty : (s : State) (c : Carried) → s.entries ≡ [] → c ≡ Idle → IsBalanced s c
 balanced_empty s c none idle =
     subst (IsBalanced s) (sym idle)
-    (ap (λ (es : List Entry). count_by is_observe es + 0) none ∙ ap (λ (es : List Entry). count_by is_fetch es) (sym none))
+    (ap (λ (es : List Entry). count_by is_observe es + 0) none ∙ ap (λ (es : List Entry). count_by is_fetch es) (sym
+    none))
 
 module _ (d : Description) (scripts : List Scripted) (lines : List FaultLine) (cycles : ℕ)
     (suits : EachScriptSuits d cycles scripts) where
@@ -224,7 +225,8 @@ module _ (d : Description) (scripts : List Scripted) (lines : List FaultLine) (c
     made = λ m task. ap (calls_by task) (opening_entries d.params d.plans m);
     told = λ m task more. ap (each_after (call_at (longer (interface_at (opening_world d cycles) m) more) task) [])
         (opening_entries d.params d.plans m);
-    in_turn = λ rs more goes m. subst (AllAfter (IsInTurn rs scripts m) []) (sym (opening_entries d.params d.plans m)) tt;
+    in_turn = λ rs more goes m. subst (AllAfter (IsInTurn rs scripts m) []) (sym (opening_entries d.params d.plans m))
+        tt;
   }
 
   -- ---- all cycles
@@ -250,7 +252,8 @@ module _ (d : Description) (scripts : List Scripted) (lines : List FaultLine) (c
       ap (λ (l : List ExecutedCall). map asked_of (l ++ later)) (sym are) ∙ all in
       let split : map asked_of (before ++ (new_calls ++ later)) ≡ asked_by cycles scripts =
       ap (map asked_of) (sym (append_assoc before new_calls later)) ∙ whole in
-      let stage : IsStage d scripts lines count before mid = stage_after count before (new_calls ++ later) mid split so_far in
+      let stage : IsStage d scripts lines count before mid = stage_after count before (new_calls ++ later) mid split
+      so_far in
       subst (λ (k : ℕ). IsStage d scripts lines k calls w) next
       (subst (λ (l : List ExecutedCall). IsStage d scripts lines (count + 1) l w) (sym are)
       (next_stage count before new_calls later mid w whole stage cycle

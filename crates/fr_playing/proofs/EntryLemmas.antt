@@ -1,13 +1,13 @@
 -- The entries of host calls and of slots in journals.
-use Rattle.std.proofs.Common.{◌≡◌, ◌<◌, ℕ, zero, suc, ◌+◌, Bool, true, false, cond, List, [], ◌∷◌, ◌++◌, length, map}
-use Rattle.std.proofs.Common.{Option, Some, None, refl, sym, ap, ap₂, subst, ◌∙◌, append-nil, arith, length-append}
-use Rattle.std.specs.Prelude.{◌==◌, count_by, option_to_list, option_map}
+use Rattle.std.proofs.Common.{◌≡◌, ◌<◌, ℕ, ◌+◌, Bool, true, false, cond, List, [], ◌∷◌, ◌++◌, length, map}
+use Rattle.std.proofs.Common.{Option, Some, None, refl, ap, ap₂, ◌∙◌, append-nil, arith, length-append}
+use Rattle.std.specs.Prelude.{◌==◌, count_by, option_to_list}
 use Rattle.std.specs.List.{flat_map}
 use Rattle.std.proofs.lemmas.Bool.{ltb-true}
 use Rattle.std.proofs.lemmas.Grind.{flat_map-append}
 use Rattle.std.proofs.lemmas.List.{map-append}
 use Rattle.std.proofs.lemmas.List.Sums.{sum_by-append, sum_by_push}
-use Rattle.fr_core.specs.Agreeing.{Handed, handed_at, fetched}
+use Rattle.fr_core.specs.Agreeing.{handed_at, fetched}
 use Rattle.fr_core.specs.declared.error.StepError.{StepError}
 use Rattle.fr_core.specs.declared.error.StepError.TheVariants.{UnknownNode}
 use Rattle.fr_core.specs.Scripts.{Executed, call_in, call_at, calls_of}
@@ -95,7 +95,8 @@ calls_after : (s : State) (task : ℕ) (before entries : List Entry)
 unfolding each_after
 calls_after s task before [] = refl
 calls_after s task before (e ∷ entries) =
-    map-append (λ (x : Executed). x.0) (call_at s task before e) (each_after (call_at s task) (before ++ e ∷ []) entries)
+    map-append (λ (x : Executed). x.0) (call_at s task before e) (each_after (call_at s task) (before ++ e ∷ [])
+    entries)
     ∙ ap₂ (λ (a : List Call) (b : List Call). a ++ b) (call_taken s task (length before) e)
     (calls_after s task (before ++ e ∷ []) entries)
 

@@ -1,27 +1,24 @@
 -- The effect of a slot's event on each node: its journal, and the entries that its controller has still to make.
-use Rattle.std.proofs.Common.{◌≡◌, ◌≢◌, ◌<◌, ℕ, zero, suc, ◌+◌, Bool, true, false, cond, List, [], ◌∷◌, ◌++◌, length}
-use Rattle.std.proofs.Common.{Option, Some, None, refl, sym, ap, ap₂, subst, ◌∙◌, ◌⊎◌, inl, inr, arith, get_or, set}
-use Rattle.std.specs.Prelude.{count_by, Result, Ok, Err}
+use Rattle.std.proofs.Common.{◌≡◌, ◌<◌, ℕ, zero, suc, ◌+◌, Bool, true, false, cond, List, [], ◌∷◌, length}
+use Rattle.std.proofs.Common.{Option, Some, None, refl, sym, ap, subst, ◌∙◌, ◌⊎◌, inl, inr, arith, get_or, set}
+use Rattle.std.specs.Prelude.{count_by}
 use Rattle.std.proofs.lemmas.Bool.Decides.{eqb_tells}
 use Rattle.std.proofs.lemmas.List.{get_or-set_same, get_or-set_other, set-get_or}
 use Rattle.fr_bus.specs.States.{collecting_of}
-use Rattle.fr_core.proofs.WorldLemmas.{kept_step}
-use Rattle.fr_core.specs.Agreement.{IsWorld}
 use Rattle.fr_core.specs.Carried.{Carried, Idle, Knows, Offers, Waits, Took}
 use Rattle.fr_core.specs.declared.error.StepError.{StepError}
 use Rattle.fr_core.specs.declared.event.Event.{Event}
 use Rattle.fr_core.specs.declared.event.Event.TheVariants.{Commit, Withdraw, Read, Pop, Look, Fetch, Put, Take}
 use Rattle.fr_core.specs.declared.event.Event.TheVariants.{Observe, Inject, Seal, Advance}
-use Rattle.fr_core.specs.declared.event.Reply.{Reply}
-use Rattle.fr_core.specs.Steps.{Steps, step_done, step_refusal, if_node, with_interface, with_carried, with_bus, looked}
-use Rattle.fr_core.specs.Steps.{fetched, put_on_bus, taken, observed, look_in_turn, fetch_in_turn, put_in_turn}
-use Rattle.fr_core.specs.Steps.{take_in_turn, observe_in_turn, offer_of, event_of}
+use Rattle.fr_core.specs.Steps.{step_done, step_refusal, with_interface, with_carried, looked}
+use Rattle.fr_core.specs.Steps.{fetched, put_on_bus, taken, observed, look_in_turn}
+use Rattle.fr_core.specs.Steps.{offer_of}
 use Rattle.fr_core.specs.Worlds.{WorldState, interface_at, carried_at, no_interface}
 use Rattle.fr_interface.specs.declared.call.Call.{Call}
 use Rattle.fr_interface.specs.State.{State, with_entry, fetch_entry}
 use Rattle.fr_journal.specs.Forms.{Entry}
 use Rattle.fr_journal.specs.declared.entry.Entry.TheVariants as entries
-use Rattle.fr_playing.proofs.EntryLemmas.{fetches_more, observes_more, host_entry, host_done, host_there, is_there}
+use Rattle.fr_playing.proofs.EntryLemmas.{fetches_more, observes_more, host_entry, is_there}
 use Rattle.fr_playing.proofs.EntryLemmas.{host_no_fetch, host_no_observe}
 use Rattle.fr_runs.specs.Stepping.{is_fetch, is_observe, task_of}
 use Rattle.fr_slots.specs.Windows.{Opportunity}
@@ -98,7 +95,8 @@ taken_on w n (Offers window offer) m = inl refl
 taken_on w n (Waits window) m = inl refl
 taken_on w n (Took window a b) m = inl refl
 
-observed_on : (w : WorldState) (n : ℕ) (c : Carried) (m : ℕ) → GoesOn (interface_at w m) (interface_at (observed w n c) m)
+observed_on : (w : WorldState) (n : ℕ) (c : Carried) (m : ℕ) → GoesOn (interface_at w m) (interface_at (observed w n
+    c) m)
 observed_on w n Idle m = inl refl
 observed_on w n (Knows window) m = inl refl
 observed_on w n (Offers window offer) m = inl refl
@@ -156,7 +154,8 @@ module _ (w : WorldState) (few : length w.interfaces ≡ length w.carried) (all 
   balanced_node i c here m =
       elim (eqb_tells m n) [
         | inl own ↦
-            subst (λ (k : ℕ). IsBalanced (get_or (set w.interfaces n i) k no_interface) (get_or (set w.carried n c) k Idle))
+            subst (λ (k : ℕ). IsBalanced (get_or (set w.interfaces n i) k no_interface) (get_or (set w.carried n c) k
+            Idle))
             (sym own.1)
             (balanced_at (get_or-set_same w.interfaces n i no_interface within)
             (get_or-set_same w.carried n c Idle (omega (arith, few, within))) here)

@@ -1,8 +1,8 @@
 -- The faults of the open window: those of fault lines, one after another.
-use Rattle.std.proofs.Common.{◌≡◌, ◌≢◌, ◌<◌, ℕ, zero, suc, ◌+◌, Bool, true, false, cond, not, ◌&&◌, ◌||◌, List, [], ◌∷◌}
-use Rattle.std.proofs.Common.{◌++◌, length, Option, Some, None, refl, sym, ap, ap₂, subst, ◌∙◌, arith, get_or, set, inl, inr}
-use Rattle.std.specs.Prelude.{◌==◌, is_some, option_map, Result, Ok, Err}
-use Rattle.std.specs.List.{flat_map, list_any}
+use Rattle.std.proofs.Common.{◌≡◌, ◌≢◌, ◌<◌, ℕ, Bool, true, false, cond, not, ◌&&◌, ◌||◌, List, [], ◌∷◌}
+use Rattle.std.proofs.Common.{length, Option, Some, None, refl, sym, ap, ap₂, subst, ◌∙◌, get_or, set, inl, inr}
+use Rattle.std.specs.Prelude.{◌==◌, is_some, option_map}
+use Rattle.std.specs.List.{flat_map}
 use Rattle.std.specs.Option.{option_or}
 use Rattle.std.proofs.lemmas.Bool.{eq-eqb, ne_eqb, ltb-true}
 use Rattle.std.proofs.lemmas.Bool.Decides.{eqb_tells}
@@ -12,17 +12,13 @@ use Rattle.fr_bus.specs.declared.error.BusError.{BusError}
 use Rattle.fr_bus.specs.declared.error.BusError.TheVariants.{UnknownNode, NotCollecting, TooManyFaults}
 use Rattle.fr_bus.specs.declared.fault.Fault.{Fault}
 use Rattle.fr_bus.specs.declared.fault.Fault.TheVariants.{Babble, Mute, Corrupt}
-use Rattle.fr_bus.specs.declared.station.Side.{Side}
-use Rattle.fr_bus.specs.Record.{Recorded, side_on}
-use Rattle.fr_bus.specs.States.{BusState, collects, corrupt_in, station_at, with_station, idle_station, babbling, muting}
+use Rattle.fr_bus.specs.Record.{side_on}
+use Rattle.fr_bus.specs.States.{BusState, collects, corrupt_in, station_at, idle_station, babbling, muting}
 use Rattle.fr_bus.specs.States.{is_node, has_fault, inject_refusal, inject_done}
 use Rattle.fr_bus.specs.Stations.{Station}
-use Rattle.fr_core.specs.declared.error.StepError.{StepError}
 use Rattle.fr_core.specs.declared.error.StepError.TheVariants.{Bus}
-use Rattle.fr_core.specs.declared.event.Event.{Event}
 use Rattle.fr_core.specs.declared.event.Event.TheVariants.{Inject}
-use Rattle.fr_core.specs.declared.event.Reply.{Reply}
-use Rattle.fr_core.specs.Steps.{Steps, step_done}
+use Rattle.fr_core.specs.Steps.{step_done}
 use Rattle.fr_core.specs.Worlds.{WorldState}
 use Rattle.fr_playing.specs.Striking.{Passes, strike_events}
 use Rattle.fr_playing.proofs.PassLemmas.{IsSplit, passes_split}
@@ -50,7 +46,8 @@ pub record IsStruck (bit : Channel → Option ℕ) (babble : ℕ → Channel →
   pub same_record : c.sealed ≡ b.sealed
   pub same_window : c.opened ≡ b.opened
   pub bits : (channel : Channel) → corrupt_in c channel ≡ option_or (corrupt_in b channel) (bit channel)
-  pub babbles : (n : ℕ) (channel : Channel) → babble_at c n channel ≡ option_or (babble_at b n channel) (babble n channel)
+  pub babbles : (n : ℕ) (channel : Channel) → babble_at c n channel ≡ option_or (babble_at b n channel) (babble n
+      channel)
   pub mutes : (n : ℕ) (channel : Channel) → mute_at c n channel ≡ (mute_at b n channel || loss n channel)
 
 or_none : {X : Type 0} (o : Option X) → option_or o None ≡ o
@@ -69,7 +66,8 @@ not_equal : (m n : ℕ) → m ≢ n → (m == n) ≡ false
 not_equal m n other = ne_eqb m n (λ same. other same)
 
 if_free : (known collecting more : Bool) (e f g : BusError)
-    → ◌≡◌ {A = Option BusError} (cond (not known) (Some e) (cond (not collecting) (Some f) (cond more (Some g) None))) None
+    → ◌≡◌ {A = Option BusError} (cond (not known) (Some e) (cond (not collecting) (Some f) (cond more (Some g) None)))
+    None
     → (known ≡ true) × (more ≡ false)
 if_free true true false e f g free = (refl, refl)
 if_free true true true e f g free = absurd (let none : ⊥ = cc in none)
@@ -96,7 +94,8 @@ module _ (bytes : ArrayVec ℕ) where
   here_babbles B A s none = sym (or_none s.a.babble)
   here_babbles B B s none = first_value s.b.babble bytes none
 
-  babble_mutes : (on channel : Channel) (s : Station) → (side_on channel (babbling on bytes s)).mute ≡ (side_on channel s).mute
+  babble_mutes : (on channel : Channel) (s : Station) → (side_on channel (babbling on bytes s)).mute
+      ≡ (side_on channel s).mute
   babble_mutes A A s = refl
   babble_mutes A B s = refl
   babble_mutes B A s = refl
@@ -114,7 +113,8 @@ module _ (bytes : ArrayVec ℕ) where
         elim (eqb_tells n of) [
           | inl own ↦
               ap (λ (m : ℕ). (side_on channel (get_or (set b.stations of babbled) m idle_station)).babble) own.1
-              ∙ ap (λ (s : Station). (side_on channel s).babble) (get_or-set_same b.stations of babbled idle_station within)
+              ∙ ap (λ (s : Station). (side_on channel s).babble) (get_or-set_same b.stations of babbled idle_station
+              within)
               ∙ here_babbles on channel (station_at b of) none
               ∙ ap₂ (λ (m : ℕ) (t : Bool). option_or (babble_at b m channel)
               (cond (t && is_channel on channel) (Some bytes) None)) (sym own.1) (sym (eq-eqb of n (sym own.1)))
@@ -122,7 +122,8 @@ module _ (bytes : ArrayVec ℕ) where
               ap (λ (s : Station). (side_on channel s).babble)
               (get_or-set_other b.stations of n babbled idle_station other.1)
               ∙ sym (or_none (babble_at b n channel))
-              ∙ ap (λ (t : Bool). option_or (babble_at b n channel) (cond (t && is_channel on channel) (Some bytes) None))
+              ∙ ap (λ (t : Bool). option_or (babble_at b n channel) (cond (t && is_channel on channel) (Some bytes)
+              None))
               (sym (not_equal of n (λ same. other.1 (sym same))))
         ]
 
@@ -132,7 +133,8 @@ module _ (bytes : ArrayVec ℕ) where
         elim (eqb_tells n of) [
           | inl own ↦
               ap (λ (m : ℕ). (side_on channel (get_or (set b.stations of babbled) m idle_station)).mute) own.1
-              ∙ ap (λ (s : Station). (side_on channel s).mute) (get_or-set_same b.stations of babbled idle_station within)
+              ∙ ap (λ (s : Station). (side_on channel s).mute) (get_or-set_same b.stations of babbled idle_station
+              within)
               ∙ babble_mutes on channel (station_at b of)
               ∙ ap (λ (m : ℕ). mute_at b m channel) (sym own.1)
           | inr other ↦
@@ -149,7 +151,8 @@ here_mutes A B s = sym (or_false s.b.mute)
 here_mutes B A s = sym (or_false s.a.mute)
 here_mutes B B s = sym (or_true s.b.mute)
 
-mute_babbles : (on channel : Channel) (s : Station) → (side_on channel (muting on s)).babble ≡ (side_on channel s).babble
+mute_babbles : (on channel : Channel) (s : Station) → (side_on channel (muting on s)).babble
+    ≡ (side_on channel s).babble
 mute_babbles A A s = refl
 mute_babbles A B s = refl
 mute_babbles B A s = refl
@@ -201,7 +204,8 @@ IsStruckBy fault b c =
 
 pub injected : (b : BusState) (fault : Fault) → inject_refusal b fault ≡ None → IsStruckBy fault b (inject_done b fault)
 injected b (Babble of on bytes) free =
-    let tests = if_free (is_node b of) (collects b.phase) (has_fault b (Babble of on bytes)) UnknownNode NotCollecting TooManyFaults free in
+    let tests = if_free (is_node b of) (collects b.phase) (has_fault b (Babble of on bytes)) UnknownNode NotCollecting
+    TooManyFaults free in
     let within : of < length b.stations = ltb-true of (length b.stations) tests.0 in
     record {
       same_record = refl;
@@ -216,7 +220,8 @@ injected b (Babble of on bytes) free =
     same_bits A = sym (or_none b.corrupt_a)
     same_bits B = sym (or_none b.corrupt_b)
 injected b (Mute of on) free =
-    let tests = if_free (is_node b of) (collects b.phase) (has_fault b (Mute of on)) UnknownNode NotCollecting TooManyFaults free in
+    let tests = if_free (is_node b of) (collects b.phase) (has_fault b (Mute of on)) UnknownNode NotCollecting
+    TooManyFaults free in
     let within : of < length b.stations = ltb-true of (length b.stations) tests.0 in
     record {
       same_record = refl;
@@ -241,7 +246,8 @@ injected b (Corrupt A bit) free =
   where
     new_bits : (channel : Channel) → corrupt_in (inject_done b (Corrupt A bit)) channel
         ≡ option_or (corrupt_in b channel) (bit_turned channel (Corrupt A bit))
-    new_bits A = first_value b.corrupt_a bit (if_free true (collects b.phase) (has_fault b (Corrupt A bit)) UnknownNode NotCollecting TooManyFaults free).1
+    new_bits A = first_value b.corrupt_a bit (if_free true (collects b.phase) (has_fault b (Corrupt A bit))
+        UnknownNode NotCollecting TooManyFaults free).1
     new_bits B = sym (or_none b.corrupt_b)
 injected b (Corrupt B bit) free =
     record {
@@ -255,7 +261,8 @@ injected b (Corrupt B bit) free =
     new_bits : (channel : Channel) → corrupt_in (inject_done b (Corrupt B bit)) channel
         ≡ option_or (corrupt_in b channel) (bit_turned channel (Corrupt B bit))
     new_bits A = sym (or_none b.corrupt_a)
-    new_bits B = first_value b.corrupt_b bit (if_free true (collects b.phase) (has_fault b (Corrupt B bit)) UnknownNode NotCollecting TooManyFaults free).1
+    new_bits B = first_value b.corrupt_b bit (if_free true (collects b.phase) (has_fault b (Corrupt B bit))
+        UnknownNode NotCollecting TooManyFaults free).1
 
 -- ---- the faults of lines
 
@@ -285,13 +292,15 @@ module _ (bit bit' : Channel → Option ℕ) (babble babble' : ℕ → Channel �
     (loss loss' : ℕ → Channel → Bool) where
   struck_both : (b c d : BusState) → IsStruck bit babble loss b c → IsStruck bit' babble' loss' c d
       → IsStruck (λ channel. option_or (bit channel) (bit' channel))
-      (λ n channel. option_or (babble n channel) (babble' n channel)) (λ n channel. loss n channel || loss' n channel) b d
+      (λ n channel. option_or (babble n channel) (babble' n channel)) (λ n channel. loss n channel || loss' n channel)
+      b d
   struck_both b c d first second = record {
     same_record = second.same_record ∙ first.same_record;
     same_window = second.same_window ∙ first.same_window;
     bits = λ channel. second.bits channel ∙ ap (λ o. option_or o (bit' channel)) (first.bits channel)
         ∙ or_assoc (corrupt_in b channel) (bit channel) (bit' channel);
-    babbles = λ n channel. second.babbles n channel ∙ ap (λ o. option_or o (babble' n channel)) (first.babbles n channel)
+    babbles = λ n channel. second.babbles n channel ∙ ap (λ o. option_or o (babble' n channel)) (first.babbles n
+        channel)
         ∙ or_assoc (babble_at b n channel) (babble n channel) (babble' n channel);
     mutes = λ n channel. second.mutes n channel ∙ ap (λ p. p || loss' n channel) (first.mutes n channel)
         ∙ any_assoc (mute_at b n channel) (loss n channel) (loss' n channel);

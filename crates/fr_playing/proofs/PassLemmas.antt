@@ -1,5 +1,5 @@
 -- Accepted events, cut in two, and what each of them keeps.
-use Rattle.std.proofs.Common.{◌≡◌, ℕ, Bool, true, false, ◌&&◌, List, [], ◌∷◌, ◌++◌, length, Ok, None, refl, sym, ap, subst}
+use Rattle.std.proofs.Common.{◌≡◌, ℕ, Bool, true, List, [], ◌∷◌, ◌++◌, length, Ok, None, refl, sym, ap, subst}
 use Rattle.std.proofs.Common.{◌∙◌}
 use Rattle.std.specs.List.{list_all}
 use Rattle.std.proofs.lemmas.List.{length-map}
@@ -9,8 +9,7 @@ use Rattle.fr_core.proofs.WorldLemmas.{kept_step}
 use Rattle.fr_core.specs.Runs.{StepsAll}
 use Rattle.fr_core.specs.Agreement.{IsWorld}
 use Rattle.fr_core.specs.declared.event.Event.{Event}
-use Rattle.fr_core.specs.declared.event.Reply.{Reply}
-use Rattle.fr_core.specs.Steps.{Steps, step_done, step_refusal, step_reply}
+use Rattle.fr_core.specs.Steps.{step_done, step_refusal, step_reply}
 use Rattle.fr_core.specs.Worlds.{WorldState, interface_at, new_interface, without_entries}
 use Rattle.fr_interface.specs.State.{State}
 use Rattle.fr_playing.specs.Striking.{Passes}
@@ -45,7 +44,8 @@ passes_event old event new passes =
 
 -- what the first event keeps, and then the others
 pub passes_keep : (P : WorldState → Type 0) (is_one : Event → Bool)
-    → ((w : WorldState) (event : Event) → is_one event ≡ true → step_refusal w event ≡ None → P w → P (step_done w event))
+    → ((w : WorldState) (event : Event) → is_one event ≡ true → step_refusal w event ≡ None → P w
+    → P (step_done w event))
     → (old : WorldState) (events : List Event) (new : WorldState) → list_all is_one events ≡ true
     → Passes old events new → P old → P new
 unfolding Passes
@@ -67,7 +67,8 @@ slots_keep Q keeps old events new all passes q =
     (done_on w event of_slot m) (before m))
     old events new all passes q
 
-pub world_done : (w : WorldState) (event : Event) → step_refusal w event ≡ None → IsWorld w → IsWorld (step_done w event)
+pub world_done : (w : WorldState) (event : Event) → step_refusal w event ≡ None → IsWorld w
+    → IsWorld (step_done w event)
 world_done w event free world = kept_step w event (Ok (step_reply w event)) (step_done w event)
     (free, refl, refl) world
 

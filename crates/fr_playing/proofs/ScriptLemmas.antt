@@ -1,7 +1,7 @@
 -- The scripts of an accepted run: one for each task, with lines that rise and are of cycles of the run.
-use Rattle.std.proofs.Common.{◌≡◌, ◌<◌, ◌≤◌, ℕ, zero, suc, ◌+◌, Bool, true, false, cond, ◌&&◌, ◌||◌, List, [], ◌∷◌, ◌++◌}
-use Rattle.std.proofs.Common.{length, map, take, Option, Some, None, refl, sym, ap, ap₂, subst, ◌∙◌, arith, slice_get}
-use Rattle.std.specs.Prelude.{◌==◌, nat_lt, IfSome, filter}
+use Rattle.std.proofs.Common.{◌≡◌, ℕ, suc, ◌+◌, Bool, true, false, cond, ◌||◌, List, [], ◌∷◌, ◌++◌}
+use Rattle.std.proofs.Common.{length, map, take, Option, Some, None, refl, sym, ap, ap₂, subst, ◌∙◌, slice_get}
+use Rattle.std.specs.Prelude.{◌==◌, nat_lt, IfSome}
 use Rattle.std.specs.List.{list_any, list_all}
 use Rattle.std.proofs.lemmas.Bool.{eq-eqb, eqb-true}
 use Rattle.std.proofs.lemmas.List.{map-append}
@@ -12,11 +12,12 @@ use Rattle.fr_core.specs.Scripts.{Scripted, is_for}
 use Rattle.fr_playing.specs.Calls.{Asked, asked_of}
 use Rattle.fr_playing.specs.declared.call.ExecutedCall.{ExecutedCall}
 use Rattle.fr_playing.specs.Playing.{asked_by}
-use Rattle.fr_playing.proofs.AskedLemmas.{is_mine, mine, ask, cycle_of, Once, mine_are_lines, neither_first, neither_rest}
+use Rattle.fr_playing.proofs.AskedLemmas.{is_mine, mine, ask, cycle_of, Once, mine_are_lines, neither_first}
+use Rattle.fr_playing.proofs.AskedLemmas.{neither_rest}
 use Rattle.fr_playing.proofs.RisingLemmas.{is_below, Rises, rises}
 use Rattle.fr_runs.specs.Refusing.{EachScriptSuits}
 use Rattle.fr_runs.specs.Stepping.{lines_given}
-use Rattle.fr_runs.specs.Suiting.{IsScriptAfter, ScriptSuits, SuitsNode, call_suits, line_suits}
+use Rattle.fr_runs.specs.Suiting.{IsScriptAfter, SuitsNode, call_suits, line_suits}
 use Rattle.fr_schedule.specs.Descriptions.{Description}
 use Rattle.fr_slots.proofs.PlaceLemmas.{IsMapped, get-after, get-map}
 use Rattle.fr_slots.specs.Parameters.{Parameters}
@@ -83,7 +84,8 @@ given_case P none n task (script ∷ scripts) each =
     by_test true here rest = here
     by_test false here rest = rest
 
-few_lines : (p : Parameters) (plan : Plan) (cycles : ℕ) (lines : List Line) → list_all (line_suits p plan cycles) lines ≡ true
+few_lines : (p : Parameters) (plan : Plan) (cycles : ℕ) (lines : List Line)
+    → list_all (line_suits p plan cycles) lines ≡ true
     → list_all (is_below cycle_of cycles) lines ≡ true
 few_lines p plan cycles [] suit = refl
 few_lines p plan cycles (line ∷ lines) suit =
@@ -101,9 +103,14 @@ timely : (p : Parameters) (cycles : ℕ) (script : Scripted) (plan : Option Plan
     → AreTimely cycles script.lines
 timely p cycles script None suits = absurd suits
 timely p cycles script (Some plan) suits =
-    record { rise = rises cycle_of script.lines suits.in_order; few = few_lines p plan cycles script.lines suits.lines_suit }
+    record {
+      rise = rises cycle_of script.lines suits.in_order;
+      few = few_lines p plan cycles script.lines
+          suits.lines_suit;
+    }
 
-given_timely : (d : Description) (cycles : ℕ) (scripts : List Scripted) → EachScriptSuits d cycles scripts → (n task : ℕ)
+given_timely : (d : Description) (cycles : ℕ) (scripts : List Scripted) → EachScriptSuits d cycles scripts
+    → (n task : ℕ)
     → AreTimely cycles (lines_given scripts n task)
 given_timely d cycles scripts suits n task =
     given_case (AreTimely cycles) (record { rise = tt; few = refl }) n task scripts

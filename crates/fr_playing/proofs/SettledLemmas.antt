@@ -1,11 +1,11 @@
 -- A single-threaded run is settled.
-use Rattle.std.proofs.Common.{◌≡◌, ℕ, zero, suc, ◌+◌, ◌-◌, Bool, true, false, List, [], ◌∷◌, ◌++◌, map, take, Option, Some, None}
+use Rattle.std.proofs.Common.{◌≡◌, ℕ, zero, suc, ◌+◌, ◌-◌, false, List, [], ◌∷◌, ◌++◌, map, take, Option, Some, None}
 use Rattle.std.proofs.Common.{refl, sym, ap, subst, ◌∙◌, append-nil, arith, slice_get, get_or}
 use Rattle.std.specs.Prelude.{IfSome, is_some}
 use Rattle.fr_bus.specs.declared.error.Phase.{Phase}
 use Rattle.fr_bus.specs.declared.error.Phase.TheVariants.{Collect, Sealed as InSealed, Finished}
 use Rattle.fr_bus.specs.Record.{Recorded}
-use Rattle.fr_bus.specs.States.{BusState, IsRun, OneSenderEach, Stands}
+use Rattle.fr_bus.specs.States.{BusState, OneSenderEach, Stands}
 use Rattle.fr_bus.specs.Windows.{cycles_begun}
 use Rattle.fr_core.proofs.CaseLemmas.{differ}
 use Rattle.fr_core.specs.Accounts.{IsHarmless}
@@ -13,19 +13,18 @@ use Rattle.fr_core.specs.Headline.{Headline}
 use Rattle.fr_core.specs.Receivers.{Receivers}
 use Rattle.fr_core.specs.Scripts.{Scripted, calls_at, calls_in}
 use Rattle.fr_core.specs.Settling.{IfThere}
-use Rattle.fr_core.specs.Worlds.{WorldState, interface_at, no_interface, opening_world}
+use Rattle.fr_core.specs.Worlds.{WorldState, interface_at, no_interface}
 use Rattle.fr_interface.specs.State.{State}
 use Rattle.fr_journal.specs.Forms.{Entry}
 use Rattle.fr_playing.proofs.AgreeLemmas.{agrees}
 use Rattle.fr_playing.proofs.AnswerLemmas.{Tells, AreTold, told_at_end}
-use Rattle.fr_playing.proofs.CallLemmas.{AreInTurn}
 use Rattle.fr_playing.proofs.CycleLemmas.{IsStage, stage_after}
 use Rattle.fr_playing.proofs.StageLemmas.{HasFaultsAfter, AreFaulted}
 use Rattle.fr_playing.specs.Calls.{asked_of}
 use Rattle.fr_playing.specs.declared.call.ExecutedCall.{ExecutedCall}
 use Rattle.fr_playing.specs.declared.play.Played.{Played}
 use Rattle.fr_playing.specs.Playing.{IsPlayed, asked_by}
-use Rattle.fr_playing.specs.Settled.{IsSettled, PlayedIsSettled, executed_by}
+use Rattle.fr_playing.specs.Settled.{IsSettled, executed_by}
 use Rattle.fr_runs.specs.declared.fault_line.FaultLine.{FaultLine}
 use Rattle.fr_runs.specs.Faulted.{HasFaults, HaveFaults, cycle_at}
 use Rattle.fr_runs.specs.Refusing.{Refuses}
@@ -38,7 +37,8 @@ use Rattle.std.proofs.lemmas.Option.{get_or_from_slice_get}
 
 -- ---- faults
 
-front_more : {X : Type 0} (xs : List X) (k : ℕ) (x : X) → slice_get xs k ≡ Some x → take (k + 1) xs ≡ take k xs ++ x ∷ []
+front_more : {X : Type 0} (xs : List X) (k : ℕ) (x : X) → slice_get xs k ≡ Some x
+    → take (k + 1) xs ≡ take k xs ++ x ∷ []
 front_more {X = X} xs k x at =
     let place : suc k ≡ k + 1 = omega arith in
     subst (λ (n : ℕ). take n xs ≡ take k xs ++ x ∷ []) place (from xs k at)
@@ -61,12 +61,14 @@ have_faults lines rs all k = faults_at lines rs all k (slice_get rs k) refl
 -- ---- steps
 
 module _ (rs : List Recorded) (scripts : List Scripted) where
-  turn_at : (node : ℕ) (entries : List Entry) → AllAfter (IsInTurn rs scripts node) [] entries → (k : ℕ) (o : Option Entry)
+  turn_at : (node : ℕ) (entries : List Entry) → AllAfter (IsInTurn rs scripts node) [] entries
+      → (k : ℕ) (o : Option Entry)
       → slice_get entries k ≡ o → IfSome o (IsInTurn rs scripts node (take k entries))
   turn_at node entries all k None at = tt
   turn_at node entries all k (Some e) at = AllAfter-at (IsInTurn rs scripts node) entries k e all at
 
-  stepped_at : (w : WorldState) → ((m : ℕ) → AllAfter (IsInTurn rs scripts m) [] (interface_at w m).entries) → (node : ℕ)
+  stepped_at : (w : WorldState) → ((m : ℕ) → AllAfter (IsInTurn rs scripts m) [] (interface_at w m).entries)
+      → (node : ℕ)
       (o : Option State) → slice_get w.interfaces node ≡ o → IfThere o (IsStepped rs scripts node)
   stepped_at w all node None at = tt
   stepped_at w all node (Some s) at =
@@ -93,7 +95,8 @@ answered_at calls w told n task None at =
     subst (Tells task (executed_by calls n task)) (no_interface_at w.interfaces n at) (told n task) []
 answered_at calls w told n task (Some s) at =
     told_at_end s task (executed_by calls n task)
-    (subst (Tells task (executed_by calls n task)) (get_or_from_slice_get w.interfaces n s no_interface at) (told n task))
+    (subst (Tells task (executed_by calls n task)) (get_or_from_slice_get w.interfaces n s no_interface at) (told n
+    task))
 
 answered : (calls : List ExecutedCall) (w : WorldState) → AreTold calls w → (n task : ℕ)
     → calls_at w.interfaces n task ≡ executed_by calls n task
@@ -123,7 +126,8 @@ settled_run d scripts lines cycles played accepted headline is =
     stage_after d scripts lines cycles suits cycles calls [] w all is.cycles_are in
     let same = stage.sound.cluster in
     record {
-      agrees = agrees d cycles scripts suits calls is.asked w stage.made headline.agrees headline.run stage.fresh.idle same;
+      agrees = agrees d cycles scripts suits calls is.asked w stage.made headline.agrees headline.run stage.fresh.idle
+          same;
       answers = answered calls w stage.told;
       faults = have_faults lines w.bus.sealed stage.faulted;
       stepped = stepped w.bus.sealed scripts w

@@ -1,15 +1,16 @@
 -- The windows of a cycle: their records, and the journals after them.
-use Rattle.std.proofs.Common.{◌≡◌, ◌<◌, ◌≤◌, ℕ, zero, suc, ◌+◌, ◌-◌, Bool, true, false, cond, List, [], ◌∷◌, ◌++◌, length}
-use Rattle.std.proofs.Common.{Option, Some, None, refl, sym, ap, subst, ◌∙◌, ◌⊎◌, inl, inr, arith, append_assoc}
+use Rattle.std.proofs.Common.{◌≡◌, ℕ, zero, suc, ◌+◌, ◌-◌, Bool, true, false, cond, List, [], ◌∷◌, ◌++◌, length}
+use Rattle.std.proofs.Common.{sym, ap, subst, ◌∙◌, ◌⊎◌, inl, inr, arith, append_assoc}
 use Rattle.std.proofs.lemmas.List.Sums.{sum_by_push}
 use Rattle.fr_bus.specs.Record.{Recorded}
 use Rattle.fr_bus.specs.Windows.{opens_cycle, begins_cycle, cycles_begun}
 use Rattle.fr_core.specs.declared.event.Event.{Event}
 use Rattle.fr_core.specs.Worlds.{WorldState, interface_at}
 use Rattle.fr_interface.specs.State.{State}
-use Rattle.fr_playing.proofs.EventLemmas.{is_of_slot, IsKept}
+use Rattle.fr_playing.proofs.EventLemmas.{IsKept}
 use Rattle.fr_playing.proofs.PassLemmas.{IsSound, slots_keep}
-use Rattle.fr_playing.proofs.WindowLemmas.{IsFresh, IsRecordedIn, all_of_slot, window_recorded, window_fresh, window_sound}
+use Rattle.fr_playing.proofs.WindowLemmas.{IsFresh, IsRecordedIn, all_of_slot, window_recorded, window_fresh}
+use Rattle.fr_playing.proofs.WindowLemmas.{window_sound}
 use Rattle.fr_playing.specs.Moving.{is_at_cycle, whole_window}
 use Rattle.fr_playing.specs.Windows.{played_events, PlaysWindow, PlaysWithin, PlaysWindows}
 use Rattle.fr_runs.specs.declared.fault_line.FaultLine.{FaultLine}
@@ -53,64 +54,61 @@ pub record Passed (d : Description) (lines : List FaultLine) (cycle : ℕ) (star
   pub record_is : w.bus.sealed ≡ start.bus.sealed ++ first ∷ more
   pub begins : begins_cycle first ≡ true
 
--- no window of the cycle has been executed, or some have
-abbrev Within : Description → List FaultLine → ℕ → WorldState → WorldState → Type 0
-Within d lines cycle start w = (w ≡ start) ⊎ Passed d lines cycle start w
-
 module _ (d : Description) (lines : List FaultLine) (cycle : ℕ) where
   abbrev due : List Event
   due = whole_window (length d.plans)
 
   -- ---- one window
 
-  module _ (old new : WorldState) (stands : Stands d lines cycle old) (plays : PlaysWindow cycle lines due old new) where
-    abbrev window : Opportunity
-    window = plays.0
+  module _ (old new : WorldState) (stands : Stands d lines cycle old) (plays : PlaysWindow cycle lines due old new)
+    where
+      abbrev window : Opportunity
+      window = plays.0
 
-    made : IsRecordedIn lines cycle window old new
-    made = window_recorded d lines cycle window old new plays.1 stands.sound stands.fresh plays.2
+      made : IsRecordedIn lines cycle window old new
+      made = window_recorded d lines cycle window old new plays.1 stands.sound stands.fresh plays.2
 
-    opens_same : is_at_cycle old.bus.opened ≡ begins_cycle made.made
-    opens_same = ap is_at_cycle plays.1 ∙ ap opens_cycle (sym made.window_is)
+      opens_same : is_at_cycle old.bus.opened ≡ begins_cycle made.made
+      opens_same = ap is_at_cycle plays.1 ∙ ap opens_cycle (sym made.window_is)
 
-    begun_with : cycles_begun (old.bus.sealed ++ made.made ∷ []) ≡ cycle + 1
-    begun_with =
-        begun_more old.bus.sealed made.made
-        ∙ ap (λ (b : Bool). cycles_begun old.bus.sealed + cond {A = ℕ} b 1 0) (sym opens_same)
-        ∙ stands.begun
+      begun_with : cycles_begun (old.bus.sealed ++ made.made ∷ []) ≡ cycle + 1
+      begun_with =
+          begun_more old.bus.sealed made.made
+          ∙ ap (λ (b : Bool). cycles_begun old.bus.sealed + cond {A = ℕ} b 1 0) (sym opens_same)
+          ∙ stands.begun
 
-    has_faults : HasFaultsAfter lines old.bus.sealed made.made
-    has_faults =
-        let begun = begun_with in
-        let same : cycle ≡ cycles_begun (old.bus.sealed ++ made.made ∷ []) - 1 = omega (arith, begun) in
-        subst (λ (n : ℕ). HasFaults lines n made.made) same made.faults
+      has_faults : HasFaultsAfter lines old.bus.sealed made.made
+      has_faults =
+          let begun = begun_with in
+          let same : cycle ≡ cycles_begun (old.bus.sealed ++ made.made ∷ []) - 1 = omega (arith, begun) in
+          subst (λ (n : ℕ). HasFaults lines n made.made) same made.faults
 
-    passed_by : (start : WorldState) (first : Recorded) (more : List Recorded)
-        → new.bus.sealed ≡ start.bus.sealed ++ first ∷ more → begins_cycle first ≡ true
-        → Passed d lines cycle start new
-    passed_by start first more record_is begins = record {
-      sound = window_sound d lines cycle window old new plays.1 stands.sound stands.fresh plays.2;
-      fresh = window_fresh d lines cycle window old new plays.1 stands.sound stands.fresh plays.2;
-      faulted = subst (AreFaulted lines) (sym made.record_is)
-          (AllAfter-snoc (HasFaultsAfter lines) old.bus.sealed made.made stands.faulted has_faults);
-      begun = ap cycles_begun made.record_is ∙ begun_with;
-      first = first;
-      more = more;
-      record_is = record_is;
-      begins = begins;
-    }
+      passed_by : (start : WorldState) (first : Recorded) (more : List Recorded)
+          → new.bus.sealed ≡ start.bus.sealed ++ first ∷ more → begins_cycle first ≡ true
+          → Passed d lines cycle start new
+      passed_by start first more record_is begins = record {
+        sound = window_sound d lines cycle window old new plays.1 stands.sound stands.fresh plays.2;
+        fresh = window_fresh d lines cycle window old new plays.1 stands.sound stands.fresh plays.2;
+        faulted = subst (AreFaulted lines) (sym made.record_is)
+            (AllAfter-snoc (HasFaultsAfter lines) old.bus.sealed made.made stands.faulted has_faults);
+        begun = ap cycles_begun made.record_is ∙ begun_with;
+        first = first;
+        more = more;
+        record_is = record_is;
+        begins = begins;
+      }
 
-    -- the first window of the cycle
-    pub first_passed : is_at_cycle old.bus.opened ≡ true → Passed d lines cycle old new
-    first_passed at_cycle = passed_by old made.made [] made.record_is (sym opens_same ∙ at_cycle)
+      -- the first window of the cycle
+      pub first_passed : is_at_cycle old.bus.opened ≡ true → Passed d lines cycle old new
+      first_passed at_cycle = passed_by old made.made [] made.record_is (sym opens_same ∙ at_cycle)
 
-    -- a later one
-    pub next_passed : (start : WorldState) → Passed d lines cycle start old → Passed d lines cycle start new
-    next_passed start passed =
-        passed_by start passed.first (passed.more ++ made.made ∷ [])
-        (made.record_is ∙ ap (λ (rs : List Recorded). rs ++ made.made ∷ []) passed.record_is
-        ∙ append_assoc start.bus.sealed (passed.first ∷ passed.more) (made.made ∷ []))
-        passed.begins
+      -- a later one
+      pub next_passed : (start : WorldState) → Passed d lines cycle start old → Passed d lines cycle start new
+      next_passed start passed =
+          passed_by start passed.first (passed.more ++ made.made ∷ [])
+          (made.record_is ∙ ap (λ (rs : List Recorded). rs ++ made.made ∷ []) passed.record_is
+          ∙ append_assoc start.bus.sealed (passed.first ∷ passed.more) (made.made ∷ []))
+          passed.begins
 
   -- ---- the windows of the cycle
 

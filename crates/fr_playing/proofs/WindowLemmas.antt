@@ -1,18 +1,20 @@
 -- A window of a single-threaded run: its record has its faults, and it leaves all controllers idle.
-use Rattle.std.proofs.Common.{◌≡◌, ◌≢◌, ◌<◌, ◌≤◌, ℕ, zero, suc, ◌+◌, Bool, true, false, not, ◌&&◌, ◌||◌, List, [], ◌∷◌, cond}
-use Rattle.std.proofs.Common.{◌++◌, length, Option, Some, None, refl, sym, ap, ap₂, subst, ◌∙◌, arith, get_or, set, replicate}
-use Rattle.std.proofs.Common.{inl, inr, slice_get}
-use Rattle.std.specs.Prelude.{◌==◌, option_map, nat_lt}
+use Rattle.std.proofs.Common.{◌≡◌, ◌≢◌, ◌<◌, ◌≤◌, ℕ, zero, suc, ◌+◌, Bool, true, false, not, ◌&&◌, ◌||◌, List, [], ◌∷◌}
+use Rattle.std.proofs.Common.{cond}
+use Rattle.std.proofs.Common.{◌++◌, length, Option, Some, None, refl, sym, ap, subst, ◌∙◌, arith, get_or, set}
+use Rattle.std.proofs.Common.{replicate}
+use Rattle.std.proofs.Common.{inl, inr}
+use Rattle.std.specs.Prelude.{nat_lt}
 use Rattle.std.proofs.lemmas.Bool.{ltb-true, ltb-false}
 use Rattle.std.specs.List.{flat_map, list_all, range_with_len}
 use Rattle.std.specs.Option.{option_or}
 use Rattle.std.proofs.lemmas.Bool.Decides.{eqb_tells}
 use Rattle.std.proofs.lemmas.List.{get_or-set_other}
 use Rattle.arrayvec.specs.ArrayVec.{ArrayVec}
-use Rattle.fr_bus.specs.declared.outcome.Sent.{Sent}
 use Rattle.fr_bus.specs.Outcome.{sent_from}
 use Rattle.fr_bus.specs.Record.{Recorded, side_on, corrupt_on, recordable}
-use Rattle.fr_bus.specs.States.{BusState, collecting_of, corrupt_in, station_at, idle_station, offering, outcome_of, sealed_with}
+use Rattle.fr_bus.specs.States.{BusState, collecting_of, corrupt_in, station_at, idle_station, offering, outcome_of}
+use Rattle.fr_bus.specs.States.{sealed_with}
 use Rattle.fr_bus.specs.States.{advanced, put_done}
 use Rattle.fr_bus.specs.Stations.{Station}
 use Rattle.fr_core.proofs.CaseLemmas.{both, both_first, both_rest}
@@ -22,7 +24,7 @@ use Rattle.fr_core.specs.declared.error.StepError.TheVariants.{UnknownNode}
 use Rattle.fr_core.specs.declared.event.Event.{Event}
 use Rattle.fr_core.specs.declared.event.Event.TheVariants.{Commit, Withdraw, Read, Pop, Look, Fetch, Put, Take}
 use Rattle.fr_core.specs.declared.event.Event.TheVariants.{Observe, Inject, Seal, Advance}
-use Rattle.fr_core.specs.Steps.{step_done, step_refusal, observe_in_turn, looked, fetched, put_on_bus, taken, observed}
+use Rattle.fr_core.specs.Steps.{step_done, observe_in_turn, looked, fetched, put_on_bus, taken, observed}
 use Rattle.fr_core.specs.Worlds.{WorldState, carried_at}
 use Rattle.fr_interface.specs.declared.interface.Offer.{Offer}
 use Rattle.fr_playing.proofs.BabbleLemmas.{babble_of_station, IsMutedBy, each_at, muted_from}
@@ -35,7 +37,7 @@ use Rattle.fr_playing.specs.Moving.{offer_events, see_events, for_nodes, whole_w
 use Rattle.fr_playing.specs.Striking.{Passes, strike_events}
 use Rattle.fr_playing.specs.Windows.{played_events}
 use Rattle.fr_runs.specs.declared.fault_line.FaultLine.{FaultLine}
-use Rattle.fr_runs.specs.Faulted.{HasFaults, babble_in, is_muted, bit_due, babble_due, is_loss_due}
+use Rattle.fr_runs.specs.Faulted.{HasFaults, bit_due, babble_due, is_loss_due}
 use Rattle.fr_runs.specs.Striking.{strikes}
 use Rattle.fr_schedule.specs.Descriptions.{Description}
 use Rattle.fr_slots.specs.declared.channel.Channel.{Channel}
@@ -193,7 +195,8 @@ offers_keep : (old new : WorldState) (nodes : ℕ) → Passes old (for_nodes off
 offers_keep old new nodes passes =
     passes_keep (λ w. KeepsFaults old.bus w.bus) is_offering
     (λ w event offers free so_far. kept_on old.bus w.bus (step_done w event).bus so_far (offering_keeps w event offers))
-    old (for_nodes offer_events nodes) new (all_flat is_offering offer_events (λ n. refl) (range_with_len 0 nodes)) passes
+    old (for_nodes offer_events nodes) new (all_flat is_offering offer_events (λ n. refl) (range_with_len 0 nodes))
+    passes
     (kept_all old.bus)
 
 -- ---- observations keep the record
@@ -212,7 +215,8 @@ observed_record w n (Offers x o) = refl
 observed_record w n (Waits x) = refl
 observed_record w n (Took x p q) = refl
 
-seeing_record : (w : WorldState) (event : Event) → is_seeing event ≡ true → (step_done w event).bus.sealed ≡ w.bus.sealed
+seeing_record : (w : WorldState) (event : Event) → is_seeing event ≡ true
+    → (step_done w event).bus.sealed ≡ w.bus.sealed
 seeing_record w (Commit n task buffer payload) sees = absurd (let none : ⊥ = cc in none)
 seeing_record w (Withdraw n task buffer) sees = absurd (let none : ⊥ = cc in none)
 seeing_record w (Read n task buffer) sees = absurd (let none : ⊥ = cc in none)
@@ -231,7 +235,8 @@ sees_keep : (old new : WorldState) (nodes : ℕ) → Passes old (for_nodes see_e
 sees_keep old new nodes passes =
     passes_keep (λ w. w.bus.sealed ≡ old.bus.sealed) is_seeing
     (λ w event sees free so_far. seeing_record w event sees ∙ so_far)
-    old (for_nodes see_events nodes) new (all_flat is_seeing see_events (λ n. refl) (range_with_len 0 nodes)) passes refl
+    old (for_nodes see_events nodes) new (all_flat is_seeing see_events (λ n. refl) (range_with_len 0 nodes)) passes
+    refl
 
 -- ---- after its observation a controller is idle
 
@@ -252,14 +257,16 @@ taken_others w n (Offers x o) m other = refl
 taken_others w n (Waits x) m other = get_or-set_other w.carried n m _ Idle other
 taken_others w n (Took x p q) m other = refl
 
-observed_others : (w : WorldState) (n : ℕ) (c : Carried) (m : ℕ) → m ≢ n → carried_at (observed w n c) m ≡ carried_at w m
+observed_others : (w : WorldState) (n : ℕ) (c : Carried) (m : ℕ) → m ≢ n
+    → carried_at (observed w n c) m ≡ carried_at w m
 observed_others w n Idle m other = refl
 observed_others w n (Knows x) m other = refl
 observed_others w n (Offers x o) m other = refl
 observed_others w n (Waits x) m other = refl
 observed_others w n (Took x p q) m other = get_or-set_other w.carried n m Idle Idle other
 
-observed_own : (w : WorldState) (n : ℕ) (c : Carried) → observe_in_turn w n c ≡ None → carried_at (observed w n c) n ≡ Idle
+observed_own : (w : WorldState) (n : ℕ) (c : Carried) → observe_in_turn w n c ≡ None
+    → carried_at (observed w n c) n ≡ Idle
 observed_own w n Idle free = absurd (let none : ⊥ = cc in none)
 observed_own w n (Knows x) free = absurd (let none : ⊥ = cc in none)
 observed_own w n (Offers x o) free = absurd (let none : ⊥ = cc in none)
@@ -276,7 +283,8 @@ record Sees (n : ℕ) (old new : WorldState) : Type 0 where
 
 node_sees : (n : ℕ) (old new : WorldState) → Passes old (see_events n) new → Sees n old new
 node_sees n old new passes =
-    let cut : IsSplit old (Take n ∷ []) (Observe n ∷ []) new = passes_split old (Take n ∷ []) (Observe n ∷ []) new passes in
+    let cut : IsSplit old (Take n ∷ []) (Observe n ∷ []) new = passes_split old (Take n ∷ []) (Observe n ∷ []) new
+    passes in
     let took : IsDone old (Take n) cut.mid = passes_event old (Take n) cut.mid cut.first in
     let saw : IsDone cut.mid (Observe n) new = passes_event cut.mid (Observe n) new cut.second in
     record {
@@ -307,7 +315,8 @@ sees_idle zero old new passes m below = absurd (omega (arith, below))
 sees_idle (suc count) old new passes m below =
     let next : suc count ≡ count + 1 = omega arith in
     let all : Passes old (for_nodes see_events count ++ see_events count) new =
-    subst (λ (l : List Event). Passes old l new) (ap (for_nodes see_events) next ∙ nodes_more see_events count) passes in
+    subst (λ (l : List Event). Passes old l new) (ap (for_nodes see_events) next
+    ∙ nodes_more see_events count) passes in
     let cut : IsSplit old (for_nodes see_events count) (see_events count) new =
     passes_split old (for_nodes see_events count) (see_events count) new all in
     sees_next count old cut.mid new (sees_idle count old cut.mid cut.first) cut.second m (omega (arith, below))
@@ -322,13 +331,15 @@ pub record IsFresh (w : WorldState) : Type 0 where
   pub mutes : (n : ℕ) (channel : Channel) → mute_at w.bus n channel ≡ false
 
 -- one more window is recorded, with its faults
-pub record IsRecordedIn (lines : List FaultLine) (cycle : ℕ) (window : Opportunity) (old new : WorldState) : Type 0 where
-  pub made : Recorded
-  pub record_is : new.bus.sealed ≡ old.bus.sealed ++ made ∷ []
-  pub window_is : made.window ≡ window
-  pub faults : HasFaults lines cycle made
+pub record IsRecordedIn (lines : List FaultLine) (cycle : ℕ) (window : Opportunity) (old new : WorldState) : Type 0
+  where
+    pub made : Recorded
+    pub record_is : new.bus.sealed ≡ old.bus.sealed ++ made ∷ []
+    pub window_is : made.window ≡ window
+    pub faults : HasFaults lines cycle made
 
-recorded_bit : (b : BusState) (w : Opportunity) (channel : Channel) → corrupt_on (outcome_of b w) channel ≡ corrupt_in b channel
+recorded_bit : (b : BusState) (w : Opportunity) (channel : Channel) → corrupt_on (outcome_of b w) channel
+    ≡ corrupt_in b channel
 recorded_bit b w A = refl
 recorded_bit b w B = refl
 
@@ -400,7 +411,8 @@ module _ (d : Description) (lines : List FaultLine) (cycle : ℕ) (window : Oppo
 
   -- before the seal
   offering_done : IsSplit striking.mid (for_nodes offer_events nodes) (Seal ∷ for_nodes see_events nodes) ending.mid
-  offering_done = passes_split striking.mid (for_nodes offer_events nodes) (Seal ∷ for_nodes see_events nodes) ending.mid
+  offering_done = passes_split striking.mid (for_nodes offer_events nodes) (Seal ∷ for_nodes see_events nodes)
+      ending.mid
       striking.second
 
   -- after the seal
@@ -441,7 +453,8 @@ module _ (d : Description) (lines : List FaultLine) (cycle : ℕ) (window : Oppo
         (λ channel. kept.bits channel ∙ struck.bits channel
         ∙ ap (λ (o : Option ℕ). option_or o (bit_due lines cycle window channel)) (fresh.bits channel))
         (λ n channel. kept.babbles n channel ∙ struck.babbles n channel
-        ∙ ap (λ (o : Option (ArrayVec ℕ)). option_or o (babble_due lines cycle window n channel)) (fresh.babbles n channel))
+        ∙ ap (λ (o : Option (ArrayVec ℕ)). option_or o (babble_due lines cycle window n channel)) (fresh.babbles n
+        channel))
         (λ n channel. kept.mutes n channel ∙ struck.mutes n channel
         ∙ ap (λ (b : Bool). b || is_loss_due lines cycle window n channel) (fresh.mutes n channel));
   }

@@ -15,6 +15,8 @@
 //! - `Striking`, `Moving`: the faults of a window; the steps that are due in a window, and windows one after another.
 //! - `Calls`, `Windows`, `Playing`: the effects of script lines one after another; the windows of a cycle as events; a
 //!   whole run.
+//! - `Settled`: the properties of a lockstep run in threads, which `played_is_settled` (`laws`) proves of every
+//!   single-threaded run.
 //! - `Files`, `Refusals`: the run of a scenario file, and the reasons why there is none.
 //! - `Laws`: worlds that are led by events.
 //!

@@ -22,6 +22,9 @@ returns-in-Ok-clause-written g c =
 
 pub returns-in-Ok-clause-refused : goal.returns-in-Ok-clause-refused
 returns-in-Ok-clause-refused g c =
+    let refusal = c.in_ok-run.ensures.refused in
+    let scripts_are = c.scripts.ensures in
+    let faults_are = c.faults.ensures in
     run_refused c.args.cluster.now c.args.options.cycles (g.R.Read.remaining c.args.reader.now)
     (record {
       scripts = c.in_ok-scenario.scenario.scripts;
