@@ -1,6 +1,7 @@
 -- Runs that come to a static slot of a cycle, and windows in which a buffer of a static slot doesn't send.
 use Rattle.std.proofs.Common.{◌≡◌, ℕ, zero, suc, ◌+◌, ◌-◌, ◌%◌, ◌<◌, ◌≤◌, ◌==◌, Bool, true, false, not, cond, ◌&&◌}
-use Rattle.std.proofs.Common.{◌⊎◌, inl, inr, List, [], ◌∷◌, ◌++◌, length, length-append, Option, Some, None, refl, sym, ap}
+use Rattle.std.proofs.Common.{◌⊎◌, inl, inr, List, [], ◌∷◌, ◌++◌, length, length-append, Option, Some, None, refl}
+use Rattle.std.proofs.Common.{sym, ap}
 use Rattle.std.proofs.Common.{subst, ◌∙◌, arith, slice_get, option_map}
 use Rattle.std.specs.Prelude.{nat_le, nat_lt}
 use Rattle.std.specs.List.{find, range_with_len}
@@ -10,7 +11,7 @@ use Rattle.std.proofs.lemmas.Bool.Decides.{eqb_tells}
 use Rattle.fr_bus.proofs.CourseLemmas.{fold_more}
 use Rattle.fr_bus.specs.Courses.{IsCourse, course_of}
 use Rattle.fr_bus.specs.Record.{Recorded}
-use Rattle.fr_bus.specs.Windows.{begins_cycle, cycles_begun, with_window, this_cycle, is_first_slot, opens_cycle}
+use Rattle.fr_bus.specs.Windows.{cycles_begun, with_window, this_cycle, is_first_slot, opens_cycle}
 use Rattle.fr_bus.specs.Windows.{is_static_one, statics_of, opens_any, window_at, next_dynamic, next_in_cycle}
 use Rattle.fr_bus.specs.Windows.{first_of_cycle, following}
 use Rattle.fr_core.proofs.CaseLemmas.{both_first, both_rest}
@@ -20,7 +21,7 @@ use Rattle.fr_exactness.proofs.DelayLemmas.{IsTurn, mute_if}
 use Rattle.fr_exactness.proofs.FollowingLemmas.{found, either_within, following_fits}
 use Rattle.fr_exactness.proofs.HoldingLemmas.{only_kept}
 use Rattle.fr_exactness.proofs.LeadLemmas.{leads_on}
-use Rattle.fr_exactness.proofs.PassingLemmas.{IsAt, AreMute, IsPast, passes_silent}
+use Rattle.fr_exactness.proofs.PassingLemmas.{IsAt, AreMute, passes_silent}
 use Rattle.fr_exactness.proofs.ProgressLemmas.{begun_next}
 use Rattle.fr_exactness.proofs.SilenceLemmas.{Keeps}
 use Rattle.fr_exactness.proofs.WalkLemmas.{KeepsMute, IsStart}
@@ -86,7 +87,8 @@ dynamic_no_static : {X : Type 0} (p : Parameters) (number cycle : ℕ) (rows : L
 dynamic_no_static p number cycle rows window None is e static = absurd (let none : ⊥ = cc in none)
 dynamic_no_static p number cycle rows window (Some minislot) is e static =
     let within = either_within p rows minislot (found (opens_any p rows) (range_with_len 1 p.minislots) minislot is) in
-    let still : (minislot == 0) ≡ false = ne_eqb minislot 0 (λ none. let no : ⊥ = omega (arith, none, within.0) in no) in
+    let still : (minislot == 0) ≡ false = ne_eqb minislot 0 (λ none. let no : ⊥ = omega
+    (arith, none, within.0) in no) in
     let same : (minislot == 0) ≡ true =
     ap (λ (w : Opportunity). is_static w) (same_some (window_at p number cycle rows minislot) window e) ∙ static in
     absurd (let none : ⊥ = cc in none)

@@ -1,9 +1,9 @@
 -- A run in which a commit on a buffer of a static slot waits for the worst time.
-use Rattle.std.proofs.Common.{◌≡◌, ℕ, ◌+◌, ◌-◌, ◌*◌, ◌%◌, ◌<◌, ◌≤◌, ◌==◌, Bool, true, false, not, cond, ◌&&◌, ◌||◌}
-use Rattle.std.proofs.Common.{inl, inr, List, [], ◌∷◌, ◌++◌, length, replicate, Some, None, refl, sym, ap, subst, ◌∙◌}
+use Rattle.std.proofs.Common.{◌≡◌, ℕ, ◌+◌, ◌-◌, ◌*◌, ◌%◌, ◌<◌, ◌≤◌, Bool, true, false, cond, ◌||◌}
+use Rattle.std.proofs.Common.{inl, inr, List, length, replicate, Some, None, refl, sym, ap, subst, ◌∙◌}
 use Rattle.std.proofs.Common.{arith, slice_get, option_map}
 use Rattle.std.specs.Prelude.{nat_le, count_by}
-use Rattle.std.proofs.lemmas.Bool.{eq-eqb, leb-true}
+use Rattle.std.proofs.lemmas.Bool.{leb-true}
 use Rattle.std.proofs.lemmas.List.{length-replicate}
 use Rattle.std.proofs.lemmas.Nat.{mod-mul-add, mod_below}
 use Rattle.std.proofs.lemmas.Option.{slice_get_within}
@@ -18,12 +18,12 @@ use Rattle.fr_core.specs.declared.error.StepError.TheVariants.{Host}
 use Rattle.fr_core.specs.Worlds.{WorldState, interface_at, opening_world}
 use Rattle.fr_exactness.proofs.CallLemmas.{commit_accepted}
 use Rattle.fr_exactness.proofs.DelayLemmas.{first_below, first_is, has_channel}
-use Rattle.fr_exactness.proofs.ExactLemmas.{opening_at, open_at, small_mod}
+use Rattle.fr_exactness.proofs.ExactLemmas.{opening_at, open_at}
 use Rattle.fr_exactness.proofs.FrameLemmas.{each_at, unset}
 use Rattle.fr_exactness.proofs.HoldingLemmas.{nothing_kept, only_kept, this_buffer, IsHeld, is_held}
 use Rattle.fr_exactness.proofs.LeadLemmas.{leads_on}
 use Rattle.fr_exactness.proofs.OfferingLemmas.{fetched_by}
-use Rattle.fr_exactness.proofs.PassingLemmas.{IsNodeAt, AreMute}
+use Rattle.fr_exactness.proofs.PassingLemmas.{IsNodeAt}
 use Rattle.fr_exactness.proofs.ProgressLemmas.{windows_fit}
 use Rattle.fr_exactness.proofs.ReachLemmas.{no_host, times}
 use Rattle.fr_exactness.proofs.SilenceLemmas.{Keeps}
@@ -35,7 +35,6 @@ use Rattle.fr_exactness.specs.Exactness.{HasRoom}
 use Rattle.fr_interface.specs.State.{State, commit_refusal}
 use Rattle.fr_journal.specs.declared.entry.Offered.TheVariants.{Data}
 use Rattle.fr_journal.specs.Entries.{is_host}
-use Rattle.fr_journal.specs.Fate.{pending_commit}
 use Rattle.fr_journal.specs.Offers.{may_begin, offered, transmitter}
 use Rattle.fr_latency.specs.Latencies.{before_slot, channel_of, is_after, is_always_in_time, is_guaranteed, wait_from}
 use Rattle.fr_latency.specs.Latencies.{earliest_start, last_begin_of, latest_end}
@@ -52,7 +51,7 @@ use Rattle.fr_slots.specs.Faults.{latest_on, minislots_filled, transmits, words_
 use Rattle.fr_slots.specs.Numbers.{IsSlot}
 use Rattle.fr_slots.specs.Parameters.{Parameters, is_static_slot}
 use Rattle.fr_slots.specs.Plans.{Plan, IsBuffer, buffer_at, is_receive}
-use Rattle.fr_slots.specs.Windows.{Opportunity, slot_of, is_static}
+use Rattle.fr_slots.specs.Windows.{Opportunity, is_static}
 use Rattle.fr_timing.specs.Segments.{dynamic_start}
 
 -- ---- times
@@ -244,7 +243,8 @@ module _ (d : Description) (lawful : IsCluster d) (n number : ℕ) (plan : Plan)
         let least = slot_range.from_one in
         subst (λ (m : ℕ). IsComeStatic d lawful cycles most room kept 1 (c + step) m held.world) whole
         (comes_static d lawful cycles most room kept 1 (c + step) (slot - 1) held.world lower
-        (λ rs window k next static slots low. lower_mute d lawful n number plan b plan_at at of_static cycles j rs window
+        (λ rs window k next static slots low. lower_mute d lawful n number plan b plan_at at of_static cycles j rs
+        window
         k slots (omega (arith, low, least))) on start)
 
     abbrev w1 : WorldState

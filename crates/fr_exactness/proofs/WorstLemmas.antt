@@ -10,7 +10,7 @@ use Rattle.fr_core.proofs.CaseLemmas.{both_first, both_rest}
 use Rattle.fr_exactness.proofs.DelayLemmas.{first_is}
 use Rattle.fr_exactness.proofs.ReachLemmas.{reached}
 use Rattle.fr_exactness.proofs.StaticReachLemmas.{reached_static}
-use Rattle.fr_exactness.specs.Delays.{IsDelayed, AreReached, HasDelay, IsWorstReached, cycles_after}
+use Rattle.fr_exactness.specs.Delays.{IsDelayed, AreReached, IsWorstReached, cycles_after}
 use Rattle.fr_exactness.specs.Exactness.{HasRoom}
 use Rattle.fr_latency.specs.Below.{all_below, any_below, most_below}
 use Rattle.fr_latency.specs.declared.latency.State.TheVariants.{Guaranteed}

@@ -1,5 +1,5 @@
 -- Runs in which a commit waits as long as the table of latencies says.
-use Rattle.std.specs.Prelude.{◌≡◌, ℕ, ◌+◌, ◌-◌, ◌*◌, ◌≤◌, ◌<◌, true, false, List, [], ◌∷◌, ◌++◌, length, Some, None}
+use Rattle.std.specs.Prelude.{◌≡◌, ℕ, ◌+◌, ◌-◌, ◌*◌, ◌≤◌, ◌<◌, true, List, [], ◌∷◌, ◌++◌, length, Some, None}
 use Rattle.std.specs.Prelude.{slice_get, if◌then◌else◌}
 use Rattle.fr_bus.specs.States.{collecting_of}
 use Rattle.fr_bus.specs.Windows.{cycles_begun, opens_cycle}
@@ -15,7 +15,7 @@ use Rattle.fr_journal.specs.declared.entry.Offered.TheVariants.{Data}
 use Rattle.fr_journal.specs.Fate.{pending_commit}
 use Rattle.fr_journal.specs.Forms.{Entry}
 use Rattle.fr_journal.specs.Offers.{offered}
-use Rattle.fr_latency.specs.Latencies.{before_slot, channel_of, distance, is_always_in_time, is_guaranteed, wait_from}
+use Rattle.fr_latency.specs.Latencies.{before_slot, channel_of, distance, is_guaranteed, wait_from}
 use Rattle.fr_latency.specs.declared.latency.State.TheVariants.{Guaranteed}
 use Rattle.fr_latency.specs.Latencies.{earliest_start, latest_end, state_of, worst_latency}
 use Rattle.fr_schedule.specs.Descriptions.{Description}
@@ -23,7 +23,6 @@ use Rattle.fr_slots.specs.Admission.{cycle_admitted}
 use Rattle.fr_slots.specs.declared.channel.Channel.{Channel}
 use Rattle.fr_slots.specs.declared.plan.Buffer.{Buffer}
 use Rattle.fr_slots.specs.Faults.{minislots_filled, transmits, words_of}
-use Rattle.fr_slots.specs.Parameters.{is_static_slot}
 use Rattle.fr_slots.specs.Plans.{Plan, buffer_at}
 use Rattle.fr_slots.specs.Windows.{Opportunity, slot_of, is_static}
 use Rattle.fr_timing.specs.Segments.{dynamic_start}
@@ -79,7 +78,8 @@ pub record IsDelayed (d : Description) (n number : ℕ) (b : Buffer) (channel : 
 abbrev pub cycles_after : Description → Plan → Buffer → ℕ → ℕ
 cycles_after d plan b cycle = distance (is_guaranteed d plan b) cycle
 
--- From each cycle of a transmit buffer that is guaranteed in all its cycles some run has the worst wait, if the journals
+-- From each cycle of a transmit buffer that is guaranteed in all its cycles some run has the worst wait, if the
+-- journals
 -- have room for it.
 abbrev pub AreReached : Description → Type 0
 AreReached d = (n number : ℕ) (plan : Plan) (b : Buffer) → slice_get d.plans n ≡ Some plan → 1 ≤ plan.tasks
@@ -98,7 +98,8 @@ pub record HasDelay (d : Description) (n number : ℕ) (b : Buffer) (delay : ℕ
   pub few : cycles ≤ 128
   pub delayed : IsDelayed d n number b (channel_of b.filter.channels) cycles delay
 
--- A buffer that the table calls guaranteed has its worst latency in some run of at most 128 cycles, if the journals have
+-- A buffer that the table calls guaranteed has its worst latency in some run of at most 128 cycles, if the journals
+-- have
 -- room for it.
 abbrev pub IsWorstReached : Description → Type 0
 IsWorstReached d = (n number : ℕ) (plan : Plan) (b : Buffer) → slice_get d.plans n ≡ Some plan

@@ -11,9 +11,8 @@
 //!
 //! - `ExactLemmas`: `all_realized` holds of each cluster. Wherever the definition lets a dynamic slot open, some run
 //!   opens it.
-//! - `ReachLemmas`, `WorstLemmas`: `all_reached` and `worst_reached` hold, too. The worst latency of a dynamic buffer
-//!   that is guaranteed in all its cycles is that of some run.
-//! - `WindowLemmas`, `PassingLemmas`, `SentLemmas`, `WalkLemmas`: the events of a window without frames or with one
-//!   that
-//!   a host commits right before it, and of a cycle that follows a chosen way.
+//! - `WorstLemmas`: `all_reached` and `worst_reached` hold of each cluster, too. The worst latency of a buffer that is
+//!   guaranteed in all its cycles is that of some run. `ReachLemmas` and `StaticReachLemmas` construct it.
+//! - `WindowLemmas`, `PassingLemmas`, `SentLemmas`, `WalkLemmas`: the events of a window without frames, of one with a
+//!   frame that a host commits right before it, and of a cycle that follows a chosen way.
 #![tactic(auto)]
