@@ -5,7 +5,7 @@
  * page showed after each step.
  */
 
-/** Waits until frames and lists are made. */
+/** Waits until lists are made. */
 function settled() {
   return new Promise((resolve) => { setTimeout(resolve, 250); });
 }
@@ -54,8 +54,9 @@ function doStep(step) {
   }
 }
 
-/** Returns what the page shows. */
+/** Returns what the page shows. The picture is painted first, since a headless browser may have no frame for that. */
 function shownNow() {
+  globalThis.explorer.paint();
   const textOf = (name) => document.getElementById(name).textContent;
   const {view} = globalThis.explorer;
   return {
