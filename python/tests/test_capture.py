@@ -32,7 +32,7 @@ class Capture(unittest.TestCase):
 
     def same(self, cluster: Path, scenario: Path, cycles: int) -> bytes:
         """Returns the capture of a run, which must be that of `fr_view bus`."""
-        words = [VIEW, "bus", cluster, scenario, "--cycles", str(cycles)]
+        words = [str(word) for word in (VIEW, "bus", cluster, scenario, "--cycles", cycles)]
         expected = subprocess.run(words, capture_output=True, check=True).stdout
         with World(cluster, cycles) as world:
             world.play_scenario(scenario.read_text(), cycles)

@@ -117,7 +117,8 @@ class Recordings(Monitor):
         self.assertEqual(self.asked("monitor", self.cluster, self.recording(records))[0], 0)
 
     def test_findings_that_are_not_printed(self) -> None:
-        records = frames(3) + [(3 * CYCLE, frame("A", 7, 2, has_data=True)), (3 * CYCLE, frame("A", 9, 2, has_data=True))]
+        unowned = [(3 * CYCLE, frame("A", slot, 2, has_data=True)) for slot in (7, 9)]
+        records = frames(3) + unowned
         status, output, _ = self.asked("monitor", self.cluster, self.recording(records), "--findings", "1")
         self.assertEqual((status, output.splitlines()[-1]), (
             3, "1 further finding isn't printed; --findings N prints more"))
@@ -125,7 +126,8 @@ class Recordings(Monitor):
     def test_csv(self) -> None:
         words = ("monitor", self.cluster, self.recording(frames(2)), "--csv")
         rows = list(csv.DictReader(io.StringIO(self.asked(*words)[1])))
-        self.assertEqual([(it["slot"], it["channel"], it["nodes"], it["names"]) for it in rows if it["kind"] == "slot"][:2],
+        slots = [(it["slot"], it["channel"], it["nodes"], it["names"]) for it in rows if it["kind"] == "slot"]
+        self.assertEqual(slots[:2],
                          [("1", "A", "0", "pedal (0)"), ("1", "B", "0", "pedal (0)")])
 
     def test_standard_input(self) -> None:
@@ -139,7 +141,8 @@ class Recordings(Monitor):
         words = [sys.executable, "-B", str(TOP / "musmyrtle"), "monitor", self.cluster, "--json"]
         with subprocess.Popen(words, stdin=subprocess.PIPE, stdout=subprocess.PIPE) as running:
             assert running.stdin is not None and running.stdout is not None
-            running.stdin.write(HEADER + b"".join(sealed(*it) for it in [*frames(1), (100, frame("A", 7, 0, has_data=True))]))
+            records = [*frames(1), (100, frame("A", 7, 0, has_data=True))]
+            running.stdin.write(HEADER + b"".join(sealed(*it) for it in records))
             running.stdin.flush()
             self.assertEqual(json.loads(running.stdout.readline())["name"], "Nobody")
             running.stdin.close()

@@ -192,7 +192,6 @@ class Scripts(Pages):
         self.assertTrue(shown[1]["inView"].startswith("5 lines of the record from 200 µs to 400 µs."),
                         shown[1]["inView"])
 
-
     def test_the_pointer(self) -> None:
         """The axis begins at pixel 130 and has 1,000 pixels for 200 macroticks, so that a macrotick is 5 pixels wide.
         """

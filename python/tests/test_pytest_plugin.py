@@ -71,7 +71,8 @@ class Parts(unittest.TestCase):
         next(making)
         with self.assertRaises(StopIteration):
             making.send(types.SimpleNamespace(get_result=lambda: report))
-        return report.sections
+        sections: list[tuple[str, str]] = report.sections
+        return sections
 
     def test_a_world_and_its_requests(self) -> None:
         item = self.node(mark(THREE_NODES, cycles=8))

@@ -31,7 +31,8 @@ class TestOldPython(unittest.TestCase):
 
     def test_commands(self) -> None:
         for words in ([], ["lint", "--help"], ["faults", "--help"]):
-            given = f"import runpy\nsys.argv = {['musmyrtle', *words]}\n"
+            argv = ["musmyrtle"] + words
+            given = f"import runpy\nsys.argv = {argv}\n"
             self.assertEqual(self.ran(f"{given}runpy.run_path('musmyrtle', run_name='__main__')\n"), (2, [NEEDS]))
 
     def test_the_package(self) -> None:

@@ -99,6 +99,15 @@ OWN = {
 }
 """The records of captures that have the controller's own frames."""
 
+RANGES = {
+    0: [("A", 61, 1, 1), ("A", 62, 2, 54), ("A", 64, 4, 122), ("A", 65, 5, 145), ("A", 66, 6, 168), ("A", 67, 7, 175),
+        ("B", 61, 1, 1), ("B", 62, 2, 36), ("B", 63, 3, 89), ("B", 64, 4, 96)],
+    1: [("A", 61, 1, 1), ("A", 63, 3, 55), ("A", 64, 4, 122), ("A", 65, 5, 145), ("A", 66, 6, 168), ("A", 67, 7, 175),
+        ("B", 61, 1, 1), ("B", 63, 3, 37)],
+}
+"""Channel, slot, and first and last minislot, by hand: a slot in which nothing is sent takes one minislot, and a frame
+of W words takes half of W + 4, rounded up, and one more."""
+
 HELP = [b"fr_view schedule FILE", b"fr_view latency FILE", b"fr_view capture", b"fr_view frames", b"fr_view --help"]
 
 
@@ -162,6 +171,14 @@ class Views:
                 got, got_open = self.titles(words, "owner"), self.titles(words, "open")
                 self.runs.compare(f"owners of {cluster.parent.name} in cycle {cycle}", got, wanted)
                 self.runs.compare(f"open intervals of {cluster.parent.name} in cycle {cycle}", got_open, wanted_open)
+
+    def ranges(self):
+        """Checks the minislots at which the dynamic slots of the ten nodes can open."""
+        for cycle, lines in RANGES.items():
+            wanted = [f"dynamic slot {slot} on {channel} opens at minislots {first} to {last}"
+                      for channel, slot, first, last in lines]
+            got = self.titles(["schedule", EXAMPLES / "ten-nodes/cluster.toml", "--cycle", str(cycle)], "range")
+            self.runs.compare(f"ranges of the ten nodes in cycle {cycle}", got, wanted)
 
     def titles(self, words, kind):
         """Returns the titles of a picture's elements of a kind; each element has one."""

@@ -46,7 +46,7 @@ owner_at p slot channel cycle (q ∷ qs) start (suc k) plan own at is before =
     ∙ ap (λ (n : ℕ). Some (static_due p n plan own (buffer_in slot channel cycle plan)))
     (let more : start + 1 + k ≡ start + suc k = omega arith in more)
 
-static_sender : (d : Description) (slot : ℕ) (channel : Channel) (cycle n : ℕ) (plan : Plan)
+pub static_sender : (d : Description) (slot : ℕ) (channel : Channel) (cycle n : ℕ) (plan : Plan)
     → is_static_slot d.params slot ≡ true → slice_get d.plans n ≡ Some plan
     → is_owned plan.owned slot channel cycle ≡ true → IsSender d cycle slot channel n
 static_sender d slot channel cycle n plan static at owned = record {

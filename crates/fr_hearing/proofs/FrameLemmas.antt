@@ -1,5 +1,5 @@
 -- A frame that the cluster allows has no finding of its own.
-use Rattle.std.proofs.Common.{◌≡◌, ℕ, zero, suc, ◌+◌, ◌-◌, ◌/◌, ◌<◌, ◌≤◌, Bool, true, false, cond, List, [], ◌∷◌, refl, sym}
+use Rattle.std.proofs.Common.{◌≡◌, ℕ, zero, suc, ◌+◌, ◌-◌, ◌/◌, ◌*◌, ◌<◌, ◌≤◌, Bool, true, false, cond, List, [], ◌∷◌, refl, sym}
 use Rattle.std.proofs.Common.{ap, ◌∙◌, arith, length}
 use Rattle.std.proofs.lemmas.Bool.{cond-true, cond-false, eq-eqb, le-ltb, and_from}
 use Rattle.std.specs.Prelude.{Option, Some, None, min, nat_le, nat_lt, ◌==◌, not, ◌&&◌, ◌||◌}
@@ -46,13 +46,16 @@ content_fits : (d : Due) (f : Fields) (b : Bool) → HasContent d f b
 content_fits d f true is = buffer_fits d.node d.preamble f is
 content_fits d f false is = null_fits f is
 
+half : (n : ℕ) → 2 * n / 2 ≡ n
+half n = omega arith
+
 -- the frame that the owner of a static slot sends
 pub owners_fits : (d : Due) (f : Fields) → IsOwners d f → static_rules d f ≡ None
 owners_fits d f is =
     no_finding (length f.payload / 2 == d.words) (Some (with_numbers name.Words d.words (length f.payload / 2)))
     (cond (not (same d.sync f.sync && same d.startup f.startup)) (Some (bits_finding d.sync d.startup f))
     (cond f.has_data (buffer_finding d.node d.preamble f) (null_finding f)))
-    (eq-eqb (length f.payload / 2) d.words is.words)
+    (eq-eqb (length f.payload / 2) d.words (ap (λ (n : ℕ). n / 2) is.words ∙ half d.words))
     (no_finding (same d.sync f.sync && same d.startup f.startup) (Some (bits_finding d.sync d.startup f))
     (cond f.has_data (buffer_finding d.node d.preamble f) (null_finding f))
     (and_from (same d.sync f.sync) (same d.startup f.startup) (same_is d.sync f.sync is.sync)
@@ -73,7 +76,7 @@ dynamic_fits p d s f is =
     (cond (f.sync || f.startup) (Some (bits_finding false false f)) (words_finding d f)) is.has_data
     (cond-false (f.sync || f.startup) (Some (bits_finding false false f)) (words_finding d f)
     (ap (λ (b : Bool). b || f.startup) is.no_sync ∙ is.no_startup)
-    ∙ words_fit d f is.words is.preamble)
+    ∙ words_fit d f (ap (λ (n : ℕ). n / 2) is.words ∙ half d.words) is.preamble)
 
 -- a slot that opens in time
 pub minislot_fits : (minislots latest opens : ℕ) → opens ≤ minislots → opens ≤ latest

@@ -13,3 +13,4 @@ pub mod OfferLaws
 pub mod CaptureLaws
 mod OwnedLemmas
 pub mod ListenLaws
+pub mod OwnersLaws

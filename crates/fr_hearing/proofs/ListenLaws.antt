@@ -60,7 +60,7 @@ neither : (p q : Bool) → (p || q) ≡ false → p ≡ false
 neither true q e = absurd (let none : ⊥ = cc in none)
 neither false q e = refl
 
-all_at : {X : Type 0} (test : X → Bool) (xs : List X) (k : ℕ) (x : X) → list_all test xs ≡ true
+pub all_at : {X : Type 0} (test : X → Bool) (xs : List X) (k : ℕ) (x : X) → list_all test xs ≡ true
     → slice_get xs k ≡ Some x → test x ≡ true
 all_at test [] k x all at = absurd (let none : ⊥ = cc in none)
 all_at test (y ∷ xs) zero x all at = ap test (sym (same_some y x at)) ∙ both_first (test y) (list_all test xs) all
@@ -194,12 +194,12 @@ offered_alone n channel fate other offer babble k t at silent = by_offer offer a
 
 -- ---- the frame that is handed over
 
-record IsFrameOf (channel : Channel) (o : Option Fields) (bytes : ArrayVec ℕ) : Type 0 where
-  frame : Fields
-  is : o ≡ Some frame
-  spelled : bytes.items ≡ encoded frame channel
+pub record IsFrameOf (channel : Channel) (o : Option Fields) (bytes : ArrayVec ℕ) : Type 0 where
+  pub frame : Fields
+  pub is : o ≡ Some frame
+  pub spelled : bytes.items ≡ encoded frame channel
 
-frame_of : (channel : Channel) (o : Option Fields) (bytes : ArrayVec ℕ) → bytes_of channel o ≡ Some bytes
+pub frame_of : (channel : Channel) (o : Option Fields) (bytes : ArrayVec ℕ) → bytes_of channel o ≡ Some bytes
     → IsFrameOf channel o bytes
 frame_of channel None bytes e = absurd (let none : ⊥ = cc in none)
 frame_of channel (Some f) bytes e = record {
@@ -208,7 +208,7 @@ frame_of channel (Some f) bytes e = record {
   spelled = ap (λ (b : ArrayVec ℕ). b.items) (sym (same_some _ bytes e));
 }
 
-static_slot_is : (p : Parameters) (w : Opportunity) (channel : Channel) (slot : ℕ) → window_fits p w ≡ true
+pub static_slot_is : (p : Parameters) (w : Opportunity) (channel : Channel) (slot : ℕ) → window_fits p w ≡ true
     → is_static w ≡ true → slot_of w channel ≡ Some slot → is_static_slot p slot ≡ true
 static_slot_is p w channel slot fits static slot_is =
     by channel slot_is
@@ -240,7 +240,7 @@ dynamic_slot_is p w channel slot fits dynamic slot_is =
         ∙ both_rest (nat_le w.minislot p.minislots && dynamic_slot_fits p w.a) (dynamic_slot_fits p w.b) parts
 
 -- a frame that was handed over isn't nothing
-not_nothing : (p : Parameters) (s : State) (before : List Entry) (w : Opportunity) (channel : Channel) (o : Offered)
+pub not_nothing : (p : Parameters) (s : State) (before : List Entry) (w : Opportunity) (channel : Channel) (o : Offered)
     (f : Fields) (slot : ℕ) → slot_of w channel ≡ Some slot → frame_with s.params s.plan before w channel o ≡ Some f
     → o ≡ Nothing → ⊥
 not_nothing p s before w channel o f slot slot_is e nothing =
@@ -249,23 +249,41 @@ not_nothing p s before w channel o f slot slot_is e nothing =
     ∙ sym (ap (frame_with s.params s.plan before w channel) nothing) ∙ e in
     let no : ⊥ = cc in no
 
+pub fetch_legal : (d : Description) (n : ℕ) (s : State) (before : List Entry) (w : Opportunity) (x y : Offered)
+    → IsFetched d n s before w x y → IsLegalFetch s.params s.plan before w x y
+fetch_legal d n s before w x y is =
+    AllAfter-cut (IsLegal s.params s.plan) [] before (Fetch w x y) is.after
+    (subst (λ (l : List Entry). AllAfter (IsLegal s.params s.plan) [] l) is.cut is.lawful.legal)
+
+pub fetch_range : (d : Description) (n : ℕ) (s : State) (before : List Entry) (w : Opportunity) (x y : Offered)
+    → IsFetched d n s before w x y → IsInRange w
+fetch_range d n s before w x y is =
+    (AllAfter-cut (λ (b : List Entry) (e : Entry). IsEntry e) [] before (Fetch w x y) is.after
+    (subst (λ (l : List Entry). AllAfter (λ (b : List Entry) (e : Entry). IsEntry e) [] l) is.cut
+    is.lawful.entries_are)).window_is
+
+pub fetch_fits : (d : Description) (n : ℕ) (s : State) (before : List Entry) (w : Opportunity) (x y : Offered)
+    → IsFetched d n s before w x y → window_fits d.params w ≡ true
+fetch_fits d n s before w x y is =
+    ap (λ (p : Parameters). window_fits p w) (sym is.params_are) ∙ (fetch_legal d n s before w x y is).fits
+
 module _ (d : Description) (n : ℕ) (s : State) (before : List Entry) (w : Opportunity) (x y : Offered)
     (channel : Channel) (slot : ℕ) (cluster : IsCluster d) (is_fetched : IsFetched d n s before w x y)
     (slot_is : slot_of w channel ≡ Some slot) (f : Fields)
     (handed : frame_with s.params s.plan before w channel (offered_on channel x y) ≡ Some f) where
-  legal_fetch : IsLegalFetch s.params s.plan before w x y
+  pub legal_fetch : IsLegalFetch s.params s.plan before w x y
   legal_fetch = AllAfter-cut (IsLegal s.params s.plan) [] before (Fetch w x y) is_fetched.after
       (subst (λ (l : List Entry). AllAfter (IsLegal s.params s.plan) [] l) is_fetched.cut is_fetched.lawful.legal)
 
-  in_range : IsInRange w
+  pub in_range : IsInRange w
   in_range = (AllAfter-cut (λ (b : List Entry) (e : Entry). IsEntry e) [] before (Fetch w x y) is_fetched.after
       (subst (λ (l : List Entry). AllAfter (λ (b : List Entry) (e : Entry). IsEntry e) [] l) is_fetched.cut
       is_fetched.lawful.entries_are)).window_is
 
-  window_is : window_fits d.params w ≡ true
+  pub window_is : window_fits d.params w ≡ true
   window_is = ap (λ (p : Parameters). window_fits p w) (sym is_fetched.params_are) ∙ legal_fetch.fits
 
-  static_there : is_static w ≡ true → IsOwnersThere d w channel slot f
+  pub static_there : is_static w ≡ true → IsOwnersThere d w channel slot f
   static_there static =
       let static_slot = static_slot_is d.params w channel slot window_is static slot_is in
       let static_here : is_static_slot s.params slot ≡ true =
@@ -299,6 +317,15 @@ module _ (d : Description) (n : ℕ) (s : State) (before : List Entry) (w : Oppo
 
 -- ---- the windows of a record
 
+-- the node fetched the window, and its offer was recorded
+pub record IsHanded (d : Description) (n : ℕ) (s : State) (r : Recorded) (channel : Channel) : Type 0 where
+  pub before : List Entry
+  pub a : Offered
+  pub b : Offered
+  pub fetched_is : IsFetched d n s before r.window a b
+  pub handed : bytes_of channel (frame_with s.params s.plan before r.window channel (offered_on channel a b))
+      ≡ offer_in channel n r.sent
+
 module _ (d : Description) (cycles : ℕ) (interfaces : List State) (rs : List Recorded) (cluster : IsCluster d)
     (legal : (n : ℕ) (s : State) → slice_get interfaces n ≡ Some s → IsLegalInterface s)
     (follow : (n : ℕ) (s : State) → slice_get interfaces n ≡ Some s → Follows d.params rs n s)
@@ -306,37 +333,42 @@ module _ (d : Description) (cycles : ℕ) (interfaces : List State) (rs : List R
     (plan_at : (n : ℕ) (s : State) → slice_get interfaces n ≡ Some s → slice_get d.plans n ≡ Some s.plan)
     (as_many : length interfaces ≡ length d.plans) (recorded : AllAfter (IsRecorded d cycles) [] rs)
     (sound : AreSound rs) where
-  handed_due : (n k slot : ℕ) (s : State) (r : Recorded) (channel : Channel) (bytes : ArrayVec ℕ)
-      → slice_get interfaces n ≡ Some s → slice_get rs k ≡ Some r → slot_of r.window channel ≡ Some slot
-      → offer_in channel n r.sent ≡ Some bytes → SpellsDue d r.window channel slot bytes
-  handed_due n k slot s r channel bytes here at slot_is offer =
+  pub handed_by : (n k : ℕ) (s : State) (r : Recorded) (channel : Channel) → slice_get interfaces n ≡ Some s
+      → slice_get rs k ≡ Some r → IsHanded d n s r channel
+  handed_by n k s r channel here at =
       let follows = follow n s here in
       let there : slice_get (fetched s) k ≡ Some (offers_of n r) =
       ap (λ (l : List Handed). slice_get l k) follows.fetches ∙ get-append (map (offers_of n) rs) follows.under_way k
       (offers_of n r) (map-get (offers_of n) rs k r at) in
       let c = fetch_of s k (offers_of n r) there in
       let window : c.holds.window ≡ r.window = ap (λ (h : Handed). h.window) c.holds.handed_is in
-      let fetched_is : IsFetched d n s c.inner c.holds.window c.holds.a c.holds.b = record {
-        lawful = legal n s here;
-        params_are = params_are n s here;
-        plan_at = plan_at n s here;
-        after = c.after;
-        cut = c.cut ∙ ap (λ (e : Entry). c.inner ++ e ∷ c.after) c.holds.entry_is;
-      } in
-      let f = frame_of channel
-      (frame_with s.params s.plan c.inner c.holds.window channel (offered_on channel c.holds.a c.holds.b)) bytes
-      (bytes_on s c.inner c.here (offers_of n r) channel c.holds ∙ handed_is_offered n r channel ∙ offer) in
-      subst (λ (w : Opportunity). SpellsDue d w channel slot bytes) window (record {
-        frame = f.frame;
-        spelled = f.spelled;
-        is_there = handed_there d n s c.inner c.holds.window c.holds.a c.holds.b channel slot cluster fetched_is
-            (ap (λ (w : Opportunity). slot_of w channel) window ∙ slot_is) f.frame f.is (is_static c.holds.window) refl;
-      })
+      record {
+        before = c.inner;
+        a = c.holds.a;
+        b = c.holds.b;
+        fetched_is = record {
+          lawful = legal n s here;
+          params_are = params_are n s here;
+          plan_at = plan_at n s here;
+          after = c.after;
+          cut = c.cut ∙ ap (λ (e : Entry). c.inner ++ e ∷ c.after) c.holds.entry_is
+              ∙ ap (λ (w : Opportunity). c.inner ++ Fetch w c.holds.a c.holds.b ∷ c.after) window;
+        };
+        handed = ap (λ (w : Opportunity). bytes_of channel (frame_with s.params s.plan c.inner w channel
+            (offered_on channel c.holds.a c.holds.b))) (sym window)
+            ∙ bytes_on s c.inner c.here (offers_of n r) channel c.holds ∙ handed_is_offered n r channel;
+      }
 
-  sent_due : (k slot : ℕ) (r : Recorded) (channel : Channel) → slice_get rs k ≡ Some r
+  -- the node of a transmission, and what it handed over
+  pub record IsSentBy (r : Recorded) (channel : Channel) (t : Sent) : Type 0 where
+    pub state : State
+    pub here : slice_get interfaces t.node ≡ Some state
+    pub offer : offer_in channel t.node r.sent ≡ Some t.bytes
+
+  pub sent_by : (k slot : ℕ) (r : Recorded) (channel : Channel) → slice_get rs k ≡ Some r
       → slot_of r.window channel ≡ Some slot → (i : ℕ) (t : Sent) → slice_get r.sent i ≡ Some t
-      → passed_on channel t ≡ true → SpellsDue d r.window channel slot t.bytes
-  sent_due k slot r channel at slot_is i t there through =
+      → passed_on channel t ≡ true → IsSentBy r channel t
+  sent_by k slot r channel at slot_is i t there through =
       let outcome : IsOutcome d r = (recorded_at d cycles rs k r recorded at).1 in
       let count = length outcome.stations in
       let on = both_first (is_channel t.channel channel) (is_passed t.fate) through in
@@ -358,12 +390,29 @@ module _ (d : Description) (cycles : ℕ) (interfaces : List State) (rs : List R
       side.offer side.babble among.place t
       (ap (λ (l : List Sent). slice_get l among.place) (sym mine) ∙ among.at) silent in
       let inside : t.node < length interfaces = omega (arith, within, as_many, outcome.one_each) in
-      handed_due t.node k slot (get_or interfaces t.node no_interface) r channel t.bytes
-      (slice_get-get_or interfaces t.node no_interface inside) at slot_is
-      (offer_of_own channel t.node r.sent ∙ ap (offer_in channel t.node) mine ∙ alone)
+      record {
+        state = get_or interfaces t.node no_interface;
+        here = slice_get-get_or interfaces t.node no_interface inside;
+        offer = offer_of_own channel t.node r.sent ∙ ap (offer_in channel t.node) mine ∙ alone;
+      }
     where
       passes_of : ℕ → Bool
       passes_of node = passes d node r.window channel
+
+  sent_due : (k slot : ℕ) (r : Recorded) (channel : Channel) → slice_get rs k ≡ Some r
+      → slot_of r.window channel ≡ Some slot → (i : ℕ) (t : Sent) → slice_get r.sent i ≡ Some t
+      → passed_on channel t ≡ true → SpellsDue d r.window channel slot t.bytes
+  sent_due k slot r channel at slot_is i t there through =
+      let by = sent_by k slot r channel at slot_is i t there through in
+      let h = handed_by t.node k by.state r channel by.here at in
+      let f = frame_of channel (frame_with by.state.params by.state.plan h.before r.window channel
+      (offered_on channel h.a h.b)) t.bytes (h.handed ∙ by.offer) in
+      record {
+        frame = f.frame;
+        spelled = f.spelled;
+        is_there = handed_there d t.node by.state h.before r.window h.a h.b channel slot cluster h.fetched_is slot_is
+            f.frame f.is (is_static r.window) refl;
+      }
 
   heard_due : (k slot : ℕ) (r : Recorded) (channel : Channel) (bytes : ArrayVec ℕ) → slice_get rs k ≡ Some r
       → corrupt_on r channel ≡ None → slot_of r.window channel ≡ Some slot → heard d.params r channel ≡ Bytes bytes

@@ -108,9 +108,6 @@ line_is plan w channel slot static =
 
 -- ---- the frame
 
-half : (n : ℕ) → 2 * n / 2 ≡ n
-half n = omega arith
-
 length_zeros : (n : ℕ) → length {A = ℕ} (replicate n 0) ≡ n
 length_zeros zero = refl
 length_zeros (suc n) = ap suc (length_zeros n)
@@ -137,8 +134,8 @@ module _ (d : Description) (node : ℕ) (s : State) (before : List Entry) (w : O
   null_due : IsOwners (static_due d.params node s.plan own (buffer_in slot channel w.cycle s.plan))
       (null_frame s.params s.plan w channel slot)
   null_due = record {
-    words = ap (λ (n : ℕ). n / 2) (length_zeros (2 * s.params.static_words)) ∙ half s.params.static_words
-        ∙ ap (λ (p : Parameters). p.static_words) fetched.params_are;
+    words = length_zeros (2 * s.params.static_words)
+        ∙ ap (λ (p : Parameters). 2 * p.static_words) fetched.params_are;
     sync = sym (ap sync_of own_line);
     startup = sym (ap startup_of own_line);
     content = record { no_preamble = refl; zeros = all_zeros (2 * s.params.static_words) };
@@ -164,8 +161,8 @@ module _ (d : Description) (node : ℕ) (s : State) (before : List Entry) (w : O
       let buffer_is : option_and_then (buffer_at s.plan) (transmitter s.plan w channel) ≡ Some b.buffer =
       ap (option_and_then (buffer_at s.plan)) o.at ∙ b.at in
       record {
-        words = ap (λ (n : ℕ). n / 2) (fits.words ∙ ap (λ (n : ℕ). 2 * n) words_are) ∙ half s.params.static_words
-            ∙ ap (λ (p : Parameters). p.static_words) fetched.params_are;
+        words = fits.words ∙ ap (λ (n : ℕ). 2 * n) words_are
+            ∙ ap (λ (p : Parameters). 2 * p.static_words) fetched.params_are;
         sync = sym (ap sync_of own_line);
         startup = sym (ap startup_of own_line);
         content = ap (due_preamble s.plan) (transmitter_is s.plan w channel slot window.slot_is ∙ buffer_is)
@@ -195,6 +192,7 @@ module _ (d : Description) (node : ℕ) (s : State) (before : List Entry) (w : O
     due = static_due d.params node s.plan own (buffer_in slot channel w.cycle s.plan);
     due_is = due_is;
     owners = null_due;
+    full = null_due.words;
   }
   by_offer (Data commit) is = record {
     frame = data_frame_of s.plan before w channel slot commit;
@@ -204,6 +202,7 @@ module _ (d : Description) (node : ℕ) (s : State) (before : List Entry) (w : O
     due = static_due d.params node s.plan own (buffer_in slot channel w.cycle s.plan);
     due_is = due_is;
     owners = data_due commit is;
+    full = (data_due commit is).words;
   }
 
   hands_due : HandsDue d s before w channel slot (offered_on channel x y)
@@ -262,8 +261,7 @@ module _ (d : Description) (node : ℕ) (s : State) (before : List Entry) (w : O
         has_data = refl;
         no_sync = ap sync_of line;
         no_startup = ap startup_of line;
-        words = ap (λ (n : ℕ). n / 2) fits.words ∙ half (words_of s.params b.buffer)
-            ∙ ap (λ (p : Parameters). words_of p b.buffer) fetched.params_are;
+        words = fits.words ∙ ap (λ (p : Parameters). 2 * words_of p b.buffer) fetched.params_are;
         preamble = ap Some (sym (ap preamble_of buffer_is));
         in_time = begins_in_time w (latest_on s.plan channel) window.dynamic begins;
       }

@@ -26,7 +26,7 @@ use Rattle.fr_slots.specs.Parameters.{Parameters, is_static_slot}
 use Rattle.fr_slots.specs.Plans.{Plan, buffer_at, admits_slot, filter_admits}
 use Rattle.fr_slots.specs.Windows.{Opportunity, slot_of, is_static}
 
-some_found : {X : Type 0} (test : X → Bool) (xs : List X) → list_any test xs ≡ true → is_some (find test xs) ≡ true
+pub some_found : {X : Type 0} (test : X → Bool) (xs : List X) → list_any test xs ≡ true → is_some (find test xs) ≡ true
 some_found test [] e = absurd (let none : ⊥ = cc in none)
 some_found test (x ∷ xs) e = by (test x) e (some_found test xs)
   where
@@ -36,7 +36,7 @@ some_found test (x ∷ xs) e = by (test x) e (some_found test xs)
     by false g more = more g
 
 -- the node owns the slot of the window
-owned_is : (plan : Plan) (w : Opportunity) (channel : Channel) (slot : ℕ) → is_static w ≡ true
+pub owned_is : (plan : Plan) (w : Opportunity) (channel : Channel) (slot : ℕ) → is_static w ≡ true
     → is_owned plan.owned slot channel w.cycle ≡ true → owns plan w channel slot ≡ true
 owned_is plan w channel slot static owned =
     ap (λ (o : Option Own). is_some o) (line_is plan w channel slot static)

@@ -57,7 +57,7 @@ HasContent d f false = IsNull f
 
 -- the frame that the owner of a static slot sends in it
 pub record IsOwners (d : Due) (f : Fields) : Type 0 where
-  pub words : length f.payload / 2 ≡ d.words
+  pub words : length f.payload ≡ 2 * d.words
   pub sync : d.sync ≡ f.sync
   pub startup : d.startup ≡ f.startup
   pub content : HasContent d f f.has_data
@@ -67,7 +67,7 @@ pub record IsDynamic (p : Parameters) (d : Due) (s : Spot) (f : Fields) : Type 0
   pub has_data : f.has_data ≡ true
   pub no_sync : f.sync ≡ false
   pub no_startup : f.startup ≡ false
-  pub words : length f.payload / 2 ≡ d.words
+  pub words : length f.payload ≡ 2 * d.words
   pub preamble : d.preamble ≡ Some f.preamble
   pub some_minislot : 1 ≤ p.minislots
   pub within : begins_at s f ≤ p.minislots

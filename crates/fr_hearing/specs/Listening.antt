@@ -4,7 +4,7 @@ use Rattle.std.specs.List.{list_all}
 use Rattle.arrayvec.specs.ArrayVec.{ArrayVec}
 use Rattle.fr_bus.specs.declared.outcome.Sent.{Sent}
 use Rattle.fr_bus.specs.Record.{Recorded, corrupt_on, heard}
-use Rattle.fr_core.specs.Receivers.{is_muted}
+use Rattle.fr_core.specs.Receivers.{is_muted, IsOwner}
 use Rattle.fr_core.specs.Worlds.{WorldState}
 use Rattle.fr_frame.specs.Encoding.{encoded}
 use Rattle.fr_frame.specs.Fields.{Fields}
@@ -50,3 +50,15 @@ abbrev pub HeardIsDue : WorldState → Type 0
 HeardIsDue w = AreSound w.bus.sealed → (k slot : ℕ) (r : Recorded) (channel : Channel) (bytes : ArrayVec ℕ)
     → slice_get w.bus.sealed k ≡ Some r → corrupt_on r channel ≡ None → slot_of r.window channel ≡ Some slot
     → heard w.bus.cluster.params r channel ≡ Bytes bytes → SpellsDue w.bus.cluster r.window channel slot bytes
+
+-- a listener receives some bytes on the channel
+pub record Receives (d : Description) (r : Recorded) (channel : Channel) : Type 0 where
+  pub bytes : ArrayVec ℕ
+  pub hears : heard d.params r channel ≡ Bytes bytes
+
+-- In each static window that has an owner on the channel, a listener receives a frame.
+abbrev pub OwnersAreHeard : WorldState → Type 0
+OwnersAreHeard w = AreSound w.bus.sealed → (k slot owner : ℕ) (r : Recorded) (channel : Channel)
+    → slice_get w.bus.sealed k ≡ Some r → corrupt_on r channel ≡ None → is_static r.window ≡ true
+    → slot_of r.window channel ≡ Some slot → IsOwner w.bus.cluster r.window.cycle slot channel owner
+    → Receives w.bus.cluster r channel

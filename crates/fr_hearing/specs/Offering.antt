@@ -1,5 +1,5 @@
 -- The frames that nodes hand to the bus (chapter 5; the division of a static slot by cycles is project-defined).
-use Rattle.std.specs.Prelude.{◌≡◌, ℕ, ◌/◌, ◌<◌, ◌≤◌, true, false, List, ◌∷◌, ◌++◌, length, slice_get, Some}
+use Rattle.std.specs.Prelude.{◌≡◌, ℕ, ◌*◌, ◌<◌, ◌≤◌, true, false, List, ◌∷◌, ◌++◌, length, slice_get, Some}
 use Rattle.fr_core.specs.Receivers.{offered_on}
 use Rattle.fr_frame.specs.Fields.{Fields}
 use Rattle.fr_hearing.specs.Heard.{IsOwners}
@@ -43,6 +43,7 @@ pub record HandsDue (d : Description) (s : State) (before : List Entry) (w : Opp
   pub due : Due
   pub due_is : due_of d slot channel w.cycle ≡ Some due
   pub owners : IsOwners due frame
+  pub full : length frame.payload ≡ 2 * d.params.static_words
 
 -- In each static window that a node owns, it hands over the frame that is due.
 abbrev pub OwnersSend : Type 0
@@ -69,7 +70,7 @@ pub record IsDueThere (d : Description) (w : Opportunity) (channel : Channel) (s
   pub has_data : f.has_data ≡ true
   pub no_sync : f.sync ≡ false
   pub no_startup : f.startup ≡ false
-  pub words : length f.payload / 2 ≡ due.words
+  pub words : length f.payload ≡ 2 * due.words
   pub preamble : due.preamble ≡ Some f.preamble
   pub in_time : w.minislot ≤ due.latest
 

@@ -16,5 +16,6 @@
 //! - `OfferLaws`: in each static window its owner hands over the frame that is due, and so does each node that sends in a
 //!   dynamic one.
 //! - `ListenLaws`: each frame that a listener receives without faults is due in its window.
+//! - `OwnersLaws`: without faults a listener receives a frame in each static window with an owner.
 //! - `CaptureLaws`: the record of a frame spells it.
 #![tactic(auto)]

@@ -3,3 +3,4 @@ pub mod RefusalLemmas
 pub mod StepLemmas
 pub mod RoomLemmas
 pub mod HeadlineLemmas
+pub mod CallLemmas

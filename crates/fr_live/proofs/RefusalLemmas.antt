@@ -1,5 +1,6 @@
 -- The kept data refuse what each world that leads to them refuses.
-use Rattle.std.proofs.Common.{◌≡◌, ℕ, ◌<◌, Bool, true, false, cond, List, length, Option, Some, None, refl, sym, ap, ◌∙◌}
+use Rattle.std.proofs.Common.{◌≡◌, ℕ, ◌<◌, Bool, true, false, cond, List, length, Option, Some, None, refl, sym, ap}
+use Rattle.std.proofs.Common.{◌∙◌}
 use Rattle.std.proofs.lemmas.Bool.{ltb-true}
 use Rattle.std.specs.Prelude.{nat_lt, option_map}
 use Rattle.fr_bus.specs.declared.fault.Fault.{Fault}
@@ -10,7 +11,8 @@ use Rattle.fr_bus.specs.States.{advance_refusal}
 use Rattle.fr_core.specs.Carried.{Carried, Idle, Knows, Offers, Waits, Took}
 use Rattle.fr_core.specs.declared.error.StepError.{StepError}
 use Rattle.fr_core.specs.declared.error.StepError.TheVariants.{UnknownNode, WrongTurn, Host, Slot, Bus}
-use Rattle.fr_core.specs.declared.event.Event.TheVariants.{Commit, Look, Fetch, Put, Take, Observe, Inject, Seal, Advance}
+use Rattle.fr_core.specs.declared.event.Event.TheVariants.{Commit, Look, Fetch, Put, Take, Observe, Inject, Seal}
+use Rattle.fr_core.specs.declared.event.Event.TheVariants.{Advance}
 use Rattle.fr_core.specs.Steps as steps
 use Rattle.fr_core.specs.Steps.{step_refusal, unless_collecting}
 use Rattle.fr_core.specs.Worlds.{WorldState, interface_at}

@@ -305,7 +305,8 @@ impl LiveMachine {
     /// Injects a fault in the open window.
     fn inject(&mut self, fault: &Fault) -> Result<(), StepError>
         ensures refusal { result_err result ≡ option_map Bus (inject_refusal (bare self.old.bus.bus) fault.now) }
-        ensures leads { ForEachLead self.old (λ w. OnOk result (Leads (step_done w (event.Inject fault.now)) self.new)) }
+        ensures leads { ForEachLead self.old (λ w. OnOk result
+            (Leads (step_done w (event.Inject fault.now)) self.new)) }
         ensures refused { OnErr result (self.new ≡ self.old) }
     {
         self.bus.inject(fault.duplicate())?;

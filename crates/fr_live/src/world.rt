@@ -11,8 +11,8 @@ use fr_schedule::cluster::Cluster;
 use std::alloc::Global;
 use std::marker::Model;
 
-/// The world of a cluster in a run of up to 4,000,000 cycles, without journals and record (project-defined). It does the
-/// same as a `World`.
+/// The world of a cluster in a run of up to 4,000,000 cycles, without journals and record (project-defined). It does
+/// the same as a `World`.
 #[derive(Drop)]
 pub struct LiveWorld {
     machine: LiveMachine,
@@ -37,9 +37,9 @@ impl LiveWorld {
     ghost use Rattle.fr_live.specs.LiveSteps.{StepsAlike};
     ghost use Rattle.fr_live.specs.LiveWorlds.{OpensLiveWorld, ForEachWorld};
 
-    /// Returns the opening world of a cluster for a run of so many cycles, 1 to 4,000,000. The bus is at cycle 0, slot 1,
-    /// and all controllers are idle. Each interface accepts as many calls as the room says, whatever room its node's plan
-    /// gives to a journal.
+    /// Returns the opening world of a cluster for a run of so many cycles, 1 to 4,000,000. The bus is at cycle 0, slot
+    /// 1, and all controllers are idle. Each interface accepts as many calls as the room says, whatever room its node's
+    /// plan gives to a journal.
     ///
     /// Fails with `BadCycles` for a number of cycles that `LiveBus::new` refuses, then with `Memory` if an allocation
     /// fails.

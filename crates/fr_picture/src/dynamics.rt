@@ -23,7 +23,7 @@ struct Cell {
 }
 
 /// Returns the node that sends in the dynamic slot of this number in the cycle.
-fn sender_in(
+pub(crate) fn sender_in(
     cluster: &Cluster,
     cycle: Cycle,
     number: u16,
@@ -38,7 +38,7 @@ fn sender_in(
 }
 
 /// Returns the number of dynamic slots of the channel that have a sender in the cycle.
-fn count_senders(cluster: &Cluster, cycle: Cycle, channel: Channel) -> u64 {
+pub(crate) fn count_senders(cluster: &Cluster, cycle: Cycle, channel: Channel) -> u64 {
     let mut count: u64 = 0;
     for number in 1..=LAST_SLOT {
         if sender_in(cluster, cycle, number, channel).is_some() {

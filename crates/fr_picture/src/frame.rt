@@ -37,6 +37,7 @@ rect{stroke:#fff}
 /// The rules after those for the nodes.
 const LAST_RULES: &str = ".never rect{fill-opacity:.25;stroke:#000;stroke-dasharray:40}
 .axis text{font-size:90px}
+.range rect{stroke:none}
 </style>
 ";
 

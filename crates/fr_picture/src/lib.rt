@@ -25,4 +25,5 @@ mod frame;
 mod guards;
 pub mod owners;
 pub mod picture;
+mod ranges;
 pub mod scale;

@@ -9,11 +9,13 @@ use crate::dynamics::write_dynamic;
 use crate::frame::{write_axis, write_head, write_name, write_segments};
 use crate::guards::write_guards;
 use crate::owners::write_owners;
+use crate::ranges::write_ranges;
 use crate::scale::row_of;
 use fr_files::cluster_file::cluster_of;
 use fr_files::error::BenchError;
 use fr_files::output::write_whole;
 use fr_guardian::guardian::Guardian;
+use fr_latency::openings::openings_of;
 use fr_schedule::cluster::Cluster;
 use fr_slots::channel::Channel;
 use fr_slots::numbers::Cycle;
@@ -40,6 +42,13 @@ fn write_after(
 ) -> io::Result<()> {
     write_dynamic(text, cluster, cycle, Channel::A)?;
     write_dynamic(text, cluster, cycle, Channel::B)?;
+    match openings_of(alloc, cluster) {
+        Ok(openings) => {
+            write_ranges(text, cluster, &openings, cycle, Channel::A)?;
+            write_ranges(text, cluster, &openings, cycle, Channel::B)?;
+        }
+        Err(error) => return Err(io::Error::from(error)),
+    }
     match Guardian::new(alloc, cluster) {
         Ok(guardian) => write_guards(alloc, text, &guardian, cycle)?,
         Err(error) => return Err(io::Error::from(error)),
@@ -66,7 +75,8 @@ fn owners_of(alloc: Global, cluster: &Cluster, cycle: Cycle) -> Result<Vec<u8>, 
 /// All its parts are of this cycle:
 ///
 /// - the four segments;
-/// - for each channel, the static slots with their owners, and the dynamic slots with a sender;
+/// - for each channel, the static slots with their owners, the dynamic slots with a sender, and for each of these the
+///   minislots at which it can open in a run without faults;
 /// - for each node and channel, the intervals in which its guardian is open.
 ///
 /// The only error is `Memory`.

@@ -68,7 +68,9 @@ class Sources:
         receiver = f"{call.node}:" + ("queue" if call.buffer is None else f"b{call.buffer}")
         fitting = [it for it in self.found.get((receiver, call.slot, call.channel, call.data), [])
                    if it[1].cycle < call.cycle and it[1].cycle % CYCLE_COUNTS == call.count]
-        return max(fitting, key=lambda it: it[1].cycle, default=None)
+        if not fitting:
+            return None
+        return max(fitting, key=lambda it: it[1].cycle)
 
 
 def row_of(facts: Facts, call: Call, source: Source | None) -> Row:

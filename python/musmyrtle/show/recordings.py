@@ -1,7 +1,8 @@
 """The lines that `fr_monitor` prints of a recording, and its findings in words."""
-from collections.abc import Callable
+from collections.abc import Callable, Sequence
 from dataclasses import dataclass
 
+from musmyrtle.cluster import Buffer, Ownership
 from musmyrtle.show.network import Network
 from musmyrtle.show.tables import Numbers, Row, decimal
 
@@ -41,7 +42,8 @@ MEANINGS = {
     "Order": "frames out of order", "Nobody": "frames that no node sends", "Words": "wrong payload lengths",
     "Bits": "wrong sync or startup indicators", "NullFrame": "wrong null frames",
     "NoBuffer": "data without a transmit buffer", "Preamble": "wrong payload preambles",
-    "Channels": "channels that differ", "Closed": "dynamic slots that don't open", "Late": "dynamic slots after pLatestTx",
+    "Channels": "channels that differ", "Closed": "dynamic slots that don't open",
+    "Late": "dynamic slots after pLatestTx",
     "Missing": "static slots that fell silent", "Gap": "gaps", "Clock": "wrong times between cycles",
     "Time": "frames at a wrong time", "Silent": "channels that fell silent", "Symbol": "symbols",
     "Nothing": "channels without a frame",
@@ -85,8 +87,10 @@ def sender(network: Network, place: Place) -> int | None:
     """Returns the node that the cluster lets send at a place, if there is one."""
     if place.cycle is None or place.slot is None:
         return None
+    is_static = network.cluster.is_static(place.slot)
     for node in network.cluster.nodes:
-        lines = node.owned if network.cluster.is_static(place.slot) else [it for it in node.buffers if it.transmits]
+        buffers = [it for it in node.buffers if it.transmits]
+        lines: Sequence[Ownership | Buffer] = node.owned if is_static else buffers
         if any(it.slot == place.slot and place.channel in it.channels and it.cycles.admit(place.cycle) for it in lines):
             return node.number
     return None

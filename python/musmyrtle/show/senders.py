@@ -1,7 +1,7 @@
 """The command `plan`: who sends where, who is to receive it, and when the guardians are open."""
 from collections.abc import Iterator
 
-from musmyrtle.cluster import Cycles
+from musmyrtle.cluster import Buffer, Cycles
 from musmyrtle.show.engines import Inputs
 from musmyrtle.show.network import Network
 from musmyrtle.show.tables import Column, Name, Receivers, Row, Section, Value
@@ -39,7 +39,8 @@ def senders(network: Network, words: list[str]) -> Iterator[Row]:
     buffers = list(network.senders(slot, channel, node, cycles))
     if kind == "dynamic":
         buffers = [it for it in buffers if it.cycles == cycles]
-    for buffer in buffers or [None]:
+    listed: list[Buffer | None] = [*buffers]
+    for buffer in listed or [None]:
         shown = cycles if buffer is None or buffer.cycles.repetition < repetition else buffer.cycles
         name: Name | None = None if buffer is None else network.buffer(node, buffer.number)
         values: dict[str, Value] = {

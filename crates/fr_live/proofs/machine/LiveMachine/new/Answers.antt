@@ -14,10 +14,10 @@ returns c =
     let d = c.args.cluster.now in
     let room = c.args.room.now in
     let fits : IsRoom room = record {
-      some_host = subst (λ n. 1 ≤ n) c.host.ensures.value c.host.ensures.some;
-      host_fits = subst (λ n. n ≤ last_host_limit) c.host.ensures.value c.host.ensures.fits;
-      some_slot = subst (λ n. 2 ≤ n) c.slot.ensures.value c.slot.ensures.some;
-      slot_fits = subst (λ n. n ≤ last_slot_limit) c.slot.ensures.value c.slot.ensures.fits;
+      some_host = subst (λ n. 1 ≤ n) c.host-host.ensures.value c.host-host.ensures.some;
+      host_fits = subst (λ n. n ≤ last_host_limit) c.host-host.ensures.value c.host-host.ensures.fits;
+      some_slot = subst (λ n. 2 ≤ n) c.slot-slot.ensures.value c.slot-slot.ensures.some;
+      slot_fits = subst (λ n. n ≤ last_slot_limit) c.slot-slot.ensures.value c.slot-slot.ensures.fits;
     } in
     let states : map (new_with c.params.result.now room) c.plans.result.now
     ≡ map (new_interface d.params) (map (λ (p : Plan). with_limits p room.host room.slot) d.plans) =

@@ -35,7 +35,8 @@ returns-clause-leads c w is =
     ∙ ap (λ d. carried_of d c.controller.inside.offer c.controller.inside.a c.controller.inside.b) c.in-Observe.is in
     let history : IsHistory c.index_mut.result.now s =
     history_lent w l leads place c.index_mut.result.now c.index_mut.ensures.value within in
-    let (a, b) = (c.controller.inside.a, c.controller.inside.b) in
+    let a = c.controller.inside.a in
+    let b = c.controller.inside.b in
     let number : c.window.inside.number ≡ c.in-Observe.window.number =
     ap (λ (x : Opportunity). x.number) c.window.view_is in
     let t = with_entry s (entries.Observe c.in-Observe.window.number a b) in

@@ -11,68 +11,80 @@ use Rattle.fr_live.proofs.machine.LiveMachine.step.Goals as goal
 
 pub returns-in-Fetch : goal.returns-in-Fetch
 returns-in-Fetch c =
-    let (old, new) = (c.args.self.now, c.fetch.new.self) in
+    let old = c.args.self.now in
+    let new = c.fetch.new.self in
     let event = Fetch c.in-Fetch.node in
     subst (λ (e : Event). LiveSteps old e c.done.result new) (sym c.in-Fetch.is)
     (subst (λ a. LiveSteps old event a new) (sym c.done.ensures)
     (done_so old new event (λ e f h. h) (λ w. refl) c.fetch.result
-    (λ w is. c.fetch.ensures.refusal ∙ fetch_refuses w old is c.in-Fetch.node) c.fetch.ensures.leads c.fetch.ensures.refused))
+    (λ w is. c.fetch.ensures.refusal ∙ fetch_refuses w old is c.in-Fetch.node) c.fetch.ensures.leads
+    c.fetch.ensures.refused))
 
 pub returns-in-Put : goal.returns-in-Put
 returns-in-Put c =
-    let (old, new) = (c.args.self.now, c.put.new.self) in
+    let old = c.args.self.now in
+    let new = c.put.new.self in
     let event = Put c.in-Put.node in
-    subst (λ (e : Event). LiveSteps old e c.done.result new) (sym c.in-Put.is)
-    (subst (λ a. LiveSteps old event a new) (sym c.done.ensures)
+    subst (λ (e : Event). LiveSteps old e c.done-in-Put.result new) (sym c.in-Put.is)
+    (subst (λ a. LiveSteps old event a new) (sym c.done-in-Put.ensures)
     (done_so old new event (λ e f h. h) (λ w. refl) c.put.result
-    (λ w is. c.put.ensures.refusal ∙ put_refuses w old is c.in-Put.node) c.put.ensures.leads c.put.ensures.refused))
+    (λ w is. c.put.ensures.refusal ∙ put_refuses w old is c.in-Put.node) c.put.ensures.leads
+    c.put.ensures.refused))
 
 pub returns-in-Take : goal.returns-in-Take
 returns-in-Take c =
-    let (old, new) = (c.args.self.now, c.take.new.self) in
+    let old = c.args.self.now in
+    let new = c.take.new.self in
     let event = Take c.in-Take.node in
-    subst (λ (e : Event). LiveSteps old e c.done.result new) (sym c.in-Take.is)
-    (subst (λ a. LiveSteps old event a new) (sym c.done.ensures)
+    subst (λ (e : Event). LiveSteps old e c.done-in-Take.result new) (sym c.in-Take.is)
+    (subst (λ a. LiveSteps old event a new) (sym c.done-in-Take.ensures)
     (done_so old new event (λ e f h. h) (λ w. refl) c.take.result
-    (λ w is. c.take.ensures.refusal ∙ take_refuses w old is c.in-Take.node) c.take.ensures.leads c.take.ensures.refused))
+    (λ w is. c.take.ensures.refusal ∙ take_refuses w old is c.in-Take.node) c.take.ensures.leads
+    c.take.ensures.refused))
 
 pub returns-in-Observe : goal.returns-in-Observe
 returns-in-Observe c =
-    let (old, new) = (c.args.self.now, c.observe.new.self) in
+    let old = c.args.self.now in
+    let new = c.observe.new.self in
     let event = Observe c.in-Observe.node in
-    subst (λ (e : Event). LiveSteps old e c.done.result new) (sym c.in-Observe.is)
-    (subst (λ a. LiveSteps old event a new) (sym c.done.ensures)
+    subst (λ (e : Event). LiveSteps old e c.done-in-Observe.result new) (sym c.in-Observe.is)
+    (subst (λ a. LiveSteps old event a new) (sym c.done-in-Observe.ensures)
     (done_so old new event (λ e f h. h) (λ w. refl) c.observe.result
-    (λ w is. c.observe.ensures.refusal ∙ observe_refuses w old is c.in-Observe.node) c.observe.ensures.leads c.observe.ensures.refused))
+    (λ w is. c.observe.ensures.refusal ∙ observe_refuses w old is c.in-Observe.node) c.observe.ensures.leads
+    c.observe.ensures.refused))
 
 pub returns-in-Inject : goal.returns-in-Inject
 returns-in-Inject c =
-    let (old, new) = (c.args.self.now, c.inject.new.self) in
-    let event = Inject c.in-Inject.fault.now in
-    subst (λ (e : Event). LiveSteps old e c.done.result new) (sym c.in-Inject.is)
-    (subst (λ a. LiveSteps old event a new) (sym c.done.ensures)
+    let old = c.args.self.now in
+    let new = c.inject.new.self in
+    let event = Inject c.in-Inject.fault in
+    subst (λ (e : Event). LiveSteps old e c.done-in-Inject.result new) (sym c.in-Inject.is)
+    (subst (λ a. LiveSteps old event a new) (sym c.done-in-Inject.ensures)
     (done_so old new event (λ e f h. h) (λ w. refl) c.inject.result
-    (λ w is. c.inject.ensures.refusal ∙ inject_refuses w old is c.in-Inject.fault.now) c.inject.ensures.leads
+    (λ w is. c.inject.ensures.refusal ∙ inject_refuses w old is c.in-Inject.fault) c.inject.ensures.leads
     c.inject.ensures.refused))
 
 pub returns-in-Commit : goal.returns-in-Commit
 returns-in-Commit c =
-    let (old, new) = (c.args.self.now, c.commit.new.self) in
-    let event = Commit c.in-Commit.node c.in-Commit.task c.in-Commit.buffer c.in-Commit.payload.now in
+    let old = c.args.self.now in
+    let new = c.commit.new.self in
+    let event = Commit c.in-Commit.node c.in-Commit.task c.in-Commit.buffer c.in-Commit.payload in
     subst (λ (e : Event). LiveSteps old e c.committed.result new) (sym c.in-Commit.is)
     (subst (λ a. LiveSteps old event a new) (sym c.committed.ensures)
     (receipt_so old new event (λ e f h. h) c.commit.result
     (λ w is. c.commit.ensures.refusal ∙ commit_refuses w old is c.in-Commit.node c.in-Commit.task c.in-Commit.buffer
-    c.in-Commit.payload.now) c.commit.ensures.leads c.commit.ensures.refused
+    c.in-Commit.payload) c.commit.ensures.leads c.commit.ensures.refused
     (λ w is. on_value c.commit.result (λ x h. ap Committed h) (c.commit.ensures.receipt w is))))
 
 pub returns-in-Look : goal.returns-in-Look
 returns-in-Look c =
-    let (old, new) = (c.args.self.now, c.look.new.self) in
+    let old = c.args.self.now in
+    let new = c.look.new.self in
     let event = Look c.in-Look.node in
     subst (λ (e : Event). LiveSteps old e c.looked.result new) (sym c.in-Look.is)
     (subst (λ a. LiveSteps old event a new) (sym c.looked.ensures)
     (window_so old new event (λ e f h. h) c.look.result
     (λ w is. c.look.ensures.refusal ∙ look_refuses w old is c.in-Look.node) c.look.ensures.leads c.look.ensures.refused
-    (λ w is. on_value c.look.result (λ x h. sym (ap window_shown (sym (collecting_same old.bus.bus w.bus is.bus_is.of_bus) ∙ h)))
+    (λ w is. on_value c.look.result (λ x h. sym (ap window_shown
+    (sym (collecting_same old.bus.bus w.bus is.bus_is.of_bus) ∙ h)))
     c.look.ensures.window)))
