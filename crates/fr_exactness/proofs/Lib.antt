@@ -16,6 +16,7 @@ pub mod SentLemmas
 pub mod WalkLemmas
 pub mod HoldingLemmas
 pub mod ExactLemmas
+pub mod ChanceLemmas
 pub mod DelayLemmas
 pub mod StaticLemmas
 pub mod ReachLemmas

@@ -1,3 +1,4 @@
 pub mod Leading
 pub mod Exactness
 pub mod Delays
+pub mod Chances

@@ -5,12 +5,14 @@
 //! # Definitions
 //!
 //! - `Leading`, `Exactness`: events that are accepted one by one, the room that a run needs, and runs that open a slot.
+//! - `Chances`: runs in which a dynamic buffer sends that can send in a cycle.
 //! - `Delays`: runs in which a commit waits as long as the table of latencies says.
 //!
 //! # Laws
 //!
 //! - `ExactLemmas`: `all_realized` holds of each cluster. Wherever the definition lets a dynamic slot open, some run
 //!   opens it.
+//! - `ChanceLemmas`: `all_offered` holds of each cluster. A buffer that is possible in a cycle is offered in some run.
 //! - `WorstLemmas`: `all_reached` and `worst_reached` hold of each cluster, too. The worst latency of a buffer that is
 //!   guaranteed in all its cycles is that of some run. `ReachLemmas` and `StaticReachLemmas` construct it.
 //! - `WindowLemmas`, `PassingLemmas`, `SentLemmas`, `WalkLemmas`: the events of a window without frames, of one with a
