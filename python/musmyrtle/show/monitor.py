@@ -23,23 +23,24 @@ from musmyrtle.show.tables import Column, Row, Section, as_json, as_text
 FOUND, REFUSED = 3, 1
 MOST_NUMBER = 4294967295
 STANDARD_INPUT = "-"
-PURPOSE = ("Compares a recording of a real bus with the cluster. Prints each frame that the schedule doesn't allow, and\n"
-           "each missing one, with the reason.")
+PURPOSE = ("Compares a recording of a real bus with the cluster. Prints each frame that the schedule doesn't allow,\n"
+           "and each missing one, with the reason.")
 CLUSTER_FILE, RECORDING_FILE = "examples/three-nodes/cluster.toml", "examples/recordings/disturbed.pcap"
 EXAMPLES = (f"monitor {CLUSTER_FILE} {RECORDING_FILE} --whole", f"monitor {CLUSTER_FILE} {RECORDING_FILE} --json")
 STATUSES = """status: 0 without a finding, 3 with one, 1 if the cluster file or the recording is refused, 2 if the words
 are no command, a program can't be run or fails, or the output can't be written, 130, 143 or 129 if SIGINT, SIGTERM or
 SIGHUP broke it off"""
 FINDINGS = (Column("record", "record"), Column("seconds", "at [s]"), Column("cycle", "cycle"),
-            Column("channel", "channel"), Column("slot", "slot"), Column("node", "node", "name"), Column("name", "finding"),
-            Column("expected", ""), Column("found", ""), Column("why", "reason"))
+            Column("channel", "channel"), Column("slot", "slot"), Column("node", "node", "name"),
+            Column("name", "finding"), Column("expected", ""), Column("found", ""), Column("why", "reason"))
 TOTALS = (Column("records", "records"), Column("foreign", "foreign"), Column("symbols", "symbols"),
           Column("skipped", "skipped blocks"))
 SPANS = (Column("shortest_us", "shortest [us]"), Column("longest_us", "longest [us]"))
 CHANNELS = (Column("channel", "channel"), Column("frames", "frames"), Column("cycles", "cycles"),
             Column("gaps", "gaps"), Column("lost", "lost cycles"), *SPANS)
 SLOTS = (Column("slot", "slot"), Column("channel", "channel"), Column("nodes", ""), Column("names", "sender"),
-         Column("data", "data"), Column("null", "null"), Column("missing", "missing"), Column("other", "findings"), *SPANS)
+         Column("data", "data"), Column("null", "null"), Column("missing", "missing"),
+         Column("other", "findings"), *SPANS)
 COUNTS = (Column("name", "finding"), Column("count", "count"), Column("meaning", "meaning"))
 
 
@@ -171,9 +172,11 @@ def outcome(given: argparse.Namespace, inputs: Inputs, source: IO[bytes]) -> int
     tables = Tables(inputs.network)
     words = words_of(given, inputs, macrotick(given, inputs.network))
     program = inputs.program("fr_monitor")
-    status, told = asked(inputs, itself(program) if is_launcher(program) else program, words, source, tables, given.json)
+    program = itself(program) if is_launcher(program) else program
+    status, told = asked(inputs, program, words, source, tables, given.json)
     if status not in (FINE, FOUND, REFUSED):
-        raise Stop(USAGE, no_answer(program, words, Answer(status, " ".join(told).strip() or f"status {status}", False)))
+        answer = Answer(status, " ".join(told).strip() or f"status {status}", False)
+        raise Stop(USAGE, no_answer(program, words, answer))
     if not given.json and any(tables.rows.values()):
         printed(shown(given, tables.sections()))
     for line in told:
@@ -201,8 +204,8 @@ REASONS = {
     "NoCapture": "the recording is no pcap or pcapng file",
     "BadBlock": "the block or record that begins at byte {} is broken; the tables have what came before",
     "Truncated": "the recording ends within the block that begins at byte {}; the tables have what came before",
-    "NoClock": "channel {} has a sender, and no static slot with an owner in cycle {}: without a clock its cycles aren't "
-               "known",
+    "NoClock": "channel {} has a sender, and no static slot with an owner in cycle {}: without a clock its cycles "
+               "aren't known",
     "Read": "the recording can't be read on", "Write": "the tables can't be written", "Memory": "out of memory",
 }
 """The reasons of refusals, with the words after their names."""

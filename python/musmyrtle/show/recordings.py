@@ -41,7 +41,8 @@ MEANINGS = {
     "Order": "frames out of order", "Nobody": "frames that no node sends", "Words": "wrong payload lengths",
     "Bits": "wrong sync or startup indicators", "NullFrame": "wrong null frames",
     "NoBuffer": "data without a transmit buffer", "Preamble": "wrong payload preambles",
-    "Channels": "channels that differ", "Closed": "dynamic slots that don't open", "Late": "dynamic slots after pLatestTx",
+    "Channels": "channels that differ", "Closed": "dynamic slots that don't open",
+    "Late": "dynamic slots after pLatestTx",
     "Missing": "static slots that fell silent", "Gap": "gaps", "Clock": "wrong times between cycles",
     "Time": "frames at a wrong time", "Silent": "channels that fell silent", "Symbol": "symbols",
     "Nothing": "channels without a frame",
@@ -127,7 +128,7 @@ def why(network: Network, name: str, place: Place, expected: str, found: str, no
     """Returns a finding in words, with the names of nodes and with microseconds."""
     spelled = SPECIAL[name](expected, found) if name in SPECIAL else WORDS.get(name, name)
     of_node = "its sender" if node is None else str(network.node(node))
-    times = {}
+    times: dict[str, str] = {}
     if name in NANOSECONDS:
         times = {"expected_us": decimal(int(expected) / 1000), "found_us": decimal(int(found) / 1000)}
     return spelled.format(expected=expected, found=found, slot=place.slot, channel=place.channel, node=of_node, **times)
