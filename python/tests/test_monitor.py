@@ -154,8 +154,8 @@ class Refusals(Monitor):
         cut = self.folder / "cut.pcap"
         cut.write_bytes((HEADER + b"".join(sealed(*it) for it in frames(1)))[:-1])
         for name, told in ((broken, "musmyrtle: refused NoCapture: the recording is no pcap or pcapng file\n"),
-                           (str(cut), "musmyrtle: refused Truncated 99: the recording ends within the block that begins "
-                                      "at byte 99; the tables have what came before\n")):
+                           (str(cut), "musmyrtle: refused Truncated 99: the recording ends within the block that "
+                                      "begins at byte 99; the tables have what came before\n")):
             status, _, error = self.asked("monitor", self.cluster, name)
             self.assertEqual((status, error), (1, told))
 
@@ -182,7 +182,7 @@ class Refusals(Monitor):
         fine = self.written("fine.toml", NETWORK.replace("macrotick_us = 2\n", "macrotick_us = 0.0001\n"))
         for words, told in (
             ((self.cluster, bus, "--findings", "-1"), "musmyrtle monitor: argument --findings: "),
-            ((self.cluster, bus, "--findings", "4294967296"), "musmyrtle monitor: argument --findings: '4294967296' is "),
+            ((self.cluster, bus, "--findings", "4294967296"), "musmyrtle monitor: argument --findings: '4294967296' "),
             ((self.cluster, bus, "--macrotick", "0"), "musmyrtle monitor: argument --macrotick: '0' is no number "),
             ((self.cluster, bus, "--times", "--macrotick", "1"), "musmyrtle monitor: argument --macrotick: not "),
             ((plain, bus, "--times"), f"musmyrtle: {plain} has no macrotick_us; give --macrotick NS\n"),
