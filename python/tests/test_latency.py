@@ -111,8 +111,8 @@ class Ways(Shows):
     def test_a_run_with_the_worst_latency(self) -> None:
         """A commit just after the fetch of its slot is sent two cycles later, after the frames of the way.
 
-        The frame of 127 words fills 66 minislots of 5 macroticks. Slot 62 begins at minislot 2 if slot 61 is silent, and
-        two cycles have 10000 macroticks.
+        The frame of 127 words fills 66 minislots of 5 macroticks. Slot 62 begins at minislot 2 if slot 61 is silent. Two
+        cycles have 10000 macroticks.
         """
         cluster = str(EXAMPLES / "ten-nodes/cluster.toml")
         worst, = (row["worst_mt"] for row in self.rows("latency", "latency", cluster)
@@ -123,7 +123,8 @@ class Ways(Shows):
         calls = [(end - 1, 7, 7, 62)] + [(end, row["node"], row["buffer"], row["slot"]) for row in frames]
         lines = [f"commit {node} 0 {cycle} {buffer} x{'00' * 2 * words[slot]}\n" for cycle, node, buffer, slot in calls]
         run = [cluster, self.written("scenario", f"frscenario 1\n{''.join(lines)}end\n"), "--cycles", str(end + 1)]
-        (cycle, minislot), = self.values("transmission", "cycle minislot", "log", *run, "--slot", "62", "--channel", "A")
+        place = ("--slot", "62", "--channel", "A")
+        (cycle, minislot), = self.values("transmission", "cycle minislot", "log", *run, *place)
         self.assertEqual((cycle, minislot), (end, last["minislot"]))
         self.assertEqual(10000 + (minislot - 2 + 66) * 5, worst)
 

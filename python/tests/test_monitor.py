@@ -90,7 +90,7 @@ class Recordings(Monitor):
         """A flipped bit, a frame that no node sends, data without a buffer, and a payload that is too long."""
         broken = bytearray(frame("A", 2, 0))
         broken[5] ^= 0x40
-        for records, expected in (
+        cases: list[tuple[list[tuple[int, bytes]], list[tuple[object, ...]]]] = [
             ([*frames(1)[:2], (SLOT, bytes(broken)), frames(1)[3]],
              [(3, 0, "A", 2, "brake", "HeaderCrc", "the header CRC is x705, due is x704")]),
             ([*frames(1), (100, frame("B", 7, 0, has_data=True))],
@@ -99,7 +99,8 @@ class Recordings(Monitor):
              [(4, 0, "B", 2, "brake", "NoBuffer", "brake (1) has no transmit buffer for data in this slot")]),
             ([*frames(1), (100, frame("A", 4, 0, b"\1\2\3\4", True))],
              [(5, 0, "A", 4, "brake", "Words", "the payload has 2 two-byte words, due are 1")]),
-        ):
+        ]
+        for records, expected in cases:
             with self.subTest(expected[0][5]):
                 found = self.found(records)
                 # The header CRC of the flipped bit is worked out by the division above.
@@ -117,8 +118,7 @@ class Recordings(Monitor):
         self.assertEqual(self.asked("monitor", self.cluster, self.recording(records))[0], 0)
 
     def test_findings_that_are_not_printed(self) -> None:
-        unowned = [(3 * CYCLE, frame("A", slot, 2, has_data=True)) for slot in (7, 9)]
-        records = frames(3) + unowned
+        records = frames(3) + [(3 * CYCLE, frame("A", slot, 2, has_data=True)) for slot in (7, 9)]
         status, output, _ = self.asked("monitor", self.cluster, self.recording(records), "--findings", "1")
         self.assertEqual((status, output.splitlines()[-1]), (
             3, "1 further finding isn't printed; --findings N prints more"))
@@ -126,9 +126,8 @@ class Recordings(Monitor):
     def test_csv(self) -> None:
         words = ("monitor", self.cluster, self.recording(frames(2)), "--csv")
         rows = list(csv.DictReader(io.StringIO(self.asked(*words)[1])))
-        slots = [(it["slot"], it["channel"], it["nodes"], it["names"]) for it in rows if it["kind"] == "slot"]
-        self.assertEqual(slots[:2],
-                         [("1", "A", "0", "pedal (0)"), ("1", "B", "0", "pedal (0)")])
+        found = [(it["slot"], it["channel"], it["nodes"], it["names"]) for it in rows if it["kind"] == "slot"]
+        self.assertEqual(found[:2], [("1", "A", "0", "pedal (0)"), ("1", "B", "0", "pedal (0)")])
 
     def test_standard_input(self) -> None:
         data = Path(self.recording(frames(2))).read_bytes()
@@ -156,14 +155,15 @@ class Refusals(Monitor):
         cut = self.folder / "cut.pcap"
         cut.write_bytes((HEADER + b"".join(sealed(*it) for it in frames(1)))[:-1])
         for name, told in ((broken, "musmyrtle: refused NoCapture: the recording is no pcap or pcapng file\n"),
-                           (str(cut), "musmyrtle: refused Truncated 99: the recording ends within the block that begins at "
-                                      "byte 99; the tables have what came before\n")):
+                           (str(cut), "musmyrtle: refused Truncated 99: the recording ends within the block that "
+                                      "begins at byte 99; the tables have what came before\n")):
             status, _, error = self.asked("monitor", self.cluster, name)
             self.assertEqual((status, error), (1, told))
 
     def test_a_cluster_without_a_clock(self) -> None:
         """Both nodes own their slots in even cycles alone."""
-        network = NETWORK.replace('channels = "AB", sync = true}', 'channels = "AB", sync = true, repetition = 2}').replace(
+        network = NETWORK.replace(
+            'channels = "AB", sync = true}', 'channels = "AB", sync = true, repetition = 2}').replace(
             'slot = 2, channels = "AB"}', 'slot = 2, channels = "AB", repetition = 2}').replace(
             'slot = 1, channels = "AB"}', 'slot = 1, channels = "AB", repetition = 2}').replace(
             'slot = 2, channels = "A"}', 'slot = 2, channels = "A", repetition = 2}')
@@ -183,9 +183,9 @@ class Refusals(Monitor):
         fine = self.written("fine.toml", NETWORK.replace("macrotick_us = 2\n", "macrotick_us = 0.0001\n"))
         for words, told in (
             ((self.cluster, bus, "--findings", "-1"), "musmyrtle monitor: argument --findings: "),
-            ((self.cluster, bus, "--findings", "4294967296"), "musmyrtle monitor: argument --findings: '4294967296' is no "),
-            ((self.cluster, bus, "--macrotick", "0"), "musmyrtle monitor: argument --macrotick: '0' is no number from 1"),
-            ((self.cluster, bus, "--times", "--macrotick", "1"), "musmyrtle monitor: argument --macrotick: not allowed"),
+            ((self.cluster, bus, "--findings", "4294967296"), "musmyrtle monitor: argument --findings: '4294967296' "),
+            ((self.cluster, bus, "--macrotick", "0"), "musmyrtle monitor: argument --macrotick: '0' is no number "),
+            ((self.cluster, bus, "--times", "--macrotick", "1"), "musmyrtle monitor: argument --macrotick: not "),
             ((plain, bus, "--times"), f"musmyrtle: {plain} has no macrotick_us; give --macrotick NS\n"),
             ((fine, bus, "--times"), f"musmyrtle: the macrotick_us of {fine} is no whole number of nanoseconds; "),
             ((self.cluster, "no/such/file"), "musmyrtle: no/such/file can't be read: No such file or directory\n"),
@@ -216,7 +216,8 @@ class Reasons(unittest.TestCase):
 
     def test_refusals(self) -> None:
         self.assertEqual(explained("refused BadBlock 24"), (
-            "refused BadBlock 24: the block or record that begins at byte 24 is broken; the tables have what came before"))
+            "refused BadBlock 24: the block or record that begins at byte 24 is broken; "
+            "the tables have what came before"))
         self.assertEqual(explained("refused Unknown 1"), "refused Unknown 1")
 
 

@@ -30,9 +30,9 @@ class TestOldPython(unittest.TestCase):
         return ran.returncode, ran.stderr.splitlines()
 
     def test_commands(self) -> None:
-        for words in ([], ["lint", "--help"], ["faults", "--help"]):
-            argv = ["musmyrtle"] + words
-            given = f"import runpy\nsys.argv = {argv}\n"
+        calls: list[list[str]] = [[], ["lint", "--help"], ["faults", "--help"]]
+        for words in calls:
+            given = f"import runpy\nsys.argv = {['musmyrtle', *words]}\n"
             self.assertEqual(self.ran(f"{given}runpy.run_path('musmyrtle', run_name='__main__')\n"), (2, [NEEDS]))
 
     def test_the_package(self) -> None:

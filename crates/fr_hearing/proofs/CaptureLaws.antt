@@ -1,6 +1,8 @@
 -- The record of a frame in a capture spells the frame.
-use Rattle.std.proofs.Common.{◌≡◌, ℕ, ℤ, zero, suc, ◌+◌, ◌-◌, ◌*◌, ◌<◌, ◌≤◌, Bool, true, false, cond, not, List, [], ◌∷◌}
-use Rattle.std.proofs.Common.{length, take, drop, refl, sym, ap, subst, ◌∙◌, arith, Option, Some, None, length-take, length-drop}
+use Rattle.std.proofs.Common.{◌≡◌, ℕ, ℤ, zero, suc, ◌+◌, ◌-◌, ◌*◌, ◌<◌, ◌≤◌, Bool, true, false, cond, not, List, []}
+use Rattle.std.proofs.Common.{◌∷◌}
+use Rattle.std.proofs.Common.{length, take, drop, refl, sym, ap, subst, ◌∙◌, arith, Option, Some, None, length-take}
+use Rattle.std.proofs.Common.{length-drop}
 use Rattle.std.proofs.lemmas.Bool.{cond-true, cond-false, eqb-true, eq-eqb, le-ltb, ltb-false}
 use Rattle.std.proofs.lemmas.List.{take-take, drop-take}
 use Rattle.std.specs.Prelude.{Result, Ok, Err, nat_lt, ◌==◌, is_some, slice_index}
@@ -21,7 +23,8 @@ use Rattle.fr_hearing.specs.Captured.{record_of, ReadsBack}
 use Rattle.fr_logged.specs.Findings.{with_numbers}
 use Rattle.fr_logged.specs.Headers.{header_in, right_crc}
 use Rattle.fr_logged.specs.Logged.{kind_of, kind_by, spelled, spelled_in, unless_logged, logged_in, logged_by, frame_by}
-use Rattle.fr_logged.specs.Logged.{or_else, length_finding, header_finding, frame_finding, trailer_finding, fields_by, cut}
+use Rattle.fr_logged.specs.Logged.{or_else, length_finding, header_finding, frame_finding, trailer_finding, fields_by}
+use Rattle.fr_logged.specs.Logged.{cut}
 use Rattle.fr_logged.specs.Logged.{right_trailer, trailer_of}
 use Rattle.fr_logged.specs.declared.finding.Finding.{Finding}
 use Rattle.fr_logged.specs.declared.finding.Name.TheVariants as name

@@ -1,5 +1,6 @@
 -- Cycle counts modulo 64, and the frames by which a cycle is opened.
-use Rattle.std.proofs.Common.{◌≡◌, ℕ, zero, suc, ◌+◌, ◌-◌, ◌%◌, ◌/◌, ◌<◌, ◌≤◌, Bool, true, false, cond, refl, sym, ap, ◌∙◌, arith}
+use Rattle.std.proofs.Common.{◌≡◌, ℕ, zero, suc, ◌+◌, ◌-◌, ◌%◌, ◌/◌, ◌<◌, ◌≤◌, Bool, true, false, cond, refl, sym, ap}
+use Rattle.std.proofs.Common.{◌∙◌, arith}
 use Rattle.std.proofs.lemmas.Bool.{cond-true, eq-eqb, ne_eqb, lt-ltb, and_from, not_from_false, or_left}
 use Rattle.std.specs.Prelude.{Option, Some, None, nat_le, nat_lt, ◌==◌, not, ◌&&◌, ◌||◌}
 use Rattle.fr_frame.specs.Fields.{Fields}

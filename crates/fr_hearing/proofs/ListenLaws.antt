@@ -1,6 +1,7 @@
 -- In a run without faults of senders each frame that a listener receives is due in its window.
 use Rattle.std.proofs.Common.{◌≡◌, ℕ, zero, suc, ◌+◌, ◌<◌, ◌≤◌, Bool, true, false, not, cond, ◌&&◌, ◌||◌, List, [], ◌∷◌}
-use Rattle.std.proofs.Common.{◌++◌, length, map, take, Option, Some, None, refl, sym, ap, subst, ◌∙◌, arith, slice_get, get_or}
+use Rattle.std.proofs.Common.{◌++◌, length, map, take, Option, Some, None, refl, sym, ap, subst, ◌∙◌, arith, slice_get}
+use Rattle.std.proofs.Common.{get_or}
 use Rattle.std.proofs.Common.{is_some}
 use Rattle.std.specs.Prelude.{nat_lt, slice_index_or, ◌==◌}
 use Rattle.std.specs.List.{filter, list_all}
@@ -9,7 +10,8 @@ use Rattle.std.proofs.lemmas.Option.{slice_get-get_or}
 use Rattle.arrayvec.specs.ArrayVec.{ArrayVec}
 use Rattle.fr_bus.specs.declared.outcome.Sent.{Sent}
 use Rattle.fr_bus.specs.declared.outcome.SentFate.{SentFate}
-use Rattle.fr_bus.specs.Outcome.{transmission, sent_in, is_of, passed_on, all_passed, fate_of, is_passed, heard_of, received}
+use Rattle.fr_bus.specs.Outcome.{transmission, sent_in, is_of, passed_on, all_passed, fate_of, is_passed, heard_of}
+use Rattle.fr_bus.specs.Outcome.{received}
 use Rattle.fr_bus.specs.Outcome.{overruns}
 use Rattle.fr_bus.specs.Record.{Recorded, IsOutcome, is_offer_of, offer_in, side_on, corrupt_on, heard}
 use Rattle.fr_bus.specs.States.{IsRecorded, idle_station}

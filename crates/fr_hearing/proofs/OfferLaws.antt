@@ -1,6 +1,8 @@
 -- In each static window its owner hands over the frame that is due.
-use Rattle.std.proofs.Common.{◌≡◌, ℕ, zero, suc, ◌+◌, ◌*◌, ◌/◌, ◌<◌, ◌≤◌, Bool, true, false, cond, ◌&&◌, List, [], ◌∷◌, ◌++◌}
-use Rattle.std.proofs.Common.{length, refl, sym, ap, subst, ◌∙◌, arith, Option, Some, None, slice_get, get_or, replicate}
+use Rattle.std.proofs.Common.{◌≡◌, ℕ, zero, suc, ◌+◌, ◌*◌, ◌/◌, ◌<◌, ◌≤◌, Bool, true, false, cond, ◌&&◌, List, [], ◌∷◌}
+use Rattle.std.proofs.Common.{◌++◌}
+use Rattle.std.proofs.Common.{length, refl, sym, ap, subst, ◌∙◌, arith, Option, Some, None, slice_get, get_or}
+use Rattle.std.proofs.Common.{replicate}
 use Rattle.std.proofs.lemmas.Bool.{cond-true, cond-false, eqb-true, ne_eqb, leb-true}
 use Rattle.std.proofs.lemmas.List.Quantifiers.{position-Some}
 use Rattle.std.proofs.lemmas.Option.{get_or_from_slice_get}
@@ -22,7 +24,8 @@ use Rattle.fr_journal.specs.Fate.{is_commit_on, last_commit}
 use Rattle.fr_journal.specs.Forms.{Entry}
 use Rattle.fr_journal.specs.Legal.{IsLegal, IsLegalFetch}
 use Rattle.fr_journal.specs.Offers.{may_begin}
-use Rattle.fr_journal.specs.Offers.{transmitter, is_admitting, ready, ready_in, commit_offered, owns, ownership, line_of}
+use Rattle.fr_journal.specs.Offers.{transmitter, is_admitting, ready, ready_in, commit_offered, owns, ownership}
+use Rattle.fr_journal.specs.Offers.{line_of}
 use Rattle.fr_journal.specs.Offers.{data_or, offered_at, offered, payload_in, payload_of, sync_of, startup_of}
 use Rattle.fr_journal.specs.Offers.{preamble_of, preamble_in, null_frame, data_frame_of, frame_of_offer, frame_with}
 use Rattle.fr_hearing.proofs.DueLemmas.{due_is_owners, due_is_senders}

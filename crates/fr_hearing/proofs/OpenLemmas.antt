@@ -1,5 +1,6 @@
 -- A frame that opens the first cycle, or the next one.
-use Rattle.std.proofs.Common.{◌≡◌, ℕ, zero, suc, ◌+◌, ◌-◌, ◌%◌, ◌<◌, ◌≤◌, Bool, true, false, cond, List, [], ◌∷◌, refl, sym}
+use Rattle.std.proofs.Common.{◌≡◌, ℕ, zero, suc, ◌+◌, ◌-◌, ◌%◌, ◌<◌, ◌≤◌, Bool, true, false, cond, List, [], ◌∷◌, refl}
+use Rattle.std.proofs.Common.{sym}
 use Rattle.std.proofs.Common.{ap, subst, ◌∙◌, arith, ◌*◌}
 use Rattle.std.proofs.lemmas.Bool.{cond-true, cond-false, and_left}
 use Rattle.std.specs.Prelude.{Option, Some, None, min, nat_le, nat_lt, ◌==◌, ℤ, ◌&&◌}

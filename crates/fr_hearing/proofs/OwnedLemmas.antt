@@ -1,5 +1,6 @@
 -- In a static window a node offers something only if it owns the slot.
-use Rattle.std.proofs.Common.{◌≡◌, ℕ, zero, suc, ◌<◌, ◌≤◌, Bool, true, false, cond, ◌&&◌, List, [], ◌∷◌, ◌++◌, refl, sym}
+use Rattle.std.proofs.Common.{◌≡◌, ℕ, zero, suc, ◌<◌, ◌≤◌, Bool, true, false, cond, ◌&&◌, List, [], ◌∷◌, ◌++◌, refl}
+use Rattle.std.proofs.Common.{sym}
 use Rattle.std.proofs.Common.{ap, subst, ◌∙◌, arith, Option, Some, None, slice_get}
 use Rattle.std.proofs.lemmas.Bool.{cond-true, eqb-true, cases_Bool, and_from}
 use Rattle.std.proofs.lemmas.List.Quantifiers.{position-Some}
@@ -14,7 +15,8 @@ use Rattle.fr_hearing.proofs.OfferLaws.{IsBuffer, some_buffer, line_is}
 use Rattle.fr_journal.specs.declared.entry.Offered.{Offered}
 use Rattle.fr_journal.specs.declared.entry.Offered.TheVariants.{Nothing, Null, Data}
 use Rattle.fr_journal.specs.Forms.{Entry}
-use Rattle.fr_journal.specs.Offers.{transmitter, is_admitting, commit_offered, owns, line_of, data_or, offered_at, offered}
+use Rattle.fr_journal.specs.Offers.{transmitter, is_admitting, commit_offered, owns, line_of, data_or, offered_at}
+use Rattle.fr_journal.specs.Offers.{offered}
 use Rattle.fr_logged.specs.Dues.{line_in}
 use Rattle.fr_slots.proofs.FaultlessLemmas.{faultless}
 use Rattle.fr_slots.specs.Admission.{includes, cycle_admitted}

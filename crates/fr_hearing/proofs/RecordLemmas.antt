@@ -1,5 +1,6 @@
 -- The records of a recording: those of the channel spell its frames, and the others leave the channel as it is.
-use Rattle.std.proofs.Common.{◌≡◌, ℕ, zero, suc, ◌+◌, ◌-◌, ◌%◌, ◌<◌, ◌≤◌, Bool, true, false, cond, List, [], ◌∷◌, refl, sym}
+use Rattle.std.proofs.Common.{◌≡◌, ℕ, zero, suc, ◌+◌, ◌-◌, ◌%◌, ◌<◌, ◌≤◌, Bool, true, false, cond, List, [], ◌∷◌, refl}
+use Rattle.std.proofs.Common.{sym}
 use Rattle.std.proofs.Common.{ap, subst, ◌∙◌, arith, ◌⊎◌, inl, inr}
 use Rattle.std.proofs.lemmas.Bool.{cond-true, cond-false, le-ltb, leb-true, ne_eqb, and_left, and_right, and_from}
 use Rattle.std.specs.Prelude.{Option, Some, None, Result, Ok, Err, min, nat_le, nat_lt, ◌==◌, ◌&&◌, ◌||◌}

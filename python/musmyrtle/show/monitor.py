@@ -17,16 +17,14 @@ from musmyrtle.program import Answer, is_launcher, itself, no_answer, places
 from musmyrtle.show.engines import COMMAND, Inputs, opened
 from musmyrtle.show.network import Network
 from musmyrtle.show.options import CLUSTER
-from musmyrtle.show.recordings import (
-    BACK, FINDING, back_row, channel_row, finding_row, found_row, slot_row, total_row,
-)
+from musmyrtle.show.recordings import BACK, FINDING, back_row, channel_row, finding_row, found_row, slot_row, total_row
 from musmyrtle.show.tables import Column, Row, Section, as_json, as_text
 
 FOUND, REFUSED = 3, 1
 MOST_NUMBER = 4294967295
 STANDARD_INPUT = "-"
-PURPOSE = ("Compares a recording of a real bus with the cluster. Prints each frame that the schedule doesn't allow, and\n"
-           "each missing one, with the reason.")
+PURPOSE = ("Compares a recording of a real bus with the cluster. Prints each frame that the schedule doesn't allow,\n"
+           "and each missing one, with the reason.")
 CLUSTER_FILE, RECORDING_FILE = "examples/three-nodes/cluster.toml", "examples/recordings/disturbed.pcap"
 EXAMPLES = (f"monitor {CLUSTER_FILE} {RECORDING_FILE} --whole", f"monitor {CLUSTER_FILE} {RECORDING_FILE} --json")
 STATUSES = """status: 0 without a finding, 3 with one, 1 if the cluster file or the recording is refused, 2 if the words
@@ -41,8 +39,8 @@ SPANS = (Column("shortest_us", "shortest [us]"), Column("longest_us", "longest [
 CHANNELS = (Column("channel", "channel"), Column("frames", "frames"), Column("cycles", "cycles"),
             Column("gaps", "gaps"), Column("lost", "lost cycles"), *SPANS)
 SLOTS = (Column("slot", "slot"), Column("channel", "channel"), Column("nodes", ""), Column("names", "sender"),
-         Column("data", "data"), Column("null", "null"), Column("missing", "missing"), Column("other", "findings"),
-         *SPANS)
+         Column("data", "data"), Column("null", "null"), Column("missing", "missing"),
+         Column("other", "findings"), *SPANS)
 COUNTS = (Column("name", "finding"), Column("count", "count"), Column("meaning", "meaning"))
 
 
@@ -174,8 +172,8 @@ def outcome(given: argparse.Namespace, inputs: Inputs, source: IO[bytes]) -> int
     tables = Tables(inputs.network)
     words = words_of(given, inputs, macrotick(given, inputs.network))
     program = inputs.program("fr_monitor")
-    program_run = itself(program) if is_launcher(program) else program
-    status, told = asked(inputs, program_run, words, source, tables, given.json)
+    program = itself(program) if is_launcher(program) else program
+    status, told = asked(inputs, program, words, source, tables, given.json)
     if status not in (FINE, FOUND, REFUSED):
         answer = Answer(status, " ".join(told).strip() or f"status {status}", False)
         raise Stop(USAGE, no_answer(program, words, answer))
@@ -231,7 +229,8 @@ def main(words: list[str]) -> int:
                 raise Stop(USAGE, "the cluster file and the recording can't both come from standard input")
             source = recording_of(given.recording, files)
             with opened(given.cluster) as inputs:
-                return outcome(given, inputs, source)
+                status = outcome(given, inputs, source)
+        return status
     except Stop as stop:
         return stop.tell(COMMAND)
     except BrokenOff as signal:

@@ -1,5 +1,5 @@
 """The lines that `fr_monitor` prints of a recording, and its findings in words."""
-from collections.abc import Callable, Sequence
+from collections.abc import Callable
 from dataclasses import dataclass
 
 from musmyrtle.cluster import Buffer, Ownership
@@ -90,7 +90,7 @@ def sender(network: Network, place: Place) -> int | None:
     is_static = network.cluster.is_static(place.slot)
     for node in network.cluster.nodes:
         buffers = [it for it in node.buffers if it.transmits]
-        lines: Sequence[Ownership | Buffer] = node.owned if is_static else buffers
+        lines: list[Ownership | Buffer] = [*node.owned] if is_static else [*buffers]
         if any(it.slot == place.slot and place.channel in it.channels and it.cycles.admit(place.cycle) for it in lines):
             return node.number
     return None
@@ -131,7 +131,7 @@ def why(network: Network, name: str, place: Place, expected: str, found: str, no
     """Returns a finding in words, with the names of nodes and with microseconds."""
     spelled = SPECIAL[name](expected, found) if name in SPECIAL else WORDS.get(name, name)
     of_node = "its sender" if node is None else str(network.node(node))
-    times = {}
+    times: dict[str, str] = {}
     if name in NANOSECONDS:
         times = {"expected_us": decimal(int(expected) / 1000), "found_us": decimal(int(found) / 1000)}
     return spelled.format(expected=expected, found=found, slot=place.slot, channel=place.channel, node=of_node, **times)
