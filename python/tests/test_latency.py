@@ -111,8 +111,8 @@ class Ways(Shows):
     def test_a_run_with_the_worst_latency(self) -> None:
         """A commit just after the fetch of its slot is sent two cycles later, after the frames of the way.
 
-        The frame of 127 words fills 66 minislots of 5 macroticks. Slot 62 begins at minislot 2 if slot 61 is silent. Two
-        cycles have 10000 macroticks.
+        The frame of 127 words fills 66 minislots of 5 macroticks. Slot 62 begins at minislot 2 if slot 61 is silent.
+        Two cycles have 10000 macroticks.
         """
         cluster = str(EXAMPLES / "ten-nodes/cluster.toml")
         worst, = (row["worst_mt"] for row in self.rows("latency", "latency", cluster)
