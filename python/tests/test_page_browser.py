@@ -10,6 +10,8 @@ from typing import Any
 
 from tests.firefox import FIREFOX, firefox
 from tests.pages import HERE, STEPS, Pages, needs_node
+from tests.shows import NETWORK
+from tests.test_page import Structure
 
 BROWSER = next(filter(None, map(shutil.which, ("chromium", "chromium-browser", "google-chrome"))), None)
 COMPARED = ("subject", "nodes", "details", "results", "status", "errors", "faults", "inView", "view", "label")
@@ -35,6 +37,18 @@ ENDING = """<script>
 """The end of the page, with the walk. The page's policy allows scripts in the file."""
 
 
+BROKEN = "document.body.setAttribute('data-broken', 1)"
+STRANGE = {
+    "pedal": f"<img src=x onerror={BROKEN}>", "brake": r'\"]]>\u202e\u0001',
+    "log": f"</script><script>{BROKEN}</script>",
+    "force": "n" * 10000, "state": r"\u001b[2J\u007f\u009b\u2028\ufeff", "unused": f'\\"><svg onload={BROKEN}>',
+}
+"""Names as a cluster file has them, for those of the usual network. Markup in them would break the page."""
+SPELLED = ("<img src=x onerror=document.body.setAttr.. (0)", r'"]]>\u202e\x01 (1)', r"\x1b[2J\x7f\x9b\u2028\ufeff",
+           "n" * 40)
+STRANGE_STEPS = ("click nodes <img", "click details cycle 0", "find node <img", "click results <img", "find buffer nnn",
+                 "click results", 'click nodes "]]>', "find slot 3", "click results slot 3", "click faults line 9",
+                 "click next-error", "press C", "press .")
 WAITING = """
 const done = arguments[arguments.length - 1];
 const look = () => {
@@ -68,9 +82,27 @@ class Walks(Pages):
         shown: list[dict[str, Any]] = json.loads(html.unescape(found[2]))
         return shown
 
-    def compared(self, page: str, document: str) -> None:
-        """Compares the document of a browser after the usual walk with that in node."""
-        for step, there, here in zip(("at first", *STEPS), self.shown(document), self.walked(page, *STEPS),
+    def strange(self) -> str:
+        """Returns a page with names that look like markup, are long, or aren't printable."""
+        text = NETWORK
+        for name, strange in STRANGE.items():
+            text = text.replace(f'name = "{name}"', f'name = "{strange}"')
+        return self.page(*self.run_of(text))
+
+    def whole(self, document: str) -> None:
+        """Checks that names became texts of the document, and neither elements nor attributes nor scripts."""
+        elements = Structure(document)
+        self.assertEqual([tag for tag, _ in elements.tags if tag in ("img", "svg", "b")], [])
+        self.assertEqual([tag for tag, _ in elements.tags].count("script"), 3)
+        self.assertEqual([its for tag, its in elements.tags if tag == "body" and "data-broken" in its], [])
+        self.assertTrue(all(it.isprintable() for it in document.replace("\n", "")))
+        shown = "".join(its for step in self.shown(document) for its in step.values() if isinstance(its, str))
+        for name in SPELLED:
+            self.assertIn(name, shown)
+
+    def compared(self, page: str, document: str, steps: tuple[str, ...] = STEPS) -> None:
+        """Compares the document of a browser after a walk with that in node."""
+        for step, there, here in zip(("at first", *steps), self.shown(document), self.walked(page, *steps),
                                      strict=True):
             for part in COMPARED:
                 with self.subTest(step, part=part):
@@ -90,16 +122,31 @@ class InChromium(Walks):
         page = self.page()
         self.compared(page, self.opened(page, STEPS))
 
+    def test_strange_names(self) -> None:
+        page = self.strange()
+        document = self.opened(page, STRANGE_STEPS)
+        self.compared(page, document, STRANGE_STEPS)
+        self.whole(document)
+
 
 @unittest.skipUnless(FIREFOX, "there is no Firefox, in which the page is opened")
 @needs_node
 class InFirefox(Walks):
+    def opened(self, page: str, steps: tuple[str, ...]) -> str:
+        """Returns the document of a page after a walk, as text."""
+        with firefox(self.folder) as browser:
+            browser.ask("WebDriver:Navigate", url=self.with_walk(page, steps))
+            return str(browser.ask("WebDriver:ExecuteAsyncScript", script=WAITING, args=[])["value"])
+
     def test_a_walk(self) -> None:
         page = self.page()
-        with firefox(self.folder) as browser:
-            browser.ask("WebDriver:Navigate", url=self.with_walk(page, STEPS))
-            document = browser.ask("WebDriver:ExecuteAsyncScript", script=WAITING, args=[])["value"]
-        self.compared(page, document)
+        self.compared(page, self.opened(page, STEPS))
+
+    def test_strange_names(self) -> None:
+        page = self.strange()
+        document = self.opened(page, STRANGE_STEPS)
+        self.compared(page, document, STRANGE_STEPS)
+        self.whole(document)
 
 
 if __name__ == "__main__":
