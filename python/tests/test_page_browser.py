@@ -1,4 +1,4 @@
-"""The page in headless Chromium: a walk shows there what it shows in node, which has a document of the tests."""
+"""The page in headless Chromium and Firefox: a walk shows there what it shows in node, with a document of the tests."""
 import html
 import json
 import re
@@ -6,8 +6,12 @@ import shutil
 import subprocess
 import unittest
 from pathlib import Path
+from typing import Any
 
+from tests.firefox import FIREFOX, firefox
 from tests.pages import HERE, STEPS, Pages, needs_node
+from tests.shows import NETWORK
+from tests.test_page import Structure
 
 BROWSER = next(filter(None, map(shutil.which, ("chromium", "chromium-browser", "google-chrome"))), None)
 COMPARED = ("subject", "nodes", "details", "results", "status", "errors", "faults", "inView", "view", "label")
@@ -33,31 +37,116 @@ ENDING = """<script>
 """The end of the page, with the walk. The page's policy allows scripts in the file."""
 
 
-@unittest.skipUnless(BROWSER, "there is no Chromium, in which the page is opened")
-@needs_node
-class InChromium(Pages):
-    def opened(self, page: str, steps: tuple[str, ...]) -> str:
-        """Returns the document of a page after a walk, as text."""
+BROKEN = "document.body.setAttribute('data-broken', 1)"
+STRANGE = {
+    "pedal": f"<img src=x onerror={BROKEN}>", "brake": r'\"]]>\u202e\u0001',
+    "log": f"</script><script>{BROKEN}</script>",
+    "force": "n" * 10000, "state": r"\u001b[2J\u007f\u009b\u2028\ufeff", "unused": f'\\"><svg onload={BROKEN}>',
+}
+"""Names as a cluster file has them, for those of the usual network. Markup in them would break the page."""
+SPELLED = ("<img src=x onerror=document.body.setAttr.. (0)", r'"]]>\u202e\x01 (1)', r"\x1b[2J\x7f\x9b\u2028\ufeff",
+           "n" * 40)
+STRANGE_STEPS = ("click nodes <img", "click details cycle 0", "find node <img", "click results <img", "find buffer nnn",
+                 "click results", 'click nodes "]]>', "find slot 3", "click results slot 3", "click faults line 9",
+                 "click next-error", "press C", "press .")
+WAITING = """
+const done = arguments[arguments.length - 1];
+const look = () => {
+  if (document.getElementById("walked") || document.getElementById("failed")) {
+    done(document.documentElement.outerHTML);
+  } else {
+    setTimeout(look, 50);
+  }
+};
+look();
+"""
+"""A script that returns the document as text, once a walk is done."""
+
+
+class Walks(Pages):
+    """Walks through a page in a browser, and what they show."""
+
+    def with_walk(self, page: str, steps: tuple[str, ...]) -> str:
+        """Returns the address of a page that walks when it is opened."""
         walk = (HERE / "walk.js").read_text(encoding="utf-8")
         text = Path(page).read_text(encoding="utf-8")
         ending = ENDING.format(walk=walk, steps=json.dumps(steps))
-        walked = self.written("walked.html", text.replace("</body>", f"{ending}</body>"))
-        words = [str(BROWSER), "--headless", "--no-sandbox", "--disable-gpu", f"--user-data-dir={self.folder}/profile",
-                 "--window-size=1280,1000", "--virtual-time-budget=30000", "--dump-dom", Path(walked).as_uri()]
-        return subprocess.run(words, capture_output=True, text=True, timeout=SECONDS, check=True).stdout
+        return Path(self.written("walked.html", text.replace("</body>", f"{ending}</body>"))).as_uri()
 
-    def test_a_walk(self) -> None:
-        page = self.page()
-        document = self.opened(page, STEPS)
+    def shown(self, document: str) -> list[dict[str, Any]]:
+        """Returns what the document of a browser showed after each step."""
         found = re.search(r'<pre id="(walked|failed)">(.*?)</pre>', document, re.DOTALL)
         self.assertIsNotNone(found, document[-2000:])
         assert found is not None
         self.assertEqual(found[1], "walked", html.unescape(found[2]))
-        shown = json.loads(html.unescape(found[2]))
-        for step, there, here in zip(("at first", *STEPS), shown, self.walked(page, *STEPS), strict=True):
+        shown: list[dict[str, Any]] = json.loads(html.unescape(found[2]))
+        return shown
+
+    def strange(self) -> str:
+        """Returns a page with names that look like markup, are long, or aren't printable."""
+        text = NETWORK
+        for name, strange in STRANGE.items():
+            text = text.replace(f'name = "{name}"', f'name = "{strange}"')
+        return self.page(*self.run_of(text))
+
+    def whole(self, document: str) -> None:
+        """Checks that names became texts of the document, and neither elements nor attributes nor scripts."""
+        elements = Structure(document)
+        self.assertEqual([tag for tag, _ in elements.tags if tag in ("img", "svg", "b")], [])
+        self.assertEqual([tag for tag, _ in elements.tags].count("script"), 3)
+        self.assertEqual([its for tag, its in elements.tags if tag == "body" and "data-broken" in its], [])
+        self.assertTrue(all(it.isprintable() for it in document.replace("\n", "")))
+        shown = "".join(its for step in self.shown(document) for its in step.values() if isinstance(its, str))
+        for name in SPELLED:
+            self.assertIn(name, shown)
+
+    def compared(self, page: str, document: str, steps: tuple[str, ...] = STEPS) -> None:
+        """Compares the document of a browser after a walk with that in node."""
+        for step, there, here in zip(("at first", *steps), self.shown(document), self.walked(page, *steps),
+                                     strict=True):
             for part in COMPARED:
                 with self.subTest(step, part=part):
                     self.assertEqual(there[part], here[part])
+
+
+@unittest.skipUnless(BROWSER, "there is no Chromium, in which the page is opened")
+@needs_node
+class InChromium(Walks):
+    def opened(self, page: str, steps: tuple[str, ...]) -> str:
+        """Returns the document of a page after a walk, as text."""
+        words = [str(BROWSER), "--headless", "--no-sandbox", "--disable-gpu", f"--user-data-dir={self.folder}/profile",
+                 "--window-size=1280,1000", "--virtual-time-budget=30000", "--dump-dom", self.with_walk(page, steps)]
+        return subprocess.run(words, capture_output=True, text=True, timeout=SECONDS, check=True).stdout
+
+    def test_a_walk(self) -> None:
+        page = self.page()
+        self.compared(page, self.opened(page, STEPS))
+
+    def test_strange_names(self) -> None:
+        page = self.strange()
+        document = self.opened(page, STRANGE_STEPS)
+        self.compared(page, document, STRANGE_STEPS)
+        self.whole(document)
+
+
+@unittest.skipUnless(FIREFOX, "there is no Firefox, in which the page is opened")
+@needs_node
+class InFirefox(Walks):
+    def opened(self, page: str, steps: tuple[str, ...]) -> str:
+        """Returns the document of a page after a walk, as text."""
+        with firefox(self.folder) as browser:
+            browser.ask("WebDriver:Navigate", url=self.with_walk(page, steps))
+            return str(browser.ask("WebDriver:ExecuteAsyncScript", script=WAITING, args=[])["value"])
+
+    def test_a_walk(self) -> None:
+        page = self.page()
+        self.compared(page, self.opened(page, STEPS))
+
+    def test_strange_names(self) -> None:
+        page = self.strange()
+        document = self.opened(page, STRANGE_STEPS)
+        self.compared(page, document, STRANGE_STEPS)
+        self.whole(document)
 
 
 if __name__ == "__main__":

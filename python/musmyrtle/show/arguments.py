@@ -22,6 +22,11 @@ class Argument:
         return self.value in FILES
 
     @property
+    def values(self) -> list[str]:
+        """Returns the words for the values, each of which is an argument of its own."""
+        return self.value.split(" ") if self.value else ["word"] if self.choices else []
+
+    @property
     def spelled(self) -> str:
         """Returns the argument as `--sshlogin HOST, -S HOST`, or `CLUSTER`."""
         value = self.value or "|".join(self.choices)
