@@ -3,6 +3,7 @@
 /** The rows of a table that are shown at first, and with each further step. */
 const MOST_ROWS = 100;
 const MOST_PARTS = 16;
+const LONG_WORD = /\S{16}/;
 
 /**
  * Returns an element with a text or with children. No text is read as HTML.
@@ -26,12 +27,11 @@ function button(text, act, attributes = {}) {
   return made;
 }
 
-/** Returns the element for a cell of a table. */
+/** Returns the element for a cell of a table. Only a long word in it, as of bytes, may be broken. */
 function cellElement(cell, choose) {
-  if (typeof cell === "string") {
-    return element("td", {}, cell);
-  }
-  return element("td", {}, button(cell.text, () => choose(cell.choice)));
+  const text = typeof cell === "string" ? cell : cell.text;
+  const attributes = LONG_WORD.test(text) ? {class: "long"} : {};
+  return element("td", attributes, text === cell ? text : button(text, () => choose(cell.choice)));
 }
 
 /** Returns a table with a button for more rows, in a box that can be scrolled with the keyboard. */
