@@ -228,6 +228,11 @@ class Launchers:
         told = [*shell, made.path / "tools/told", "fr_bench", made.path / "dist/fr_bench"]
         self.runs.compare(f"SIGTSTP and SIGCONT {place}", stopped_by(made, told, os.kill, False),
                           ("stopped", "going on", "end\n", 7))
+        slow = made.path / "tools/slow"
+        slow.write_text((TOP / "tools/told").read_text().replace("\nrunning=$!\n", "\nsleep 0.2\nrunning=$!\n"))
+        late = [*shell, slow, "fr_bench", made.path / "dist/fr_bench"]
+        self.runs.compare(f"SIGTSTP {place} before it has the program's number", stopped_by(made, late, os.kill, False),
+                          ("stopped", "going on", "end\n", 7))
         self.runs.compare(f"SIGINT that is ignored {place}", interrupted(told), ("end\n", 7))
         self.runs.compare(f"a signal {place} as the program ends", signalled(told), 7)
 
