@@ -29,7 +29,7 @@ TYPED = (
     ("run cluster.toml scenario --cycles s\t", "run cluster.toml scenario --cycles s"),
     ("faults --host s\t", "faults --host s"), ("lint --guaranteed s\t s\t", "lint --guaranteed s s"),
 )
-"""What is typed after the command, and the words with which it is called. A `~` here is a space in a word."""
+"""Typed words after the command, and the words of the call that comes of them. A `~` here is a space in a word."""
 
 
 class Completion(Shows):
