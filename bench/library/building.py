@@ -15,7 +15,8 @@ def build(name, source, libraries, program):
     unless `rt check` kept their proofs on this machine: `rt run` uses no proofs that `rt ci` kept. Without kept proofs
     that takes long, and a message is printed.
     """
-    print(f"proves and builds {name} and all crates below it, which takes long without kept proofs", file=sys.stderr, flush=True)
+    print(f"proves and builds {name} and all crates below it, which takes long without kept proofs",
+          file=sys.stderr, flush=True)
     with tempfile.TemporaryDirectory() as folder:
         copy = Path(folder)
         shutil.copytree(TOP / "crates", copy / "crates", ignore=shutil.ignore_patterns("out", "must-fail"))

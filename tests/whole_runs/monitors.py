@@ -59,7 +59,8 @@ def summary(records, on_a, missing=0, lost_a=0, span="90000"):
             "channel B frames 4 cycles 2 gaps 0 lost 0 shortest 90000 longest 90000\n"
             "slot 1 A 0 data 0 null 2 missing 0 other 0 shortest 90000 longest 90000\n"
             "slot 1 B 0 data 0 null 2 missing 0 other 0 shortest 90000 longest 90000\n"
-            f"slot 2 A 1 data 0 null {2 - missing} missing {missing} other {lost_a} shortest {span_a} longest {span_a}\n"
+            f"slot 2 A 1 data 0 null {2 - missing} missing {missing} other {lost_a} shortest {span_a} "
+            f"longest {span_a}\n"
             "slot 2 B 1 data 0 null 2 missing 0 other 0 shortest 90000 longest 90000\n"
             "slot 4 A 2 data 0 null 0 missing 0 other 0 shortest - longest -\n")
 
