@@ -1,8 +1,8 @@
 /* Measures the time that the threads of a run need for themselves. A controller for each node and one thread for the bus
- * go through the windows as those of fr_bench do, with one lock, two condition variables, and up to 200 looks before a
- * thread sleeps. Nothing is offered, observed, recorded or cross-checked.
+ * go through the windows as those of fr_bench do, with one lock, two condition variables, and some looks before a thread
+ * sleeps. Nothing is offered, observed, recorded or cross-checked. The words are the numbers of nodes, windows and looks.
  *
- *     cc -O2 -pthread -o run_floor bench/run_floor.c && ./run_floor 16 32768
+ *     cc -O2 -pthread -o run_floor bench/run_floor.c && ./run_floor 16 32768 200
  */
 #include <pthread.h>
 #include <sched.h>
@@ -11,7 +11,7 @@
 #include <stdlib.h>
 #include <time.h>
 
-enum { LOOKS = 200, MOST_NODES = 64 };
+enum { MOST_NODES = 64 };
 enum phase { COLLECT, SEALED, FINISHED };
 enum call { OFFER, SEAL, TAKE, ADVANCE };
 
@@ -24,7 +24,7 @@ static pthread_mutex_t lock = PTHREAD_MUTEX_INITIALIZER;
 static struct signal for_nodes = {.sleepers = PTHREAD_COND_INITIALIZER};
 static struct signal for_bus = {.sleepers = PTHREAD_COND_INITIALIZER};
 static enum phase phase = COLLECT;
-static unsigned nodes, put, taken, window, windows;
+static unsigned nodes, put, taken, window, windows, looks;
 
 static int is_due(enum call call) {
     switch (call) {
@@ -48,8 +48,11 @@ static void ready(struct signal *signal, enum call call) {
         return;
     unsigned before = atomic_load_explicit(&signal->given, memory_order_acquire);
     pthread_mutex_unlock(&lock);
-    for (int look = 0; look < LOOKS && atomic_load_explicit(&signal->given, memory_order_acquire) == before; look++)
+    for (unsigned look = 0; look < looks; look++) {
+        if (atomic_load_explicit(&signal->given, memory_order_acquire) != before)
+            break;
         sched_yield();
+    }
     pthread_mutex_lock(&lock);
     while (!is_due(call))
         pthread_cond_wait(&signal->sleepers, &lock);
@@ -97,6 +100,7 @@ static void *bus(void *unused) {
 int main(int count, char **words) {
     nodes = count > 1 ? atoi(words[1]) : 16;
     windows = count > 2 ? atoi(words[2]) : 32768;
+    looks = count > 3 ? atoi(words[3]) : 200;
     if (nodes < 1 || nodes > MOST_NODES || windows < 1)
         return 2;
     struct timespec start, end;
