@@ -112,10 +112,12 @@ next_allowed : (r : Rules) (channel : Channel) (s : State) (f : Fields) (fs : Li
     → IsOn r channel s (f ∷ fs) → NextAllowed r channel f
 next_allowed r channel s f fs (inl o) = follow_allowed r channel o.spot f fs o.rest
 next_allowed r channel s f fs (inr (inl w)) =
-    follow_allowed r channel (after_frame r.cluster.params (cycle_start r.cluster.params w.held.frame.cycle) w.held.frame)
+    follow_allowed r channel (after_frame r.cluster.params (cycle_start r.cluster.params w.held.frame.cycle)
+    w.held.frame)
     f fs w.rest
 next_allowed r channel s f fs (inr (inr b)) =
-    follow_allowed r channel (after_frame r.cluster.params (cycle_start r.cluster.params b.held.frame.cycle) b.held.frame)
+    follow_allowed r channel (after_frame r.cluster.params (cycle_start r.cluster.params b.held.frame.cycle)
+    b.held.frame)
     f fs b.rest
 
 -- ---- a record of the channel
@@ -265,7 +267,8 @@ nothing_none s heard_is =
 end_none : (r : Rules) (channel : Channel) (s : State) → IsEnd r channel s → tell_end s ≡ s
 unfolding tell_end
 end_none r channel s is =
-    ap tell_nothing (either_same s.rules.whole (end_cycle s None) s (over_none r channel s None is.spot is.here is.over))
+    ap tell_nothing (either_same s.rules.whole (end_cycle s None) s
+    (over_none r channel s None is.spot is.here is.over))
     ∙ nothing_none s (ap (λ (c : Core). c.heard) is.here)
 
 -- the end of the channel's frames leaves no finding

@@ -102,7 +102,8 @@ placed_none : (r : Rules) (channel : Channel) (s : State) (d : Due) (spot : Spot
 unfolding placed_finding
 placed_none r channel s d spot f e is =
     by (is_placed s)
-    (ap (λ (c : Core). minislot_finding c.rules.cluster.params.minislots d.latest (counted c.minislot (f.id - c.slot))) e
+    (ap (λ (c : Core). minislot_finding c.rules.cluster.params.minislots d.latest (counted c.minislot (f.id - c.slot)))
+    e
     ∙ minislot_fits r.cluster.params.minislots d.latest (counted (min spot.minislot most_counted) (f.id - spot.slot))
     (opens_by_limit r.cluster.params.minislots spot.minislot (f.id - spot.slot) is.within)
     (opens_by_limit d.latest spot.minislot (f.id - spot.slot) is.in_time))
@@ -130,7 +131,8 @@ dynamic_at r channel s at d spot f e is =
       minislot = counted (counted (counted c.minislot (f.id - c.slot))
           (minislots_filled c.rules.cluster.params (length f.payload / 2))) c.rules.cluster.params.idle;
     } in t) e
-    ∙ ap (λ (n : ℕ). let t : Core = record (core_at r channel (after_dynamic r.cluster.params spot f)) { minislot = n } in t)
+    ∙ ap (λ (n : ℕ). let t : Core = record (core_at r channel (after_dynamic r.cluster.params spot f)) { minislot = n }
+    in t)
     (limits spot.minislot (f.id - spot.slot) (minislots_filled r.cluster.params (length f.payload / 2))
     r.cluster.params.idle)
 

@@ -108,7 +108,8 @@ module _ (bytes : List ℕ) (is : IsTaken bytes) where
       ap (λ (n : ℕ). drop 5 (take n bytes)) sum ∙ drop-take 5 (length bytes - 8) bytes in
       ap (λ (l : List ℕ). take (2 * number_at 16 7 bytes) l) rest
       ∙ ap (λ (n : ℕ). take n (payload_of bytes)) words
-      ∙ take-take (length bytes - 8) (length bytes - 8) (drop 5 bytes) (let le : length bytes - 8 ≤ length bytes - 8 = omega arith in le)
+      ∙ take-take (length bytes - 8) (length bytes - 8) (drop 5 bytes)
+      (let le : length bytes - 8 ≤ length bytes - 8 = omega arith in le)
 
   fields_same : fields_by (header_in (take (length bytes - 3) bytes)) (take (length bytes - 3) bytes) ≡ fields_of bytes
   fields_same =
@@ -128,13 +129,16 @@ module _ (bytes : List ℕ) (is : IsTaken bytes) where
   no_length =
       let due : length (take (length bytes - 3) bytes) + 2 ≡ 7 + 2 * number_at 16 7 (take (length bytes - 3) bytes) =
       omega (arith, length_front, length_is, same_number 16 7) in
-      cond-true (length (take (length bytes - 3) bytes) + 2 == 7 + 2 * number_at 16 7 (take (length bytes - 3) bytes)) None
-      (cond (length (take (length bytes - 3) bytes) + 2 == 7 + 2 * number_at 16 7 (take (length bytes - 3) bytes) + 3) None
+      cond-true (length (take (length bytes - 3) bytes) + 2 == 7 + 2 * number_at 16 7 (take (length bytes - 3) bytes))
+      None
+      (cond (length (take (length bytes - 3) bytes) + 2 == 7 + 2 * number_at 16 7 (take (length bytes - 3) bytes) + 3)
+      None
       (Some (with_numbers name.Length (7 + 2 * number_at 16 7 (take (length bytes - 3) bytes))
       (length (take (length bytes - 3) bytes) + 2))))
       (eq-eqb (length (take (length bytes - 3) bytes) + 2) (7 + 2 * number_at 16 7 (take (length bytes - 3) bytes)) due)
 
-  no_header : header_finding (right_crc (take (length bytes - 3) bytes)) (number_at 23 11 (take (length bytes - 3) bytes))
+  no_header : header_finding (right_crc (take (length bytes - 3) bytes))
+      (number_at 23 11 (take (length bytes - 3) bytes))
       ≡ None
   no_header =
       let crc : number_at 23 11 (take (length bytes - 3) bytes) ≡ right_crc (take (length bytes - 3) bytes) =
@@ -148,7 +152,8 @@ module _ (bytes : List ℕ) (is : IsTaken bytes) where
       let short : length (take (length bytes - 3) bytes) ≡ 5 + 2 * number_at 16 7 (take (length bytes - 3) bytes) =
       omega (arith, length_front, length_is, same_number 16 7) in
       cond-true (length (take (length bytes - 3) bytes) == 5 + 2 * number_at 16 7 (take (length bytes - 3) bytes)) None
-      (trailer_finding (right_trailer channel (take (length bytes - 3) bytes)) (trailer_of (take (length bytes - 3) bytes)))
+      (trailer_finding (right_trailer channel (take (length bytes - 3) bytes))
+      (trailer_of (take (length bytes - 3) bytes)))
       (eq-eqb (length (take (length bytes - 3) bytes)) (5 + 2 * number_at 16 7 (take (length bytes - 3) bytes)) short)
 
   frame_is : (channel : Channel) → frame_by channel (header_in (take (length bytes - 3) bytes))
@@ -158,7 +163,8 @@ module _ (bytes : List ℕ) (is : IsTaken bytes) where
       let h = header_in b in
       ap (λ (o : Option Finding). or_else o (or_else (header_finding (right_crc b) h.crc)
       (or_else (frame_finding channel h.words b) (Ok (fields_by h b))))) no_length
-      ∙ ap (λ (o : Option Finding). or_else o (or_else (frame_finding channel h.words b) (Ok (fields_by h b)))) no_header
+      ∙ ap (λ (o : Option Finding). or_else o (or_else (frame_finding channel h.words b) (Ok (fields_by h b))))
+      no_header
       ∙ ap (λ (o : Option Finding). or_else o (Ok (fields_by h b))) (no_trailer channel)
       ∙ ap Ok fields_same
 

@@ -68,7 +68,8 @@ due_is_owners d slot channel cycle n plan own one fits static at is =
     (let same : 0 + n ≡ n = omega arith in same)
   where
     mine : IsSender d cycle slot channel n
-    mine = static_sender d slot channel cycle n plan static at (any_found_in (claims slot channel cycle) plan.owned own is)
+    mine = static_sender d slot channel cycle n plan static at
+        (any_found_in (claims slot channel cycle) plan.owned own is)
 
     not_other : (j : ℕ) (q : Plan) → j < n → slice_get d.plans j ≡ Some q
         → is_owned q.owned slot channel cycle ≡ true → ⊥
@@ -105,7 +106,8 @@ sender_at p slot channel cycle (q ∷ qs) start zero plan b at is before =
 sender_at p slot channel cycle (q ∷ qs) start (suc k) plan b at is before =
     sender_past p channel start q (buffer_in slot channel cycle q) (sender_from p slot channel cycle (start + 1) qs)
     (before 0 q (omega arith) refl)
-    ∙ sender_at p slot channel cycle qs (start + 1) k plan b at is (λ j r lt there. before (suc j) r (omega arith) there)
+    ∙ sender_at p slot channel cycle qs (start + 1) k plan b at is
+    (λ j r lt there. before (suc j) r (omega arith) there)
     ∙ ap (λ (n : ℕ). dynamic_due p channel n plan b)
     (let more : start + 1 + k ≡ start + suc k = omega arith in more)
 

@@ -155,7 +155,8 @@ offered_alone n channel fate other offer babble k t at silent = by_offer offer a
     babbles (Some bytes) j here = by (length bytes.items == 0) j here
       where
         by : (b : Bool) (i : ℕ)
-            → slice_get (cond b [] (record { node = n; channel = channel; babble = true; bytes = bytes; fate = other } ∷ []))
+            → slice_get (cond b [] (record { node = n; channel = channel; babble = true; bytes = bytes; fate = other }
+            ∷ []))
             i ≡ Some t → ⊥
         by true i e = let none : ⊥ = cc in none
         by false zero e = differ (ap (λ (s : Sent). s.babble) (sym (same_some _ t e))) silent
@@ -432,5 +433,6 @@ heard_is_due w head sound k slot r channel bytes at whole slot_is hears =
     (world_follows w head.agrees)
     (λ n s here. let c = world_configured w head.agrees n s here in c.params_are)
     (λ n s here. let c = world_configured w head.agrees n s here in c.plan_at)
-    (head.agrees.agrees.a_station_each ∙ head.run.one_each) head.run.recorded sound k slot r channel bytes at whole slot_is
+    (head.agrees.agrees.a_station_each ∙ head.run.one_each) head.run.recorded sound k slot r channel bytes at whole
+    slot_is
     hears

@@ -150,7 +150,8 @@ module _ (d : Description) (node : ℕ) (s : State) (before : List Entry) (w : O
   data_due commit is =
       let o = in_slot s.plan before w channel commit (slot_of w channel) is in
       let b = some_buffer s.plan before o.buffer commit o.is_ready in
-      let fits = fits_buffer s fetched.lawful o.buffer commit before (Fetch w x y ∷ fetched.after) fetched.cut b.buffer b.at
+      let fits = fits_buffer s fetched.lawful o.buffer commit before (Fetch w x y ∷ fetched.after) fetched.cut b.buffer
+      b.at
       o.last in
       let admits = transmitter_admits s.plan w channel o.buffer b.buffer o.at b.at in
       let slot_same : b.buffer.filter.slot ≡ slot =
@@ -241,7 +242,8 @@ module _ (d : Description) (node : ℕ) (s : State) (before : List Entry) (w : O
   data_there commit is =
       let o = in_slot s.plan before w channel commit (slot_of w channel) is in
       let b = some_buffer s.plan before o.buffer commit o.is_ready in
-      let fits = fits_buffer s fetched.lawful o.buffer commit before (Fetch w x y ∷ fetched.after) fetched.cut b.buffer b.at
+      let fits = fits_buffer s fetched.lawful o.buffer commit before (Fetch w x y ∷ fetched.after) fetched.cut b.buffer
+      b.at
       o.last in
       let buffer_is : option_and_then (buffer_at s.plan) (transmitter s.plan w channel) ≡ Some b.buffer =
       ap (option_and_then (buffer_at s.plan)) o.at ∙ b.at in

@@ -59,7 +59,8 @@ data_owns p plan before w channel slot commit fine static static_slot fits slot_
     ap (admits_slot b.buffer.filter w.cycle channel) (sym slot_is)
     ∙ both_rest (transmits b.buffer) (admits_slot b.buffer.filter w.cycle channel (slot_of w channel)) passes in
     let front = both_first (b.buffer.filter.slot == slot && includes b.buffer.filter.channels channel) cycles admits in
-    let admitted = both_rest (b.buffer.filter.slot == slot && includes b.buffer.filter.channels channel) cycles admits in
+    let admitted = both_rest (b.buffer.filter.slot == slot && includes b.buffer.filter.channels channel) cycles admits
+    in
     let same : b.buffer.filter.slot ≡ slot = eqb-true b.buffer.filter.slot slot
     (both_first (b.buffer.filter.slot == slot) (includes b.buffer.filter.channels channel) front) in
     let included = both_rest (b.buffer.filter.slot == slot) (includes b.buffer.filter.channels channel) front in

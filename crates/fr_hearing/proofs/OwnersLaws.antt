@@ -111,7 +111,8 @@ passed_mine channel n (t ∷ xs) mine =
         → all_passed channel xs ≡ all_passed channel (own channel n xs)
         → all_passed channel (t ∷ xs) ≡ all_passed channel (own channel n (t ∷ xs))
     by true true on_is through_is rest =
-        let passing : passed_on channel t ≡ true = both (is_channel t.channel channel) (is_passed t.fate) on_is through_is in
+        let passing : passed_on channel t ≡ true = both (is_channel t.channel channel) (is_passed t.fate) on_is
+        through_is in
         let mine_is : (is_of n t && is_channel t.channel channel) ≡ true =
         both (is_of n t) (is_channel t.channel channel) (eq-eqb t.node n (mine 0 t refl passing)) on_is in
         cond-true (passed_on channel t) (t ∷ all_passed channel xs) (all_passed channel xs) passing
@@ -140,7 +141,8 @@ same_self B = refl
 
 passed_one : (n : ℕ) (channel : Channel) (bytes : ArrayVec ℕ)
     → all_passed channel (sent_one n channel bytes ∷ []) ≡ sent_one n channel bytes ∷ []
-passed_one n channel bytes = ap (λ (b : Bool). let l : List Sent = cond (b && true) (sent_one n channel bytes ∷ []) [] in l)
+passed_one n channel bytes = ap (λ (b : Bool). let l : List Sent = cond (b && true) (sent_one n channel bytes ∷ []) []
+    in l)
     (same_self channel)
 
 owner_sound : (n : ℕ) (channel : Channel) (mute : Bool) (bytes : ArrayVec ℕ) (babble : Option (ArrayVec ℕ))
@@ -155,7 +157,8 @@ owner_sound n channel mute bytes babble some sound = by mute (length bytes.items
       where
         empty : (c : Bool) → list_all is_sound (cond {A = List Sent} c []
             (record { node = n; channel = channel; babble = true; bytes = bs; fate = Passed } ∷ [])) ≡ true
-            → cond {A = List Sent} c [] (record { node = n; channel = channel; babble = true; bytes = bs; fate = Passed } ∷ []) ≡ []
+            → cond {A = List Sent} c []
+            (record { node = n; channel = channel; babble = true; bytes = bs; fate = Passed } ∷ []) ≡ []
         empty true f = refl
         empty false f = absurd (let none : ⊥ = cc in none)
 
@@ -167,7 +170,8 @@ owner_sound n channel mute bytes babble some sound = by mute (length bytes.items
           bytes = bytes;
           fate = fate_of m true;
         } ∷ []) ++ transmission n channel true (fate_of false true) babble) ≡ true
-        → cond {A = List Sent} c [] (record { node = n; channel = channel; babble = false; bytes = bytes; fate = fate_of m true } ∷ [])
+        → cond {A = List Sent} c []
+        (record { node = n; channel = channel; babble = false; bytes = bytes; fate = fate_of m true } ∷ [])
         ++ transmission n channel true (fate_of false true) babble ≡ sent_one n channel bytes ∷ []
     by m true e f = absurd (let none : ⊥ = cc in none)
     by true false e f = absurd (let none : ⊥ = cc in none)
@@ -185,7 +189,8 @@ module _ (d : Description) (cycles : ℕ) (interfaces : List State) (rs : List R
     (static : is_static r.window ≡ true) (slot_is : slot_of r.window channel ≡ Some slot)
     (owns_it : IsOwner d r.window.cycle slot channel owner) where
   handed_here : (n : ℕ) (s : State) → slice_get interfaces n ≡ Some s → IsHanded d n s r channel
-  handed_here n s here = handed_by d cycles interfaces rs cluster legal follow params_are plan_at as_many recorded sound n
+  handed_here n s here = handed_by d cycles interfaces rs cluster legal follow params_are plan_at as_many recorded sound
+      n
       k s r channel here at
 
   within : owner < length interfaces
@@ -205,22 +210,28 @@ module _ (d : Description) (cycles : ℕ) (interfaces : List State) (rs : List R
   -- another node that sends here would own the slot, too
   sends_owned : (i : ℕ) (t : Sent) → slice_get r.sent i ≡ Some t → passed_on channel t ≡ true → t.node ≡ owner
   sends_owned i t there_is through =
-      let by = sent_by d cycles interfaces rs cluster legal follow params_are plan_at as_many recorded sound k slot r channel
+      let by = sent_by d cycles interfaces rs cluster legal follow params_are plan_at as_many recorded sound k slot r
+      channel
       at slot_is i t there_is through in
       let h = handed_here t.node by.state by.here in
       let f = frame_of channel (frame_with by.state.params by.state.plan h.before r.window channel
       (offered_on channel h.a h.b)) t.bytes (h.handed ∙ by.offer) in
-      let range = in_range d t.node by.state h.before r.window h.a h.b channel slot cluster h.fetched_is slot_is f.frame f.is
+      let range = in_range d t.node by.state h.before r.window h.a h.b channel slot cluster h.fetched_is slot_is f.frame
+      f.is
       in
-      let fits = window_is d t.node by.state h.before r.window h.a h.b channel slot cluster h.fetched_is slot_is f.frame f.is
+      let fits = window_is d t.node by.state h.before r.window h.a h.b channel slot cluster h.fetched_is slot_is f.frame
+      f.is
       in
       let static_slot = static_slot_is d.params r.window channel slot fits static slot_is in
       let static_here : is_static_slot by.state.params slot ≡ true =
       ap (λ (p : Parameters). is_static_slot p slot) h.fetched_is.params_are ∙ static_slot in
-      let owned = offers_own by.state.params by.state.plan h.before r.window channel slot h.fetched_is.lawful.faultless static
-      static_here range.cycle_fits slot_is (offered_on channel h.a h.b) (offer_is by.state h.before r.window h.a h.b channel
+      let owned = offers_own by.state.params by.state.plan h.before r.window channel slot h.fetched_is.lawful.faultless
+      static
+      static_here range.cycle_fits slot_is (offered_on channel h.a h.b)
+      (offer_is by.state h.before r.window h.a h.b channel
       (legal_fetch d t.node by.state h.before r.window h.a h.b channel slot cluster h.fetched_is slot_is f.frame f.is))
-      (not_nothing d.params by.state h.before r.window channel (offered_on channel h.a h.b) f.frame slot slot_is f.is) in
+      (not_nothing d.params by.state h.before r.window channel (offered_on channel h.a h.b) f.frame slot slot_is f.is)
+      in
       let line = there (line_of by.state.plan r.window channel slot) owned in
       let is_own : is_owned by.state.plan.owned slot channel r.window.cycle ≡ true =
       any_found_in (claims slot channel r.window.cycle) by.state.plan.owned line.value
@@ -267,7 +278,8 @@ module _ (d : Description) (cycles : ℕ) (interfaces : List State) (rs : List R
       owner_sound owner channel side.mute bytes side.babble
       (ne_eqb (length (encoded due.frame channel)) 0 (λ z. omega (arith, size, z))) all_sound in
       let passed_is : all_passed channel r.sent ≡ sent_one owner channel bytes ∷ [] =
-      passed_mine channel owner r.sent sends_owned ∙ ap (all_passed channel) (mine ∙ one) ∙ passed_one owner channel bytes
+      passed_mine channel owner r.sent sends_owned ∙ ap (all_passed channel) (mine ∙ one) ∙ passed_one owner channel
+      bytes
       in
       let short : overruns d.params r.window (length (encoded due.frame channel)) ≡ false =
       cond-true (is_static r.window) (nat_lt (8 + 2 * d.params.static_words) (length (encoded due.frame channel)))
@@ -303,5 +315,6 @@ owners_are_heard w head sound k slot owner r channel at whole static slot_is own
     (world_follows w head.agrees)
     (λ n s here. let c = world_configured w head.agrees n s here in c.params_are)
     (λ n s here. let c = world_configured w head.agrees n s here in c.plan_at)
-    (head.agrees.agrees.a_station_each ∙ head.run.one_each) head.run.recorded sound k slot owner r channel at static slot_is
+    (head.agrees.agrees.a_station_each ∙ head.run.one_each) head.run.recorded sound k slot owner r channel at static
+    slot_is
     owns_it whole

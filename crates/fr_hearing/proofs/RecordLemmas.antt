@@ -121,5 +121,6 @@ own_frame r channel s at original bytes f spot rules_are channel_is spells is =
     ap (take_frame (count_record s) at bytes)
     (ap (λ (c : Channel). spelled c original bytes) channel_is ∙ spells)
     ∙ cond-false (is_lawless (count_record s) f.id) (ill_of s f at) (good (count_record s) f at)
-    (ap (λ (q : Rules). cond (f.id == 0) true (nat_lt q.cluster.params.static_slots f.id && q.cluster.params.minislots == 0))
+    (ap (λ (q : Rules). cond (f.id == 0) true (nat_lt q.cluster.params.static_slots f.id
+    && q.cluster.params.minislots == 0))
     rules_are ∙ lawful r.cluster channel spot f is)

@@ -1,5 +1,5 @@
--- The frames that a listener hears on a channel of a bus without faults (chapters 4 and 5; the division of a static slot
--- by cycles and the length of dynamic frames are project-defined). Nothing here speaks of a monitor.
+-- The frames that a listener hears on a channel of a bus without faults (chapters 4 and 5). The division of a static
+-- slot by cycles and the length of dynamic frames are project-defined. Nothing here speaks of a monitor.
 use Rattle.std.specs.Prelude.{◌≡◌, ℕ, ◌+◌, ◌-◌, ◌*◌, ◌/◌, ◌%◌, ◌<◌, ◌≤◌, min, nat_le, Bool, true, false}
 use Rattle.std.specs.Prelude.{if◌then◌else◌, List, [], ◌∷◌, length, ◌⊎◌, Option, Some, None}
 use Rattle.std.specs.List.{list_all}

@@ -13,7 +13,7 @@
 //! # Laws
 //!
 //! - `AlarmLaws`: each channel by itself, without times, has no false alarm.
-//! - `OfferLaws`: in each static window its owner hands over the frame that is due, and so does each node that sends in a
+//! - `OfferLaws`: in each static window its owner hands over the frame that is due. So does each node that sends in a
 //!   dynamic one.
 //! - `ListenLaws`: each frame that a listener receives without faults is due in its window.
 //! - `OwnersLaws`: without faults a listener receives a frame in each static window with an owner.

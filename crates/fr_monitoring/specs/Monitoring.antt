@@ -66,8 +66,8 @@ abbrev pub StopsThere : List ℕ → List ℕ → Type 0
 StopsThere front rest = (rest ≡ []) ⊎ (is_refused (take_bytes fresh front).state.phase ≡ true)
 
 -- A channel has no clock or an allocation failed, and nothing was read or written. Or the whole input was read and
--- accepted, or a front of it shows the refusal, or a front of it was read before the reader failed. Then the text of what
--- was read is written, and the result says whether there is a finding.
+-- accepted, or a front of it shows the refusal, or a front of it was read before the reader failed. Then the text of
+-- what was read is written, and the result says whether there is a finding.
 abbrev pub Monitors : Rules → Option (List ℕ) → Option (List ℕ) → Option (List ℕ) → Option (List ℕ)
     → Result Bool MonitorError → Type 0
 Monitors r text rest old new (Ok some) = ReadFront text rest (λ front left.

@@ -239,7 +239,7 @@ fn run_workload<'w, R: Threads + Wait + Clock + Sync, G: Gate + Sync>(
     })
 }
 
-/// Returns whether the bus was made for the cluster, and came to its end after this number of cycles, with these faults.
+/// Returns whether the bus was made for the cluster and came to its end after these cycles, with these faults.
 ///
 /// The faults of its windows are exactly those of the lines.
 fn is_at_end(

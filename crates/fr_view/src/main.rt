@@ -26,34 +26,35 @@
 //!
 //! # Definitions
 //!
-//! - `Failures`: the exit status of each failure of `fr_view`.
+//! - `Failures`, `Tasks`: the exit status of each failure of `fr_view`; what each of its commands does.
 #![tactic(auto)]
 
 mod failure;
+mod task;
 
 use failure::ViewFailure;
 use fr_capture::form::Form;
 use fr_capture::show::show_trace;
 use fr_cli::error::OrderError;
-use fr_cli::view::{Asked, SlotAsked, ViewOrder, order};
+use fr_cli::view::order;
 use fr_cli::waiting::{WaitingReader, WaitingWriter};
 use fr_cli::words::{texts_of, words_given};
 use fr_files::cluster_file::cluster_of;
 use fr_files::named::file_named;
 use fr_latency::text::show_latencies;
 use fr_latency::way_text::show_way;
-use fr_matrix::view::View;
 use fr_picture::picture::show_schedule;
 use fr_showing::show::show_run;
 use fr_showing::shown::Shown;
-use fr_slots::numbers::{Cycle, NodeId, SlotId};
+use fr_slots::channel::Channel;
+use fr_slots::numbers::{Cycle, SlotId};
 use fr_why::explain::explain_trace;
 use fr_why::until_fault::show_until_fault;
-use fr_why::verdict::Verdict;
 use std::io;
 use std::process::ExitCode;
 use std::rt::{Env, Files};
 use std::time::Clock;
+use task::{Task, status_told, task_of};
 
 /// The help of the program.
 const HELP: &str = "fr_view schedule FILE [--cycle N] > SVG
@@ -85,36 +86,6 @@ fr_view --help
     these lines
 ";
 
-/// Returns the view of a run that a command names.
-fn shown_of(asked: Asked) -> Option<Shown> {
-    match asked {
-        Asked::Outcome => Some(Shown::Outcome),
-        Asked::Answers => Some(Shown::Answers),
-        Asked::Commits => Some(Shown::Commits),
-        Asked::Record => Some(Shown::Record),
-        Asked::Heard => Some(Shown::Heard),
-        Asked::Trace(node) => Some(Shown::Trace(NodeId::new(node)?)),
-        Asked::Matrix {
-            channel,
-            node: None,
-            from,
-        } => Some(Shown::Matrix(View {
-            channel,
-            node: None,
-            from,
-        })),
-        Asked::Matrix {
-            channel,
-            node: Some(node),
-            from,
-        } => Some(Shown::Matrix(View {
-            channel,
-            node: Some(NodeId::new(node)?),
-            from,
-        })),
-    }
-}
-
 /// Writes a line on standard error for each fault line without effect. All output is written by then.
 fn tell_idle<R: Eprint>(rt: &R, idle: &[u32]) {
     for number in idle {
@@ -127,14 +98,11 @@ fn tell_idle<R: Eprint>(rt: &R, idle: &[u32]) {
 /// The scenario is opened once the cluster is accepted.
 fn show_files<R: Files + Print + Eprint + AllocGlobal + Clock>(
     rt: &R,
-    asked: Asked,
+    shown: Shown,
     cluster: &str,
     scenario: &str,
     cycles: u16,
 ) -> Result<(), ViewFailure> {
-    let Some(shown) = shown_of(asked) else {
-        return Err(ViewFailure::Words(OrderError::Usage));
-    };
     let alloc = rt.alloc();
     let cluster = cluster_of(alloc, &mut file_named(rt, cluster)?)?;
     let mut file = file_named(rt, scenario)?;
@@ -170,51 +138,45 @@ fn show_seen<R: Input + Print + AllocGlobal + Clock>(
 
 /// Writes why an audit rejects the trace on standard input. The status shows whether it does.
 fn explain<R: Input + Print + AllocGlobal + Clock>(rt: &R) -> Result<ExitCode, ViewFailure> {
-    let mut output = WaitingWriter::new(rt, io::writer(rt));
-    match explain_trace(
+    let verdict = explain_trace(
         rt.alloc(),
         &mut WaitingReader::new(rt, rt.reader()),
-        &mut output,
-    )? {
-        Verdict::Accepted => Ok(ExitCode::SUCCESS),
-        Verdict::Refused => Ok(ExitCode::from(1)),
-    }
+        &mut WaitingWriter::new(rt, io::writer(rt)),
+    )?;
+    Ok(ExitCode::from(status_told(verdict)))
 }
 
 /// Writes the picture of a cycle of the cluster in the file.
 fn show_cycle<R: Files + Print + AllocGlobal + Clock>(
     rt: &R,
     file: &str,
-    cycle: u8,
+    cycle: Cycle,
 ) -> Result<(), ViewFailure> {
-    let Some(cycle) = Cycle::new(cycle) else {
-        return Err(ViewFailure::Words(OrderError::Usage));
-    };
-    let (mut file, mut output) = (
-        file_named(rt, file)?,
-        WaitingWriter::new(rt, io::writer(rt)),
-    );
+    let mut file = file_named(rt, file)?;
+    let mut output = WaitingWriter::new(rt, io::writer(rt));
     Ok(show_schedule(rt.alloc(), &mut file, cycle, &mut output)?)
 }
 
-/// Writes the latencies of the cluster in the file, or a way to the latest start of a slot.
+/// Writes the latencies of the cluster in the file.
 fn show_worst<R: Files + Print + AllocGlobal + Clock>(
     rt: &R,
     file: &str,
-    way: Option<SlotAsked>,
 ) -> Result<(), ViewFailure> {
-    let alloc = rt.alloc();
-    let (mut file, mut output) = (
-        file_named(rt, file)?,
-        WaitingWriter::new(rt, io::writer(rt)),
-    );
-    let Some(asked) = way else {
-        return Ok(show_latencies(alloc, &mut file, &mut output)?);
-    };
-    let Some(slot) = SlotId::new(asked.slot) else {
-        return Err(ViewFailure::Words(OrderError::Usage));
-    };
-    Ok(show_way(alloc, &mut file, slot, asked.channel, &mut output)?)
+    let mut file = file_named(rt, file)?;
+    let mut output = WaitingWriter::new(rt, io::writer(rt));
+    Ok(show_latencies(rt.alloc(), &mut file, &mut output)?)
+}
+
+/// Writes the way to the latest start of a slot of the cluster in the file.
+fn show_before<R: Files + Print + AllocGlobal + Clock>(
+    rt: &R,
+    file: &str,
+    slot: SlotId,
+    channel: Channel,
+) -> Result<(), ViewFailure> {
+    let mut file = file_named(rt, file)?;
+    let mut output = WaitingWriter::new(rt, io::writer(rt));
+    Ok(show_way(rt.alloc(), &mut file, slot, channel, &mut output)?)
 }
 
 /// Writes the list of commands.
@@ -225,28 +187,28 @@ fn show_help<R: Print + Clock>(rt: &R) -> Result<(), ViewFailure> {
     }
 }
 
-/// Executes the command.
+/// Does what the command says.
 fn carry_out<R: Files + Input + Print + Eprint + AllocGlobal + Clock>(
     rt: &R,
-    order: ViewOrder<'_>,
+    task: Task<'_>,
 ) -> Result<ExitCode, ViewFailure> {
-    match order {
-        ViewOrder::Schedule { file, cycle } => show_cycle(rt, file, cycle)?,
-        ViewOrder::Latency { file, way } => show_worst(rt, file, way)?,
-        ViewOrder::Capture { until_fault, own } => show_seen(
-            rt,
-            Form::Capture { own },
-            until_fault,
-        )?,
-        ViewOrder::Frames { until_fault, all } => show_seen(rt, Form::Table { all }, until_fault)?,
-        ViewOrder::Why => return explain(rt),
-        ViewOrder::Show {
-            asked,
+    match task {
+        Task::Cycle { file, cycle } => show_cycle(rt, file, cycle)?,
+        Task::Latencies { file } => show_worst(rt, file)?,
+        Task::Way {
+            file,
+            slot,
+            channel,
+        } => show_before(rt, file, slot, channel)?,
+        Task::Seen { form, until_fault } => show_seen(rt, form, until_fault)?,
+        Task::Why => return explain(rt),
+        Task::Run {
+            shown,
             cluster,
             scenario,
             cycles,
-        } => show_files(rt, asked, cluster, scenario, cycles)?,
-        ViewOrder::Help => show_help(rt)?,
+        } => show_files(rt, shown, cluster, scenario, cycles)?,
+        Task::Help => show_help(rt)?,
     }
     Ok(ExitCode::SUCCESS)
 }
@@ -257,7 +219,10 @@ fn run<R: Env + Files + Input + Print + Eprint + AllocGlobal + Clock>(
 ) -> Result<ExitCode, ViewFailure> {
     let words = words_given(rt)?;
     let texts: Vec<&str> = texts_of(rt.alloc(), &words)?;
-    carry_out(rt, order(rt.alloc(), texts.as_slice())?)
+    match task_of(order(rt.alloc(), texts.as_slice())?) {
+        Some(task) => carry_out(rt, task),
+        None => Err(ViewFailure::Words(OrderError::Usage)),
+    }
 }
 
 fn main(rt: HostRuntime) -> ExitCode {

@@ -1,0 +1,58 @@
+-- What each command of the program does, with its numbers as those of the cluster (project-defined).
+use Rattle.std.specs.Prelude.{ℕ, Option, Some, None, option_map}
+use Rattle.fr_capture.specs.declared.form.Form.TheVariants.{Capture, Table}
+use Rattle.fr_cli.specs.declared.view.Asked.{Asked}
+use Rattle.fr_cli.specs.declared.view.Asked.TheVariants as asked
+use Rattle.fr_cli.specs.declared.view.SlotAsked.{SlotAsked}
+use Rattle.fr_cli.specs.declared.view.ViewOrder.{ViewOrder}
+use Rattle.fr_cli.specs.declared.view.ViewOrder.TheVariants as order
+use Rattle.fr_matrix.specs.declared.view.View.{View}
+use Rattle.fr_showing.specs.declared.shown.Shown.{Shown}
+use Rattle.fr_showing.specs.declared.shown.Shown.TheVariants as shown
+use Rattle.fr_slots.specs.declared.channel.Channel.{Channel}
+use Rattle.fr_slots.specs.Numbers.{number_within, last_cycle, last_node, last_slot}
+use Rattle.fr_view.specs.declared.task.Task.{Task}
+use Rattle.fr_view.specs.declared.task.Task.TheVariants as task
+use Rattle.fr_why.specs.declared.verdict.Verdict.{Verdict}
+use Rattle.fr_why.specs.declared.verdict.Verdict.TheVariants.{Accepted, Refused}
+
+-- ---- views of a run
+
+abbrev pub drawn : Channel → Option ℕ → ℕ → Shown
+drawn channel node from = shown.Matrix (record { channel = channel; node = node; from = from })
+
+-- none if a node is named that no cluster can have
+abbrev pub shown_of : Asked → Option Shown
+shown_of asked.Outcome = Some shown.Outcome
+shown_of asked.Answers = Some shown.Answers
+shown_of asked.Commits = Some shown.Commits
+shown_of asked.Record = Some shown.Record
+shown_of asked.Heard = Some shown.Heard
+shown_of (asked.Trace node) = option_map shown.Trace (number_within 0 last_node node)
+shown_of (asked.Matrix channel None from) = Some (drawn channel None from)
+shown_of (asked.Matrix channel (Some node) from) =
+    option_map (λ n. drawn channel (Some n) from) (number_within 0 last_node node)
+
+-- ---- all commands
+
+-- all latencies, or the way to the latest start of a slot
+abbrev pub worst_of : _ → Option SlotAsked → Option Task
+worst_of file None = Some (task.Latencies file)
+worst_of file (Some a) = option_map (λ slot. task.Way file slot a.channel) (number_within 1 last_slot a.slot)
+
+-- none if a number is out of its range
+abbrev pub task_of : ViewOrder → Option Task
+task_of (order.Schedule file cycle) = option_map (task.Cycle file) (number_within 0 last_cycle cycle)
+task_of (order.Latency file way) = worst_of file way
+task_of (order.Capture until_fault own) = Some (task.Seen (Capture own) until_fault)
+task_of (order.Frames until_fault all) = Some (task.Seen (Table all) until_fault)
+task_of order.Why = Some task.Why
+task_of (order.Show asked cluster scenario cycles) =
+    option_map (λ s. task.Run s cluster scenario cycles) (shown_of asked)
+task_of order.Help = Some task.Help
+
+-- ---- the exit status of `why`
+
+abbrev pub status_told : Verdict → ℕ
+status_told Accepted = 0
+status_told Refused = 1

@@ -1,0 +1,150 @@
+//! What each command does. All choices of the program are made here.
+
+ghost use Rattle.std.specs.Prelude.{◌≡◌};
+ghost use Rattle.fr_view.specs.Tasks.{shown_of, status_told, task_of, worst_of};
+
+use fr_capture::form::Form;
+use fr_cli::view::{Asked, SlotAsked, ViewOrder};
+use fr_matrix::view::View;
+use fr_showing::shown::Shown;
+use fr_slots::channel::Channel;
+use fr_slots::numbers::{Cycle, NodeId, SlotId};
+use fr_why::verdict::Verdict;
+
+/// What a command does (project-defined).
+#[derive(Clone, Copy)]
+pub enum Task<'a> {
+    /// Draw a cycle of the cluster in the file.
+    Cycle {
+        /// The name of the file.
+        file: &'a str,
+        /// The cycle.
+        cycle: Cycle,
+    },
+    /// Print the worst latencies of the cluster in the file.
+    Latencies {
+        /// The name of the file.
+        file: &'a str,
+    },
+    /// Print the frames before the latest start of a slot.
+    Way {
+        /// The name of the cluster file.
+        file: &'a str,
+        /// The slot.
+        slot: SlotId,
+        /// The channel.
+        channel: Channel,
+    },
+    /// Print the observations of a controller.
+    Seen {
+        /// The form.
+        form: Form,
+        /// For a rejected trace, print the observations before the faulty line.
+        until_fault: bool,
+    },
+    /// Print the reason why an audit rejects a trace.
+    Why,
+    /// Run a cluster with a scenario, and print a view of the run.
+    Run {
+        /// The view.
+        shown: Shown,
+        /// The name of the cluster file.
+        cluster: &'a str,
+        /// The name of the scenario file.
+        scenario: &'a str,
+        /// The number of cycles.
+        cycles: u16,
+    },
+    /// Print the commands of the program.
+    Help,
+}
+
+/// Returns the view of a run that a command names. None if it names a node that no cluster has.
+fn shown_of(asked: Asked) -> Option<Shown>
+    ensures { result ≡ shown_of asked }
+{
+    match asked {
+        Asked::Outcome => Some(Shown::Outcome),
+        Asked::Answers => Some(Shown::Answers),
+        Asked::Commits => Some(Shown::Commits),
+        Asked::Record => Some(Shown::Record),
+        Asked::Heard => Some(Shown::Heard),
+        Asked::Trace(node) => Some(Shown::Trace(NodeId::new(node)?)),
+        Asked::Matrix {
+            channel,
+            node: None,
+            from,
+        } => Some(Shown::Matrix(View {
+            channel,
+            node: None,
+            from,
+        })),
+        Asked::Matrix {
+            channel,
+            node: Some(node),
+            from,
+        } => Some(Shown::Matrix(View {
+            channel,
+            node: Some(NodeId::new(node)?),
+            from,
+        })),
+    }
+}
+
+/// Returns the task of `latency` for a file, and for a slot if one is named. None if there is no such slot.
+fn worst_of(file: &str, way: Option<SlotAsked>) -> Option<Task<'_>>
+    ensures { result ≡ worst_of file way }
+{
+    match way {
+        None => Some(Task::Latencies { file }),
+        Some(asked) => Some(Task::Way {
+            file,
+            slot: SlotId::new(asked.slot)?,
+            channel: asked.channel,
+        }),
+    }
+}
+
+/// Returns what the command does. None if one of its numbers is out of its range.
+pub fn task_of(order: ViewOrder<'_>) -> Option<Task<'_>>
+    ensures { result ≡ task_of order }
+{
+    match order {
+        ViewOrder::Schedule { file, cycle } => Some(Task::Cycle {
+            file,
+            cycle: Cycle::new(cycle)?,
+        }),
+        ViewOrder::Latency { file, way } => worst_of(file, way),
+        ViewOrder::Capture { until_fault, own } => Some(Task::Seen {
+            form: Form::Capture { own },
+            until_fault,
+        }),
+        ViewOrder::Frames { until_fault, all } => Some(Task::Seen {
+            form: Form::Table { all },
+            until_fault,
+        }),
+        ViewOrder::Why => Some(Task::Why),
+        ViewOrder::Show {
+            asked,
+            cluster,
+            scenario,
+            cycles,
+        } => Some(Task::Run {
+            shown: shown_of(asked)?,
+            cluster,
+            scenario,
+            cycles,
+        }),
+        ViewOrder::Help => Some(Task::Help),
+    }
+}
+
+/// Returns the exit status after a trace was audited: 0 if it is accepted, 1 if it is rejected.
+pub fn status_told(verdict: Verdict) -> u8
+    ensures { result ≡ status_told verdict }
+{
+    match verdict {
+        Verdict::Accepted => 0,
+        Verdict::Refused => 1,
+    }
+}
