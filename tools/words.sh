@@ -9,6 +9,10 @@
 start() {
     program=$1
     shift
+    if [ "$name-${1-}" = fr_bench-run ]; then
+        . "$top/tools/busy.sh"
+        leave_busy_cores
+    fi
     if [ -t 2 ] || has_slip "$@"; then
         exec "$top/tools/told" "$name" "$program" "$@"
     fi

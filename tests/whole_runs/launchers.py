@@ -20,6 +20,8 @@ CAUGHT = "#!/bin/sh\ntrap 'echo caught; exit 5' TERM\necho ready\nwhile :; do sl
 KILLED = "#!/bin/sh\necho ready\nwhile :; do sleep 0.02; done\n"
 READING = "#!/bin/sh\necho $$\nread -r line\necho \"$line\"\nexit 7\n"
 """A program that prints its process ID, and ends once it has read a line."""
+SHOWS_CORES = "#!/bin/sh\ngrep Cpus_allowed_list /proc/self/status\n"
+A_RUN = ["run", "crates.txt", "crates.txt", "--cycles", "1"]
 SHELLS = ["dash"], ["bash", "--posix"]
 """Shells that systems have as `sh`."""
 NO_KIT = "/usr/bin:/bin"
@@ -32,8 +34,8 @@ def digest(data: bytes) -> str:
 
 LAUNCHER_FILES = ("fr_bench", "fr_view", "fr_world", "fr_monitor", "python/musmyrtle/VERSION", "tools/launch",
                   "tools/launch_anew", "tools/identities.sh", "tools/digests.bash", "tools/told",
-                  "tools/words.sh", "tools/help.sh", "tools/explained.sh", "tools/help/fr_bench",
-                  "tools/help/fr_view", "tools/help/fr_world", "tools/help/fr_monitor")
+                  "tools/words.sh", "tools/busy.sh", "tools/help.sh", "tools/explained.sh",
+                  "tools/help/fr_bench", "tools/help/fr_view", "tools/help/fr_world", "tools/help/fr_monitor")
 
 
 class Checkout:
@@ -128,6 +130,7 @@ class Launchers:
         self.replaced()
         self.forged()
         self.paths()
+        self.busy()
         for words, is_terminal in ((["midpoint"], False), (["midpoint"], True), (["no", "command"], False)):
             self.signals(words, is_terminal)
             self.stops(words, is_terminal)
@@ -199,6 +202,18 @@ class Launchers:
             ran = subprocess.run([link, "midpoint"], capture_output=True, text=True, timeout=SECONDS)
             self.runs.compare(f"a call by a link below {name!r}", (ran.stdout, ran.returncode), ("right\n", 0))
 
+    def busy(self) -> None:
+        """If all cores are busy, a run in threads is kept on one of them. No other command is."""
+        every, made = len(os.sched_getaffinity(0)), self.checkout(program=SHOWS_CORES)
+        for case, online, failing, words, cores in (
+                ("a run on busy cores", 0, [], A_RUN, 1),
+                ("a run on free cores", 1_000_000, [], A_RUN, every),
+                ("a run on busy cores without taskset", 0, ["taskset"], A_RUN, every),
+                ("a run without a number of cores", 0, ["getconf"], A_RUN, every),
+                ("another command on busy cores", 0, [], ["midpoint"], every)):
+            fakes = {"getconf": f"echo {online}"} | {name: "exit 1" for name in failing}
+            self.runs.compare(case, cores_of(made, words, fakes), cores)
+
     def signals(self, words: list[str], is_terminal: bool) -> None:
         """Checks that a signal to the launcher ends the program, which may catch it."""
         place = f"with {words} {'at a terminal' if is_terminal else 'without a terminal'}"
@@ -235,6 +250,21 @@ class Launchers:
                           ("stopped", "going on", "end\n", 7))
         self.runs.compare(f"SIGINT that is ignored {place}", interrupted(told), ("end\n", 7))
         self.runs.compare(f"a signal {place} as the program ends", signalled(told), 7)
+
+
+def cores_of(made: Checkout, words: list[str], fakes: dict[str, str]) -> int:
+    """Returns the number of cores on which the launcher's program may run, where these commands are fakes."""
+    folder = made.path / "fakes"
+    shutil.rmtree(folder, ignore_errors=True)
+    folder.mkdir()
+    for name, body in fakes.items():
+        (folder / name).write_text(f"#!/bin/sh\n{body}\n")
+        (folder / name).chmod(0o755)
+    ran = subprocess.run([made.path / "fr_bench", *words], cwd=made.path, capture_output=True, text=True,
+                         timeout=SECONDS, stdin=subprocess.DEVNULL, check=True,
+                         env=os.environ | {"PATH": f"{folder}:{NO_KIT}"})
+    ranges = [part.split("-") for part in ran.stdout.split()[-1].split(",")]
+    return sum(int(part[-1]) - int(part[0]) + 1 for part in ranges)
 
 
 def state_of(process: int) -> str:
