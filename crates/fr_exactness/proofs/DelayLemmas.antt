@@ -187,6 +187,26 @@ module _ (d : Description) (lawful : IsCluster d) (n number : ℕ) (plan : Plan)
   on_channel on included = only_channel b.filter.channels on included (fits.dynamic_fit number b at
       (both (transmits b) (not (is_static_slot d.params b.filter.slot)) transmitting (ap not dynamic))).one_channel
 
+  -- a slot before that of the buffer
+  pub lower_mute : (j : ℕ) (window : Opportunity) (slot : ℕ)
+      → slot_of window (channel_of b.filter.channels) ≡ Some slot → slot < b.filter.slot
+      → AreMute d (only_kept n number j) window
+  lower_mute j window slot slot_is less = mute_if d n number plan b plan_at at j window (λ on turn. (
+      let here = subst (λ (c : Channel). slot_of window c ≡ Some b.filter.slot) (on_channel on turn.included)
+      turn.slot_is in
+      let same = same_some slot b.filter.slot (sym slot_is ∙ here) in
+      omega (arith, less, same)))
+
+  -- after the latest minislot of the node
+  pub late_mute : (j : ℕ) (window : Opportunity) → is_static window ≡ false
+      → latest_on plan (channel_of b.filter.channels) < window.minislot → AreMute d (only_kept n number j) window
+  late_mute j window still late = mute_unless d n number plan b plan_at at j window (λ on turn begins. (
+      let in_time : nat_le window.minislot (latest_on plan on) ≡ true =
+      ap (λ (t : Bool). t || nat_le window.minislot (latest_on plan on)) (sym still) ∙ begins in
+      let few = leb-true window.minislot (latest_on plan on) in_time in
+      let same = ap (latest_on plan) (on_channel on turn.included) in
+      omega (arith, few, same, late)))
+
   module _ (cycles : ℕ) where
     pub static_mute : (j : ℕ) (rs : List Recorded) (window : Opportunity) → following d.params cycles rs ≡ Some window
         → is_static window ≡ true → AreMute d (only_kept n number j) window
@@ -211,26 +231,6 @@ module _ (d : Description) (lawful : IsCluster d) (n number : ℕ) (plan : Plan)
             turn.slot_is in
             let less = lower b.filter.slot still here in
             omega (arith, less, slot_is)))
-
-    -- a slot before that of the buffer
-    pub lower_mute : (j : ℕ) (window : Opportunity) (slot : ℕ)
-        → slot_of window (channel_of b.filter.channels) ≡ Some slot → slot < b.filter.slot
-        → AreMute d (only_kept n number j) window
-    lower_mute j window slot slot_is less = mute_if d n number plan b plan_at at j window (λ on turn. (
-        let here = subst (λ (c : Channel). slot_of window c ≡ Some b.filter.slot) (on_channel on turn.included)
-        turn.slot_is in
-        let same = same_some slot b.filter.slot (sym slot_is ∙ here) in
-        omega (arith, less, same)))
-
-    -- after the latest minislot of the node
-    pub late_mute : (j : ℕ) (window : Opportunity) → is_static window ≡ false
-        → latest_on plan (channel_of b.filter.channels) < window.minislot → AreMute d (only_kept n number j) window
-    late_mute j window still late = mute_unless d n number plan b plan_at at j window (λ on turn begins. (
-        let in_time : nat_le window.minislot (latest_on plan on) ≡ true =
-        ap (λ (t : Bool). t || nat_le window.minislot (latest_on plan on)) (sym still) ∙ begins in
-        let few = leb-true window.minislot (latest_on plan on) in_time in
-        let same = ap (latest_on plan) (on_channel on turn.included) in
-        omega (arith, few, same, late)))
 
     -- the rest of a cycle in which nothing of the buffer comes any more
     module _ (j begun : ℕ) where

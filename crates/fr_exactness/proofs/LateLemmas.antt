@@ -1,7 +1,7 @@
--- Cycles in which a ready commit of a buffer isn't offered: those of other buffers, and those that hosts lead along a way
--- on which the slot of the buffer comes too late.
+-- Cycles in which a ready commit of a buffer isn't offered: those of other buffers, and those that hosts lead along a
+-- way on which the slot of the buffer comes too late.
 use Rattle.std.proofs.Common.{◌≡◌, ℕ, zero, suc, ◌+◌, ◌-◌, ◌*◌, ◌%◌, ◌<◌, ◌≤◌, Bool, true, false, not, cond, ◌&&◌, ◌||◌}
-use Rattle.std.proofs.Common.{◌⊎◌, inl, inr, List, [], ◌∷◌, ◌++◌, length, length-append, Some, None, refl, sym, ap, subst}
+use Rattle.std.proofs.Common.{◌⊎◌, inl, inr, List, [], ◌∷◌, ◌++◌, length, length-append, Some, refl, sym, ap, subst}
 use Rattle.std.proofs.Common.{◌∙◌, arith, slice_get, is_some}
 use Rattle.std.proofs.lemmas.Bool.{leb-false}
 use Rattle.std.proofs.lemmas.List.{append-nil, append_assoc}
@@ -27,7 +27,8 @@ use Rattle.fr_guarantees.specs.Ways.{CanSend, IsRow}
 use Rattle.fr_latency.proofs.LaneLemmas.{latest_is}
 use Rattle.fr_latency.specs.Below.{sum_below}
 use Rattle.fr_latency.specs.Lanes.{CanSend as CanSendLane, IsLatest}
-use Rattle.fr_latency.specs.Latencies.{before_slot, channel_of, is_always_in_time, is_guaranteed, last_begin_of, latest_for}
+use Rattle.fr_latency.specs.Latencies.{before_slot, channel_of, is_always_in_time, is_guaranteed, last_begin_of}
+use Rattle.fr_latency.specs.Latencies.{latest_for}
 use Rattle.fr_latency.specs.Openings.{last_begin}
 use Rattle.fr_minislot.specs.DynamicRows.{first_minislot, slot_after, has_row_after}
 use Rattle.fr_schedule.specs.Clusters.{IsCluster}
@@ -56,55 +57,65 @@ record IsCut (d : Description) (on : Channel) (cycle : ℕ) (so_far rest : List 
   exists : has_row_after d.params (so_far ++ way) ≡ true
   ends : (way ≡ rest) ⊎ (IsEnd d on cycle (so_far ++ way) × (length way + 1 ≤ length rest))
 
+-- the way ends here
+cut_here : (d : Description) (on : Channel) (cycle : ℕ) (so_far rest : List ℕ) → has_row_after d.params so_far ≡ true
+    → (([] ≡ rest) ⊎ (IsEnd d on cycle so_far × (1 ≤ length rest))) → IsCut d on cycle so_far rest
+unfolding AllAfter
+cut_here d on cycle so_far rest exists ends = record {
+  way = [];
+  rows = tt;
+  exists = ap (has_row_after d.params) (append-nil so_far) ∙ exists;
+  ends = elim ends [
+    | inl none ↦ inl none
+    | inr end ↦ inr (subst (IsEnd d on cycle) (sym (append-nil so_far)) end.0, omega (arith, end.1))
+  ];
+}
+
+-- the way goes on with this row
+cut_later : (d : Description) (on : Channel) (cycle : ℕ) (so_far : List ℕ) (bytes : ℕ) (rest : List ℕ)
+    → IsRow d cycle on so_far bytes → IsCut d on cycle (so_far ++ bytes ∷ []) rest
+    → IsCut d on cycle so_far (bytes ∷ rest)
+unfolding AllAfter
+cut_later d on cycle so_far bytes rest row more =
+    let same : (so_far ++ bytes ∷ []) ++ more.way ≡ so_far ++ (bytes ∷ more.way) =
+    append_assoc so_far (bytes ∷ []) more.way in
+    record {
+      way = bytes ∷ more.way;
+      rows = (row, more.rows);
+      exists = ap (has_row_after d.params) (sym same) ∙ more.exists;
+      ends = elim more.ends [
+        | inl whole ↦ inl (ap (λ (l : List ℕ). bytes ∷ l) whole)
+        | inr end ↦ inr (
+          subst (IsEnd d on cycle) same end.0,
+          (let shorter = end.1 in omega (arith, shorter)),
+        )
+      ];
+    }
+
 cut : (d : Description) (on : Channel) (cycle : ℕ) (so_far rest : List ℕ)
     → AllAfter (λ before bytes. (bytes ≡ 0)
     ⊎ CanSendLane d on cycle (slot_after d.params before) (first_minislot d.params before) bytes) so_far rest
     → has_row_after d.params so_far ≡ true → IsCut d on cycle so_far rest
 unfolding AllAfter
-cut d on cycle so_far [] lane exists = record {
-  way = [];
-  rows = tt;
-  exists = ap (has_row_after d.params) (append-nil so_far) ∙ exists;
-  ends = inl refl;
-}
+cut d on cycle so_far [] lane exists = cut_here d on cycle so_far [] exists (inl refl)
 cut d on cycle so_far (bytes ∷ rest) lane exists =
     by (has_row_after d.params (so_far ++ bytes ∷ [])) refl (cut d on cycle (so_far ++ bytes ∷ []) rest lane.1)
   where
     row : IsRow d cycle on so_far bytes
-    row = (exists, elim lane.0 [
-      | inl none ↦ inl none
-      | inr can ↦ inr (can_send d on cycle (slot_after d.params so_far) (first_minislot d.params so_far) bytes can)
-    ])
-
-    same : (more : List ℕ) → (so_far ++ bytes ∷ []) ++ more ≡ so_far ++ (bytes ∷ more)
-    same more = append_assoc so_far (bytes ∷ []) more
+    row = (
+      exists,
+      elim lane.0 [
+        | inl none ↦ inl none
+        | inr can ↦ inr (can_send d on cycle (slot_after d.params so_far) (first_minislot d.params so_far) bytes can)
+      ],
+    )
 
     by : (t : Bool) → has_row_after d.params (so_far ++ bytes ∷ []) ≡ t
         → (has_row_after d.params (so_far ++ bytes ∷ []) ≡ true → IsCut d on cycle (so_far ++ bytes ∷ []) rest)
         → IsCut d on cycle so_far (bytes ∷ rest)
-    by true e again =
-        let more = again e in
-        record {
-          way = bytes ∷ more.way;
-          rows = (row, more.rows);
-          exists = ap (has_row_after d.params) (sym (same more.way)) ∙ more.exists;
-          ends = elim more.ends [
-            | inl whole ↦ inl (ap (λ (l : List ℕ). bytes ∷ l) whole)
-            | inr end ↦ inr (
-                subst (IsEnd d on cycle) (same more.way) end.0,
-                (let shorter = end.1 in omega (arith, shorter)),
-              )
-          ];
-        }
-    by false e again = record {
-      way = [];
-      rows = tt;
-      exists = ap (has_row_after d.params) (append-nil so_far) ∙ exists;
-      ends = inr (
-        subst (IsEnd d on cycle) (sym (append-nil so_far)) (record { bytes = bytes; row = row; none = e }),
-        omega arith,
-      );
-    }
+    by true e again = cut_later d on cycle so_far bytes rest row (again e)
+    by false e again = cut_here d on cycle so_far (bytes ∷ rest) exists
+        (inr (record { bytes = bytes; row = row; none = e }, omega arith))
 
 -- ---- one cycle
 
@@ -155,8 +166,8 @@ module _ (d : Description) (lawful : IsCluster d) (n number : ℕ) (plan : Plan)
       start_after d lawful cycles most room kept calls (begun + 1) w past.world (leads_on start.leads past.leads)
       (ends_cycle calls (begun + 1) past.world past.is_at (
         ap cycles_begun past.sealed
-        ∙ begun_next start.world.bus.sealed past.recorded true (ap opens_cycle past.window_is ∙ start.opens)
-        ∙ ap (λ (m : ℕ). m + 1) start.begun_is,
+            ∙ begun_next start.world.bus.sealed past.recorded true (ap opens_cycle past.window_is ∙ start.opens)
+            ∙ ap (λ (m : ℕ). m + 1) start.begun_is,
         inl (ap (λ (m : ℕ). cycle_admitted b.filter.cycles (m % 64)) back ∙ unadmitted),
       ) more)
 

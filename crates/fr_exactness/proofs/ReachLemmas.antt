@@ -245,7 +245,7 @@ module _ (d : Description) (lawful : IsCluster d) (n number : ℕ) (plan : Plan)
         let most = slot_range.at_most in
         both (nat_le (first_minislot d.params []) d.params.minislots) (nat_le (slot_after d.params []) last_slot)
         (le-leb 1 d.params.minislots (omega (arith, inside, fewer, first)))
-        (le-leb (d.params.static_slots + 1) last_slot (omega (arith, least, most)))
+        (le-leb (slot_after d.params []) last_slot (omega (arith, least, most)))
 
     module _ (room : HasRoom d (c + step + 1) (6 * early + calls_between d plan b c + 1)) where
       abbrev cycles : ℕ

@@ -90,8 +90,8 @@ AreReached d = (n number : ℕ) (plan : Plan) (b : Buffer) → slice_get d.plans
     → IsDelayed d n number b (channel_of b.filter.channels) (cycle + cycles_after d plan b cycle + 1)
     (wait_from d.params.cycle_mt (is_guaranteed d plan b) (earliest_start d b) (latest_end d b) cycle)
 
--- In a cycle of the buffer that isn't guaranteed, hosts fill slots before that of the buffer, so that it comes too late.
--- They call three times at most for each of these slots.
+-- In a cycle of the buffer that isn't guaranteed, hosts fill slots before that of the buffer, so that it comes too
+-- late. They call three times at most for each of these slots.
 abbrev pub calls_to_delay : Description → Plan → Buffer → ℕ → ℕ
 calls_to_delay d plan b cycle =
     if cycle_admitted b.filter.cycles cycle && not (is_guaranteed d plan b cycle) then 3 * before_slot d b else 0
