@@ -7,7 +7,6 @@ use Rattle.std.proofs.lemmas.Bool.{leb-false}
 use Rattle.std.proofs.lemmas.List.{append-nil, append_assoc}
 use Rattle.std.proofs.lemmas.Nat.{mod_below}
 use Rattle.fr_bus.specs.Courses.{opportunities}
-use Rattle.fr_bus.specs.Outcome.{longest}
 use Rattle.fr_bus.specs.Record.{Recorded}
 use Rattle.fr_bus.specs.Windows.{cycles_begun, this_cycle, counts_on, is_first_slot, is_row_of, opens_cycle}
 use Rattle.fr_core.proofs.CaseLemmas.{both_first}
