@@ -1,11 +1,12 @@
 -- The worst wait of a guaranteed buffer is reached.
 use Rattle.std.proofs.Common.{◌≡◌, ℕ, zero, suc, ◌+◌, ◌-◌, ◌%◌, ◌<◌, ◌≤◌, ◌==◌, Bool, true, false, not, cond}
-use Rattle.std.proofs.Common.{◌&&◌, ◌⊎◌, inl, inr, List, [], ◌∷◌, ◌++◌, length, length-append, Option, Some}
-use Rattle.std.proofs.Common.{None, refl, sym, ap, subst, ◌∙◌, arith, slice_get}
+use Rattle.std.proofs.Common.{◌&&◌, ◌||◌, ◌⊎◌, inl, inr, List, [], ◌∷◌, ◌++◌, length, length-append, Option, Some}
+use Rattle.std.proofs.Common.{None, refl, sym, ap, subst, ◌∙◌, arith, slice_get, is_some}
 use Rattle.std.specs.Prelude.{nat_le}
 use Rattle.std.specs.List.{list_all}
-use Rattle.std.proofs.lemmas.Bool.{eqb-true, leb-false}
+use Rattle.std.proofs.lemmas.Bool.{eqb-true, leb-false, leb-true}
 use Rattle.std.proofs.lemmas.Bool.Decides.{eqb_tells}
+use Rattle.std.proofs.lemmas.List.{append-nil}
 use Rattle.std.proofs.lemmas.List.Quantifiers.{position-Some}
 use Rattle.std.proofs.lemmas.Option.{get_or_from_slice_get}
 use Rattle.fr_bus.specs.Record.{Recorded}
@@ -21,9 +22,9 @@ use Rattle.fr_exactness.proofs.ProgressLemmas.{begun_next, counts_next}
 use Rattle.fr_exactness.proofs.WalkLemmas.{KeepsMute}
 use Rattle.fr_exactness.specs.Exactness.{HasRoom}
 use Rattle.fr_guarantees.proofs.NextRowLemmas.{row_is, cycle_is}
-use Rattle.fr_journal.specs.Offers.{is_admitting, transmitter}
+use Rattle.fr_journal.specs.Offers.{is_admitting, may_begin, transmitter}
 use Rattle.fr_latency.specs.Latencies.{before_slot, channel_of, first_from}
-use Rattle.fr_minislot.specs.DynamicRows.{slot_after}
+use Rattle.fr_minislot.specs.DynamicRows.{slot_after, has_row_after}
 use Rattle.fr_schedule.specs.Clusters.{IsCluster, IsNode}
 use Rattle.fr_schedule.specs.Descriptions.{Description}
 use Rattle.fr_slots.proofs.FaultlessLemmas.{faultless}
@@ -34,7 +35,7 @@ use Rattle.fr_slots.specs.declared.channel.Channel.TheVariants.{A, B}
 use Rattle.fr_slots.specs.declared.channel.Channels.{Channels}
 use Rattle.fr_slots.specs.declared.channel.Channels.TheVariants as lines
 use Rattle.fr_slots.specs.declared.plan.Buffer.{Buffer}
-use Rattle.fr_slots.specs.Faults.{channels, transmits, IsFaultless}
+use Rattle.fr_slots.specs.Faults.{channels, latest_on, transmits, IsFaultless}
 use Rattle.fr_slots.specs.Parameters.{Parameters, is_static_slot}
 use Rattle.fr_slots.specs.Plans.{Plan, buffer_at, admits_slot}
 use Rattle.fr_slots.specs.Windows.{Opportunity, slot_of, is_static, static_slot_fits, dynamic_slot_fits, window_fits}
@@ -148,18 +149,26 @@ static_fits p w on slot fits static is = by on is
 
 module _ (d : Description) (n number : ℕ) (plan : Plan) (b : Buffer) (plan_at : slice_get d.plans n ≡ Some plan)
     (at : buffer_at plan number ≡ Some b) where
-  -- without a turn of the buffer the window is mute
-  pub mute_if : (j : ℕ) (window : Opportunity) → ((on : Channel) → IsTurn b window on → ⊥)
+  -- without a turn of the buffer that may begin the window is mute
+  pub mute_unless : (j : ℕ) (window : Opportunity)
+      → ((on : Channel) → IsTurn b window on → may_begin plan window on ≡ true → ⊥)
       → AreMute d (only_kept n number j) window
-  mute_if j window never m p known on k is begins = elim (eqb_tells m n) [
+  mute_unless j window never m p known on k is begins = elim (eqb_tells m n) [
     | inl same ↦ subst (λ (i : ℕ). only_kept n number j i k ≡ None) (sym same.1) (elim (eqb_tells k number) [
-      | inl this ↦ absurd (never on (turn_of plan number b window on at
-          (ap (λ (q : Plan). transmitter q window on) (same_some plan p
-          (sym plan_at ∙ ap (slice_get d.plans) (sym same.1) ∙ known)) ∙ is ∙ ap Some this.1)))
+      | inl this ↦ (
+          let same_plan = same_some plan p (sym plan_at ∙ ap (slice_get d.plans) (sym same.1) ∙ known) in
+          absurd (never on (turn_of plan number b window on at
+          (ap (λ (q : Plan). transmitter q window on) same_plan ∙ is ∙ ap Some this.1))
+          (ap (λ (q : Plan). may_begin q window on) same_plan ∙ begins)))
       | inr other ↦ other_buffer n number j k other.1
     ])
     | inr other ↦ other_node n number j m k other.1
   ]
+
+  -- without a turn of the buffer the window is mute
+  pub mute_if : (j : ℕ) (window : Opportunity) → ((on : Channel) → IsTurn b window on → ⊥)
+      → AreMute d (only_kept n number j) window
+  mute_if j window never = mute_unless j window (λ on turn begins. never on turn)
 
 module _ (d : Description) (lawful : IsCluster d) (n number : ℕ) (plan : Plan) (b : Buffer)
     (plan_at : slice_get d.plans n ≡ Some plan) (at : buffer_at plan number ≡ Some b) (transmitting : transmits b
@@ -178,6 +187,26 @@ module _ (d : Description) (lawful : IsCluster d) (n number : ℕ) (plan : Plan)
   on_channel on included = only_channel b.filter.channels on included (fits.dynamic_fit number b at
       (both (transmits b) (not (is_static_slot d.params b.filter.slot)) transmitting (ap not dynamic))).one_channel
 
+  -- a slot before that of the buffer
+  pub lower_mute : (j : ℕ) (window : Opportunity) (slot : ℕ)
+      → slot_of window (channel_of b.filter.channels) ≡ Some slot → slot < b.filter.slot
+      → AreMute d (only_kept n number j) window
+  lower_mute j window slot slot_is less = mute_if d n number plan b plan_at at j window (λ on turn. (
+      let here = subst (λ (c : Channel). slot_of window c ≡ Some b.filter.slot) (on_channel on turn.included)
+      turn.slot_is in
+      let same = same_some slot b.filter.slot (sym slot_is ∙ here) in
+      omega (arith, less, same)))
+
+  -- after the latest minislot of the node
+  pub late_mute : (j : ℕ) (window : Opportunity) → is_static window ≡ false
+      → latest_on plan (channel_of b.filter.channels) < window.minislot → AreMute d (only_kept n number j) window
+  late_mute j window still late = mute_unless d n number plan b plan_at at j window (λ on turn begins. (
+      let in_time : nat_le window.minislot (latest_on plan on) ≡ true =
+      ap (λ (t : Bool). t || nat_le window.minislot (latest_on plan on)) (sym still) ∙ begins in
+      let few = leb-true window.minislot (latest_on plan on) in_time in
+      let same = ap (latest_on plan) (on_channel on turn.included) in
+      omega (arith, few, same, late)))
+
   module _ (cycles : ℕ) where
     pub static_mute : (j : ℕ) (rs : List Recorded) (window : Opportunity) → following d.params cycles rs ≡ Some window
         → is_static window ≡ true → AreMute d (only_kept n number j) window
@@ -187,8 +216,8 @@ module _ (d : Description) (lawful : IsCluster d) (n number : ℕ) (plan : Plan)
         let no = static_fits d.params window on b.filter.slot fit.fits static turn.slot_is in
         let none : ⊥ = cc in none))
 
-    -- along a way to the slot
-    pub way_mute : (j : ℕ) (way : List ℕ) → slot_after d.params way ≡ b.filter.slot → (rs : List Recorded)
+    -- along a way to the slot, or to one before it
+    pub way_mute : (j : ℕ) (way : List ℕ) → slot_after d.params way ≤ b.filter.slot → (rs : List Recorded)
         (window : Opportunity) → following d.params cycles rs ≡ Some window
         → IsCourse (course_of d.params cycles rs)
         → ((slot : ℕ) → is_static window ≡ false → slot_of window (channel_of b.filter.channels) ≡ Some slot
@@ -203,62 +232,87 @@ module _ (d : Description) (lawful : IsCluster d) (n number : ℕ) (plan : Plan)
             let less = lower b.filter.slot still here in
             omega (arith, less, slot_is)))
 
-    -- from the slot of a cycle to a later cycle, if the buffer has no cycle between them
-    module _ (j c distance : ℕ) (between : (k : ℕ) → 1 ≤ k → k < distance
-        → cycle_admitted b.filter.cycles ((c + k) % 64) ≡ false) where
+    -- the rest of a cycle in which nothing of the buffer comes any more
+    module _ (j begun : ℕ) where
       abbrev channel : Channel
       channel = channel_of b.filter.channels
 
-      abbrev pub IsLater : List Recorded → Type 0
-      IsLater rs = (c + 1 ≤ cycles_begun rs)
-          × (cycles_begun rs ≡ c + 1 → before_slot d b < length (counts_on channel (this_cycle rs)))
+      -- The buffer doesn't have the cycle, or its slot has passed, or the channel has no further row.
+      abbrev pub IsOver : List Recorded → Type 0
+      IsOver rs = (cycles_begun rs ≡ begun)
+          × ((cycle_admitted b.filter.cycles ((begun - 1) % 64) ≡ false)
+          ⊎ ((before_slot d b < length (counts_on channel (this_cycle rs)))
+          ⊎ (has_row_after d.params (counts_on channel (this_cycle rs)) ≡ false)))
 
-      no_turn : (rs : List Recorded) (window : Opportunity) → IsLater rs → following d.params cycles rs ≡ Some window
-          → cycles_begun rs ≤ c + distance → is_static window ≡ false → (on : Channel) → IsTurn b window on → ⊥
-      no_turn rs window good follows few still on turn = elim (eqb_tells (cycles_begun rs) (c + 1)) [
-        | inl same ↦ (
-            let here = subst (λ (x : Channel). slot_of window x ≡ Some b.filter.slot) (on_channel on turn.included)
-            turn.slot_is in
-            let row = row_is d.params cycles rs window channel b.filter.slot follows still here in
-            let past = good.1 same.1 in
-            omega (arith, past, row.slot_is))
-        | inr other ↦ (
-            let k = cycles_begun rs - 1 - c in
-            let low = good.0 in
-            let no = between k (omega (arith, low, other.1)) (omega (arith, low, other.1, few)) in
-            let same : c + k ≡ cycles_begun rs - 1 = omega (arith, low) in
-            let cycle : window.cycle ≡ (c + k) % 64 = cycle_is d.params cycles rs window follows still
-            ∙ ap (λ (m : ℕ). m % 64) (sym same) in
-            let yes = ap (cycle_admitted b.filter.cycles) (sym cycle) ∙ turn.cycle in
-            let none : ⊥ = cc in none)
-      ]
+      no_turn : (rs : List Recorded) (window : Opportunity) → IsOver rs → following d.params cycles rs ≡ Some window
+          → is_static window ≡ false → (on : Channel) → IsTurn b window on → ⊥
+      no_turn rs window good follows still on turn =
+          let here = subst (λ (x : Channel). slot_of window x ≡ Some b.filter.slot) (on_channel on turn.included)
+          turn.slot_is in
+          let row = row_is d.params cycles rs window channel b.filter.slot follows still here in
+          elim good.1 [
+            | inl unadmitted ↦ (
+                let cycle : window.cycle ≡ (begun - 1) % 64 = cycle_is d.params cycles rs window follows still
+                ∙ ap (λ (m : ℕ). (m - 1) % 64) good.0 in
+                let yes = ap (cycle_admitted b.filter.cycles) (sym cycle) ∙ turn.cycle in
+                let none : ⊥ = cc in none)
+            | inr gone ↦ elim gone [
+              | inl past ↦ omega (arith, past, row.slot_is)
+              | inr ended ↦ (
+                  let exists = row.exists in
+                  let none : ⊥ = cc in none)
+            ]
+          ]
 
-      later_next : (rs : List Recorded) (window : Opportunity) (t : Bool) → opens_cycle window ≡ t → IsLater rs
-          → (r : Recorded) → r.window ≡ window → IsLater (rs ++ r ∷ [])
-      later_next rs window true opens good r is =
-          let more = begun_next rs r true (ap opens_cycle is ∙ opens) in
-          let low = good.0 in (
-            omega (arith, low, more),
-            λ same. absurd (let none : ⊥ = omega (arith, low, more, same) in none),
-          )
-      later_next rs window false opens good r is =
-          let more = begun_next rs r false (ap opens_cycle is ∙ opens) in
-          let counts = counts_next channel rs r (is_row_of channel r) (ap opens_cycle is ∙ opens) refl in
-          let longer = ap (λ (l : List ℕ). length l) counts
-          ∙ length-append (counts_on channel (this_cycle rs))
-          (cond (is_row_of channel r) (longest channel r.sent ∷ []) []) in
-          let low = good.0 in (
-            omega (arith, low, more),
-            λ same. (let past = good.1 (omega (arith, same, more)) in omega (arith, past, longer)),
-          )
+      no_row : (rs : List Recorded) (window : Opportunity) → following d.params cycles rs ≡ Some window
+          → has_row_after d.params (counts_on channel (this_cycle rs)) ≡ false → (static : Bool)
+          → is_static window ≡ static → (o : Option ℕ) → slot_of window channel ≡ o
+          → (not static && is_some o) ≡ false
+      no_row rs window follows ended true static o is = refl
+      no_row rs window follows ended false still None is = refl
+      no_row rs window follows ended false still (Some slot) is =
+          let row = row_is d.params cycles rs window channel slot follows still is in
+          let exists = row.exists in
+          absurd (let none : ⊥ = cc in none)
+
+      over_next : (rs : List Recorded) (window : Opportunity) → following d.params cycles rs ≡ Some window
+          → opens_cycle window ≡ false → IsOver rs → (r : Recorded) → r.window ≡ window → IsOver (rs ++ r ∷ [])
+      over_next rs window follows later good r is = (
+        (let more = begun_next rs r false opens in let was = good.0 in omega (arith, more, was)),
+        elim good.1 [
+          | inl unadmitted ↦ inl unadmitted
+          | inr gone ↦ inr (elim gone [
+            | inl past ↦ inl (omega (arith, past, longer))
+            | inr ended ↦ inr (
+                let none : is_row_of channel r ≡ false =
+                ap (λ (w : Opportunity). not (is_static w) && is_some (slot_of w channel)) is
+                ∙ no_row rs window follows ended (is_static window) refl (slot_of window channel) refl in
+                ap (has_row_after d.params) (counts_next channel rs r false opens none
+                ∙ append-nil (counts_on channel (this_cycle rs))) ∙ ended)
+          ])
+        ],
+      )
+        where
+          opens : opens_cycle r.window ≡ false
+          opens = ap opens_cycle is ∙ later
+
+          longer : length (counts_on channel (this_cycle (rs ++ r ∷ [])))
+              ≡ length (counts_on channel (this_cycle rs))
+              + length (cond (is_row_of channel r) (longest channel r.sent ∷ []) [])
+          longer = ap (λ (l : List ℕ). length l) (counts_next channel rs r (is_row_of channel r) opens refl)
+              ∙ length-append (counts_on channel (this_cycle rs))
+              (cond (is_row_of channel r) (longest channel r.sent ∷ []) [])
 
       module _ (most : ℕ) (room : HasRoom d cycles most) where
-        pub keeps_mute : KeepsMute d lawful cycles most room (only_kept n number j) (c + distance) IsLater
-        keeps_mute rs window good follows course few opens = (
-          by (is_static window) refl,
-          later_next rs window (opens_cycle window) refl good,
-        )
+        pub keeps_over : KeepsMute d lawful cycles most room (only_kept n number j) begun IsOver
+        keeps_over rs window good follows course few opens = by (opens_cycle window) refl
           where
-            by : (t : Bool) → is_static window ≡ t → AreMute d (only_kept n number j) window
-            by true static = static_mute j rs window follows static
-            by false still = mute_if d n number plan b plan_at at j window (no_turn rs window good follows few still)
+            mute : (t : Bool) → is_static window ≡ t → AreMute d (only_kept n number j) window
+            mute true static = static_mute j rs window follows static
+            mute false still =
+                mute_if d n number plan b plan_at at j window (no_turn rs window good follows still)
+
+            by : (t : Bool) → opens_cycle window ≡ t → AreMute d (only_kept n number j) window
+                × ((r : Recorded) → r.window ≡ window → IsOver (rs ++ r ∷ []))
+            by true e = absurd (let less = opens e in let same = good.0 in omega (arith, less, same))
+            by false e = (mute (is_static window) refl, over_next rs window follows e good)

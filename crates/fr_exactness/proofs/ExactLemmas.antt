@@ -120,7 +120,7 @@ both_after P Q R join before [] p q = tt
 both_after P Q R join before (x ∷ xs) p q =
     (join before x p.0 q.0, both_after P Q R join (before ++ x ∷ []) xs p.1 q.1)
 
-can_send : (d : Description) (channel : Channel) (cycle slot minislot bytes : ℕ)
+pub can_send : (d : Description) (channel : Channel) (cycle slot minislot bytes : ℕ)
     → CanSendLane d channel cycle slot minislot bytes → CanSend d cycle slot channel minislot bytes
 can_send d channel cycle slot minislot bytes can = record {
   node = can.node;

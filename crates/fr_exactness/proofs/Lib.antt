@@ -18,6 +18,7 @@ pub mod HoldingLemmas
 pub mod ExactLemmas
 pub mod ChanceLemmas
 pub mod DelayLemmas
+pub mod LateLemmas
 pub mod StaticLemmas
 pub mod ReachLemmas
 pub mod StaticReachLemmas

@@ -1,4 +1,4 @@
--- A run in which a commit on a guaranteed dynamic buffer waits for the worst time.
+-- A run in which a commit on a dynamic buffer waits for the worst time, from a guaranteed cycle to the next.
 use Rattle.std.proofs.Common.{◌≡◌, ℕ, zero, suc, ◌+◌, ◌-◌, ◌*◌, ◌%◌, ◌<◌, ◌≤◌, ◌==◌, Bool, true, false, not, cond}
 use Rattle.std.proofs.Common.{◌&&◌, ◌||◌, ◌⊎◌, inl, inr, List, [], ◌∷◌, ◌++◌, length, length-append, replicate, Some}
 use Rattle.std.proofs.Common.{None, refl, sym, ap, subst, ◌∙◌, arith, slice_get, is_some, option_map}
@@ -9,29 +9,28 @@ use Rattle.std.proofs.lemmas.List.Sums.{sum_by-append}
 use Rattle.std.proofs.lemmas.Nat.{mod-mul-add, mod_below}
 use Rattle.std.proofs.lemmas.Option.{slice_get_within}
 use Rattle.std.proofs.Math.Nat.{add-mul, mul-le-mul_right}
-use Rattle.fr_bus.specs.Courses.{opportunities}
 use Rattle.fr_bus.specs.Outcome.{longest}
 use Rattle.fr_bus.specs.Record.{Recorded}
 use Rattle.fr_bus.specs.States.{BusState}
 use Rattle.fr_bus.specs.Windows.{cycles_begun, this_cycle, counts_on, is_first_slot, is_row_of, opens_cycle}
-use Rattle.fr_core.proofs.CaseLemmas.{both, both_first}
+use Rattle.fr_core.proofs.CaseLemmas.{both, both_first, both_rest}
 use Rattle.fr_core.proofs.SendingLemmas.{offers_ready}
 use Rattle.fr_core.specs.declared.error.StepError.TheVariants.{Host}
 use Rattle.fr_core.specs.Worlds.{WorldState, interface_at, opening_world}
 use Rattle.fr_exactness.proofs.CallLemmas.{commit_accepted}
-use Rattle.fr_exactness.proofs.DelayLemmas.{first_below, first_is, has_channel, fits, above, way_mute, static_mute}
-use Rattle.fr_exactness.proofs.DelayLemmas.{IsLater, keeps_mute}
+use Rattle.fr_exactness.proofs.DelayLemmas.{first_below, first_is, has_channel, fits, above, way_mute}
 use Rattle.fr_exactness.proofs.ExactLemmas.{is_way, row_of, IsRowOf, open_at, comes}
 use Rattle.fr_exactness.proofs.FrameLemmas.{each_at, unset, sending_is}
 use Rattle.fr_exactness.proofs.HoldingLemmas.{nothing_kept, only_kept, this_buffer, IsHeld, is_held}
+use Rattle.fr_exactness.proofs.LateLemmas.{ends_cycle, start_mute, passes_cycles}
 use Rattle.fr_exactness.proofs.LeadLemmas.{leads_on}
 use Rattle.fr_exactness.proofs.OfferingLemmas.{fetched_by}
-use Rattle.fr_exactness.proofs.PassingLemmas.{IsNodeAt, AreMute}
-use Rattle.fr_exactness.proofs.ProgressLemmas.{begun_next, counts_next, windows_fit}
+use Rattle.fr_exactness.proofs.PassingLemmas.{IsNodeAt}
+use Rattle.fr_exactness.proofs.ProgressLemmas.{begun_next, counts_next}
 use Rattle.fr_exactness.proofs.SilenceLemmas.{Keeps}
 use Rattle.fr_exactness.proofs.TurnLemmas.{if_known}
-use Rattle.fr_exactness.proofs.WalkLemmas.{IsStart, IsCome, reaches_cycle, comes_in}
-use Rattle.fr_exactness.specs.Delays.{run_cycle, start_of, end_of, IsDelayed, cycles_after}
+use Rattle.fr_exactness.proofs.WalkLemmas.{IsStart, IsCome, comes_in}
+use Rattle.fr_exactness.specs.Delays.{run_cycle, start_of, end_of, IsDelayed, cycles_after, calls_between}
 use Rattle.fr_exactness.specs.Exactness.{HasRoom}
 use Rattle.fr_guarantees.specs.Ways.{CanSend}
 use Rattle.fr_core.proofs.TimingLemmas.{count_more}
@@ -46,7 +45,7 @@ use Rattle.fr_latency.specs.Lanes.{CanSend as CanSendLane, Opens}
 use Rattle.fr_latency.specs.Latencies.{before_slot, channel_of, is_after, is_guaranteed, is_always_in_time}
 use Rattle.fr_latency.specs.Latencies.{last_begin_of, latest_for, wait_from, earliest_start, latest_end}
 use Rattle.fr_latency.specs.Openings.{can_begin, last_begin, opens}
-use Rattle.fr_minislot.specs.DynamicRows.{first_minislot, row_length, slot_after, is_row, last_slot}
+use Rattle.fr_minislot.specs.DynamicRows.{first_minislot, row_length, slot_after, has_row_after, is_row, last_slot}
 use Rattle.fr_schedule.specs.Clusters.{IsCluster, IsNode}
 use Rattle.fr_schedule.specs.Descriptions.{Description}
 use Rattle.fr_slots.proofs.PlaceLemmas.{same_some}
@@ -118,9 +117,7 @@ no_host s window = omega (arith, count_more is_host s.entries (fetch_entry s win
 
 module _ (d : Description) (lawful : IsCluster d) (n number : ℕ) (plan : Plan) (b : Buffer)
     (plan_at : slice_get d.plans n ≡ Some plan) (some_task : 1 ≤ plan.tasks) (at : buffer_at plan number ≡ Some b)
-    (transmitting : transmits b ≡ true) (dynamic : is_static_slot d.params b.filter.slot ≡ false)
-    (always : (cycle : ℕ) → cycle < 64 → cycle_admitted b.filter.cycles cycle ≡ true
-    → is_always_in_time d plan b cycle ≡ true) where
+    (transmitting : transmits b ≡ true) (dynamic : is_static_slot d.params b.filter.slot ≡ false) where
   abbrev on : Channel
   on = channel_of b.filter.channels
 
@@ -144,13 +141,7 @@ module _ (d : Description) (lawful : IsCluster d) (n number : ℕ) (plan : Plan)
 
   -- ---- guaranteed cycles
 
-  admitted_passes : (cycle : ℕ) → cycle < 64 → cycle_admitted b.filter.cycles cycle ≡ true
-      → is_guaranteed d plan b cycle ≡ true
-  admitted_passes cycle few admitted = both (cycle_admitted b.filter.cycles cycle)
-      (is_static_slot d.params slot || is_always_in_time d plan b cycle) admitted
-      (ap (λ (t : Bool). t || is_always_in_time d plan b cycle) dynamic ∙ always cycle few admitted)
-
-  module _ (c : ℕ) (few : c < 64) (admitted : cycle_admitted b.filter.cycles c ≡ true) where
+  module _ (c : ℕ) (few : c < 64) (guaranteed : is_guaranteed d plan b c ≡ true) where
     abbrev step : ℕ
     step = cycles_after d plan b c
 
@@ -162,16 +153,12 @@ module _ (d : Description) (lawful : IsCluster d) (n number : ℕ) (plan : Plan)
         let to = (first_is (is_after (is_guaranteed d plan b) c) 1 63).to in
         omega (arith, to)
 
-    between : (k : ℕ) → 1 ≤ k → k < step → cycle_admitted b.filter.cycles ((c + k) % 64) ≡ false
-    between k from below = by (cycle_admitted b.filter.cycles ((c + k) % 64)) refl
-      where
-        by : (t : Bool) → cycle_admitted b.filter.cycles ((c + k) % 64) ≡ t
-            → cycle_admitted b.filter.cycles ((c + k) % 64) ≡ false
-        by false e = e
-        by true e =
-            let passes = admitted_passes ((c + k) % 64) (mod_below (c + k) 64 (omega arith)) e in
-            let not_so = first_below (is_after (is_guaranteed d plan b) c) 1 63 k from below in
-            absurd (let none : ⊥ = cc in none)
+    between : (k : ℕ) → k < step - 1 → is_guaranteed d plan b ((c + 1 + k) % 64) ≡ false
+    between k below =
+        let same : c + 1 + k ≡ c + (k + 1) = omega arith in
+        let some = some_step in
+        ap (λ (m : ℕ). is_guaranteed d plan b (m % 64)) same
+        ∙ first_below (is_after (is_guaranteed d plan b) c) 1 63 (k + 1) (omega arith) (omega (arith, below, some))
 
     abbrev then : ℕ
     then = (c + step) % 64
@@ -184,12 +171,17 @@ module _ (d : Description) (lawful : IsCluster d) (n number : ℕ) (plan : Plan)
       | inl end ↦ (
           let whole : c + step ≡ 1 * 64 + c = omega (arith, end) in
           let same : then ≡ c = ap (λ (m : ℕ). m % 64) whole ∙ mod-mul-add 1 64 c few in
-          ap (is_guaranteed d plan b) same ∙ admitted_passes c few admitted)
+          ap (is_guaranteed d plan b) same ∙ guaranteed)
       | inr passes ↦ passes
     ]
 
     then_admitted : cycle_admitted b.filter.cycles then ≡ true
     then_admitted = both_first (cycle_admitted b.filter.cycles then)
+        (is_static_slot d.params slot || is_always_in_time d plan b then) then_passes
+
+    then_always : is_always_in_time d plan b then ≡ true
+    then_always = ap (λ (t : Bool). t || is_always_in_time d plan b then) (sym dynamic)
+        ∙ both_rest (cycle_admitted b.filter.cycles then)
         (is_static_slot d.params slot || is_always_in_time d plan b then) then_passes
 
     -- ---- the ways
@@ -198,7 +190,7 @@ module _ (d : Description) (lawful : IsCluster d) (n number : ℕ) (plan : Plan)
     last = last_begin d on then early
 
     last_in_time : last ≤ latest_on plan on
-    last_in_time = leb-true (last_begin_of d b then) (latest_for plan b) (always then then_fits then_admitted)
+    last_in_time = leb-true (last_begin_of d b then) (latest_for plan b) then_always
 
     -- a slot that begins at a minislot of the segment opens there
     opens_at : (cycle minislot : ℕ) → can_begin d on cycle early minislot ≡ true → minislot ≤ d.params.minislots
@@ -244,12 +236,23 @@ module _ (d : Description) (lawful : IsCluster d) (n number : ℕ) (plan : Plan)
     last_row : IsRowOf d.params last_opens.counts last slot
     last_row = row_of d.params last_opens.counts last slot last_opens.opened
 
-    module _ (room : HasRoom d (c + step + 1) (6 * early + 1)) where
+    some_row : has_row_after d.params [] ≡ true
+    some_row =
+        let inside = last_in_time in
+        let fewer = latest_few in
+        let first = first_in_time in
+        let least = higher in
+        let most = slot_range.at_most in
+        both (nat_le (first_minislot d.params []) d.params.minislots) (nat_le (slot_after d.params []) last_slot)
+        (le-leb 1 d.params.minislots (omega (arith, inside, fewer, first)))
+        (le-leb (slot_after d.params []) last_slot (omega (arith, least, most)))
+
+    module _ (room : HasRoom d (c + step + 1) (6 * early + calls_between d plan b c + 1)) where
       abbrev cycles : ℕ
       cycles = c + step + 1
 
       abbrev most : ℕ
-      most = 6 * early + 1
+      most = 6 * early + calls_between d plan b c + 1
 
       first_long : 3 * length first_opens.counts ≤ 3 * early
       first_long = (let row = first_row.slot_is in omega (arith, row))
@@ -323,9 +326,6 @@ module _ (d : Description) (lawful : IsCluster d) (n number : ℕ) (plan : Plan)
       abbrev kept : ℕ → Keeps
       kept = only_kept n number j
 
-      abbrev Later : List Recorded → Type 0
-      Later = IsLater d lawful n number plan b plan_at at transmitting dynamic cycles j c step between
-
       row_of_first : is_row_of on held.recorded ≡ true
       row_of_first = ap (λ (v : Opportunity). not (is_static v) && is_some (slot_of v on)) held.window_is
           ∙ (λ i. not (come.dynamic i) && is_some (come.slot_is i))
@@ -340,50 +340,52 @@ module _ (d : Description) (lawful : IsCluster d) (n number : ℕ) (plan : Plan)
           let was = come.begun_is in
           ap cycles_begun held.sealed ∙ omega (arith, more, was)
 
-      later : Later held.world.bus.sealed
-      later =
-          let begun = begun_held in
+      past_slot : before_slot d b < length (counts_on on (this_cycle held.world.bus.sealed))
+      past_slot =
           let counts = ap (λ (rs : List Recorded). counts_on on (this_cycle rs)) held.sealed
           ∙ counts_next on w0.bus.sealed held.recorded true no_opening row_of_first in
           let longer = ap (λ (l : List ℕ). length l) counts
           ∙ length-append (counts_on on (this_cycle w0.bus.sealed)) (longest on held.recorded.sent ∷ []) in
           let were = ap (λ (l : List ℕ). length l) come.counts_are in
-          let row = first_row.slot_is in (
-            omega (arith, begun),
-            λ same. omega (arith, longer, were, row),
-          )
+          let row = first_row.slot_is in
+          omega (arith, longer, were, row)
 
-      start : IsStart d lawful cycles most room kept (3 * length first_opens.counts + 1) (c + step) held.world
-      start =
-          let begun = begun_held in
-          let fit = windows_fit d.params cycles held.world.bus.sealed held.is_at.course in
-          let same : cycles_begun held.world.bus.sealed * opportunities d.params ≡ (c + 1) * opportunities d.params =
-          ap (λ (m : ℕ). m * opportunities d.params) begun in
+      abbrev calls : ℕ
+      calls = 3 * length first_opens.counts + 1
+
+      abbrev Start : ℕ → ℕ → Type 0
+      Start many begun = IsStart d lawful cycles most room kept many begun held.world
+
+      next_start : Start calls (c + 1)
+      next_start =
           let some = some_step in
-          let fewer : (c + 1) * opportunities d.params ≤ (c + step) * opportunities d.params =
-          mul-le-mul_right (opportunities d.params) (omega (arith, some)) in
-          reaches_cycle d lawful cycles most room kept Later
-          ((c + step) * opportunities d.params + 1 - length held.world.bus.sealed)
-          (3 * length first_opens.counts + 1) (c + step)
-          (keeps_mute d lawful n number plan b plan_at at transmitting dynamic cycles j c step between most room)
-          (omega arith) on held.world held.is_at later (omega (arith, begun, some))
-          (omega (arith, fit, same, fewer))
+          ends_cycle d lawful n number plan b plan_at at transmitting dynamic cycles most j room some_row calls (c + 1)
+          held.world held.is_at (begun_held, inr (inl past_slot)) (omega (arith, some))
 
-      start_mute : AreMute d kept start.window
-      start_mute = static_mute d lawful n number plan b plan_at at transmitting dynamic cycles j start.world.bus.sealed
-          start.window start.next
-          (both_first (is_static start.window) (is_first_slot start.window.a) start.opens)
+      abbrev spent : ℕ
+      spent = calls + calls_between d plan b c
+
+      start : Start spent (c + step)
+      start =
+          let some = some_step in
+          let short = first_long in
+          let begun : c + 1 + (step - 1) ≡ c + step = omega (arith, some) in
+          subst (Start spent) begun
+          (passes_cycles d lawful n number plan b plan_at at transmitting dynamic cycles most j room some_row c calls
+          held.world next_start (step - 1) between (omega (arith, short)) (omega (arith, some)))
 
       end : IsCome d lawful cycles most room kept most (c + step + 1) then on last_opens.counts held.world
       end =
           let first_short = first_long in
           let last_short = last_long in
-          comes_in d lawful cycles most room kept (3 * length first_opens.counts + 1) (c + step) then refl then_fits on
+          comes_in d lawful cycles most room kept spent (c + step) then refl then_fits on
           last_opens.counts most (omega arith) last_row.exists
           (way_mute d lawful n number plan b plan_at at transmitting dynamic cycles j last_opens.counts
-          last_row.slot_is)
+          (let row = last_row.slot_is in omega (arith, row)))
           (is_way d on then last_opens.counts last_opens.is_lane last_opens.are_rows)
-          (omega (arith, first_short, last_short)) held.world start start_mute
+          (omega (arith, first_short, last_short)) held.world start
+          (start_mute d lawful n number plan b plan_at at transmitting dynamic cycles most j room some_row spent
+          (c + step) held.world start)
 
       abbrev w1 : WorldState
       w1 = end.world

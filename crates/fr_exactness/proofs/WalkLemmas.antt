@@ -42,13 +42,24 @@ module _ (d : Description) (lawful : IsCluster d) (cycles most : ℕ) (room : Ha
     pub next : following d.params cycles world.bus.sealed ≡ Some window
     pub opens : opens_cycle window ≡ true
 
-  after_silence : (calls begun : ℕ) (w : WorldState) (window : Opportunity) (channel : Channel)
-      → (past : IsPast d cycles kept calls w window channel 0)
-      → IsStart calls begun past.world → IsStart calls begun w
-  after_silence calls begun w window channel past start = record {
+  pub start_after : (calls begun : ℕ) (w v : WorldState) → Leads w v → IsStart calls begun v → IsStart calls begun w
+  start_after calls begun w v leads start = record {
     world = start.world;
-    leads = leads_on past.leads start.leads;
+    leads = leads_on leads start.leads;
     is_at = start.is_at;
+    begun_is = start.begun_is;
+    window = start.window;
+    next = start.next;
+    opens = start.opens;
+  }
+
+  -- no more calls were made than so many more
+  pub start_more : (calls more begun : ℕ) (w : WorldState) → calls ≤ more → IsStart calls begun w
+      → IsStart more begun w
+  start_more calls more begun w few start = record {
+    world = start.world;
+    leads = start.leads;
+    is_at = at_more d cycles kept calls more start.world few start.is_at;
     begun_is = start.begun_is;
     window = start.window;
     next = start.next;
@@ -83,7 +94,7 @@ module _ (d : Description) (lawful : IsCluster d) (cycles most : ℕ) (room : Ha
       let begun_is : cycles_begun past.world.bus.sealed ≡ cycles_begun w.bus.sealed + cond {A = ℕ} b 1 0 =
       ap cycles_begun past.sealed
       ∙ begun_next w.bus.sealed past.recorded b (ap opens_cycle past.window_is ∙ opens) in
-      after_silence calls begun w window channel past
+      start_after calls begun w past.world past.leads
       (again past.world past.is_at (subst Good (sym past.sealed) (good past.recorded past.window_is)) (subst (λ
       (n : ℕ). n ≤ begun) (sym begun_is) still) (omega (arith, count, one)))
 

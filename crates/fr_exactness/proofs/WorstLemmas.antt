@@ -1,18 +1,20 @@
 -- The worst latency of the table is that of a run.
-use Rattle.std.proofs.Common.{◌≡◌, ℕ, zero, suc, ◌+◌, ◌*◌, ◌<◌, ◌≤◌, ◌==◌, Bool, true, false, not, cond, ◌||◌}
-use Rattle.std.proofs.Common.{◌⊎◌, inl, inr, Some, None, refl, sym, ap, subst, ◌∙◌, arith}
+use Rattle.std.proofs.Common.{◌≡◌, ℕ, zero, suc, ◌+◌, ◌-◌, ◌*◌, ◌%◌, ◌<◌, ◌≤◌, ◌==◌, Bool, true, false, not, cond}
+use Rattle.std.proofs.Common.{◌&&◌, ◌||◌, ◌⊎◌, inl, inr, Option, Some, None, refl, sym, ap, subst, ◌∙◌, arith}
 use Rattle.std.specs.Prelude.{max, nat_le}
 use Rattle.std.proofs.lemmas.Bool.{leb-false, leb-true}
 use Rattle.std.proofs.lemmas.Bool.Decides.{eqb_tells}
-use Rattle.std.proofs.Math.Nat.{mul-le-mul_right, max-eq_left, max-eq_right}
+use Rattle.std.proofs.lemmas.Nat.{mod_below}
+use Rattle.std.proofs.Math.Nat.{add-mul, mul-le-mul_right, max-eq_left, max-eq_right}
 use Rattle.fr_bus.specs.Courses.{opportunities}
 use Rattle.fr_core.proofs.CaseLemmas.{both_first, both_rest}
 use Rattle.fr_exactness.proofs.DelayLemmas.{first_is}
 use Rattle.fr_exactness.proofs.ReachLemmas.{reached}
 use Rattle.fr_exactness.proofs.StaticReachLemmas.{reached_static}
-use Rattle.fr_exactness.specs.Delays.{IsDelayed, AreReached, IsWorstReached, cycles_after}
+use Rattle.fr_exactness.specs.Delays.{IsDelayed, AreAllReached, AreReached, IsEachWorstReached, IsWorstReached}
+use Rattle.fr_exactness.specs.Delays.{calls_between, calls_to_delay, cycles_after}
 use Rattle.fr_exactness.specs.Exactness.{HasRoom}
-use Rattle.fr_latency.specs.Below.{all_below, any_below, most_below}
+use Rattle.fr_latency.specs.Below.{all_below, any_below, most_below, sum_below}
 use Rattle.fr_latency.specs.declared.latency.State.TheVariants.{Guaranteed}
 use Rattle.fr_latency.specs.Latencies.{before_slot, channel_of, earliest_start, has_tasks, is_after}
 use Rattle.fr_latency.specs.Latencies.{is_always_in_time, is_guaranteed}
@@ -79,6 +81,10 @@ from_either : (p q : Bool) → (not p || q) ≡ true → p ≡ true → q ≡ tr
 from_either true q e f = e
 from_either false q e f = absurd (let none : ⊥ = cc in none)
 
+has_worst : (tasks : Bool) (value : Option ℕ) (worst : ℕ) → cond tasks value None ≡ Some worst → tasks ≡ true
+has_worst true value worst is = refl
+has_worst false value worst is = absurd (let none : ⊥ = cc in none)
+
 some_number : (n m : ℕ) → unless_zero n ≡ Some m → (n ≡ m) × ((n ≡ 0) → ⊥)
 some_number n m e = by (n == 0) refl e
   where
@@ -135,22 +141,101 @@ module _ (d : Description) (lawful : IsCluster d) (n number : ℕ) (plan : Plan)
       by most false e number_is = absurd (number_is.1 (sym most.is
           ∙ ap (λ (t : Bool). cond t (wait most.place) 0) e))
 
--- each worst wait of a guaranteed buffer is that of a run
-pub all_reached : (d : Description) → IsCluster d → AreReached d
-all_reached d lawful n number plan b plan_at some_task at transmitting always c few admitted room =
+-- ---- the calls in the cycles between
+
+sum_most : (value : ℕ → ℕ) (most many : ℕ) → ((k : ℕ) → value k ≤ most) → sum_below value many ≤ many * most
+unfolding sum_below
+sum_most value most zero each = omega arith
+sum_most value most (suc many) each =
+    omega (arith, sum_most value most many each, each many, add-mul many 1 most)
+
+sum_none : (value : ℕ → ℕ) (many : ℕ) → ((k : ℕ) → value k ≡ 0) → sum_below value many ≡ 0
+unfolding sum_below
+sum_none value zero each = refl
+sum_none value (suc many) each = omega (arith, sum_none value many each, each many)
+
+few_to_delay : (d : Description) (plan : Plan) (b : Buffer) (cycle : ℕ)
+    → calls_to_delay d plan b cycle ≤ 3 * before_slot d b
+few_to_delay d plan b cycle = by (cycle_admitted b.filter.cycles cycle && not (is_guaranteed d plan b cycle))
+  where
+    by : (t : Bool) → cond t (3 * before_slot d b) 0 ≤ 3 * before_slot d b
+    by true = omega arith
+    by false = omega arith
+
+-- no calls, where each cycle of the buffer is guaranteed
+none_to_delay : (admitted passes : Bool) (calls : ℕ) → (admitted ≡ true → passes ≡ true)
+    → cond (admitted && not passes) calls 0 ≡ 0
+none_to_delay true true calls always = refl
+none_to_delay true false calls always = absurd (let wrong = always refl in let none : ⊥ = cc in none)
+none_to_delay false passes calls always = refl
+
+-- ---- the worst waits
+
+-- from each guaranteed cycle the worst wait is that of a run
+pub each_reached : (d : Description) → IsCluster d → AreAllReached d
+each_reached d lawful n number plan b plan_at some_task at transmitting c few guaranteed room =
     by (is_static_slot d.params b.filter.slot) refl
   where
+    fewer : HasRoom d (c + cycles_after d plan b c + 1) (6 * before_slot d b + 1)
+    fewer = record {
+      for_windows = room.for_windows;
+      for_calls = λ m other known. (let enough = room.for_calls m other known in omega (arith, enough));
+    }
+
     by : (t : Bool) → is_static_slot d.params b.filter.slot ≡ t
         → IsDelayed d n number b (channel_of b.filter.channels) (c + cycles_after d plan b c + 1)
         (wait_from d.params.cycle_mt (is_guaranteed d plan b) (earliest_start d b) (latest_end d b) c)
     by true static =
-        reached_static d lawful n number plan b plan_at some_task at transmitting static c few admitted room
+        reached_static d lawful n number plan b plan_at some_task at transmitting static c few
+        (both_first (cycle_admitted b.filter.cycles c)
+        (is_static_slot d.params b.filter.slot || is_always_in_time d plan b c) guaranteed) fewer
     by false dynamic =
-        reached d lawful n number plan b plan_at some_task at transmitting dynamic
-        (λ cycle inside mine. ap (λ (t : Bool). t || is_always_in_time d plan b cycle) (sym dynamic)
-        ∙ both_rest (cycle_admitted b.filter.cycles cycle)
-        (is_static_slot d.params b.filter.slot || is_always_in_time d plan b cycle) (always cycle inside mine))
-        c few admitted room
+        reached d lawful n number plan b plan_at some_task at transmitting dynamic c few guaranteed room
+
+-- each worst wait of a guaranteed buffer is that of a run
+pub all_reached : (d : Description) → IsCluster d → AreReached d
+all_reached d lawful n number plan b plan_at some_task at transmitting always c few admitted room =
+    each_reached d lawful n number plan b plan_at some_task at transmitting c few (always c few admitted) (record {
+      for_windows = room.for_windows;
+      for_calls = λ m other known. (
+          let enough = room.for_calls m other known in
+          let none = no_calls in
+          omega (arith, enough, none));
+    })
+  where
+    no_calls : calls_between d plan b c ≡ 0
+    no_calls = sum_none (λ k. calls_to_delay d plan b ((c + 1 + k) % 64)) (cycles_after d plan b c - 1) (λ k.
+        let cycle = (c + 1 + k) % 64 in
+        none_to_delay (cycle_admitted b.filter.cycles cycle) (is_guaranteed d plan b cycle) (3 * before_slot d b)
+        (always cycle (mod_below (c + 1 + k) 64 (omega arith))))
+
+-- the worst latency of each buffer that has one is that of a run
+pub each_worst_reached : (d : Description) → IsCluster d → IsEachWorstReached d
+each_worst_reached d lawful n number plan b plan_at at transmitting worst is room =
+    let tasks = has_worst (has_tasks plan) (unless_zero (worst_of d plan b)) worst is in
+    let w = waits_so d lawful n number plan b worst tasks is in
+    let c = w.cycle in
+    let step = (first_is (is_after (is_guaranteed d plan b) c) 1 63).to in
+    let below = w.few in
+    let few : c + cycles_after d plan b c + 1 ≤ 128 = omega (arith, below, step) in
+    let sum = sum_most (λ k. calls_to_delay d plan b ((c + 1 + k) % 64)) (3 * before_slot d b)
+    (cycles_after d plan b c - 1) (λ k. few_to_delay d plan b ((c + 1 + k) % 64)) in
+    let most : (cycles_after d plan b c - 1) * (3 * before_slot d b) ≤ 63 * (3 * before_slot d b) =
+    mul-le-mul_right (3 * before_slot d b) (omega (arith, step)) in
+    let fits = less_room d (c + cycles_after d plan b c + 1) (65 * (3 * before_slot d b) + 1) few room in
+    record {
+      cycles = c + cycles_after d plan b c + 1;
+      few = few;
+      delayed = subst (λ (delay : ℕ). IsDelayed d n number b (channel_of b.filter.channels)
+          (c + cycles_after d plan b c + 1) delay) w.is
+          (each_reached d lawful n number plan b plan_at (leb-true 1 plan.tasks tasks) at transmitting c w.few
+          w.guaranteed (record {
+            for_windows = fits.for_windows;
+            for_calls = λ m other known. (
+                let enough = fits.for_calls m other known in
+                omega (arith, enough, sum, most));
+          }));
+    }
 
 -- the worst latency of a guaranteed buffer is that of a run
 pub worst_reached : (d : Description) → IsCluster d → IsWorstReached d

@@ -1,6 +1,6 @@
 -- Runs in which a commit waits as long as the table of latencies says.
-use Rattle.std.specs.Prelude.{◌≡◌, ℕ, ◌+◌, ◌-◌, ◌*◌, ◌≤◌, ◌<◌, true, List, [], ◌∷◌, ◌++◌, length, Some, None}
-use Rattle.std.specs.Prelude.{slice_get, if◌then◌else◌}
+use Rattle.std.specs.Prelude.{◌≡◌, ℕ, ◌+◌, ◌-◌, ◌*◌, ◌%◌, ◌≤◌, ◌<◌, true, not, ◌&&◌, List, [], ◌∷◌, ◌++◌, length}
+use Rattle.std.specs.Prelude.{Some, None, slice_get, if◌then◌else◌}
 use Rattle.fr_bus.specs.States.{collecting_of}
 use Rattle.fr_bus.specs.Windows.{cycles_begun, opens_cycle}
 use Rattle.fr_core.specs.Carried.{Waits}
@@ -15,6 +15,7 @@ use Rattle.fr_journal.specs.declared.entry.Offered.TheVariants.{Data}
 use Rattle.fr_journal.specs.Fate.{pending_commit}
 use Rattle.fr_journal.specs.Forms.{Entry}
 use Rattle.fr_journal.specs.Offers.{offered}
+use Rattle.fr_latency.specs.Below.{sum_below}
 use Rattle.fr_latency.specs.Latencies.{before_slot, channel_of, distance, is_guaranteed, wait_from}
 use Rattle.fr_latency.specs.declared.latency.State.TheVariants.{Guaranteed}
 use Rattle.fr_latency.specs.Latencies.{earliest_start, latest_end, state_of, worst_latency}
@@ -23,6 +24,7 @@ use Rattle.fr_slots.specs.Admission.{cycle_admitted}
 use Rattle.fr_slots.specs.declared.channel.Channel.{Channel}
 use Rattle.fr_slots.specs.declared.plan.Buffer.{Buffer}
 use Rattle.fr_slots.specs.Faults.{minislots_filled, transmits, words_of}
+use Rattle.fr_slots.specs.Numbers.{cycle_count}
 use Rattle.fr_slots.specs.Plans.{Plan, buffer_at}
 use Rattle.fr_slots.specs.Windows.{Opportunity, slot_of, is_static}
 use Rattle.fr_timing.specs.Segments.{dynamic_start}
@@ -48,9 +50,8 @@ end_of w window b =
     * w.bus.cluster.params.minislot_mt)
 
 -- A node fetches a window of the buffer's slot, and right after that a host commits on the buffer. The commit is
--- pending
--- until the node fetches a later window of the slot, where it is offered. From the start of the first window to the end
--- of the frame there are so many macroticks.
+-- pending until the node fetches a later window of the slot, where it is offered. From the start of the first window to
+-- the end of the frame there are so many macroticks.
 pub record IsDelayed (d : Description) (n number : ℕ) (b : Buffer) (channel : Channel) (cycles delay : ℕ) : Type 0 where
   pub first_world : WorldState
   pub leads_first : Leads (opening_world d cycles) first_world
@@ -79,14 +80,34 @@ abbrev pub cycles_after : Description → Plan → Buffer → ℕ → ℕ
 cycles_after d plan b cycle = distance (is_guaranteed d plan b) cycle
 
 -- From each cycle of a transmit buffer that is guaranteed in all its cycles some run has the worst wait, if the
--- journals
--- have room for it.
+-- journals have room for it.
 abbrev pub AreReached : Description → Type 0
 AreReached d = (n number : ℕ) (plan : Plan) (b : Buffer) → slice_get d.plans n ≡ Some plan → 1 ≤ plan.tasks
     → buffer_at plan number ≡ Some b → transmits b ≡ true
     → ((cycle : ℕ) → cycle < 64 → cycle_admitted b.filter.cycles cycle ≡ true → is_guaranteed d plan b cycle ≡ true)
     → (cycle : ℕ) → cycle < 64 → cycle_admitted b.filter.cycles cycle ≡ true
     → HasRoom d (cycle + cycles_after d plan b cycle + 1) (6 * before_slot d b + 1)
+    → IsDelayed d n number b (channel_of b.filter.channels) (cycle + cycles_after d plan b cycle + 1)
+    (wait_from d.params.cycle_mt (is_guaranteed d plan b) (earliest_start d b) (latest_end d b) cycle)
+
+-- In a cycle of the buffer that isn't guaranteed, hosts fill slots before that of the buffer, so that it comes too
+-- late. They call three times at most for each of these slots.
+abbrev pub calls_to_delay : Description → Plan → Buffer → ℕ → ℕ
+calls_to_delay d plan b cycle =
+    if cycle_admitted b.filter.cycles cycle && not (is_guaranteed d plan b cycle) then 3 * before_slot d b else 0
+
+-- the calls in the cycles from one that is guaranteed to the next
+abbrev pub calls_between : Description → Plan → Buffer → ℕ → ℕ
+calls_between d plan b cycle =
+    sum_below (λ k. calls_to_delay d plan b ((cycle + 1 + k) % cycle_count)) (cycles_after d plan b cycle - 1)
+
+-- From each guaranteed cycle of a transmit buffer some run has the worst wait, if the journals have room for it. In no
+-- cycle between this one and the next guaranteed one is the commit offered.
+abbrev pub AreAllReached : Description → Type 0
+AreAllReached d = (n number : ℕ) (plan : Plan) (b : Buffer) → slice_get d.plans n ≡ Some plan → 1 ≤ plan.tasks
+    → buffer_at plan number ≡ Some b → transmits b ≡ true
+    → (cycle : ℕ) → cycle < 64 → is_guaranteed d plan b cycle ≡ true
+    → HasRoom d (cycle + cycles_after d plan b cycle + 1) (6 * before_slot d b + calls_between d plan b cycle + 1)
     → IsDelayed d n number b (channel_of b.filter.channels) (cycle + cycles_after d plan b cycle + 1)
     (wait_from d.params.cycle_mt (is_guaranteed d plan b) (earliest_start d b) (latest_end d b) cycle)
 
@@ -99,9 +120,15 @@ pub record HasDelay (d : Description) (n number : ℕ) (b : Buffer) (delay : ℕ
   pub delayed : IsDelayed d n number b (channel_of b.filter.channels) cycles delay
 
 -- A buffer that the table calls guaranteed has its worst latency in some run of at most 128 cycles, if the journals
--- have
--- room for it.
+-- have room for it.
 abbrev pub IsWorstReached : Description → Type 0
 IsWorstReached d = (n number : ℕ) (plan : Plan) (b : Buffer) → slice_get d.plans n ≡ Some plan
     → buffer_at plan number ≡ Some b → transmits b ≡ true → state_of d plan b ≡ Guaranteed → (worst : ℕ)
     → worst_latency d plan b ≡ Some worst → HasRoom d 128 (6 * before_slot d b + 1) → HasDelay d n number b worst
+
+-- Each transmit buffer with a worst latency has it in some run of at most 128 cycles, if the journals have room for it.
+-- At most 65 of these cycles are led along a way, with three calls for each dynamic slot before that of the buffer.
+abbrev pub IsEachWorstReached : Description → Type 0
+IsEachWorstReached d = (n number : ℕ) (plan : Plan) (b : Buffer) → slice_get d.plans n ≡ Some plan
+    → buffer_at plan number ≡ Some b → transmits b ≡ true → (worst : ℕ) → worst_latency d plan b ≡ Some worst
+    → HasRoom d 128 (65 * (3 * before_slot d b) + 1) → HasDelay d n number b worst

@@ -13,8 +13,10 @@
 //! - `ExactLemmas`: `all_realized` holds of each cluster. Wherever the definition lets a dynamic slot open, some run
 //!   opens it.
 //! - `ChanceLemmas`: `all_offered` holds of each cluster. A buffer that is possible in a cycle is offered in some run.
-//! - `WorstLemmas`: `all_reached` and `worst_reached` hold of each cluster, too. The worst latency of a buffer that is
-//!   guaranteed in all its cycles is that of some run. `ReachLemmas` and `StaticReachLemmas` construct it.
+//! - `WorstLemmas`: `each_reached` and `each_worst_reached` hold of each cluster, too. The worst latency of each buffer
+//!   that has one is that of some run. For buffers that are guaranteed in all their cycles, `all_reached` and
+//!   `worst_reached` need less room. `ReachLemmas` and `StaticReachLemmas` construct the run, and `LateLemmas` its
+//!   cycles in which the slot of the buffer comes too late.
 //! - `WindowLemmas`, `PassingLemmas`, `SentLemmas`, `WalkLemmas`: the events of a window without frames, of one with a
 //!   frame that a host commits right before it, and of a cycle that follows a chosen way.
 #![tactic(auto)]
