@@ -32,7 +32,7 @@ use Rattle.fr_interface.specs.State.{State, with_entry, withdraw_entry, commit_r
 use Rattle.fr_journal.proofs.LastCommitLemmas.{payload_of-next}
 use Rattle.fr_journal.specs.declared.entry.Entry.TheVariants as entries
 use Rattle.fr_journal.specs.Entries.{is_host}
-use Rattle.fr_journal.specs.Offers.{may_begin, ready, transmitter, data_frame_of}
+use Rattle.fr_journal.specs.Offers.{may_begin, transmitter, data_frame_of}
 use Rattle.fr_schedule.specs.Clusters.{IsCluster, IsNode}
 use Rattle.fr_schedule.specs.Descriptions.{Description}
 use Rattle.fr_slots.proofs.FaultlessLemmas.{faultless}

@@ -7,7 +7,7 @@ use Rattle.std.proofs.lemmas.List.Elements.{filter-append}
 use Rattle.arrayvec.specs.ArrayVec.{ArrayVec}
 use Rattle.fr_bus.specs.declared.outcome.Sent.{Sent}
 use Rattle.fr_bus.specs.declared.station.Side.{Side}
-use Rattle.fr_bus.specs.Outcome.{fate_of, is_passed, transmission, sent_in, sent_of, sent_from, passed_on}
+use Rattle.fr_bus.specs.Outcome.{fate_of, is_passed, sent_in, sent_of, sent_from, passed_on}
 use Rattle.fr_bus.specs.Outcome.{all_passed, longest}
 use Rattle.fr_bus.specs.Stations.{Station}
 use Rattle.fr_bus.specs.States.{idle_station, offering}

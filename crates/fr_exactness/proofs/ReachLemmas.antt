@@ -39,12 +39,11 @@ use Rattle.fr_journal.specs.Entries.{is_host}
 use Rattle.fr_journal.specs.Fate.{pending_commit}
 use Rattle.fr_journal.specs.Offers.{offered}
 use Rattle.fr_journal.specs.declared.entry.Offered.TheVariants.{Data}
-use Rattle.fr_journal.specs.declared.entry.Entry.TheVariants as entries
 use Rattle.fr_latency.proofs.LaneLemmas.{are_lanes, latest_is}
 use Rattle.fr_latency.specs.Lanes.{CanSend as CanSendLane, Opens}
 use Rattle.fr_latency.specs.Latencies.{before_slot, channel_of, is_after, is_guaranteed, is_always_in_time}
 use Rattle.fr_latency.specs.Latencies.{last_begin_of, latest_for, wait_from, earliest_start, latest_end}
-use Rattle.fr_latency.specs.Openings.{can_begin, last_begin, opens}
+use Rattle.fr_latency.specs.Openings.{can_begin, last_begin}
 use Rattle.fr_minislot.specs.DynamicRows.{first_minislot, row_length, slot_after, has_row_after, is_row, last_slot}
 use Rattle.fr_schedule.specs.Clusters.{IsCluster, IsNode}
 use Rattle.fr_schedule.specs.Descriptions.{Description}

@@ -25,7 +25,7 @@ use Rattle.fr_exactness.proofs.LeadLemmas.{leads_on}
 use Rattle.fr_exactness.proofs.OfferingLemmas.{fetched_by}
 use Rattle.fr_exactness.proofs.PassingLemmas.{IsNodeAt}
 use Rattle.fr_exactness.proofs.ProgressLemmas.{windows_fit}
-use Rattle.fr_exactness.proofs.ReachLemmas.{no_host, times}
+use Rattle.fr_exactness.proofs.ReachLemmas.{no_host}
 use Rattle.fr_exactness.proofs.SilenceLemmas.{Keeps}
 use Rattle.fr_exactness.proofs.StaticLemmas.{IsComeStatic, comes_static, lower_mute, IsLaterStatic, keeps_static}
 use Rattle.fr_exactness.proofs.TurnLemmas.{if_known}

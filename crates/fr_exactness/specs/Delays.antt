@@ -96,7 +96,7 @@ abbrev pub calls_to_delay : Description → Plan → Buffer → ℕ → ℕ
 calls_to_delay d plan b cycle =
     if cycle_admitted b.filter.cycles cycle && not (is_guaranteed d plan b cycle) then 3 * before_slot d b else 0
 
--- the calls in the cycles from one that is guaranteed to the next
+-- the calls in all cycles between a guaranteed one and the next
 abbrev pub calls_between : Description → Plan → Buffer → ℕ → ℕ
 calls_between d plan b cycle =
     sum_below (λ k. calls_to_delay d plan b ((cycle + 1 + k) % cycle_count)) (cycles_after d plan b cycle - 1)
