@@ -1,5 +1,5 @@
 //! Queries to a world without history, which change nothing.
-ghost use Rattle.std.specs.Prelude.{◌≡◌};
+ghost use Rattle.std.specs.Prelude.{◌≡◌, slice_get};
 ghost use Rattle.fr_bus.specs.Standing.{bare};
 ghost use Rattle.fr_endless.specs.Alike.{Alike};
 ghost use Rattle.fr_endless.specs.Answers.{kept_report, if_numbered, no_history_text, IsReportOf};
@@ -69,6 +69,13 @@ fn write_report_block<W: Write>(
     }
 }
 
+/// Returns the number at this place.
+fn count_at(buffers: &[u8], place: usize) -> Option<u8>
+    ensures { result ≡ slice_get buffers.now place }
+{
+    buffers.get(place).copied()
+}
+
 /// Writes the report of the node's interface as a block.
 pub(crate) fn write_node_report<W: Write>(
     alloc: Global,
@@ -79,9 +86,14 @@ pub(crate) fn write_node_report<W: Write>(
     ensures { Replies W.contents writer.old writer.new result (IsReportOf world.now node) }
 {
     let place = usize::from(node.number());
-    match (world.interfaces().get(place), world.buffers().get(place)) {
-        (Some(interface), Some(count)) => write_report_block(alloc, writer, interface, *count),
-        _ => write_unknown(writer),
+    let interfaces = world.interfaces();
+    if place < interfaces.len() {
+        match count_at(world.buffers(), place) {
+            Some(count) => write_report_block(alloc, writer, &interfaces[place], count),
+            None => write_unknown(writer),
+        }
+    } else {
+        write_unknown(writer)
     }
 }
 

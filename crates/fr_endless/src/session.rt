@@ -67,7 +67,8 @@ fn do_request<W: Write>(
         }
         Request::Now => write_now(writer, world.bus()),
         Request::Report(node) => write_node_report(terms.alloc, writer, world, node),
-        Request::Trace(_) | Request::Origin(_) => write_no_history(writer),
+        Request::Trace(_) => write_no_history(writer),
+        Request::Origin(_) => write_no_history(writer),
         Request::Record(window) => write_last(terms.alloc, writer, world.bus(), window),
     }
 }
