@@ -97,7 +97,7 @@ fn most_of(word: &str) -> Option<u32>
 
 /// Returns the run of the flag and of the word for cycles, if they spell one.
 fn run_of(endless: bool, word: Option<&str>) -> Option<WorldRun>
-    ensures { result ≡ run_in endless (option_map (λ w. w.now) word) }
+    ensures { result ≡ run_in endless (option_map (λ w. w.now) word.entry) }
 {
     match (endless, word) {
         (false, None) => None,

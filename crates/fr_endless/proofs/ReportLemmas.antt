@@ -161,6 +161,7 @@ each_of_plans ss params plans same = sym (shown ss) ∙ ap buffers_each same ∙
     shown : (xs : List State) → buffers_each (map without_entries xs) ≡ buffers_each xs
     shown [] = refl
     shown (x ∷ xs) = ap (λ (t : List ℕ). length x.plan.buffers ∷ t) (shown xs)
+
     made : (ps : List Plan) → buffers_each (map (new_interface params) ps) ≡ buffers_in ps
     made [] = refl
     made (p ∷ ps) = ap (λ (t : List ℕ). length p.buffers ∷ t) (made ps)

@@ -40,11 +40,7 @@ fn write_transmit<W: Write>(writer: &mut W, number: u8, tally: &Tally) -> io::Re
 }
 
 /// Writes the line of a buffer.
-fn write_buffer<W: Write>(
-    interface: &InterfaceState,
-    writer: &mut W,
-    number: u8,
-) -> io::Result<()>
+fn write_buffer<W: Write>(interface: &InterfaceState, writer: &mut W, number: u8) -> io::Result<()>
     ensures { Writes W.contents writer.old writer.new result (buffer_line interface.now number) }
 {
     match interface.tally(number) {
@@ -54,11 +50,7 @@ fn write_buffer<W: Write>(
 }
 
 /// Writes the lines of so many buffers.
-fn write_buffers<W: Write>(
-    interface: &InterfaceState,
-    count: u8,
-    writer: &mut W,
-) -> io::Result<()>
+fn write_buffers<W: Write>(interface: &InterfaceState, count: u8, writer: &mut W) -> io::Result<()>
     ensures { Writes W.contents writer.old writer.new result (buffer_lines interface.now count) }
 {
     for number in 0..count {

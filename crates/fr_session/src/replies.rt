@@ -109,10 +109,7 @@ fn write_reply<W: Write>(writer: &mut W, reply: &Reply) -> io::Result<()>
 }
 
 /// Writes the reply to an event.
-pub fn write_answer<W: Write>(
-    writer: &mut W,
-    answer: &Result<Reply, StepError>,
-) -> io::Result<()>
+pub fn write_answer<W: Write>(writer: &mut W, answer: &Result<Reply, StepError>) -> io::Result<()>
     ensures { Writes W.contents writer.old writer.new result (answer_text answer.now) }
 {
     match answer {

@@ -1,4 +1,4 @@
-use Rattle.std.proofs.Common.{◌≡◌, ◌∙◌, true, false, ap, sym, arith}
+use Rattle.std.proofs.Common.{◌≡◌, ◌∙◌, true, false, ap, sym, rules}
 use Rattle.fr_endless.proofs.MovingLemmas.{within_start, within_next, cycle_hindered, cycle_ended, cycle_full}
 use Rattle.fr_playing.specs.Moving.{is_at_cycle}
 use Rattle.fr_endless.proofs.moving.finish_cycle.Goals as goal
@@ -28,4 +28,4 @@ returns-then-is_at_cycle c =
 pub returns : goal.returns
 returns c =
     cycle_full c.args.faults.now c.args.events.now c.args.world.now c.loop-count.world c.loop-count.count
-    c.loop-count.invariant (omega (arith, c.loop-count-test.false, c.loop-count.far-count))
+    c.loop-count.invariant (search rules)

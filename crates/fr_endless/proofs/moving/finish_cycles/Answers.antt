@@ -1,4 +1,4 @@
-use Rattle.std.proofs.Common.{arith}
+use Rattle.std.proofs.Common.{rules}
 use Rattle.fr_endless.proofs.MovingLemmas.{passed_none, passed_more, run_hindered, run_over}
 use Rattle.fr_endless.proofs.moving.finish_cycles.Goals as goal
 
@@ -18,4 +18,4 @@ returns-in-Some c =
 pub returns : goal.returns
 returns c =
     run_over c.args.faults.now c.args.events.now c.args.world.now c.loop-count.world c.loop-count.count c.args.cycles
-    c.loop-count.invariant (omega (arith, c.loop-count-test.false, c.loop-count.far-count))
+    c.loop-count.invariant (search rules)
