@@ -231,7 +231,7 @@ class Sessions:
             ("record 2", "lines 2\nwindow 2 1 0 1 1\ncorrupt A 7"), ("window", "open 4 2 0 1 1"),
             ("run 1022", "open 2048 0 0 1 1"), *[("run 1024", f"open {2048 * n} 0 0 1 1") for n in range(2, 65)],
             ("cycle", "open 131074 1 0 1 1"), ("window", "open 131075 1 0 2 2"),
-            ("record 131074", "lines 1\nwindow 131074 1 0 1 1"), ("corrupt A 1024 s1 7", "refused BadLine 75")])
+            ("record 131074", "lines 1\nwindow 131074 1 0 1 1"), ("corrupt A 1024 s1 7", "refused BadLine 73")])
         self.equal_endings()
         self.constant_memory()
 
