@@ -1,8 +1,7 @@
 -- The kept data tell what each world that leads to them has.
-use Rattle.std.proofs.Common.{◌≡◌, ℕ, List, Option, Some, None, refl, sym, ap, ◌∙◌, map, length}
-use Rattle.fr_bus.specs.Record.{Recorded}
+use Rattle.std.proofs.Common.{◌≡◌, Option, Some, None, refl, sym, ap}
 use Rattle.fr_bus.specs.Standing.{BusStanding, bare, standing_of, with_cluster}
-use Rattle.fr_bus.specs.States.{BusState, collecting_of, last_recorded}
+use Rattle.fr_bus.specs.States.{collecting_of, last_recorded}
 use Rattle.fr_bus.specs.Windows.{cycles_begun}
 use Rattle.fr_core.specs.declared.error.StepError.{StepError}
 use Rattle.fr_core.specs.Worlds.{WorldState}

@@ -1,6 +1,6 @@
 -- Each world with its history moves as the kept data do.
 use Rattle.std.proofs.Common.{◌≡◌, ℕ, ◌+◌, ◌<◌, ◌≤◌, Bool, true, false, cond, List, [], ◌∷◌, ◌++◌, length, take, get_or}
-use Rattle.std.proofs.Common.{Option, Some, None, Ok, Err, refl, sym, ap, subst, ◌∙◌, inl, inr, arith}
+use Rattle.std.proofs.Common.{Option, Some, None, refl, sym, ap, subst, ◌∙◌, inl, inr}
 use Rattle.std.proofs.lemmas.List.{take_all, take_more}
 use Rattle.std.specs.List.{flat_map}
 use Rattle.fr_bus.specs.Standing.{bare}
@@ -14,7 +14,7 @@ use Rattle.fr_core.specs.Worlds.{WorldState}
 use Rattle.fr_endless.proofs.AlikeLemmas.{opened_same, begun_same, collecting_is}
 use Rattle.fr_endless.specs.Alike.{Alike, run_cycle_by}
 use Rattle.fr_live.specs.LiveSteps.{StepsAlike}
-use Rattle.fr_live.specs.LiveWorlds.{LiveState, IsWorldHistory}
+use Rattle.fr_live.specs.LiveWorlds.{LiveState}
 use Rattle.fr_playing.proofs.MovingLemmas.{does_none, does_more, strikes_none, strikes_some, within_none, within_more}
 use Rattle.fr_playing.proofs.MovingLemmas.{passes_none, passes_more}
 use Rattle.fr_playing.proofs.StrikingLemmas.{flat-more, steps_append, tries_none}

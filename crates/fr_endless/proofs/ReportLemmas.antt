@@ -1,9 +1,9 @@
 -- The report by the kept data of an interface is that of each history that leads to them.
-use Rattle.std.proofs.Common.{◌≡◌, ℕ, zero, suc, ◌+◌, ◌<◌, ◌≤◌, Bool, true, false, cond, List, [], ◌∷◌, ◌++◌, length, take}
+use Rattle.std.proofs.Common.{◌≡◌, ℕ, zero, suc, ◌+◌, ◌<◌, ◌≤◌, Bool, true, false, List, [], ◌∷◌, ◌++◌, length, take}
 use Rattle.std.proofs.Common.{get_or, map, Option, Some, None, refl, sym, ap, ap₂, subst, ◌∙◌, arith, option_map}
 use Rattle.std.proofs.lemmas.List.{take_all}
 use Rattle.std.proofs.lemmas.Bool.{lt-ltb, le-ltb}
-use Rattle.std.specs.Prelude.{nat_lt, slice_get, slice_index_or}
+use Rattle.std.specs.Prelude.{slice_get, slice_index_or}
 use Rattle.fr_bus.specs.Standing.{roomless, no_room}
 use Rattle.fr_core.proofs.ClusterLemmas.{steps_cluster}
 use Rattle.fr_core.specs.declared.event.Event.{Event}
@@ -16,7 +16,7 @@ use Rattle.fr_endless.specs.Answers.{buffer_line, buffer_lines, queue_line, chan
 use Rattle.fr_interface.proofs.StandingLemmas.{answer-tally, answer-received, answer-length, answer-counters}
 use Rattle.fr_interface.specs.Known.{waiting_of}
 use Rattle.fr_interface.specs.Standing.{Standing, IsHistory}
-use Rattle.fr_interface.specs.State.{State, length_of, lost_of, queued_of}
+use Rattle.fr_interface.specs.State.{State, lost_of, queued_of}
 use Rattle.fr_journal.specs.Arrivals.{queue_lost}
 use Rattle.fr_buffers.specs.Waiting.{Waiting}
 use Rattle.fr_lines.specs.Spelling.{line_text}

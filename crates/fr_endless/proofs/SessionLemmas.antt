@@ -6,7 +6,6 @@ use Rattle.std.proofs.Common.{subst, ◌∙◌, append_assoc, arith, length-appe
 use Rattle.std.proofs.lemmas.List.{append-nil}
 use Rattle.std.specs.List.{flat_map}
 use Rattle.std.specs.Io.KnownBytes.{Appends, Keeps}
-use Rattle.fr_core.specs.Worlds.{WorldState}
 use Rattle.fr_endless.specs.Alike.{Alike}
 use Rattle.fr_endless.specs.Serving.{AnswersNextAlike, Does, DoesAlikeIf, Served, ServedEndless, Serves}
 use Rattle.fr_live.specs.LiveWorlds.{LiveState}

@@ -1,5 +1,5 @@
 -- Replies by the data that a world without history keeps (project-defined).
-use Rattle.std.specs.Prelude.{◌≡◌, ℕ, zero, suc, ◌==◌, List, [], ◌∷◌, ◌++◌, codes, length, Option, Some, None, option_map}
+use Rattle.std.specs.Prelude.{ℕ, zero, suc, ◌==◌, List, [], ◌∷◌, ◌++◌, codes, length, Option, Some, None, option_map}
 use Rattle.std.specs.Prelude.{if◌then◌else◌}
 use Rattle.fr_bus.specs.Record.{Recorded}
 use Rattle.fr_interface.specs.Standing.{Standing, tally_at, received_at}

@@ -1,4 +1,3 @@
-use Rattle.std.proofs.Common.{subst}
 use Rattle.fr_endless.proofs.SessionLemmas.{flushed}
 use Rattle.fr_endless.specs.Serving.{DoesAlikeIf}
 use Rattle.fr_session.specs.Reading.{asked_in}

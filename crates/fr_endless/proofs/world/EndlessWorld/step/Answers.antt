@@ -1,8 +1,5 @@
-use Rattle.std.proofs.Common.{List, ℕ, ◌∙◌, ap, sym, subst}
-use Rattle.fr_core.proofs.ClusterLemmas.{steps_cluster}
+use Rattle.std.proofs.Common.{◌∙◌}
 use Rattle.fr_endless.proofs.ReportLemmas.{step_buffers}
-use Rattle.fr_live.specs.LiveSteps.{StepsAlike}
-use Rattle.fr_live.specs.LiveWorlds.{LiveState}
 use Rattle.fr_endless.proofs.world.EndlessWorld.step.Goals as goal
 
 pub invariant_of-self : goal.invariant_of-self
