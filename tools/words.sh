@@ -55,7 +55,7 @@ find_command() {
 # Sets `range` to the allowed values of the argument $1, and succeeds if $2 is one of them.
 is_in_range() {
     case $1 in
-    --cycles) least=1 most=1024 ;;
+    --cycles) least=1 most=$most_cycles ;;
     --cycle) least=0 most=63 ;;
     --slot) least=1 most=2047 ;;
     --node | NODE) least=0 most=15 ;;
@@ -90,8 +90,11 @@ read_words() {
     elif [ "$name" = fr_world ]; then
         places=FILE
         options=--cycles
-        flags=
+        flags=--endless
         input=requests
+        case " $* " in
+        *' --endless '*) most_cycles=4000000 ;;
+        esac
         read_arguments "$@"
     elif [ "$name" = fr_monitor ]; then
         places=FILE
@@ -124,6 +127,7 @@ forget_words() {
     surplus=
     command=
     input=
+    most_cycles=1024
 }
 
 # Reads the words after the command.
@@ -222,7 +226,7 @@ find_missing() {
         place=$((place + 1))
     done
     case "$options $given" in
-    *--cycles*--cycles*) ;;
+    *--cycles*--cycles* | *' --endless '*) ;;
     *--cycles*) missing="$missing, --cycles N" ;;
     esac
     if [ "$command" = trace ] && [ "$count" -gt 0 ] && ! is_in_range NODE "$node"; then

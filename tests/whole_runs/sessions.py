@@ -215,6 +215,59 @@ class Sessions:
                 ("mute 0 A", late), ("read 1 0 1", "frame -"), ("record 13", "lines 1\nwindow 13 1 4 7 7")]
         self.check("a run that is over", THREE_NODES, 2, over)
 
+    def endless(self):
+        """Checks that a session without history gives the replies of one with it, as far as these need no history."""
+        last = [(ask, reply) for ask, reply in FAULT_LINES if not ask.startswith("record")]
+        for name, cluster, asked in (("a window by its events", self.small, A_WINDOW), ("fault lines", self.small, last),
+                                     ("a fault by hand", self.small, A_FAULT_BY_HAND)):
+            self.check_endless(name, cluster, ("--cycles", "2"), asked)
+        self.check_endless("what isn't kept", THREE_NODES, (), [
+            ("record 0", "refused NoWindow"), ("cycle", "open 7 1 0 1 1"), ("record 6", "lines 1\nwindow 6 0 4 7 7"),
+            ("record 5", "refused NoWindow"), ("record 7", "refused NoWindow"), ("trace 0", "refused NoHistory"),
+            ("origin 1", "refused NoHistory"), ("trace 15", "refused NoHistory")])
+        # Cycles count on beyond 16 bits, so a line of one cycle takes effect once.
+        self.check_endless("many cycles", self.small, ("--cycles", "4000000"), [
+            ("corrupt A 1 s1 7", "done"), ("cycle", "open 2 1 0 1 1"), ("window", "open 3 1 0 2 2"),
+            ("record 2", "lines 2\nwindow 2 1 0 1 1\ncorrupt A 7"), ("window", "open 4 2 0 1 1"),
+            ("run 1022", "open 2048 0 0 1 1"), *[("run 1024", f"open {2048 * n} 0 0 1 1") for n in range(2, 65)],
+            ("cycle", "open 131074 1 0 1 1"), ("window", "open 131075 1 0 2 2"),
+            ("record 131074", "lines 1\nwindow 131074 1 0 1 1"), ("corrupt A 1024 s1 7", "refused BadLine 73")])
+        self.equal_endings()
+        self.constant_memory()
+
+    def check_endless(self, name, cluster, options, asked):
+        given, wanted = (text_of(lines).encode() for lines in zip(*asked))
+        got = run([self.runs.program, cluster, "--endless", *options], given)
+        self.runs.compare(f"{name}, endless", got, (GREETING.encode() + wanted, b"", 0))
+
+    def equal_endings(self):
+        """Checks that the same requests end in the same reports in both kinds of session."""
+        for folder, cycles in (("three-nodes", 54), ("vehicle", 54)):
+            cluster = EXAMPLES / folder / "cluster.toml"
+            nodes = cluster.read_text().count("[[node]]")
+            asked = ["mute 0 A 3 s*", "babble 1 B * s1 x00", *[line for cycle in range(cycles) for line in
+                     ("commit 0 0 0 x0a0b", "window", "read 1 0 1", "look 1", "cycle")], "now",
+                     *[f"report {node}" for node in range(nodes)]]
+            given = text_of(asked).encode()
+            kept, free = (run([self.runs.program, cluster, *words], given)
+                          for words in (("--cycles", str(cycles)), ("--endless",)))
+            # The run with history ends after its last cycle.
+            self.runs.compare(f"{folder}, endless", [line for line in free[0].splitlines() if not line.startswith(b"open")],
+                              [line for line in kept[0].splitlines() if not line.startswith((b"open", b"over"))])
+
+    def constant_memory(self):
+        sizes = set()
+        for cycles in (200, 20_000):
+            words = [self.runs.program, self.small, "--endless"]
+            text = text_of([f"run {min(cycles, 1000)}"] * max(1, cycles // 1000)).encode()
+            with subprocess.Popen(words, stdin=subprocess.PIPE, stdout=subprocess.DEVNULL) as ran:
+                ran.stdin.write(text)
+                ran.stdin.close()
+                _, _, used = os.wait4(ran.pid, 0)
+                ran.returncode = 0
+            sizes.add(used.ru_maxrss // 1024)
+        self.runs.compare(f"megabytes of short and long endless sessions: {sizes}", max(sizes) - min(sizes) <= 1, True)
+
     def many_fault_lines(self):
         """Checks that each fault line costs the same time, however many are kept, and is still compared with all of
         them."""

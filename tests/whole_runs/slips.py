@@ -62,6 +62,8 @@ SLIPS: list[tuple[str, Words, str]] = [
     ("fr_world", (CLUSTER, "4"), "--cycles is missing in front of 4"),
     ("fr_world", (CLUSTER, "--cycles"), "--cycles has no value"),
     ("fr_world", (CLUSTER, "--cycles=1025"), "from 1 to 1024, not 1025"),
+    ("fr_world", (CLUSTER, "--endless", "--cycles", "4000001"), "from 1 to 4000000, not 4000001"),
+    ("fr_world", ("--endless",), "missing: FILE"),
     ("fr_world", ("--cycles=4", CLUSTER, "--cycles", "4"), "--cycles stands twice"),
     ("fr_world", (CLUSTER, "--cycle", "4"), "fr_world has no option --cycle; did you mean --cycles?"),
     ("fr_world", ("--cycles", "4"), "missing: FILE"),

@@ -2,28 +2,30 @@
 use Rattle.std.proofs.Common.{◌≡◌, ◌∷◌, [], Option, Some, None, Err, List, option_map, ap, ap₂, sym, refl, true, arith}
 use Rattle.std.proofs.Common.{inl, inr, codes}
 use Rattle.std.specs.Option.{ok_or}
-use Rattle.std.specs.Prelude.{option_and_then}
 use Rattle.clap.specs.Values.{kind_of}
 use Rattle.clap.specs.Words.{HasKind, IsAmong, Kinds, Text, fault_of, is_simple, is_simple_and_free}
 use Rattle.clap.specs.declared.error.Error.{Error}
 use Rattle.clap.proofs.OnLiterals.{clap_on_literals}
-use Rattle.fr_cli.specs.Commands.{cycles_in, order_error_of}
+use Rattle.fr_cli.specs.Commands.{is_true, order_error_of}
 use Rattle.fr_cli.specs.declared.error.OrderError.{OrderError}
 use Rattle.fr_cli.specs.declared.error.OrderError.TheVariants as refusal
-use Rattle.fr_cli.specs.WorldCommands.{IsAnswer, entered, given_in, the_command, with_file}
+use Rattle.fr_cli.specs.WorldCommands.{IsAnswer, entered, given_in, run_in, the_command, with_file}
+use Rattle.fr_cli.specs.WorldCommands.{with_options}
 use Rattle.fr_cli.specs.declared.world.WorldCommand.{WorldCommand}
 
 pub are_simple : is_simple the_command ≡ true
-unfolding clap_on_literals
+unfolding clap_on_literals with_options
 are_simple = refl
 
 pub are_free : is_simple_and_free the_command ≡ true
-unfolding clap_on_literals
+unfolding clap_on_literals with_options
 are_free = refl
 
 -- two ways to the same words give the same command
 pub given_alike : (f g : Text → Option Text) → ((id : Text) → f id ≡ g id) → given_in f ≡ given_in g
-given_alike f g same = ap₂ with_file (same (codes "FILE")) (ap (option_and_then cycles_in) (same (codes "cycles")))
+given_alike f g same =
+    ap₂ with_file (same (codes "FILE"))
+    (ap₂ (λ flag word. run_in (is_true flag) word) (same (codes "endless")) (same (codes "cycles")))
 
 -- an error of `clap` is a fault of the words, or a failed allocation
 pub refused_for : (words : List Text) (e : Error) → HasKind (fault_of the_command words) e
@@ -39,7 +41,7 @@ refused_for words e (inr among) = by (order_error_of (kind_of e)) (fault_of the_
 
 -- without a fault, the command that was found is the answer
 pub taken_for : (words : List Text) (found : Option WorldCommand) → fault_of the_command words ≡ []
-    → option_map (λ (command : WorldCommand). (command.file.now, command.cycles)) found ≡ given_in (entered words)
+    → option_map (λ (command : WorldCommand). (command.file.now, command.run)) found ≡ given_in (entered words)
     → IsAnswer words (ok_or found refusal.Usage)
 taken_for words (Some command) none given = (none, sym given)
 taken_for words None none given = inr (sym given)

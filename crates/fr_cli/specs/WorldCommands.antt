@@ -1,11 +1,15 @@
 -- The words that are a command of `fr_world`, by the rules of `clap` (project-defined).
-use Rattle.std.specs.Prelude.{◌≡◌, ◌⊎◌, ◌<◌, ℕ, List, [], length, codes, true, Option, Some, None, Result, Ok, Err}
-use Rattle.std.specs.Prelude.{option_and_then}
-use Rattle.clap.specs.Words.{App, Text, fault_of, first_of, matches_of, with_rule}
-use Rattle.fr_cli.specs.Commands.{cycles_in, named, the_cycles, the_file}
+use Rattle.std.specs.Prelude.{◌≡◌, ◌⊎◌, ◌<◌, ◌==◌, ℕ, List, [], length, codes, Bool, true, false, Option, Some, None}
+use Rattle.std.specs.Prelude.{Result, Ok, Err, option_and_then, option_map, if◌then◌else◌}
+use Rattle.clap.specs.Words.{App, Rule, Text, fault_of, first_of, matches_of, new_rule, with_rule}
+use Rattle.clap.specs.declared.builder.action.ArgAction.TheVariants.{SetTrue}
+use Rattle.fr_cli.specs.Commands.{cycles_in, is_true, named, the_file}
 use Rattle.fr_cli.specs.declared.error.OrderError.{OrderError}
 use Rattle.fr_cli.specs.declared.error.OrderError.TheVariants as refusal
 use Rattle.fr_cli.specs.declared.world.WorldCommand.{WorldCommand}
+use Rattle.fr_cli.specs.declared.world.WorldRun.{WorldRun}
+use Rattle.fr_cli.specs.declared.world.WorldRun.TheVariants.{Kept, Endless}
+use Rattle.fr_text.specs.Reading.{number_in}
 
 -- the program without arguments: the words begin with the first of them, and `clap` has no help
 abbrev pub bare_command : App
@@ -14,30 +18,55 @@ bare_command = record {
   subs = [];
 }
 
--- the program with a file and a number of cycles, both required
+abbrev pub cycles_option : Rule
+cycles_option = record (new_rule (codes "cycles")) { long = Some (codes "cycles") }
+
+abbrev pub endless_flag : Rule
+endless_flag = record (new_rule (codes "endless")) { long = Some (codes "endless"); action = Some SetTrue }
+
+-- with the options, of which `clap` requires none
+unfoldable pub with_options : App → App
+with_options app = with_rule (with_rule app cycles_option) endless_flag
+
+-- the program with a file and its options
 abbrev pub the_command : App
-the_command = with_rule (with_rule bare_command the_file) the_cycles
+the_command = with_options (with_rule bare_command the_file)
 
--- the file and the number of cycles, if the words of these arguments spell both
-abbrev pub with_cycles : Text → Option ℕ → Option (Text × ℕ)
-with_cycles file None = None
-with_cycles file (Some cycles) = Some (file, cycles)
+-- ---- what the words enter
 
-abbrev pub with_file : Option Text → Option ℕ → Option (Text × ℕ)
-with_file None cycles = None
-with_file (Some file) cycles = with_cycles file cycles
+-- the number of cycles without history that a word spells: 1 to 4,000,000, without a leading zero
+abbrev pub most_in : Text → Option ℕ
+most_in word = option_and_then (λ n. if n == 0 then None else Some n) (number_in 4000001 word)
 
-abbrev pub given_in : (Text → Option Text) → Option (Text × ℕ)
-given_in first_word = with_file (first_word (codes "FILE")) (option_and_then cycles_in (first_word (codes "cycles")))
+-- A run with its history needs a word for cycles. A run without history needs none.
+abbrev pub run_in : Bool → Option Text → Option WorldRun
+run_in false None = None
+run_in false (Some word) = option_map Kept (cycles_in word)
+run_in true None = Some (Endless None)
+run_in true (Some word) = option_map (λ cycles. Endless (Some cycles)) (most_in word)
+
+-- the file and the run, if the words of these arguments spell both
+abbrev pub with_run : Text → Option WorldRun → Option (Text × WorldRun)
+with_run file None = None
+with_run file (Some run) = Some (file, run)
+
+abbrev pub with_file : Option Text → Option WorldRun → Option (Text × WorldRun)
+with_file None run = None
+with_file (Some file) run = with_run file run
+
+abbrev pub given_in : (Text → Option Text) → Option (Text × WorldRun)
+given_in first_word =
+    with_file (first_word (codes "FILE"))
+    (run_in (is_true (first_word (codes "endless"))) (first_word (codes "cycles")))
 
 -- the first word of an argument, if `clap` accepts these words
 abbrev pub entered : List Text → Text → Option Text
 entered words id = first_of id (matches_of the_command words)
 
 -- A command is that of the words, and `clap` finds no fault with these. Words are refused as no command only if it
--- finds a fault, or if the word for cycles spells no number of cycles. `Memory` may come for any words.
+-- finds a fault, or if they spell no run. `Memory` may come for any words.
 abbrev pub IsAnswer : List Text → Result WorldCommand OrderError → Type 0
 IsAnswer words (Ok command) =
-    (fault_of the_command words ≡ []) × (given_in (entered words) ≡ Some (command.file.now, command.cycles))
+    (fault_of the_command words ≡ []) × (given_in (entered words) ≡ Some (command.file.now, command.run))
 IsAnswer words (Err refusal.Usage) = (0 < length (fault_of the_command words)) ⊎ (given_in (entered words) ≡ None)
 IsAnswer words (Err refusal.Memory) = Unit {0}

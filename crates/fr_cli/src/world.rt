@@ -1,49 +1,130 @@
 //! The command of `fr_world`: the words after its name, read as the session that it has to serve.
-ghost use Rattle.std.specs.Prelude.{◌≡◌, IfOk, map, option_map};
-ghost use Rattle.clap.specs.Words.{app_of, first_value, found_of};
-ghost use Rattle.fr_cli.specs.WorldCommands.{IsAnswer, given_in, the_command};
+ghost use Rattle.std.specs.Prelude.{◌≡◌, IfOk, codes, map, option_map, false};
+ghost use Rattle.clap.specs.Words.{app_of, first_value, found_of, rule_of, with_rule};
+ghost use Rattle.clap.specs.declared.builder.command.Command.TheViews.{out-Command};
+ghost use Rattle.fr_cli.specs.Commands.{is_true, the_file};
+ghost use Rattle.fr_cli.specs.WorldCommands.{IsAnswer, bare_command, cycles_option, endless_flag, given_in};
+ghost use Rattle.fr_cli.specs.WorldCommands.{most_in, run_in, the_command, with_options};
 
 use crate::commands::cycles_of;
 use crate::error::OrderError;
-use clap::{Arg, ArgMatches};
+use clap::{Arg, ArgAction, ArgMatches, Command};
+use fr_text::numbers::number_of;
 use std::alloc::{AllocError, Global};
+
+/// The run of a session (project-defined).
+#[derive(Clone, Copy, PartialEq, Eq)]
+pub enum WorldRun {
+    /// A run of so many cycles, 1 to 1024, whose world keeps its history.
+    Kept(u16),
+    /// A run without history. It has so many cycles, 1 to 4,000,000, or the most that its cluster allows.
+    Endless(Option<u32>),
+}
 
 /// The command of `fr_world`: a session with a world (project-defined).
 #[derive(Clone, Copy, PartialEq, Eq)]
 pub struct WorldCommand<'a> {
     /// The name of the cluster file.
     pub file: &'a str,
-    /// The number of cycles of the run, 1 to 1024.
-    pub cycles: u16,
+    /// The run.
+    pub run: WorldRun,
 }
 
-/// Returns the program, with a file and a number of cycles.
-fn the_command<'a>(alloc: Global) -> Result<clap::Command<'a>, AllocError>
-    ensures { IfOk result (λ c. app_of c ≡ the_command) }
+/// Returns the option of a number of cycles.
+fn cycles_option<'a>(alloc: Global) -> Arg<'a>
+    ensures rule { rule_of result ≡ cycles_option }
+    ensures local { result.global ≡ false }
+{
+    Arg::new(alloc, "cycles").long("cycles")
+}
+
+/// Returns the flag of a run without history.
+fn endless_flag<'a>(alloc: Global) -> Arg<'a>
+    ensures rule { rule_of result ≡ endless_flag }
+    ensures local { result.global ≡ false }
+{
+    Arg::new(alloc, "endless")
+        .long("endless")
+        .action(ArgAction::SetTrue)
+}
+
+/// Returns the program without arguments.
+fn bare_command<'a>(alloc: Global) -> Command<'a>
+    ensures app { app_of result ≡ bare_command }
+    ensures local { (out-Command result).has_globals ≡ false }
+{
+    Command::new(alloc, "fr_world")
+        .no_binary_name(true)
+        .disable_help_flag(true)
+}
+
+/// Returns the program with a file.
+fn with_file<'a>(alloc: Global) -> Result<Command<'a>, AllocError>
+    ensures app { IfOk result (λ c. app_of c ≡ with_rule bare_command the_file) }
+    ensures local { IfOk result (λ c. (out-Command c).has_globals ≡ false) }
 {
     let file = Arg::new(alloc, "FILE").required(true);
-    let cycles = Arg::new(alloc, "cycles").long("cycles").required(true);
-    let command = clap::Command::new(alloc, "fr_world")
-        .no_binary_name(true)
-        .disable_help_flag(true);
-    command.arg(file)?.arg(cycles)
+    bare_command(alloc).arg(file)
 }
 
-/// Returns the command of the arguments, if they have a file and a number of cycles.
+/// Returns the program with its options.
+#[tactic(auto, unfolding(crate::specs::WorldCommands::with_options))]
+fn with_options<'a>(alloc: Global, command: Command<'a>) -> Result<Command<'a>, AllocError>
+    requires { (out-Command command).has_globals ≡ false }
+    ensures { IfOk result (λ c. app_of c ≡ with_options (app_of command.entry)) }
+{
+    let (cycles, endless) = (cycles_option(alloc), endless_flag(alloc));
+    command.arg(cycles)?.arg(endless)
+}
+
+/// Returns the program, with a file and its options.
+fn the_command<'a>(alloc: Global) -> Result<Command<'a>, AllocError>
+    ensures { IfOk result (λ c. app_of c ≡ the_command) }
+{
+    let command = with_file(alloc)?;
+    with_options(alloc, command)
+}
+
+/// Returns the number of cycles without history that a word spells: 1 to 4,000,000, without a leading zero.
+fn most_of(word: &str) -> Option<u32>
+    ensures { result ≡ most_in word.now }
+{
+    match number_of(word.as_bytes(), 4_000_001) {
+        Some(0) | None => None,
+        Some(cycles) => Some(cycles as u32),
+    }
+}
+
+/// Returns the run of the flag and of the word for cycles, if they spell one.
+fn run_of(endless: bool, word: Option<&str>) -> Option<WorldRun>
+    ensures { result ≡ run_in endless (option_map (λ w. w.now) word.entry) }
+{
+    match (endless, word) {
+        (false, None) => None,
+        (false, Some(word)) => Some(WorldRun::Kept(cycles_of(word)?)),
+        (true, None) => Some(WorldRun::Endless(None)),
+        (true, Some(word)) => Some(WorldRun::Endless(Some(most_of(word)?))),
+    }
+}
+
+/// Returns the command of the arguments, if they have a file and a run.
 fn given_in<'a>(matches: &ArgMatches<'a>) -> Option<WorldCommand<'a>>
-    ensures { option_map (λ command. (command.file.now, command.cycles)) result
+    ensures { option_map (λ command. (command.file.now, command.run)) result
         ≡ given_in (first_value (found_of matches.now)) }
 {
+    let endless = matches.get_str("endless") == Some("true");
+    let run = run_of(endless, matches.get_str("cycles"));
     Some(WorldCommand {
         file: matches.get_str("FILE")?,
-        cycles: cycles_of(matches.get_str("cycles")?)?,
+        run: run?,
     })
 }
 
 /// Returns the command of the words after the program's name (project-defined).
 ///
-/// A command is the name of a cluster file, and `--cycles` with a number from 1 to 1024 without a leading zero, in any
-/// order. Refused with `Memory` if an allocation fails, and with `Usage` for all other words.
+/// A command is the name of a cluster file, and `--cycles` with a number from 1 to 1024, in any order. With `--endless`
+/// beside them the number is 1 to 4,000,000, and `--cycles` may be absent. Numbers have no leading zero. Refused with
+/// `Memory` if an allocation fails, and with `Usage` for all other words.
 pub fn command_of<'a>(alloc: Global, words: &'a [&'a str]) -> Result<WorldCommand<'a>, OrderError>
     ensures { IsAnswer (map (λ word. word.now) words.now) result }
 {

@@ -36,11 +36,11 @@ serves_more terms old number (first ∷ lines) replies between line reply new so
       serves_more terms mid (number + 1) lines later between line reply new rest there,
     )
 
-are_lines_more : (lines : List (List ℕ)) (line : List ℕ) → AreLines lines → IsLine line → AreLines (lines ++ line ∷ [])
+pub are_lines_more : (lines : List (List ℕ)) (line : List ℕ) → AreLines lines → IsLine line → AreLines (lines ++ line ∷ [])
 are_lines_more [] line all is = (is, tt)
 are_lines_more (first ∷ lines) line all is = (all.0, are_lines_more lines line all.1 is)
 
-feeds_more : (lines : List (List ℕ)) (line left : List ℕ) → flat_map with_feed (lines ++ line ∷ []) ++ left ≡ flat_map
+pub feeds_more : (lines : List (List ℕ)) (line left : List ℕ) → flat_map with_feed (lines ++ line ∷ []) ++ left ≡ flat_map
     with_feed lines ++ (line ++ 10 ∷ left)
 feeds_more [] line left =
     ap (λ l. l ++ left) (append-nil (with_feed line)) ∙ append_assoc line (10 ∷ []) left
@@ -58,13 +58,13 @@ SoFar terms (Some text) (Some left) before after number old new =
     (lines : List (List ℕ)) × (replies : List ℕ) × (text ≡ flat_map with_feed lines ++ left) × AreLines lines
     × (number ≡ 1 + length lines) × Serves terms old 1 lines replies new × Appends before after (greeting ++ replies)
 
-appends_more : (a b c : Option (List ℕ)) (xs ys : List ℕ) → Appends a b xs → Appends b c ys → Appends a c (xs ++ ys)
+pub appends_more : (a b c : Option (List ℕ)) (xs ys : List ℕ) → Appends a b xs → Appends b c ys → Appends a c (xs ++ ys)
 appends_more None b c xs ys first second = tt
 appends_more (Some x) None c xs ys first second = absurd first
 appends_more (Some x) (Some y) None xs ys first second = absurd second
 appends_more (Some x) (Some y) (Some z) xs ys first second = second ∙ ap (λ l. l ++ ys) first ∙ append_assoc x xs ys
 
-appends_kept : (a b c : Option (List ℕ)) (xs : List ℕ) → Appends a b xs → Keeps b c → Appends a c xs
+pub appends_kept : (a b c : Option (List ℕ)) (xs : List ℕ) → Appends a b xs → Keeps b c → Appends a c xs
 appends_kept None b c xs first second = tt
 appends_kept (Some x) None c xs first second = absurd first
 appends_kept (Some x) (Some y) None xs first second = absurd second

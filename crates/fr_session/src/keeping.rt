@@ -13,7 +13,7 @@ use std::io::Write;
 /// Keeps the line after the others, if it suits, and writes the reply.
 ///
 /// It must suit the cluster, the run and these lines.
-pub(crate) fn keep_line<W: Write>(
+pub fn keep_line<W: Write>(
     cluster: &Cluster,
     cycles: u16,
     kept: &mut KeptLines,

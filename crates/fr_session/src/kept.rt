@@ -17,7 +17,7 @@ use std::marker::Model;
 ///
 /// Each further line is checked in constant time. In contracts, this is the list of lines.
 #[derive(Drop)]
-pub(crate) struct KeptLines {
+pub struct KeptLines {
     lines: Vec<FaultLine>,
     /// The marks, or none once an allocation for them has failed. Each line is then compared with all others.
     marks: Option<Marks>,
@@ -52,7 +52,7 @@ impl KeptLines {
     ghost use Rattle.fr_runs.specs.Suiting.{IsFaultAfter};
 
     /// Returns an empty list of lines.
-    pub(crate) fn new(alloc: Global) -> KeptLines
+    pub fn new(alloc: Global) -> KeptLines
         ensures { result ≡ [] }
     {
         KeptLines {
@@ -62,21 +62,21 @@ impl KeptLines {
     }
 
     /// Returns the lines in their order.
-    pub(crate) fn as_slice(&self) -> &[FaultLine]
+    pub fn as_slice(&self) -> &[FaultLine]
         ensures { result.now ≡ self.now }
     {
         self.lines.as_slice()
     }
 
     /// Returns the number of lines.
-    pub(crate) fn len(&self) -> usize
+    pub fn len(&self) -> usize
         ensures { result ≡ length self.now }
     {
         self.lines.len()
     }
 
     /// Forgets all lines.
-    pub(crate) fn clear(&mut self)
+    pub fn clear(&mut self)
         ensures { self.new ≡ [] }
     {
         let KeptLines { lines, marks, .. } = self;
@@ -88,7 +88,7 @@ impl KeptLines {
     }
 
     /// Returns whether a run of the cluster with these lines can have this line too.
-    pub(crate) fn suit(&self, cluster: &Cluster, cycles: u16, line: &FaultLine) -> bool
+    pub fn suit(&self, cluster: &Cluster, cycles: u16, line: &FaultLine) -> bool
         ensures { IsTrue result ↔ IsFaultAfter cluster.now cycles self.now line.now }
     {
         match &self.marks {
@@ -98,7 +98,7 @@ impl KeptLines {
     }
 
     /// Appends a line. If its allocation fails, the lines stay as they are.
-    pub(crate) fn push(&mut self, line: FaultLine) -> Result<(), AllocError>
+    pub fn push(&mut self, line: FaultLine) -> Result<(), AllocError>
         ensures kept { OnOk result (self.new ≡ self.old ++ line ∷ []) }
         ensures same { OnErr result (self.new ≡ self.old) }
     {

@@ -42,14 +42,14 @@
 #![tactic(auto)]
 
 pub mod error;
-mod keeping;
-mod kept;
+pub mod keeping;
+pub mod kept;
 pub mod laws;
-mod lines;
+pub mod lines;
 mod marks;
-mod queries;
-mod reading;
-mod replies;
+pub mod queries;
+pub mod reading;
+pub mod replies;
 pub mod request;
 pub mod session;
 pub mod words;

@@ -9,13 +9,13 @@ use std::io;
 use std::io::{BufRead, ErrorKind};
 
 /// The longest line, without its line feed (project-defined).
-pub(crate) const LONGEST_LINE: usize = 1200;
+pub const LONGEST_LINE: usize = 1200;
 
 /// The number of bytes of a line that are kept: one more than it may have, so that a longer one shows.
 const FRONT: usize = LONGEST_LINE + 1;
 
 /// The front of a line.
-pub(crate) type Line = ArrayVec<u8, FRONT>;
+pub type Line = ArrayVec<u8, FRONT>;
 
 /// The part of a line that a reader had next.
 #[derive(Clone, Copy, PartialEq, Eq)]
@@ -68,7 +68,7 @@ fn take_piece<R: BufRead>(reader: &mut R, line: &mut Line) -> io::Result<Piece>
 /// Takes the next line from the reader, with its line feed, and keeps its front.
 ///
 /// The front replaces that of the line before. Returns whether there was a whole line. An interrupted read is repeated.
-pub(crate) fn next_line<R: BufRead>(reader: &mut R, line: &mut Line) -> io::Result<bool>
+pub fn next_line<R: BufRead>(reader: &mut R, line: &mut Line) -> io::Result<bool>
     ensures { IfOk result (λ more. ComesFront more (R.remaining reader.old) (R.remaining reader.new) line.new.items) }
 {
     // A longer line is read to its end and not kept, so the session continues with the next.

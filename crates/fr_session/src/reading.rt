@@ -314,7 +314,7 @@ fn fault_in(line: &[u8]) -> Option<Request>
 /// Returns the request of the line, which is given without its line feed.
 ///
 /// `None` if it has more than 1200 bytes, no form of a request, or a number out of its range.
-pub(crate) fn request_of(line: &[u8]) -> Option<Request>
+pub fn request_of(line: &[u8]) -> Option<Request>
     ensures { result ≡ asked_in line.now }
 {
     if line.len() > LONGEST_LINE {

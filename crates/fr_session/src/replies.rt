@@ -18,7 +18,7 @@ use std::io;
 use std::io::Write;
 
 /// Writes the first line of a session, with the version of its protocol.
-pub(crate) fn write_greeting<W: Write>(writer: &mut W) -> io::Result<()>
+pub fn write_greeting<W: Write>(writer: &mut W) -> io::Result<()>
     ensures { Writes W.contents writer.old writer.new result greeting }
 {
     writeln!(writer, "frworld 1")
@@ -61,7 +61,7 @@ fn write_frame_reply<W: Write>(writer: &mut W, frame: &Option<Frame>) -> io::Res
 }
 
 /// Writes the line of a window.
-pub(crate) fn write_window<W: Write>(writer: &mut W, kind: &str, window: &Window) -> io::Result<()>
+pub fn write_window<W: Write>(writer: &mut W, kind: &str, window: &Window) -> io::Result<()>
     ensures { Writes W.contents writer.old writer.new result (line_text (window_words kind.now window.now)) }
 {
     let (number, cycle) = (window.number, window.cycle.number());
@@ -82,14 +82,14 @@ fn write_withdrawn<W: Write>(writer: &mut W, of: Option<u32>) -> io::Result<()>
 }
 
 /// Writes the line of a refusal.
-pub(crate) fn write_refusal<W: Write>(writer: &mut W, error: StepError) -> io::Result<()>
+pub fn write_refusal<W: Write>(writer: &mut W, error: StepError) -> io::Result<()>
     ensures { Writes W.contents writer.old writer.new result (line_text (refusal_words error)) }
 {
     writeln!(writer, "refused {error}")
 }
 
 /// Writes that the request is executed.
-pub(crate) fn write_done<W: Write>(writer: &mut W) -> io::Result<()>
+pub fn write_done<W: Write>(writer: &mut W) -> io::Result<()>
     ensures { Writes W.contents writer.old writer.new result (line_text done_words) }
 {
     writeln!(writer, "done")
@@ -109,10 +109,7 @@ fn write_reply<W: Write>(writer: &mut W, reply: &Reply) -> io::Result<()>
 }
 
 /// Writes the reply to an event.
-pub(crate) fn write_answer<W: Write>(
-    writer: &mut W,
-    answer: &Result<Reply, StepError>,
-) -> io::Result<()>
+pub fn write_answer<W: Write>(writer: &mut W, answer: &Result<Reply, StepError>) -> io::Result<()>
     ensures { Writes W.contents writer.old writer.new result (answer_text answer.now) }
 {
     match answer {
@@ -122,14 +119,14 @@ pub(crate) fn write_answer<W: Write>(
 }
 
 /// Writes that the line of this number is no request.
-pub(crate) fn write_bad_line<W: Write>(writer: &mut W, number: u64) -> io::Result<()>
+pub fn write_bad_line<W: Write>(writer: &mut W, number: u64) -> io::Result<()>
     ensures { Writes W.contents writer.old writer.new result (line_text (bad_line_words number)) }
 {
     writeln!(writer, "refused BadLine {number}")
 }
 
 /// Writes that a run couldn't have the fault line beside those that are kept, with their number.
-pub(crate) fn write_bad_fault<W: Write>(writer: &mut W, kept: usize) -> io::Result<()>
+pub fn write_bad_fault<W: Write>(writer: &mut W, kept: usize) -> io::Result<()>
     ensures { Writes W.contents writer.old writer.new result (line_text (bad_fault_words kept)) }
 {
     writeln!(writer, "refused BadFault {kept}")

@@ -28,15 +28,15 @@ use std::io::{BufRead, Write};
 
 /// The terms of a session.
 #[derive(Clone, Copy)]
-struct Terms<'a> {
+pub struct Terms<'a> {
     /// The memory that reports, traces and windows of the record take.
-    alloc: Global,
+    pub alloc: Global,
     /// All events that can be due in a window.
-    events: &'a [Event],
+    pub events: &'a [Event],
     /// The cluster that fault lines have to suit.
-    cluster: &'a Cluster,
+    pub cluster: &'a Cluster,
     /// The number of cycles of the run.
-    cycles: u16,
+    pub cycles: u16,
 }
 
 /// The state that a session keeps from line to line: the fault lines, and room for a line.
@@ -103,7 +103,7 @@ fn answer_line<W: Write>(
 }
 
 /// Writes the first line, and flushes.
-fn greet<W: Write>(writer: &mut W) -> io::Result<()>
+pub fn greet<W: Write>(writer: &mut W) -> io::Result<()>
     ensures { Writes W.contents writer.old writer.new result greeting }
 {
     write_greeting(writer)?;

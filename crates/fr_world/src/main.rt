@@ -26,14 +26,18 @@ mod failure;
 use failure::WorldFailure;
 use fr_cli::waiting::{WaitingReader, WaitingWriter};
 use fr_cli::words::{texts_of, words_given};
-use fr_cli::world::{WorldCommand, command_of};
+use fr_cli::world::{WorldCommand, WorldRun, command_of};
 use fr_core::world::World;
+use fr_endless::session::serve_endless;
+use fr_endless::world::{EndlessWorld, greatest_cycles};
 use fr_files::cluster_file::cluster_of;
 use fr_files::named::file_named;
+use fr_live::room::Room;
 use fr_schedule::cluster::Cluster;
 use fr_session::session::serve;
+use std::alloc::Global;
 use std::io;
-use std::io::{BufReader, BufWriter};
+use std::io::{BufRead, BufReader, BufWriter, Write};
 use std::process::ExitCode;
 use std::rt::{Env, Files};
 use std::time::Clock;
@@ -47,6 +51,30 @@ fn cluster_in<R: Files + AllocGlobal>(
     Ok(cluster_of(rt.alloc(), &mut file)?)
 }
 
+/// Serves a world that keeps its history.
+fn serve_kept<R: BufRead, W: Write>(
+    alloc: Global,
+    cluster: &Cluster,
+    cycles: u16,
+    reader: &mut R,
+    writer: &mut W,
+) -> Result<(), WorldFailure> {
+    let mut world = World::new(alloc, cluster, cycles)?;
+    Ok(serve(alloc, cluster, cycles, &mut world, reader, writer)?)
+}
+
+/// Serves a world without history.
+fn serve_live<R: BufRead, W: Write>(
+    alloc: Global,
+    cluster: &Cluster,
+    cycles: u32,
+    reader: &mut R,
+    writer: &mut W,
+) -> Result<(), WorldFailure> {
+    let mut world = EndlessWorld::new(alloc, cluster, cycles, &Room::greatest())?;
+    Ok(serve_endless(alloc, cluster, cycles, &mut world, reader, writer)?)
+}
+
 /// Serves the world of the command's cluster on standard input and output.
 ///
 /// The buffers for reading and writing are allocated first, so that no reply needs memory of its own.
@@ -54,26 +82,23 @@ fn serve_world<R: Files + Input + Print + AllocGlobal + Clock>(
     rt: &R,
     command: WorldCommand<'_>,
 ) -> Result<(), WorldFailure> {
-    let cluster = cluster_in(rt, command)?;
-    let cycles = command.cycles;
-    let mut world = World::new(rt.alloc(), &cluster, cycles)?;
-    let Ok(mut reader) = BufReader::new(rt.alloc(), WaitingReader::new(rt, rt.reader())) else {
+    let (alloc, cluster) = (rt.alloc(), cluster_in(rt, command)?);
+    let Ok(mut reader) = BufReader::new(alloc, WaitingReader::new(rt, rt.reader())) else {
         return Err(WorldFailure::Memory);
     };
-    let Ok(mut writer) = BufWriter::new(rt.alloc(), WaitingWriter::new(rt, io::writer(rt))) else {
+    let Ok(mut writer) = BufWriter::new(alloc, WaitingWriter::new(rt, io::writer(rt))) else {
         return Err(WorldFailure::Memory);
     };
-    let served = serve(
-        rt.alloc(),
-        &cluster,
-        cycles,
-        &mut world,
-        &mut reader,
-        &mut writer,
-    );
+    let served = match command.run {
+        WorldRun::Kept(cycles) => serve_kept(alloc, &cluster, cycles, &mut reader, &mut writer),
+        WorldRun::Endless(cycles) => {
+            let cycles = cycles.unwrap_or(greatest_cycles(&cluster));
+            serve_live(alloc, &cluster, cycles, &mut reader, &mut writer)
+        }
+    };
     // The rest of a failed write is dropped, so that nothing comes after the failure.
     let _left = writer.into_parts();
-    Ok(served?)
+    served
 }
 
 /// Executes the command of the words.

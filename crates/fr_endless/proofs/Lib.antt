@@ -1,0 +1,5 @@
+pub mod AlikeLemmas
+pub mod MovingLemmas
+pub mod ReportLemmas
+pub mod ReplyLemmas
+pub mod SessionLemmas

@@ -1,0 +1,132 @@
+-- A reply by the kept data is that of each world with its history.
+use Rattle.std.proofs.Common.{◌≡◌, ℕ, List, [], Option, None, Result, Ok, Err}
+use Rattle.std.proofs.Common.{refl, sym, ap, subst, ◌∙◌}
+use Rattle.fr_bus.specs.Record.{Recorded}
+use Rattle.fr_bus.specs.Standing.{LiveStanding, bare}
+use Rattle.fr_bus.specs.States.{last_recorded}
+use Rattle.fr_core.specs.declared.error.StepError.{StepError}
+use Rattle.fr_core.specs.declared.event.Event.{Event}
+use Rattle.fr_core.specs.Runs.{Answer}
+use Rattle.fr_endless.proofs.AlikeLemmas.{now_same, moved_same, last_same}
+use Rattle.fr_endless.specs.Alike.{Alike}
+use Rattle.fr_endless.specs.Answers.{if_numbered, no_history_text, IsReportOf}
+use Rattle.fr_endless.specs.Serving.{DoesAlike, DoesAlikeIf}
+use Rattle.fr_lines.specs.Spelling.{line_text}
+use Rattle.fr_live.specs.LiveSteps.{StepsAlike}
+use Rattle.fr_live.specs.LiveWorlds.{LiveState}
+use Rattle.fr_playing.specs.Moving.{MovesOn, RunsCycles}
+use Rattle.fr_runs.specs.declared.fault_line.FaultLine.{FaultLine}
+use Rattle.fr_session.specs.declared.request.Request.{Request}
+use Rattle.fr_session.specs.declared.request.Request.TheVariants as request
+use Rattle.fr_session.specs.Keeping.{KeepsLine}
+use Rattle.fr_session.specs.Queries.{now_text, moved_text, IsRecordOf, Replies}
+use Rattle.fr_session.specs.Replies.{answer_text, bad_line_words, done_words}
+use Rattle.fr_session.specs.Sessions.{Terms, state_of}
+use Rattle.fr_text.specs.Writing.{Writes}
+
+module _ {W A E : Type 0} (contents : W → Option (List ℕ)) (old new : W) (result : Result A E) where
+  -- a text that is such a reply
+  pub replied : (text : List ℕ) (IsReply : List ℕ → Type 0) → IsReply text → Writes contents old new result text
+      → Replies contents old new result IsReply
+  replied text IsReply holds told = by_result result told
+    where
+      by_result : (r : Result A E) → Writes contents old new r text → Replies contents old new r IsReply
+      by_result (Ok x) told = (text, holds, told)
+      by_result (Err e) told = tt
+
+  pub replied_so : (IsReply IsAnswer : List ℕ → Type 0) → ((reply : List ℕ) → IsReply reply → IsAnswer reply)
+      → Replies contents old new result IsReply → Replies contents old new result IsAnswer
+  replied_so IsReply IsAnswer so told = by_result result told
+    where
+      by_result : (r : Result A E) → Replies contents old new r IsReply → Replies contents old new r IsAnswer
+      by_result (Ok x) told = (told.0, so told.0 told.1, told.2)
+      by_result (Err e) told = tt
+
+  -- a request that is this one
+  pub asked_so : (terms : Terms) (l left : LiveState) (kept keeps : List FaultLine) (given asked : Request)
+      → given ≡ asked → Replies contents old new result (λ reply. DoesAlike terms l kept asked reply left keeps)
+      → Replies contents old new result (λ reply. DoesAlike terms l kept given reply left keeps)
+  asked_so terms l left kept keeps given asked is told =
+      subst (λ (r : Request). Replies contents old new result (λ reply. DoesAlike terms l kept r reply left keeps))
+      (sym is) told
+
+  -- a line that is this request, or none
+  pub asked_if : (terms : Terms) (l left : LiveState) (kept keeps : List FaultLine) (number : ℕ)
+      (given asked : Option Request) → given ≡ asked
+      → Replies contents old new result (λ reply. DoesAlikeIf terms l kept number asked reply left keeps)
+      → Replies contents old new result (λ reply. DoesAlikeIf terms l kept number given reply left keeps)
+  asked_if terms l left kept keeps number given asked is told =
+      subst (λ (r : Option Request). Replies contents old new result
+      (λ reply. DoesAlikeIf terms l kept number r reply left keeps)) (sym is) told
+
+module _ (terms : Terms) (l new : LiveState) (kept : List FaultLine) where
+  pub event_so : (event : Event) (answer : Answer) → StepsAlike l event answer new
+      → DoesAlike terms l kept (request.Event event) (answer_text answer) new kept
+  event_so event answer steps w is =
+      let got = steps w is in (got.0, (answer, got.1, refl, refl), got.2)
+
+  pub window_so : (faults : List FaultLine) (bus : LiveStanding) (hinders : Option StepError) → faults ≡ kept
+      → bus ≡ new.bus → Alike l (λ w v. MovesOn faults terms.due w hinders v) new
+      → DoesAlike terms l kept request.Window (moved_text hinders (bare bus.bus)) new kept
+  window_so faults bus hinders faults_are bus_is moves w is =
+      let got = moves w is in (
+        got.0,
+        (
+          hinders,
+          subst (λ (f : List FaultLine). MovesOn f terms.due w hinders got.0) faults_are got.1,
+          ap (λ (b : LiveStanding). moved_text hinders (bare b.bus)) bus_is ∙ moved_same new got.0 got.2 hinders,
+          refl,
+        ),
+        got.2,
+      )
+
+  pub run_so : (faults : List FaultLine) (bus : LiveStanding) (cycles : ℕ) (hinders : Option StepError) → faults ≡ kept
+      → bus ≡ new.bus → Alike l (λ w v. RunsCycles faults terms.due cycles w hinders v) new
+      → DoesAlike terms l kept (request.Run cycles) (moved_text hinders (bare bus.bus)) new kept
+  run_so faults bus cycles hinders faults_are bus_is runs w is =
+      let got = runs w is in (
+        got.0,
+        (
+          hinders,
+          subst (λ (f : List FaultLine). RunsCycles f terms.due cycles w hinders got.0) faults_are got.1,
+          ap (λ (b : LiveStanding). moved_text hinders (bare b.bus)) bus_is ∙ moved_same new got.0 got.2 hinders,
+          refl,
+        ),
+        got.2,
+      )
+
+module _ (terms : Terms) (l : LiveState) (kept : List FaultLine) where
+  pub line_so : (line : FaultLine) (keeps : List FaultLine) (reply : List ℕ)
+      → KeepsLine terms.cluster terms.cycles kept line reply keeps
+      → DoesAlike terms l kept (request.Fault line) reply l keeps
+  line_so line keeps reply does w is = (w, (does, refl), is)
+
+  pub forget_so : (keeps : List FaultLine) → keeps ≡ []
+      → DoesAlike terms l kept request.Forget (line_text done_words) l keeps
+  forget_so keeps none w is = (w, (refl, ap (state_of w) none), is)
+
+  pub now_so : (bus : LiveStanding) → bus ≡ l.bus
+      → DoesAlike terms l kept request.Now (now_text (bare bus.bus)) l kept
+  now_so bus bus_is w is =
+      (w, (refl, ap (λ (b : LiveStanding). now_text (bare b.bus)) bus_is ∙ now_same l w is), is)
+
+  pub report_so : (node : ℕ) (reply : List ℕ) → IsReportOf l node reply
+      → DoesAlike terms l kept (request.Report node) reply l kept
+  report_so node reply reports w is = (w, (refl, reports w is), is)
+
+  pub trace_so : (node : ℕ) → DoesAlike terms l kept (request.Trace node) no_history_text l kept
+  trace_so node w is = (w, (refl, refl), is)
+
+  pub origin_so : (node : ℕ) → DoesAlike terms l kept (request.Origin node) no_history_text l kept
+  origin_so node w is = (w, (refl, refl), is)
+
+  pub record_so : (bus : LiveStanding) (window : ℕ) → bus ≡ l.bus → (reply : List ℕ)
+      → IsRecordOf (if_numbered window bus.last) reply
+      → DoesAlike terms l kept (request.Record window) reply l kept
+  record_so bus window bus_is reply recorded w is =
+      let last : bus.last ≡ last_recorded w.bus =
+      ap (λ (b : LiveStanding). b.last) bus_is ∙ sym (last_same l w is) in
+      (w, (refl, subst (λ (o : Option Recorded). IsRecordOf (if_numbered window o) reply) last recorded), is)
+
+  pub bad_line_so : (number : ℕ) → DoesAlikeIf terms l kept number None (line_text (bad_line_words number)) l kept
+  bad_line_so number w is = (w, (refl, refl), is)

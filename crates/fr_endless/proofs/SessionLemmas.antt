@@ -1,0 +1,189 @@
+-- An endless session continues by one line.
+use Rattle.std.proofs.Common.{◌≡◌, ℕ, ◌+◌, true, false, List, [], ◌∷◌, ◌++◌, length, Option, Some, None, refl, sym, ap}
+use Rattle.std.proofs.Common.{Result, Ok, Err}
+use Rattle.std.specs.Prelude.{OnOk}
+use Rattle.std.proofs.Common.{subst, ◌∙◌, append_assoc, arith, length-append}
+use Rattle.std.proofs.lemmas.List.{append-nil}
+use Rattle.std.specs.List.{flat_map}
+use Rattle.std.specs.Io.KnownBytes.{Appends, Keeps}
+use Rattle.fr_endless.specs.Alike.{Alike}
+use Rattle.fr_endless.specs.Serving.{AnswersNextAlike, Does, DoesAlikeIf, Served, ServedEndless, Serves}
+use Rattle.fr_live.specs.LiveWorlds.{LiveState}
+use Rattle.fr_runs.specs.declared.fault_line.FaultLine.{FaultLine}
+use Rattle.fr_session.proofs.LineLemmas.{front_asks}
+use Rattle.fr_session.proofs.SessionLemmas.{are_lines_more, feeds_more, appends_more, appends_kept}
+use Rattle.fr_session.specs.Lines.{AreLines, Comes, ComesFront, with_feed}
+use Rattle.fr_session.specs.Reading.{asked_in}
+use Rattle.fr_session.specs.Replies.{greeting}
+use Rattle.fr_session.specs.Sessions.{SessionState, Terms, state_of}
+
+serves_none : (terms : Terms) (w : SessionState) (number : ℕ) → Serves terms w number [] [] w
+unfolding Serves
+serves_none terms w number = (refl, refl)
+
+serves_more : (terms : Terms) (old : SessionState) (number : ℕ) (lines : List (List ℕ)) (replies : List ℕ)
+    (between : SessionState) (line reply : List ℕ) (new : SessionState)
+    → Serves terms old number lines replies between → Does terms between (number + length lines) line reply new
+    → Serves terms old number (lines ++ line ∷ []) (replies ++ reply) new
+unfolding Serves
+serves_more terms old number [] replies between line reply new so_far does =
+    let here : Does terms old number line reply new = subst (λ (w : SessionState). Does terms w number line reply new)
+    so_far.1
+    (subst (λ k. Does terms between k line reply new) (omega arith) does) in
+    (new, reply, [], here, ap (λ r. r ++ reply) so_far.0 ∙ sym (append-nil reply), (refl, refl))
+serves_more terms old number (first ∷ lines) replies between line reply new so_far does =
+    let (mid, answer, later, did, is, rest) = so_far in
+    let there : Does terms between (number + 1 + length lines) line reply new =
+    subst (λ k. Does terms between k line reply new) (omega arith) does in (
+      mid,
+      answer,
+      later ++ reply,
+      did,
+      ap (λ r. r ++ reply) is ∙ append_assoc answer later reply,
+      serves_more terms mid (number + 1) lines later between line reply new rest there,
+    )
+
+-- the lines that were read so far are answered
+abbrev pub SoFar : Terms → Option (List ℕ) → Option (List ℕ) → Option (List ℕ) → Option (List ℕ) → ℕ → SessionState
+    → SessionState → Type 0
+SoFar terms None left before after number old new = Unit {0}
+SoFar terms (Some text) None before after number old new = ⊥
+SoFar terms (Some text) (Some left) before after number old new =
+    (lines : List (List ℕ)) × (replies : List ℕ) × (text ≡ flat_map with_feed lines ++ left) × AreLines lines
+    × (number ≡ 1 + length lines) × Serves terms old 1 lines replies new × Appends before after (greeting ++ replies)
+
+so_far_none : (terms : Terms) (text before after : Option (List ℕ)) (w : SessionState)
+    → Appends before after greeting → SoFar terms text text before after 1 w w
+so_far_none terms None before after w told = tt
+so_far_none terms (Some text) before after w told = ([], [], refl, tt, refl, serves_none terms w 1, told)
+
+so_far_more : (terms : Terms) (text left left' before after after' : Option (List ℕ)) (number : ℕ)
+    (old mid new : SessionState) (line reply : List ℕ)
+    → SoFar terms text left before after number old mid → Comes true left left' line
+    → Does terms mid number line reply new → Appends after after' reply
+    → SoFar terms text left' before after' (number + 1) old new
+so_far_more terms None left left' before after after' number old mid new line reply so_far comes does tells = tt
+so_far_more terms (Some text) None left' before after after' number old mid new line reply so_far comes does tells =
+    absurd so_far
+so_far_more terms (Some text) (Some left) None before after after' number old mid new line reply so_far comes does tells
+    = absurd comes
+so_far_more terms (Some text) (Some left) (Some left') before after after' number old mid new line reply so_far comes
+    does tells =
+    let (lines, replies, is, all, count, serves, told) = so_far in
+    let here : Does terms mid (1 + length lines) line reply new =
+    subst (λ k. Does terms mid k line reply new) count does in (
+      lines ++ line ∷ [],
+      replies ++ reply,
+      is ∙ ap (λ l. flat_map with_feed lines ++ l) comes.0 ∙ sym (feeds_more lines line left'),
+      are_lines_more lines line all comes.1,
+      omega (arith, count, length-append lines (line ∷ [])),
+      serves_more terms old 1 lines replies mid line reply new serves here,
+      subst (Appends before after') (append_assoc greeting replies reply)
+          (appends_more before after after' (greeting ++ replies) reply told tells),
+    )
+
+so_far_over : (terms : Terms) (text left left' before after after' : Option (List ℕ)) (number : ℕ)
+    (old new : SessionState)
+    → SoFar terms text left before after number old new → Comes false left left' [] → Keeps after after'
+    → Served terms text before after' old new
+so_far_over terms None left left' before after after' number old new so_far comes keeps = tt
+so_far_over terms (Some text) None left' before after after' number old new so_far comes keeps = absurd so_far
+so_far_over terms (Some text) (Some left) left' before after after' number old new so_far comes keeps =
+    let (lines, replies, is, all, count, serves, told) = so_far in (
+      lines,
+      left,
+      replies,
+      (is, all, comes),
+      serves,
+      appends_kept before after after' (greeting ++ replies) told keeps,
+    )
+
+-- ---- by the kept data
+
+abbrev pub SoFarAlike : Terms → Option (List ℕ) → Option (List ℕ) → Option (List ℕ) → Option (List ℕ) → ℕ → LiveState
+    → List FaultLine → LiveState → List FaultLine → Type 0
+SoFarAlike terms text left before after number old kept new keeps =
+    Alike old (λ w v. SoFar terms text left before after number (state_of w kept) (state_of v keeps)) new
+
+pub begins : (terms : Terms) (text before after : Option (List ℕ)) (l : LiveState) (kept : List FaultLine)
+    → Appends before after greeting → SoFarAlike terms text text before after 1 l kept l kept
+begins terms text before after l kept told w is =
+    (w, so_far_none terms text before after (state_of w kept) told, is)
+
+pub goes_on : (terms : Terms) (text left left' before after after' : Option (List ℕ)) (number : ℕ) (l mid new : LiveState)
+    (first kept keeps : List FaultLine)
+    → SoFarAlike terms text left before after number l first mid kept
+    → AnswersNextAlike terms true left left' after after' number mid kept new keeps
+    → SoFarAlike terms text left' before after' (number + 1) l first new keeps
+goes_on terms text left left' before after after' number l mid new first kept keeps so_far next w is =
+    let (line, reply, comes, does, tells) = next in
+    let got = so_far w is in
+    let did = does got.0 got.2 in (
+      did.0,
+      so_far_more terms text left left' before after after' number (state_of w first) (state_of got.0 kept)
+          (state_of did.0 keeps) line reply got.1 comes did.1 tells,
+      did.2,
+    )
+
+pub ends : (terms : Terms) (text left left' before after after' : Option (List ℕ)) (number : ℕ) (l mid new : LiveState)
+    (first kept keeps : List FaultLine)
+    → SoFarAlike terms text left before after number l first mid kept
+    → AnswersNextAlike terms false left left' after after' number mid kept new keeps
+    → Alike l (λ w v. Served terms text before after' (state_of w first) (state_of v keeps)) new
+ends terms text left left' before after after' number l mid new first kept keeps so_far next =
+    subst (λ (x : LiveState). Alike l (λ w v. Served terms text before after' (state_of w first) (state_of v keeps)) x)
+    (sym next.1)
+    (subst (λ (f : List FaultLine). Alike l (λ w v. Served terms text before after' (state_of w first) (state_of v f)) mid)
+    (sym next.2) over)
+  where
+    over : Alike l (λ w v. Served terms text before after' (state_of w first) (state_of v kept)) mid
+    over w is =
+        let got = so_far w is in (
+          got.0,
+          so_far_over terms text left left' before after after' number (state_of w first) (state_of got.0 kept) got.1
+              next.0 next.3,
+          got.2,
+        )
+
+-- a line of which the front was kept is answered by its front
+pub answered_front : (terms : Terms) (text left before after : Option (List ℕ)) (number : ℕ) (front : List ℕ)
+    (old : LiveState) (kept : List FaultLine) (new : LiveState) (keeps : List FaultLine)
+    → ComesFront true text left front
+    → (reply : List ℕ) × DoesAlikeIf terms old kept number (asked_in front) reply new keeps × Appends before after reply
+    → AnswersNextAlike terms true text left before after number old kept new keeps
+answered_front terms text left before after number front old kept new keeps comes answered =
+    let (line, whole, is) = comes in
+    let (reply, does, tells) = answered in (
+      line,
+      reply,
+      whole,
+      subst (λ asked. DoesAlikeIf terms old kept number asked reply new keeps) (ap asked_in is ∙ front_asks line) does,
+      tells,
+    )
+
+-- a session from an opening world, of which no line is kept
+pub opened_so : {A E : Type 0} (r : Result A E) (terms given : Terms) (text before after : Option (List ℕ))
+    (l new : LiveState) (first keeps : List FaultLine) → given ≡ terms → first ≡ []
+    → OnOk r (Alike l (λ w v. Served given text before after (state_of w first) (state_of v keeps)) new)
+    → OnOk r (Alike l (λ w v. ServedEndless terms text before after w v) new)
+opened_so (Err e) terms given text before after l new first keeps same none served = tt
+opened_so (Ok x) terms given text before after l new first keeps same none served = λ w is.
+    let got = served w is in (
+      got.0,
+      (
+        keeps,
+        subst (λ (t : Terms). Served t text before after (state_of w []) (state_of got.0 keeps)) same
+            (subst (λ (f : List FaultLine). Served given text before after (state_of w f) (state_of got.0 keeps)) none
+            got.1),
+      ),
+      got.2,
+    )
+
+-- a line that was answered and whose reply was flushed
+pub flushed : {A E : Type 0} (r : Result A E) (start mid end : Option (List ℕ)) (Is : List ℕ → List ℕ → Type 0)
+    (line items : List ℕ) → line ≡ items → (reply : List ℕ) × Is line reply × Appends start mid reply → Keeps mid end
+    → OnOk r ((reply : List ℕ) × Is items reply × Appends start end reply)
+flushed (Ok x) start mid end Is line items same answered keeps =
+    let (reply, is, tells) = answered in
+    (reply, subst (λ (t : List ℕ). Is t reply) same is, appends_kept start mid end reply tells keeps)
+flushed (Err e) start mid end Is line items same answered keeps = tt

@@ -1,0 +1,39 @@
+use Rattle.std.proofs.Common.{rules, subst}
+use Rattle.std.specs.Io.KnownBytes.{Appends}
+use Rattle.fr_endless.proofs.SessionLemmas.{begins, goes_on, ends}
+use Rattle.fr_endless.specs.Serving.{AnswersNextAlike}
+use Rattle.fr_session.specs.Replies.{greeting}
+use Rattle.fr_session.specs.TermsFields.{terms_in}
+use Rattle.fr_endless.proofs.session.EndlessSession.answer_all.Goals as goal
+
+pub loop-number-init : goal.loop-number-init
+loop-number-init g c =
+    let told : Appends (g.W.Write.contents c.args.writer.now) (g.W.Write.contents c.greet.new.writer) greeting =
+    search rules in
+    begins (terms_in c.args.terms.now) (g.R.Read.remaining c.args.reader.now)
+    (g.W.Write.contents c.args.writer.now) (g.W.Write.contents c.greet.new.writer)
+    c.args.world.now c.args.self.now.faults told
+
+pub loop-number-preserved : goal.loop-number-preserved
+loop-number-preserved g c =
+    let next = subst (λ b. AnswersNextAlike (terms_in c.args.terms.now) b (g.R.Read.remaining c.loop-number.reader)
+    (g.R.Read.remaining c.answer_next-answered.new.reader)
+    (g.W.Write.contents c.loop-number.writer) (g.W.Write.contents c.answer_next-answered.new.writer)
+    c.loop-number.number c.loop-number.world c.loop-number.self.faults c.answer_next-answered.new.world
+    c.answer_next-answered.new.self.faults)
+    c.in-Ok-true.field-0-test c.in-Ok-true.ensures.answers in
+    goes_on (terms_in c.args.terms.now) _ _ _ _ _ _ c.loop-number.number c.args.world.now c.loop-number.world
+    c.answer_next-answered.new.world c.args.self.now.faults c.loop-number.self.faults
+    c.answer_next-answered.new.self.faults c.loop-number.invariant next
+
+pub returns-in-Ok-false-clause-served : goal.returns-in-Ok-false-clause-served
+returns-in-Ok-false-clause-served g c =
+    let next = subst (λ b. AnswersNextAlike (terms_in c.args.terms.now) b (g.R.Read.remaining c.loop-number.reader)
+    (g.R.Read.remaining c.answer_next-answered.new.reader)
+    (g.W.Write.contents c.loop-number.writer) (g.W.Write.contents c.answer_next-answered.new.writer)
+    c.loop-number.number c.loop-number.world c.loop-number.self.faults c.answer_next-answered.new.world
+    c.answer_next-answered.new.self.faults)
+    c.in-Ok-false.field-0-test c.in-Ok-false.ensures.answers in
+    ends (terms_in c.args.terms.now) _ _ _ _ _ _ c.loop-number.number c.args.world.now c.loop-number.world
+    c.answer_next-answered.new.world c.args.self.now.faults c.loop-number.self.faults
+    c.answer_next-answered.new.self.faults c.loop-number.invariant next

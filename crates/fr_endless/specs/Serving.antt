@@ -1,0 +1,98 @@
+-- The effect of an endless session on the lines that it reads (project-defined).
+use Rattle.std.specs.Prelude.{◌≡◌, ℕ, ◌+◌, Bool, true, false, List, [], ◌∷◌, ◌++◌, Option, Some, None, Result, Ok, Err}
+use Rattle.std.specs.Io.KnownBytes.{Appends, Keeps}
+use Rattle.fr_bus.specs.States.{last_recorded}
+use Rattle.fr_endless.specs.Alike.{Alike}
+use Rattle.fr_endless.specs.Answers.{if_numbered, no_history_text}
+use Rattle.fr_core.specs.Worlds.{WorldState}
+use Rattle.fr_lines.specs.Spelling.{line_text}
+use Rattle.fr_live.specs.LiveWorlds.{LiveState}
+use Rattle.fr_runs.specs.declared.fault_line.FaultLine.{FaultLine}
+use Rattle.fr_session.specs.declared.error.SessionError.{SessionError}
+use Rattle.fr_session.specs.declared.error.SessionError.TheVariants.{Read, Write, Memory}
+use Rattle.fr_session.specs.declared.request.Request.{Request}
+use Rattle.fr_session.specs.declared.request.Request.TheVariants as request
+use Rattle.fr_session.specs.Lines.{IsCut, Comes}
+use Rattle.fr_session.specs.Queries.{IsRecordOf}
+use Rattle.fr_session.specs.Reading.{asked_in}
+use Rattle.fr_session.specs.Replies.{bad_line_words, greeting}
+use Rattle.fr_session.specs.Sessions.{Terms, SessionState, state_of, opening, DoesRequest}
+
+-- ---- one line
+
+-- Every request does what it does in a session with history, and gets the same reply, with three exceptions. A trace and
+-- an origin aren't known. A window of the record is known only if it is the last one.
+abbrev pub DoesEndless : Terms → SessionState → Request → List ℕ → SessionState → Type 0
+DoesEndless terms old (request.Event event) reply new = DoesRequest terms old (request.Event event) reply new
+DoesEndless terms old (request.Fault line) reply new = DoesRequest terms old (request.Fault line) reply new
+DoesEndless terms old request.Forget reply new = DoesRequest terms old request.Forget reply new
+DoesEndless terms old request.Window reply new = DoesRequest terms old request.Window reply new
+DoesEndless terms old (request.Run cycles) reply new = DoesRequest terms old (request.Run cycles) reply new
+DoesEndless terms old request.Now reply new = DoesRequest terms old request.Now reply new
+DoesEndless terms old (request.Report node) reply new = DoesRequest terms old (request.Report node) reply new
+DoesEndless terms old (request.Trace node) reply new = (new ≡ old) × (reply ≡ no_history_text)
+DoesEndless terms old (request.Origin node) reply new = (new ≡ old) × (reply ≡ no_history_text)
+DoesEndless terms old (request.Record window) reply new =
+    (new ≡ old) × IsRecordOf (if_numbered window (last_recorded old.world.bus)) reply
+
+-- a line that is no request changes nothing
+abbrev pub DoesEndlessIf : Terms → SessionState → ℕ → Option Request → List ℕ → SessionState → Type 0
+DoesEndlessIf terms old number None reply new = (reply ≡ line_text (bad_line_words number)) × (new ≡ old)
+DoesEndlessIf terms old number (Some asked) reply new = DoesEndless terms old asked reply new
+
+-- the line of this number, counted from 1, is answered with these bytes, and leads to this state
+abbrev pub Does : Terms → SessionState → ℕ → List ℕ → List ℕ → SessionState → Type 0
+Does terms old number line reply new = DoesEndlessIf terms old number (asked_in line) reply new
+
+-- ---- all lines
+
+-- lines that are answered one after another; the first has this number
+unfoldable pub Serves : Terms → SessionState → ℕ → List (List ℕ) → List ℕ → SessionState → Type 0
+Serves terms old number [] replies new = (replies ≡ []) × (new ≡ old)
+Serves terms old number (line ∷ lines) replies new =
+    (between : SessionState) × (reply : List ℕ) × (later : List ℕ) × Does terms old number line reply between
+    × (replies ≡ reply ++ later) × Serves terms between (number + 1) lines later new
+
+-- the effect of a session on a known text: the first line is written, and then the replies
+abbrev pub Served : Terms → Option (List ℕ) → Option (List ℕ) → Option (List ℕ) → SessionState → SessionState → Type 0
+Served terms None before after old new = Unit {0}
+Served terms (Some text) before after old new =
+    (lines : List (List ℕ)) × (rest : List ℕ) × (replies : List ℕ) × IsCut text lines rest
+    × Serves terms old 1 lines replies new × Appends before after (greeting ++ replies)
+
+-- from an opening world to another world, with any fault lines kept there
+abbrev pub ServedEndless : Terms → Option (List ℕ) → Option (List ℕ) → Option (List ℕ) → WorldState → WorldState
+    → Type 0
+ServedEndless terms text before after old new =
+    (kept : List FaultLine) × Served terms text before after (opening old) (state_of new kept)
+
+-- ---- by the kept data
+
+-- the request of each world that leads to the data gets this reply
+abbrev pub DoesAlike : Terms → LiveState → List FaultLine → Request → List ℕ → LiveState → List FaultLine → Type 0
+DoesAlike terms old kept asked reply new keeps =
+    Alike old (λ w v. DoesEndless terms (state_of w kept) asked reply (state_of v keeps)) new
+
+abbrev pub DoesAlikeIf : Terms → LiveState → List FaultLine → ℕ → Option Request → List ℕ → LiveState
+    → List FaultLine → Type 0
+DoesAlikeIf terms old kept number asked reply new keeps =
+    Alike old (λ w v. DoesEndlessIf terms (state_of w kept) number asked reply (state_of v keeps)) new
+
+-- the next line, if a whole one comes, is taken and answered before any byte after it is taken
+abbrev pub AnswersNextAlike : Terms → Bool → Option (List ℕ) → Option (List ℕ) → Option (List ℕ) → Option (List ℕ) → ℕ
+    → LiveState → List FaultLine → LiveState → List FaultLine → Type 0
+AnswersNextAlike terms true text left before after number old kept new keeps =
+    (line : List ℕ) × (reply : List ℕ) × Comes true text left line
+    × DoesAlikeIf terms old kept number (asked_in line) reply new keeps × Appends before after reply
+AnswersNextAlike terms false text left before after number old kept new keeps =
+    Comes false text left [] × (new ≡ old) × (keeps ≡ kept) × Keeps before after
+
+-- ---- a failed allocation
+
+-- if an allocation fails, nothing was written, and the data are unchanged
+abbrev pub IsUntouched : {A : Type 0} → Result A SessionError → Option (List ℕ) → Option (List ℕ) → LiveState
+    → LiveState → Type 0
+IsUntouched (Ok done) before after old new = Unit {0}
+IsUntouched (Err Read) before after old new = Unit {0}
+IsUntouched (Err Write) before after old new = Unit {0}
+IsUntouched (Err Memory) before after old new = Keeps before after × (new ≡ old)

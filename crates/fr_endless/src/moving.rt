@@ -1,0 +1,114 @@
+//! Windows and cycles of a world without history.
+ghost use Rattle.std.specs.Prelude.{◌≡◌};
+ghost use Rattle.fr_endless.specs.Alike.{Alike};
+ghost use Rattle.fr_playing.specs.Moving.{first_refusal, hindrance, DoesAll, MovesOn, is_at_cycle, EndsCycle};
+ghost use Rattle.fr_playing.specs.Moving.{RunsCycles};
+
+use crate::striking::strike_open;
+use crate::world::EndlessWorld;
+use fr_bus::live::LiveBus;
+use fr_bus::windows::opens_cycle;
+use fr_core::error::StepError;
+use fr_core::event::{Event, Reply};
+use fr_runs::fault_line::FaultLine;
+
+/// The greatest number of windows of a cycle: one for each of 1,023 static slots and 8,000 minislots.
+const MOST_WINDOWS: u32 = 9_023;
+
+/// Returns the first refusal that isn't `WrongTurn`: the one found before, or otherwise this one.
+fn first_refusal(found: Option<StepError>, answer: &Result<Reply, StepError>) -> Option<StepError>
+    ensures { result ≡ first_refusal found answer.now }
+{
+    match (found, answer) {
+        (Some(found), _) => Some(found),
+        (None, Ok(_)) => None,
+        (None, Err(StepError::WrongTurn)) => None,
+        (None, Err(error)) => Some(*error),
+    }
+}
+
+/// Returns the hindrance of the bus, from the answer of its advance and the refusal found before.
+fn hindrance(found: Option<StepError>, last: &Result<Reply, StepError>) -> Option<StepError>
+    ensures { result ≡ hindrance found last.now }
+{
+    match (last, found) {
+        (Ok(_), _) => None,
+        (Err(_), Some(found)) => Some(found),
+        (Err(error), None) => Some(*error),
+    }
+}
+
+/// Executes the events, and returns the first refusal that isn't `WrongTurn`.
+fn do_all(world: &mut EndlessWorld, events: &[Event]) -> Option<StepError>
+    ensures { Alike world.old (λ w v. DoesAll w events.now result v) world.new }
+{
+    let mut found = None;
+    for event in events {
+        let answer = world.step(event);
+        found = first_refusal(found, &answer);
+    }
+    found
+}
+
+/// Finishes the open window as `fr_playing::moving::finish_window` does, and returns the hindrance of the bus.
+pub(crate) fn finish_window(
+    world: &mut EndlessWorld,
+    faults: &[FaultLine],
+    events: &[Event],
+) -> Option<StepError>
+    ensures { Alike world.old (λ w v. MovesOn faults.now events.now w result v) world.new }
+{
+    strike_open(world, faults);
+    let found = do_all(world, events);
+    let last = world.step(&Event::Advance);
+    hindrance(found, &last)
+}
+
+/// Returns whether the open window is the first of its cycle, or the run is over.
+fn is_at_cycle(bus: &LiveBus) -> bool
+    ensures { result ≡ is_at_cycle bus.now.bus.opened }
+{
+    match bus.window() {
+        Some(window) => opens_cycle(&window),
+        None => true,
+    }
+}
+
+/// Executes windows until the first one of a cycle is open, and returns a hindrance of the bus before.
+fn finish_cycle(
+    world: &mut EndlessWorld,
+    faults: &[FaultLine],
+    events: &[Event],
+) -> Option<StepError>
+    ensures { Alike world.old (λ w v. EndsCycle faults.now events.now w result v) world.new }
+{
+    for count in 0..MOST_WINDOWS {
+        match finish_window(world, faults, events) {
+            Some(error) => return Some(error),
+            None => {}
+        }
+        if is_at_cycle(world.bus()) {
+            return None;
+        }
+    }
+    None
+}
+
+/// Executes this number of cycles as `fr_playing::moving::finish_cycles` does, and returns a hindrance of the bus
+/// before.
+pub(crate) fn finish_cycles(
+    world: &mut EndlessWorld,
+    faults: &[FaultLine],
+    events: &[Event],
+    cycles: u16,
+) -> Option<StepError>
+    ensures { Alike world.old (λ w v. RunsCycles faults.now events.now cycles w result v) world.new }
+{
+    for count in 0..cycles {
+        match finish_cycle(world, faults, events) {
+            Some(error) => return Some(error),
+            None => {}
+        }
+    }
+    None
+}

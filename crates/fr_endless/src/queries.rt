@@ -1,0 +1,115 @@
+//! Queries to a world without history, which change nothing.
+ghost use Rattle.std.specs.Prelude.{◌≡◌, slice_get};
+ghost use Rattle.fr_bus.specs.Standing.{bare};
+ghost use Rattle.fr_endless.specs.Alike.{Alike};
+ghost use Rattle.fr_endless.specs.Answers.{kept_report, if_numbered, no_history_text, IsReportOf};
+ghost use Rattle.fr_session.specs.Queries.{now_text, moved_text, IsBlock, IsRecordOf, Replies};
+ghost use Rattle.fr_text.specs.Writing.{Writes};
+
+use crate::report::write_kept_report;
+use crate::world::EndlessWorld;
+use fr_bus::error::Phase;
+use fr_bus::live::LiveBus;
+use fr_core::error::StepError;
+use fr_interface::state::InterfaceState;
+use fr_session::queries::{write_block, write_memory, write_sealed_block, write_unknown};
+use fr_session::replies::{write_refusal, write_window};
+use fr_slots::numbers::NodeId;
+use std::alloc::Global;
+use std::io;
+use std::io::Write;
+
+/// Writes the state of the bus.
+pub(crate) fn write_now<W: Write>(writer: &mut W, bus: &LiveBus) -> io::Result<()>
+    ensures { Writes W.contents writer.old writer.new result (now_text (bare bus.now.bus)) }
+{
+    let Some(window) = bus.window() else {
+        return writeln!(writer, "over");
+    };
+    match bus.phase() {
+        Phase::Sealed => write_window(writer, "sealed", &window),
+        Phase::Collect | Phase::Finished => write_window(writer, "open", &window),
+    }
+}
+
+/// Writes the state of the bus, or the hindrance.
+pub(crate) fn write_moved<W: Write>(
+    writer: &mut W,
+    bus: &LiveBus,
+    hindered: Option<StepError>,
+) -> io::Result<()>
+    ensures { Writes W.contents writer.old writer.new result (moved_text hindered (bare bus.now.bus)) }
+{
+    match hindered {
+        Some(error) => write_refusal(writer, error),
+        None => write_now(writer, bus),
+    }
+}
+
+/// Writes that there is no history.
+pub(crate) fn write_no_history<W: Write>(writer: &mut W) -> io::Result<()>
+    ensures { Writes W.contents writer.old writer.new result no_history_text }
+{
+    writeln!(writer, "refused NoHistory")
+}
+
+/// Writes the report of an interface with so many buffers as a block.
+fn write_report_block<W: Write>(
+    alloc: Global,
+    writer: &mut W,
+    interface: &InterfaceState,
+    count: u8,
+) -> io::Result<()>
+    ensures { Replies W.contents writer.old writer.new result (IsBlock (kept_report interface.now count)) }
+{
+    let mut block = Vec::new(alloc);
+    match write_kept_report(interface, count, &mut block) {
+        Ok(()) => write_block(writer, block.as_slice()),
+        Err(_) => write_memory(writer),
+    }
+}
+
+/// Returns the number at this place.
+fn count_at(buffers: &[u8], place: usize) -> Option<u8>
+    ensures { result ≡ slice_get buffers.now place }
+{
+    buffers.get(place).copied()
+}
+
+/// Writes the report of the node's interface as a block.
+pub(crate) fn write_node_report<W: Write>(
+    alloc: Global,
+    writer: &mut W,
+    world: &EndlessWorld,
+    node: NodeId,
+) -> io::Result<()>
+    ensures { Replies W.contents writer.old writer.new result (IsReportOf world.now node) }
+{
+    let place = usize::from(node.number());
+    let interfaces = world.interfaces();
+    if place < interfaces.len() {
+        match count_at(world.buffers(), place) {
+            Some(count) => write_report_block(alloc, writer, &interfaces[place], count),
+            None => write_unknown(writer),
+        }
+    } else {
+        write_unknown(writer)
+    }
+}
+
+/// Writes the window that was sealed last, if it has this number.
+pub(crate) fn write_last<W: Write>(
+    alloc: Global,
+    writer: &mut W,
+    bus: &LiveBus,
+    number: u32,
+) -> io::Result<()>
+    ensures { Replies W.contents writer.old writer.new result (IsRecordOf (if_numbered number bus.now.last)) }
+{
+    match bus.last() {
+        Some(sealed) if sealed.window.number == number => {
+            write_sealed_block(alloc, writer, sealed)
+        }
+        _ => writeln!(writer, "refused NoWindow"),
+    }
+}

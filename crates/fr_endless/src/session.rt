@@ -1,0 +1,224 @@
+//! An endless session: requests in, and a reply to each before the next is read.
+ghost use Rattle.std.specs.Prelude.{◌≡◌, OnOk, min};
+ghost use Rattle.fr_core.specs.Headline.{Headline};
+ghost use Rattle.fr_endless.specs.Alike.{Alike};
+ghost use Rattle.fr_endless.specs.Serving.{DoesAlike, DoesAlikeIf, IsUntouched, ServedEndless};
+ghost use Rattle.fr_live.specs.LiveWorlds.{ForEachWorld};
+ghost use Rattle.fr_session.specs.Queries.{Replies};
+ghost use Rattle.fr_session.specs.Reading.{asked_in};
+ghost use Rattle.fr_session.specs.Sessions.{terms_of};
+ghost use Rattle.fr_session.specs.TermsFields.{terms_in};
+
+use crate::moving::{finish_cycles, finish_window};
+use crate::queries::{write_last, write_moved, write_no_history, write_node_report, write_now};
+use crate::world::EndlessWorld;
+use fr_playing::moving::window_events;
+use fr_schedule::cluster::Cluster;
+use fr_session::error::SessionError;
+use fr_session::keeping::keep_line;
+use fr_session::kept::KeptLines;
+use fr_session::lines::{Line, next_line};
+use fr_session::reading::request_of;
+use fr_session::replies::{write_answer, write_bad_line, write_done};
+use fr_session::request::Request;
+use fr_session::session::{Terms, greet};
+use std::alloc::Global;
+use std::io;
+use std::io::{BufRead, Write};
+
+/// The cycles that a fault line can name are 0 to 1023.
+const NAMED_CYCLES: u32 = 1_024;
+
+/// The state that a session keeps from line to line: the fault lines, and room for a line.
+#[derive(Drop)]
+struct EndlessSession {
+    faults: KeptLines,
+    line: Line,
+}
+
+/// Executes the request, and writes the reply.
+fn do_request<W: Write>(
+    terms: &Terms<'_>,
+    faults: &mut KeptLines,
+    world: &mut EndlessWorld,
+    request: Request,
+    writer: &mut W,
+) -> io::Result<()>
+    ensures { Replies W.contents writer.old writer.new result (λ reply. DoesAlike (terms_in terms.now)
+        world.old faults.old request reply world.new faults.new) }
+{
+    match request {
+        Request::Event(event) => {
+            let answer = world.step(&event);
+            write_answer(writer, &answer)
+        }
+        Request::Fault(line) => keep_line(terms.cluster, terms.cycles, faults, line, writer),
+        Request::Forget => {
+            faults.clear();
+            write_done(writer)
+        }
+        Request::Window => {
+            let hindered = finish_window(world, faults.as_slice(), terms.events);
+            write_moved(writer, world.bus(), hindered)
+        }
+        Request::Run(cycles) => {
+            let hindered = finish_cycles(world, faults.as_slice(), terms.events, cycles);
+            write_moved(writer, world.bus(), hindered)
+        }
+        Request::Now => write_now(writer, world.bus()),
+        Request::Report(node) => write_node_report(terms.alloc, writer, world, node),
+        Request::Trace(_) => write_no_history(writer),
+        Request::Origin(_) => write_no_history(writer),
+        Request::Record(window) => write_last(terms.alloc, writer, world.bus(), window),
+    }
+}
+
+/// Executes the request of the line of this number, and writes the reply.
+fn answer_line<W: Write>(
+    terms: &Terms<'_>,
+    faults: &mut KeptLines,
+    world: &mut EndlessWorld,
+    line: &[u8],
+    number: u64,
+    writer: &mut W,
+) -> io::Result<()>
+    ensures { Replies W.contents writer.old writer.new result (λ reply. DoesAlikeIf (terms_in terms.now)
+        world.old faults.old number (asked_in line.now) reply world.new faults.new) }
+{
+    match request_of(line) {
+        Some(request) => do_request(terms, faults, world, request, writer),
+        None => write_bad_line(writer, number),
+    }
+}
+
+impl EndlessSession {
+    ghost use Rattle.std.specs.Prelude.{◌≡◌, IfOk, IfErr, OnOk};
+    ghost use Rattle.fr_core.specs.Headline.{Headline};
+    ghost use Rattle.fr_endless.specs.Alike.{Alike};
+    ghost use Rattle.fr_endless.specs.Serving.{AnswersNextAlike, DoesAlikeIf, Served};
+    ghost use Rattle.fr_live.specs.LiveWorlds.{ForEachWorld};
+    ghost use Rattle.fr_session.specs.Queries.{Replies};
+    ghost use Rattle.fr_session.specs.Reading.{asked_in};
+    ghost use Rattle.fr_session.specs.Sessions.{IsOfStream, state_of};
+    ghost use Rattle.fr_session.specs.TermsFields.{terms_in};
+
+    /// Answers the line that was read, which has this number, and flushes the reply.
+    fn answer<W: Write>(
+        &mut self,
+        terms: &Terms<'_>,
+        world: &mut EndlessWorld,
+        number: u64,
+        writer: &mut W,
+    ) -> io::Result<()>
+        ensures { Replies W.contents writer.old writer.new result (λ reply. DoesAlikeIf (terms_in terms.now)
+            world.old self.old.faults number (asked_in self.old.line.items) reply world.new self.new.faults) }
+    {
+        let line = self.line.as_slice();
+        answer_line(terms, &mut self.faults, world, line, number, writer)?;
+        writer.flush()
+    }
+
+    /// Answers the next line, if there is a whole one. Returns whether there was.
+    fn answer_next<R: BufRead, W: Write>(
+        &mut self,
+        terms: &Terms<'_>,
+        world: &mut EndlessWorld,
+        number: u64,
+        reader: &mut R,
+        writer: &mut W,
+    ) -> Result<bool, SessionError>
+        ensures answers { IfOk result (λ more. AnswersNextAlike (terms_in terms.now) more (R.remaining reader.old)
+            (R.remaining reader.new) (W.contents writer.old) (W.contents writer.new) number
+            world.old self.old.faults world.new self.new.faults) }
+        ensures early { IfErr result IsOfStream }
+    {
+        match next_line(reader, &mut self.line) {
+            Ok(true) => {}
+            Ok(false) => return Ok(false),
+            Err(_) => return Err(SessionError::Read),
+        }
+        match self.answer(terms, world, number, writer) {
+            Ok(()) => Ok(true),
+            Err(_) => Err(SessionError::Write),
+        }
+    }
+
+    /// Writes the first line, and answers each line of the reader.
+    fn answer_all<R: BufRead, W: Write>(
+        &mut self,
+        terms: &Terms<'_>,
+        world: &mut EndlessWorld,
+        reader: &mut R,
+        writer: &mut W,
+    ) -> Result<(), SessionError>
+        ensures served { OnOk result (Alike world.old (λ w v. Served (terms_in terms.now) (R.remaining reader.old)
+            (W.contents writer.old) (W.contents writer.new) (state_of w self.old.faults)
+            (state_of v self.new.faults)) world.new) }
+        ensures headline { ForEachWorld world.new Headline }
+        ensures early { IfErr result IsOfStream }
+    {
+        // For the prover: the clause of this call.
+        world.known();
+        if greet(writer).is_err() {
+            return Err(SessionError::Write);
+        }
+        for number in 1..u64::MAX {
+            let answered = self.answer_next(terms, world, number, reader, writer);
+            // For the prover: the clause of this call.
+            world.known();
+            match answered {
+                Ok(true) => {}
+                Ok(false) => return Ok(()),
+                Err(error) => return Err(error),
+            }
+        }
+        // For the prover: the clause of this call.
+        world.known();
+        Err(SessionError::Read)
+    }
+}
+
+/// Writes the session's first line, `frworld 1`, and answers each line of the reader, as `fr_session::session::serve`
+/// does with a world that keeps its history (project-defined). The cluster must be the world's, and the number of
+/// cycles that of the opening of the world.
+///
+/// Every reply is that of the session with history, with these exceptions. `trace` and `origin` are answered with
+/// `refused NoHistory`. `record` answers for the window that was sealed last alone, and is otherwise refused with
+/// `NoWindow`.
+///
+/// A fault line names cycles 0 to 1023 of the run, or each cycle. It must suit a run of so many cycles, at most 1,024.
+/// A line that names each cycle takes effect in all of the run.
+///
+/// Ends early as that session does.
+pub fn serve_endless<R: BufRead, W: Write>(
+    alloc: Global,
+    cluster: &Cluster,
+    cycles: u32,
+    world: &mut EndlessWorld,
+    reader: &mut R,
+    writer: &mut W,
+) -> Result<(), SessionError>
+    // Each world with its history that leads to the data is served so, and then leads to the data after the session.
+    ensures served { OnOk result (Alike world.old (λ w v. ServedEndless (terms_of cluster.now (min cycles 1024))
+        (R.remaining reader.old) (W.contents writer.old) (W.contents writer.new) w v) world.new) }
+    // A failed allocation ends the session only before its first line.
+    ensures memory { IsUntouched result (W.contents writer.old) (W.contents writer.new) world.old world.new }
+    ensures headline { ForEachWorld world.new Headline }
+{
+    let Ok(events) = window_events(alloc, cluster.nodes()) else {
+        // For the prover: the clause of this call.
+        world.known();
+        return Err(SessionError::Memory);
+    };
+    let terms = Terms {
+        alloc,
+        events: events.as_slice(),
+        cluster,
+        cycles: cycles.min(NAMED_CYCLES) as u16,
+    };
+    let mut session = EndlessSession {
+        faults: KeptLines::new(alloc),
+        line: Line::new(),
+    };
+    session.answer_all(&terms, world, reader, writer)
+}

@@ -1,0 +1,69 @@
+//! The faults of a window, injected into a world without history.
+ghost use Rattle.std.specs.Prelude.{◌≡◌};
+ghost use Rattle.std.specs.List.{flat_map};
+ghost use Rattle.fr_endless.specs.Alike.{Alike, run_cycle_by};
+ghost use Rattle.fr_playing.specs.Moving.{Strikes};
+ghost use Rattle.fr_playing.specs.Striking.{strike_events, Tries};
+ghost use Rattle.fr_runs.specs.Striking.{strikes};
+
+use crate::world::EndlessWorld;
+use fr_bus::live::LiveBus;
+use fr_bus::windows::opens_cycle;
+use fr_core::event::Event;
+use fr_runs::fault_line::{FaultCycles, FaultLine};
+use fr_slots::window::Window;
+
+/// Returns whether the fault occurs in this window of this cycle of the run, whose number may have more than 16 bits.
+fn strikes(line: &FaultLine, cycle: u32, window: &Window) -> bool
+    ensures { result ≡ strikes line.now cycle window.now }
+{
+    // A line of each cycle occurs in the window as it does in cycle 0.
+    match line.cycles {
+        FaultCycles::Every => line.strikes(0, window),
+        FaultCycles::Only(only) => u32::from(only) == cycle && line.strikes(only, window),
+    }
+}
+
+/// Injects the line's fault into the open window, if it occurs there.
+fn strike(world: &mut EndlessWorld, cycle: u32, window: &Window, line: &FaultLine)
+    ensures { Alike world.old (λ w v. Tries w (strike_events cycle window.now line.now) v) world.new }
+{
+    if strikes(line, cycle, window) {
+        // A fault of the window stays, if it has the same kind, node and channel.
+        let _struck = world.step(&Event::Inject(line.fault.duplicate()));
+    }
+}
+
+/// Injects the faults of the open window, in the order of their lines.
+fn strike_all(world: &mut EndlessWorld, cycle: u32, window: &Window, faults: &[FaultLine])
+    ensures { Alike world.old (λ w v. Tries w (flat_map (strike_events cycle window.now) faults.now) v) world.new }
+{
+    for line in faults {
+        strike(world, cycle, window, line);
+    }
+}
+
+/// Returns the number of the run's cycle in which the open window lies. The window isn't sealed.
+fn run_cycle_of(bus: &LiveBus, window: &Window) -> u32
+    ensures { result ≡ run_cycle_by bus.now.bus.course.begun window.now }
+{
+    let begun = bus.cycles_begun();
+    if opens_cycle(window) {
+        begun
+    } else {
+        begun.saturating_sub(1)
+    }
+}
+
+/// Injects the faults of the open window, unless it is sealed.
+pub(crate) fn strike_open(world: &mut EndlessWorld, faults: &[FaultLine])
+    ensures { Alike world.old (λ w v. Strikes faults.now w v) world.new }
+{
+    match world.bus().collecting() {
+        Some(window) => {
+            let cycle = run_cycle_of(world.bus(), &window);
+            strike_all(world, cycle, &window, faults);
+        }
+        None => {}
+    }
+}

@@ -1,0 +1,118 @@
+//! The world of an endless session.
+ghost use Rattle.std.specs.Prelude.{◌≡◌, IfOk};
+ghost use Rattle.fr_endless.specs.Alike.{buffers_in};
+
+use fr_bus::error::BusError;
+use fr_bus::live::{LIVE_CYCLES, LiveBus};
+use fr_core::error::StepError;
+use fr_core::event::{Event, Reply};
+use fr_interface::state::InterfaceState;
+use fr_live::room::Room;
+use fr_live::world::LiveWorld;
+use fr_schedule::cluster::Cluster;
+use fr_slots::plan::NodePlan;
+use std::alloc::{AllocError, Global};
+use std::marker::Model;
+
+/// A world without history, and the number of buffers of each node (project-defined).
+#[derive(Drop)]
+pub struct EndlessWorld {
+    world: LiveWorld,
+    // An `InterfaceState` doesn't return its plan.
+    buffers: Vec<u8>,
+}
+
+impl Model for EndlessWorld {
+    ghost use Rattle.std.specs.Prelude.{◌≡◌};
+    ghost use Rattle.fr_core.specs.Worlds.{WorldState};
+    ghost use Rattle.fr_endless.specs.Alike.{buffers_in};
+    ghost use Rattle.fr_live.specs.LiveWorlds.{LiveState, IsWorldHistory};
+
+    ghost Value = { LiveState };
+
+    ghost view = { λ w. w.world };
+
+    ghost invariant = { λ w. (v : WorldState) × IsWorldHistory w.world v
+        × (w.buffers.items ≡ buffers_in v.bus.cluster.plans) };
+}
+
+/// Returns the greatest number of cycles of a run of the cluster without history, at most 4,000,000 (project-defined).
+pub fn greatest_cycles(cluster: &Cluster) -> u32 {
+    let params = cluster.params();
+    let opportunities = u32::from(params.static_slots) + u32::from(params.minislots);
+    LIVE_CYCLES.min(u32::MAX / opportunities.max(1))
+}
+
+/// Returns the number of buffers of each plan.
+fn buffers_of(alloc: Global, plans: &[NodePlan]) -> Result<Vec<u8>, AllocError>
+    ensures { IfOk result (λ buffers. buffers.items ≡ buffers_in plans.now) }
+{
+    let mut buffers = Vec::new(alloc);
+    for plan in plans {
+        buffers.push(plan.buffers().len() as u8)?;
+    }
+    Ok(buffers)
+}
+
+impl EndlessWorld {
+    ghost use Rattle.std.specs.Prelude.{◌≡◌};
+    ghost use Rattle.fr_core.specs.Headline.{Headline};
+    ghost use Rattle.fr_endless.specs.Alike.{buffers_each};
+    ghost use Rattle.fr_live.specs.LiveSteps.{StepsAlike};
+    ghost use Rattle.fr_live.specs.LiveWorlds.{OpensLiveWorld, ForEachWorld};
+
+    /// Returns the opening world of a cluster, as `LiveWorld::new` does. Fails as that does.
+    pub fn new(
+        alloc: Global,
+        cluster: &Cluster,
+        cycles: u32,
+        room: &Room,
+    ) -> Result<EndlessWorld, BusError>
+        ensures { OpensLiveWorld cluster.now cycles room.now result }
+    {
+        let world = match LiveWorld::new(alloc, cluster, cycles, room) {
+            Ok(world) => world,
+            Err(error) => return Err(error),
+        };
+        match buffers_of(alloc, cluster.plans()) {
+            Ok(buffers) => Ok(EndlessWorld { world, buffers }),
+            Err(_) => Err(BusError::Memory),
+        }
+    }
+
+    /// Executes one event, as `LiveWorld::step` does, and fails as that does.
+    pub fn step(&mut self, event: &Event) -> Result<Reply, StepError>
+        ensures { StepsAlike self.old event.now result self.new }
+    {
+        self.world.step(event)
+    }
+
+    /// Returns the data of the interfaces, in the order of the nodes.
+    pub fn interfaces(&self) -> &[InterfaceState]
+        ensures { result.now ≡ self.now.interfaces }
+    {
+        self.world.interfaces()
+    }
+
+    /// Returns the number of buffers of each interface, in the order of the nodes.
+    pub fn buffers(&self) -> &[u8]
+        ensures { ForEachWorld self.now (λ w. result.now ≡ buffers_each w.interfaces) }
+    {
+        self.buffers.as_slice()
+    }
+
+    /// Returns the bus.
+    pub fn bus(&self) -> &LiveBus
+        ensures { result.now ≡ self.now.bus }
+    {
+        self.world.bus()
+    }
+
+    /// States the headline promise of each world that leads to the data, and has no effect (project-defined).
+    pub fn known(&self)
+        ensures headline { ForEachWorld self.now Headline }
+    {
+        // For the prover: the clause of this call.
+        self.world.known();
+    }
+}
