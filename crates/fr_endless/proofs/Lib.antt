@@ -1,4 +1,5 @@
 pub mod AlikeLemmas
+pub mod CycleLemmas
 pub mod MovingLemmas
 pub mod ReportLemmas
 pub mod ReplyLemmas

@@ -1,5 +1,6 @@
 //! The world of an endless session.
-ghost use Rattle.std.specs.Prelude.{◌≡◌, IfOk};
+ghost use Rattle.std.specs.Prelude.{◌≡◌, ◌≤◌, ℕ, true, IfOk};
+ghost use Rattle.fr_bus.specs.Live.{cycles_suit};
 ghost use Rattle.fr_endless.specs.Alike.{buffers_in};
 
 use fr_bus::error::BusError;
@@ -37,7 +38,10 @@ impl Model for EndlessWorld {
 }
 
 /// Returns the greatest number of cycles of a run of the cluster without history, at most 4,000,000 (project-defined).
-pub fn greatest_cycles(cluster: &Cluster) -> u32 {
+pub fn greatest_cycles(cluster: &Cluster) -> u32
+    ensures suits { cycles_suit cluster.now.params result ≡ true }
+    ensures greatest { (cycles : ℕ) → cycles_suit cluster.now.params cycles ≡ true → cycles ≤ result }
+{
     let params = cluster.params();
     let opportunities = u32::from(params.static_slots) + u32::from(params.minislots);
     LIVE_CYCLES.min(u32::MAX / opportunities.max(1))
