@@ -1,0 +1,5 @@
+pub mod StepLemmas
+pub mod MoveLemmas
+pub mod PlayLemmas
+pub mod SessionLemmas
+pub mod SpelledLemmas
