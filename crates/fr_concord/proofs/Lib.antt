@@ -3,3 +3,4 @@ pub mod MoveLemmas
 pub mod PlayLemmas
 pub mod SessionLemmas
 pub mod SpelledLemmas
+pub mod RepliedLemmas

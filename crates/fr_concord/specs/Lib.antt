@@ -1,2 +1,3 @@
 pub mod Determined
 pub mod Spelled
+pub mod Replied
