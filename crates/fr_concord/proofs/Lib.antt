@@ -4,3 +4,5 @@ pub mod PlayLemmas
 pub mod SessionLemmas
 pub mod SpelledLemmas
 pub mod RepliedLemmas
+pub mod CycleLemmas
+pub mod StartLemmas

@@ -1,3 +1,5 @@
 pub mod Determined
 pub mod Spelled
 pub mod Replied
+pub mod Cycles
+pub mod Starts

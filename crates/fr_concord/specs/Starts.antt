@@ -1,0 +1,65 @@
+-- The macroticks at which static slots and minislots begin, in pictures, captures and latencies, against the layout of
+-- the cycle (project-defined).
+use Rattle.std.specs.Prelude.{◌≡◌, ℕ, ◌+◌, ◌-◌, ◌*◌, ◌≤◌, ◌<◌, true, false, Contains, Some}
+use Rattle.fr_capture.specs.Moments.{start_of as start_in_capture}
+use Rattle.fr_core.specs.Worlds.{WorldState}
+use Rattle.fr_exactness.specs.Delays.{run_cycle, start_of as start_in_run}
+use Rattle.fr_picture.specs.Owners.{start_of as start_in_picture, end_of as end_in_picture}
+use Rattle.fr_slots.specs.Parameters.{Parameters}
+use Rattle.fr_slots.specs.Windows.{Opportunity, is_static}
+use Rattle.fr_timing.specs.Layout.{Interval, layout, static_slot, minislot}
+use Rattle.fr_timing.specs.Segments.{dynamic_start}
+
+-- ---- in the cycle
+
+-- a static slot in the picture of a cycle is its interval of the layout
+abbrev pub ArePicturedSlots : Type 0
+ArePicturedSlots = (p : Parameters) (slot : ℕ) → 1 ≤ slot → slot ≤ p.static_slots
+    → Contains (layout p) (record { part = static_slot slot; start = start_in_picture p slot; end = end_in_picture p slot })
+
+-- the window is that of a static slot, or begins at a minislot, and such a part of the cycle has a length
+pub record IsSlotWindow (p : Parameters) (w : Opportunity) (slot : ℕ) : Type 0 where
+  pub static_is : is_static w ≡ true
+  pub slot_is : w.a ≡ Some slot
+  pub from_one : 1 ≤ slot
+  pub at_most : slot ≤ p.static_slots
+  pub some_length : 0 < p.static_mt
+
+pub record IsMinislotWindow (p : Parameters) (w : Opportunity) : Type 0 where
+  pub dynamic_is : is_static w ≡ false
+  pub from_one : 1 ≤ w.minislot
+  pub at_most : w.minislot ≤ p.minislots
+  pub some_length : 0 < p.minislot_mt
+
+-- a capture counts the time of a window from the start of its interval in the layout
+pub record IsPlacedAt (p : Parameters) (macrotick : ℕ) (interval : Interval) : Type 0 where
+  pub of_layout : Contains (layout p) interval
+  pub start_is : interval.start ≡ macrotick
+
+abbrev pub AreCapturedSlots : Type 0
+AreCapturedSlots = (p : Parameters) (w : Opportunity) (slot : ℕ) → IsSlotWindow p w slot
+    → IsPlacedAt p (start_in_capture p w)
+    (record { part = static_slot slot; start = start_in_picture p slot; end = end_in_picture p slot })
+
+abbrev pub minislot_start : Parameters → ℕ → ℕ
+minislot_start p number = dynamic_start p + (number - 1) * p.minislot_mt
+
+abbrev pub AreCapturedMinislots : Type 0
+AreCapturedMinislots = (p : Parameters) (w : Opportunity) → IsMinislotWindow p w
+    → IsPlacedAt p (start_in_capture p w)
+    (record { part = minislot w.minislot; start = minislot_start p w.minislot; end = minislot_start p w.minislot + p.minislot_mt })
+
+-- ---- in the run
+
+-- a latency is counted between macroticks of the run: those of the cycles before, and that of the capture
+abbrev pub AreStartsOfRun : Type 0
+AreStartsOfRun = (world : WorldState) (w : Opportunity) (slot : ℕ)
+    → IsSlotWindow world.bus.cluster.params w slot
+    → start_in_run world w slot ≡ run_cycle world w * world.bus.cluster.params.cycle_mt
+    + start_in_capture world.bus.cluster.params w
+
+abbrev pub AreMinislotsOfRun : Type 0
+AreMinislotsOfRun = (world : WorldState) (w : Opportunity) (slot : ℕ)
+    → IsMinislotWindow world.bus.cluster.params w
+    → start_in_run world w slot ≡ run_cycle world w * world.bus.cluster.params.cycle_mt
+    + start_in_capture world.bus.cluster.params w
