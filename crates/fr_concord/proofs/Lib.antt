@@ -6,3 +6,4 @@ pub mod SpelledLemmas
 pub mod RepliedLemmas
 pub mod CycleLemmas
 pub mod StartLemmas
+pub mod PlanRowLemmas

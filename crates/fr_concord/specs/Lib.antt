@@ -3,3 +3,4 @@ pub mod Spelled
 pub mod Replied
 pub mod Cycles
 pub mod Starts
+pub mod PlanRows
