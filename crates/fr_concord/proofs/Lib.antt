@@ -7,3 +7,4 @@ pub mod RepliedLemmas
 pub mod CycleLemmas
 pub mod StartLemmas
 pub mod PlanRowLemmas
+pub mod RisingLemmas

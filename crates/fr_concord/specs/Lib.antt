@@ -4,3 +4,4 @@ pub mod Replied
 pub mod Cycles
 pub mod Starts
 pub mod PlanRows
+pub mod Rising
