@@ -8,3 +8,4 @@ pub mod CycleLemmas
 pub mod StartLemmas
 pub mod PlanRowLemmas
 pub mod RisingLemmas
+pub mod ReceiverLemmas

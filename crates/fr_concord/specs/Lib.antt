@@ -5,3 +5,4 @@ pub mod Cycles
 pub mod Starts
 pub mod PlanRows
 pub mod Rising
+pub mod Receivers

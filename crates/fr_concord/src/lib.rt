@@ -9,6 +9,7 @@
 //! - `PlanRows`: the rows of a plan, against the sender table.
 //! - `Cycles`: the cycle of the run to which a window or a call belongs.
 //! - `Starts`: the macroticks at which static slots and minislots begin.
+//! - `Rising`: the times of a capture.
 //!
 //! # Laws
 //!
@@ -21,4 +22,5 @@
 //! - `CycleLemmas`: `window_cycles`, `sent_cycles`, `call_cycles`. All definitions of a cycle of the run agree.
 //! - `StartLemmas`: `pictured_slots`, `captured_slots`, `captured_minislots`, `starts_of_run`, `minislots_of_run`.
 //!   Pictures, captures and latencies count from the starts of the layout.
+//! - `RisingLemmas`: `captures_rising`. The observations of a legal interface have rising times.
 #![tactic(auto)]
