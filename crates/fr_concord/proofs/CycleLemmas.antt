@@ -1,6 +1,6 @@
 -- All definitions of a cycle of the run name the same one.
-use Rattle.std.proofs.Common.{◌≡◌, ℕ, zero, suc, ◌+◌, ◌-◌, ◌%◌, Bool, true, false, cond, List, [], ◌∷◌, ◌++◌, length, map}
-use Rattle.std.proofs.Common.{take, Option, Some, None, refl, sym, ap, subst, ◌∙◌, arith, count_by, append_assoc}
+use Rattle.std.proofs.Common.{◌≡◌, ℕ, suc, ◌+◌, ◌-◌, ◌%◌, Bool, true, false, cond, List, [], ◌∷◌, ◌++◌, length}
+use Rattle.std.proofs.Common.{take, refl, sym, ap, ◌∙◌, arith, count_by, append_assoc}
 use Rattle.std.proofs.Math.Seq.{take-append_seam, take-append-add}
 use Rattle.std.proofs.lemmas.Grind.{flat_map-append}
 use Rattle.std.proofs.lemmas.List.{take-map}
@@ -9,20 +9,16 @@ use Rattle.std.specs.List.{flat_map}
 use Rattle.std.specs.Prelude.{option_to_list}
 use Rattle.fr_bus.specs.Record.{Recorded}
 use Rattle.fr_bus.specs.Windows.{opens_cycle, begins_cycle, cycles_begun}
-use Rattle.fr_core.specs.Accounts.{begins_cycle_at, recorded_cycle, run_cycle}
+use Rattle.fr_core.specs.Accounts.{begins_cycle_at}
 use Rattle.fr_core.specs.Settling.{fetched_window, fetches_at, windows_fetched, windows_of}
-use Rattle.fr_core.specs.Worlds.{WorldState}
-use Rattle.fr_exactness.specs.Delays.{run_cycle as cycle_of_delay}
 use Rattle.fr_interface.specs.State.{State}
 use Rattle.fr_journal.specs.declared.entry.Entry.TheVariants.{Commit, Withdraw, Read, Pop, Fetch, Observe}
-use Rattle.fr_journal.specs.declared.entry.Offered.{Offered}
 use Rattle.fr_journal.specs.Forms.{Entry}
-use Rattle.fr_playing.specs.Moving.{run_cycle_after}
-use Rattle.fr_runs.specs.Stepping.{is_fetch, IsInStep}
+use Rattle.fr_runs.specs.Stepping.{is_fetch}
 use Rattle.fr_showing.specs.Fates.{cycles_of}
 use Rattle.fr_slots.specs.History.{each_after}
 use Rattle.fr_slots.specs.Windows.{Opportunity}
-use Rattle.fr_concord.specs.Cycles.{IsOneCycle, AreWindowCycles, AreSentCycles, AreCallCycles}
+use Rattle.fr_concord.specs.Cycles.{AreWindowCycles, AreSentCycles, AreCallCycles}
 
 -- ---- counts
 
@@ -32,7 +28,8 @@ one_if b = cond b 1 0
 count_cons : {A : Type 0} (p : A → Bool) (x : A) (xs : List A) → count_by p (x ∷ xs) ≡ one_if (p x) + count_by p xs
 count_cons p x xs = sum_by-cons (λ y. one_if (p y)) x xs
 
-count_last : {A : Type 0} (p : A → Bool) (xs : List A) (x : A) → count_by p (xs ++ x ∷ []) ≡ count_by p xs + one_if (p x)
+count_last : {A : Type 0} (p : A → Bool) (xs : List A) (x : A)
+    → count_by p (xs ++ x ∷ []) ≡ count_by p xs + one_if (p x)
 count_last p xs x =
     let both = sum_by-append (λ y. one_if (p y)) xs (x ∷ []) in
     let one = count_cons p x [] in

@@ -1,8 +1,7 @@
 -- Windows and cycles that nothing hinders determine the world after them.
-use Rattle.std.proofs.Common.{◌≡◌, ℕ, zero, suc, ◌+◌, ◌-◌, ◌<◌, ◌≤◌, Bool, true, false, ◌⊎◌, inl, inr, List, []}
-use Rattle.std.proofs.Common.{◌∷◌, ◌++◌, Option, Some, None, Ok, Err, refl, sym, ap, subst, ◌∙◌, arith}
+use Rattle.std.proofs.Common.{◌≡◌, ℕ, zero, suc, ◌<◌, Bool, true, false, inl, inr, List}
+use Rattle.std.proofs.Common.{Option, Some, None, Ok, Err, refl, sym, ap, subst, ◌∙◌, arith}
 use Rattle.std.proofs.lemmas.Bool.{cases_lt}
-use Rattle.std.specs.List.{fold}
 use Rattle.fr_bus.specs.States.{collects, collecting_of}
 use Rattle.fr_core.specs.declared.error.StepError.{StepError}
 use Rattle.fr_core.specs.declared.event.Event.{Event}
@@ -11,7 +10,7 @@ use Rattle.fr_core.specs.Runs.{Answer, StepsAll}
 use Rattle.fr_core.specs.Steps.{Steps, step_done}
 use Rattle.fr_core.specs.Worlds.{WorldState}
 use Rattle.fr_runs.specs.declared.fault_line.FaultLine.{FaultLine}
-use Rattle.fr_playing.specs.Moving.{first_refusal, hindrance, DoesAll, Strikes, MovesOn, struck_events, WithinCycle}
+use Rattle.fr_playing.specs.Moving.{hindrance, Strikes, MovesOn, struck_events, WithinCycle}
 use Rattle.fr_playing.specs.Moving.{is_at_cycle, most_windows, LastWindow, EndsCycle, PassesCycles}
 use Rattle.fr_concord.specs.Determined.{HasShortCycles}
 use Rattle.fr_concord.proofs.StepLemmas.{plain_steps, seals_last, two_lists, struck_plain, advance_sealed}

@@ -1,22 +1,19 @@
 -- The scenario of a single-threaded run determines its calls and its world.
-use Rattle.std.proofs.Common.{◌≡◌, ℕ, zero, suc, ◌+◌, ◌<◌, Bool, true, false, inl, inr, List, [], ◌∷◌, ◌++◌, length}
-use Rattle.std.proofs.Common.{map, Option, Some, None, Ok, Err, refl, sym, ap, subst, ◌∙◌, arith, slice_get}
+use Rattle.std.proofs.Common.{◌≡◌, ℕ, zero, suc, ◌<◌, Bool, true, false, inl, inr, List, [], ◌∷◌, ◌++◌, length}
+use Rattle.std.proofs.Common.{map, Some, refl, sym, ap, subst, ◌∙◌, arith, slice_get}
 use Rattle.std.proofs.lemmas.Bool.{cases_lt}
 use Rattle.fr_core.specs.declared.event.Event.{Event}
 use Rattle.fr_core.specs.declared.event.Reply.{Reply}
 use Rattle.fr_core.specs.Scripts.{Scripted}
-use Rattle.fr_core.specs.Steps.{Steps, event_of, step_done, step_reply}
+use Rattle.fr_core.specs.Steps.{event_of, step_done, step_reply}
 use Rattle.fr_core.specs.Worlds.{WorldState, opening_world}
-use Rattle.fr_interface.specs.declared.call.Call.{Call}
 use Rattle.fr_runs.specs.declared.fault_line.FaultLine.{FaultLine}
-use Rattle.fr_playing.specs.Calls.{Asked, asked_of, asked_in, entries_in, DoesCall, DoesCalls}
+use Rattle.fr_playing.specs.Calls.{Asked, asked_of, entries_in, DoesCall, DoesCalls}
 use Rattle.fr_playing.specs.declared.call.ExecutedCall.{ExecutedCall}
-use Rattle.fr_playing.specs.declared.play.Played.{Played}
 use Rattle.fr_playing.specs.Moving.{is_at_cycle, whole_window}
-use Rattle.fr_playing.specs.Playing.{PlaysCycle, PlaysCycles, IsPlayed}
+use Rattle.fr_playing.specs.Playing.{PlaysCycle, PlaysCycles}
 use Rattle.fr_playing.specs.Striking.{Passes}
 use Rattle.fr_playing.specs.Windows.{played_events, PlaysWindow, PlaysWithin, PlaysWindows}
-use Rattle.fr_schedule.specs.Descriptions.{Description}
 use Rattle.fr_slots.specs.Windows.{Opportunity}
 use Rattle.fr_concord.specs.Determined.{AreRunsDetermined}
 
@@ -138,7 +135,7 @@ call_same : (old : WorldState) (x y : ExecutedCall) (v w : WorldState) → asked
     → DoesCall old x v → DoesCall old y w → (x ≡ y) × (v ≡ w)
 call_same old x y v w asked first second = (
   call_is old x v first
-  ∙ ap (λ (a : Asked). done_by a (entry_of old a) (reply_to old a)) asked ∙ sym (call_is old y w second),
+      ∙ ap (λ (a : Asked). done_by a (entry_of old a) (reply_to old a)) asked ∙ sym (call_is old y w second),
   first.0.2 ∙ ap (λ (a : Asked). after_asked old a) asked ∙ sym second.0.2,
 )
 
@@ -183,7 +180,7 @@ cycles_same scripts faults due (suc n) old xs ys v w first second =
     let other = subst (λ (u : WorldState). PlaysCycle n scripts faults due u later' w) (sym start.1) cycle' in
     let here = cycle_same n scripts faults due mid later later' v w cycle other in (
       are ∙ ap (λ (l : List ExecutedCall). l ++ later) start.0
-      ∙ ap (λ (l : List ExecutedCall). before' ++ l) here.0 ∙ sym are',
+          ∙ ap (λ (l : List ExecutedCall). before' ++ l) here.0 ∙ sym are',
       here.1,
     )
 

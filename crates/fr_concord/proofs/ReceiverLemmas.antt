@@ -1,20 +1,19 @@
 -- Tables and `commits` name the receivers that journals have.
-use Rattle.std.proofs.Common.{◌≡◌, ◌↔◌, ℕ, ◌+◌, Bool, true, false, cond, ◌&&◌, List, [], ◌∷◌, ◌++◌, length, map, Option}
-use Rattle.std.proofs.Common.{Some, None, refl, sym, ap, subst, ◌∙◌, option_map, is_some}
+use Rattle.std.proofs.Common.{◌≡◌, ℕ, ◌+◌, Bool, true, false, cond, ◌&&◌, List, [], ◌∷◌, ◌++◌, length, map, Option}
+use Rattle.std.proofs.Common.{Some, None, refl, sym, ap, ◌∙◌, option_map, is_some}
 use Rattle.std.proofs.lemmas.Bool.{and_parts}
 use Rattle.std.proofs.lemmas.List.{map-append}
 use Rattle.std.specs.Option.{option_or, option_and_then}
 use Rattle.std.specs.Prelude.{option_to_list}
-use Rattle.fr_bus.specs.Record.{Recorded, seen_by}
+use Rattle.fr_bus.specs.Record.{seen_by}
 use Rattle.fr_capture.specs.declared.takers.Taker.{Taker}
-use Rattle.fr_capture.specs.Takers.{taker_if, buffers_from, takers_of}
+use Rattle.fr_capture.specs.Takers.{taker_if, buffers_from}
 use Rattle.fr_capture.specs.Taking.{is_from, buffer_takes, queue_takes}
 use Rattle.fr_frame.specs.Fields.{Fields}
-use Rattle.fr_journal.specs.Arrivals.{is_for_queue, queue_arrival_on}
+use Rattle.fr_journal.specs.Arrivals.{is_for_queue}
 use Rattle.fr_journal.specs.Counts.{seen_on}
 use Rattle.fr_journal.specs.declared.entry.Arrival.{Arrival}
 use Rattle.fr_journal.specs.declared.entry.Entry.TheVariants.{Observe}
-use Rattle.fr_journal.specs.declared.entry.Origin.{Origin}
 use Rattle.fr_journal.specs.Forms.{Entry}
 use Rattle.fr_journal.specs.Held.{data_frame_seen, arrival_of, arrival_on, arrival_in, arrival_at, held}
 use Rattle.fr_journal.specs.OpenWindow.{open_window}
@@ -24,9 +23,8 @@ use Rattle.fr_slots.specs.declared.channel.Channel.{Channel}
 use Rattle.fr_slots.specs.declared.channel.Channel.TheVariants.{A, B}
 use Rattle.fr_slots.specs.declared.filter.Filter.{Filter}
 use Rattle.fr_slots.specs.declared.plan.Buffer.{Buffer}
-use Rattle.fr_slots.specs.declared.plan.Queue.{Queue}
 use Rattle.fr_slots.specs.Parameters.{Parameters}
-use Rattle.fr_slots.specs.Plans.{Plan, is_receive, admits_window}
+use Rattle.fr_slots.specs.Plans.{is_receive, admits_window}
 use Rattle.fr_slots.specs.Windows.{Opportunity}
 use Rattle.fr_status.specs.Forms.{Seen}
 use Rattle.fr_concord.specs.Receivers.{IsStored, AreBuffersStored, AreQueuesFilled, of_node, AreReceiversSame}

@@ -1,6 +1,7 @@
 -- Each reply is one line, or a counted block of lines.
-use Rattle.std.proofs.Common.{◌≡◌, ℕ, zero, suc, ◌+◌, ◌/◌, ◌%◌, ◌==◌, Bool, true, false, not, cond, ◌&&◌, ◌⊎◌, inl, inr}
-use Rattle.std.proofs.Common.{List, [], ◌∷◌, ◌++◌, length, codes, Option, Some, None, Ok, Err, refl, sym, ap, subst, ◌∙◌}
+use Rattle.std.proofs.Common.{◌≡◌, ℕ, zero, suc, ◌+◌, ◌/◌, ◌%◌, ◌==◌, Bool, true, false, not, cond, ◌⊎◌, inl, inr}
+use Rattle.std.proofs.Common.{List, [], ◌∷◌, ◌++◌, length, codes, Option, Some, None, Ok, Err, refl, sym, ap, subst}
+use Rattle.std.proofs.Common.{◌∙◌}
 use Rattle.std.proofs.Common.{arith, slice_get, count_by}
 use Rattle.std.proofs.lemmas.Bool.{cases_Bool, eqb-true}
 use Rattle.std.proofs.lemmas.Bool.Decides.{nat_tests}
@@ -18,11 +19,10 @@ use Rattle.fr_bus.specs.Record.{Recorded}
 use Rattle.fr_bus.specs.States.{BusState}
 use Rattle.fr_core.specs.declared.error.StepError.{StepError}
 use Rattle.fr_core.specs.declared.error.StepError.TheVariants as step
-use Rattle.fr_core.specs.declared.event.Reply.{Reply}
 use Rattle.fr_core.specs.declared.event.Reply.TheVariants as reply
 use Rattle.fr_core.specs.ErrorNames.{step_error_text}
 use Rattle.fr_core.specs.Runs.{Answer}
-use Rattle.fr_core.specs.Worlds.{WorldState, has_node, interface_at}
+use Rattle.fr_core.specs.Worlds.{has_node, interface_at}
 use Rattle.fr_frame.specs.Fields.{Fields}
 use Rattle.fr_interface.specs.declared.errors.HostError.{HostError}
 use Rattle.fr_interface.specs.declared.errors.HostError.TheVariants as host
@@ -33,19 +33,19 @@ use Rattle.fr_interface.specs.State.{State}
 use Rattle.fr_journal.specs.declared.entry.Origin.{Origin}
 use Rattle.fr_lines.specs.declared.versions.Version.{Version}
 use Rattle.fr_lines.specs.declared.versions.Version.TheVariants.{Three}
-use Rattle.fr_lines.specs.Parts.{absent, mark, indicators, optional_number, channel_mark, from_word}
+use Rattle.fr_lines.specs.Parts.{mark, indicators, optional_number, channel_mark, from_word}
 use Rattle.fr_lines.specs.Spelling.{line_feed, line_text, end_line}
 use Rattle.fr_runs.specs.declared.fault_line.FaultLine.{FaultLine}
 use Rattle.fr_session.specs.declared.request.Request.{Request}
 use Rattle.fr_session.specs.declared.request.Request.TheVariants as request
 use Rattle.fr_session.specs.Keeping.{KeepsIf}
 use Rattle.fr_session.specs.Lines.{with_feed, IsLine, AreLines}
-use Rattle.fr_session.specs.Queries.{now_words, now_text, moved_text, block_text, memory_text, IsBlock, IsBlockIf}
-use Rattle.fr_session.specs.Queries.{last_origin, origin_text, node_origin_text, sent_line, corrupt_lines, sealed_text}
+use Rattle.fr_session.specs.Queries.{now_words, moved_text, memory_text, IsBlock, IsBlockIf}
+use Rattle.fr_session.specs.Queries.{last_origin, origin_text, sent_line, corrupt_lines, sealed_text}
 use Rattle.fr_session.specs.Queries.{IsRecordOf, phase_word}
 use Rattle.fr_session.specs.Reading.{asked_in}
 use Rattle.fr_session.specs.Replies.{refusal_words, bad_line_words, bad_fault_words, done_words, frame_words}
-use Rattle.fr_session.specs.Replies.{frame_reply, window_words, withdrawn_words, reply_words, answer_words, answer_text}
+use Rattle.fr_session.specs.Replies.{frame_reply, window_words, withdrawn_words, reply_words, answer_text}
 use Rattle.fr_session.specs.Sessions.{Terms, SessionState, DoesRequest, DoesIf}
 use Rattle.fr_session.specs.RecordWords.{kind_word, fate_word}
 use Rattle.fr_slots.specs.Admission.{letter_of}
@@ -77,7 +77,8 @@ chosen : (b : Bool) (xs ys : List ℕ) → has_no_feed xs ≡ true → has_no_fe
 chosen true xs ys first second = first
 chosen false xs ys first second = second
 
-digits_no_feed : (k n : ℕ) (more : List ℕ) → has_no_feed more ≡ true → has_no_feed (digits_onto k 10 false n more) ≡ true
+digits_no_feed : (k n : ℕ) (more : List ℕ) → has_no_feed more ≡ true
+    → has_no_feed (digits_onto k 10 false n more) ≡ true
 digits_no_feed zero n more h = h
 digits_no_feed (suc k) n more h =
     let next = cons_no_feed (digit_glyph false (n % 10)) more (glyph_no_feed (n % 10)) h in
@@ -182,9 +183,25 @@ refusal_line e = one_line (refusal_words e) (refl, (error_line e, tt)) refl
 window_line : (kind : List ℕ) (w : Opportunity) → IsLine kind → begins_block (line_text (window_words kind w)) ≡ false
     → IsOneLine (line_text (window_words kind w))
 window_line kind w h other =
-    one_line (window_words kind w)
-    (h, (number_line w.number, (number_line w.cycle, (number_line w.minislot, (optional_line w.a, (optional_line w.b,
-    tt)))))) other
+    one_line (window_words kind w) (
+      h,
+      (
+        number_line w.number,
+        (
+          number_line w.cycle,
+          (
+            number_line w.minislot,
+            (
+              optional_line w.a,
+              (
+                optional_line w.b,
+                tt,
+              ),
+            ),
+          ),
+        ),
+      ),
+    ) other
 
 frame_line : (o : Option Fields) → IsOneLine (line_text (frame_reply o))
 frame_line None = one_line (frame_reply None) (refl, (refl, tt)) refl

@@ -1,24 +1,23 @@
 -- The observations of a legal interface have rising times.
 use Rattle.std.proofs.Common.{◌≡◌, ℕ, zero, suc, ◌+◌, ◌-◌, ◌*◌, ◌<◌, ◌≤◌, Bool, true, false, cond, ◌&&◌, inl, inr, List}
-use Rattle.std.proofs.Common.{[], ◌∷◌, ◌++◌, length, Option, Some, None, refl, sym, ap, subst, ◌∙◌, arith}
+use Rattle.std.proofs.Common.{[], ◌∷◌, ◌++◌, Option, Some, None, refl, sym, ap, subst, ◌∙◌, arith}
 use Rattle.std.proofs.Math.Nat.{suc-mul}
-use Rattle.std.proofs.lemmas.Bool.{and_parts, cases_Bool, leb-true, leb-false, ltb-true}
+use Rattle.std.proofs.lemmas.Bool.{and_parts, cases_Bool, leb-true, leb-false}
 use Rattle.std.specs.Option.{option_or}
 use Rattle.std.specs.Prelude.{nat_le, nat_lt, unwrap_or, IfSome}
-use Rattle.fr_capture.specs.Moments.{place_of, start_of, place_in_round, round_length, fetched, last_window, is_not_later}
+use Rattle.fr_capture.specs.Moments.{start_of, place_in_round, round_length, fetched, last_window, is_not_later}
 use Rattle.fr_capture.specs.Moments.{begins_round, rounds}
 use Rattle.fr_capture.specs.Sightings.{Sighting, in_window, sightings_at, sightings}
-use Rattle.fr_interface.specs.State.{State, IsLegalInterface}
+use Rattle.fr_interface.specs.State.{State}
 use Rattle.fr_journal.specs.declared.entry.Entry.TheVariants.{Commit, Withdraw, Read, Pop, Fetch, Observe}
 use Rattle.fr_journal.specs.Entries.{IsEntry}
 use Rattle.fr_journal.specs.Forms.{Entry}
 use Rattle.fr_slots.proofs.HistoryLemmas.{last_after-snoc, count_after-snoc}
 use Rattle.fr_slots.specs.History.{AllAfter, each_after, last_after}
 use Rattle.fr_journal.specs.declared.entry.Offered.{Offered}
-use Rattle.fr_slots.specs.Parameters.{Parameters, IsParameters, macroticks_of}
+use Rattle.fr_slots.specs.Parameters.{Parameters, IsParameters}
 use Rattle.fr_slots.specs.Windows.{Opportunity, is_static}
 use Rattle.fr_status.specs.Forms.{Seen}
-use Rattle.fr_timing.specs.declared.place.Place.{Place}
 use Rattle.fr_timing.specs.declared.place.Place.TheVariants.{Static, Minislot}
 use Rattle.fr_timing.specs.Division.{start_in_row, start_at}
 use Rattle.fr_timing.specs.Segments.{dynamic_start}

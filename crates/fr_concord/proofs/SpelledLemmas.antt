@@ -1,9 +1,7 @@
 -- The spelling of a request is read as this request.
-use Rattle.std.proofs.Common.{◌≡◌, ℕ, ◌+◌, ◌<◌, ◌≤◌, ◌^◌, Bool, true, false, List, [], ◌∷◌, length, codes, Option, Some}
-use Rattle.std.proofs.Common.{None, refl, sym, ap, ◌∙◌, arith, if◌then◌else◌}
+use Rattle.std.proofs.Common.{◌≡◌, ℕ, ◌<◌, ◌≤◌, false, List, [], ◌∷◌, length, codes, Some}
+use Rattle.std.proofs.Common.{None, refl, sym, ap, ◌∙◌, arith}
 use Rattle.std.specs.Fmt.{decimal}
-use Rattle.std.specs.Str.{bytes_eq}
-use Rattle.std.proofs.lemmas.Bool.Decides.{nat_tests}
 use Rattle.fr_bus.specs.declared.fault.Fault.{Fault}
 use Rattle.fr_bus.specs.declared.fault.Fault.TheVariants.{Babble, Mute, Corrupt}
 use Rattle.fr_core.specs.declared.event.Event.{Event}
@@ -12,14 +10,13 @@ use Rattle.fr_core.specs.Steps.{event_of}
 use Rattle.fr_interface.specs.declared.call.Call.{Call}
 use Rattle.fr_interface.specs.declared.call.Call.TheVariants.{Commit, Withdraw, Read, Pop}
 use Rattle.fr_lines.proofs.WordLemmas.{IsWord, number_word, payload_word, long_word}
-use Rattle.fr_lines.specs.PartReading.{channel_in}
 use Rattle.fr_runs.specs.declared.fault_line.FaultCycles.{FaultCycles}
 use Rattle.fr_runs.specs.declared.fault_line.FaultLine.{FaultLine}
 use Rattle.fr_runs.specs.declared.fault_line.FaultPlace.{FaultPlace}
 use Rattle.fr_frame.specs.Payload.{IsPayload}
 use Rattle.fr_journal.specs.Entries.{AreBytes}
 use Rattle.fr_lines.proofs.PlanPartLemmas.{payload_again}
-use Rattle.fr_scenario.proofs.LineLemmas.{line_again, line_short, line_no_feed}
+use Rattle.fr_scenario.proofs.LineLemmas.{line_again}
 use Rattle.fr_scenario.proofs.PartLemmas.{channel_again, channel_plain, cycles_plain, place_plain}
 use Rattle.fr_scenario.specs.CallReading.{call_in, commit_in, withdraw_in, read_in, pop_in}
 use Rattle.fr_scenario.specs.LineReading.{fault_line_in, fault_said, fault_line}
@@ -31,7 +28,7 @@ use Rattle.fr_session.specs.declared.request.Request.TheVariants as request
 use Rattle.fr_session.specs.Lines.{longest_line}
 use Rattle.fr_session.specs.Reading.{host_request, node_in, step_of, step_request, babble_in, mute_in, corrupt_in}
 use Rattle.fr_session.specs.Reading.{fault_of, fault_request, run_in, record_in, report_in, trace_in, origin_in}
-use Rattle.fr_session.specs.Reading.{other_request, event_request, request_in, request_or_fault, with_fault, asked_in}
+use Rattle.fr_session.specs.Reading.{other_request, event_request, request_in, request_or_fault, with_fault}
 use Rattle.fr_text.proofs.HexTextLemmas.{bytes_again, length-hex_text}
 use Rattle.fr_text.proofs.LineLemmas.{words_of-line_of, has_no_feed-line_of, length-line_of-le}
 use Rattle.fr_text.proofs.NumberLemmas.{number_again}
@@ -42,7 +39,7 @@ use Rattle.fr_text.specs.Spelling.{hex_text}
 use Rattle.std.proofs.lemmas.Bool.{le-ltb}
 use Rattle.std.specs.Prelude.{nat_lt}
 use Rattle.fr_concord.specs.Spelled.{injected_words, event_words, request_words, spelled, IsSpelledEvent}
-use Rattle.fr_concord.specs.Spelled.{IsSpelledRequest, IsReadAgain, AreReadAgain}
+use Rattle.fr_concord.specs.Spelled.{IsSpelledRequest, AreReadAgain}
 
 -- ---- the words of a request are read as it
 
@@ -71,7 +68,8 @@ host_again n t c node task fits =
     rw (number_again 16 n node (omega arith), number_again 8 t task (omega arith), call_again c fits) refl
 
 event_again : (e : Event) → IsSpelledEvent e → request_in (event_words e) ≡ Some (request.Event e)
-unfolding request_in event_request step_request step_of fault_request fault_of babble_in mute_in corrupt_in other_request
+unfolding request_in event_request step_request step_of fault_request fault_of babble_in mute_in corrupt_in
+    other_request
 event_again (event.Commit n t b p) fits = rw (host_again n t (Commit b p) fits.0 fits.1 (fits.2, fits.3, fits.4)) refl
 event_again (event.Withdraw n t b) fits = rw (host_again n t (Withdraw b) fits.0 fits.1 fits.2) refl
 event_again (event.Read n t b) fits = rw (host_again n t (Read b) fits.0 fits.1 fits.2) refl

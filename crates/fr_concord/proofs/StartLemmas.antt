@@ -1,23 +1,22 @@
 -- Pictures, captures and latencies count from the starts of the layout.
-use Rattle.std.proofs.Common.{◌≡◌, ℕ, zero, suc, ◌+◌, ◌-◌, ◌*◌, ◌<◌, ◌≤◌, Bool, true, false, cond, ◌&&◌, List, [], ◌∷◌}
-use Rattle.std.proofs.Common.{◌++◌, append_assoc, length, map, Option, Some, None, refl, sym, ap, subst, ◌∙◌, arith}
+use Rattle.std.proofs.Common.{◌≡◌, ℕ, zero, suc, ◌+◌, ◌-◌, ◌*◌, ◌<◌, ◌≤◌, Bool, cond, List, [], ◌∷◌}
+use Rattle.std.proofs.Common.{◌++◌, append_assoc, Option, Some, refl, sym, ap, subst, ◌∙◌, arith}
 use Rattle.std.proofs.Math.Nat.{suc-mul}
 use Rattle.std.proofs.lemmas.Bool.{le-leb, lt-ltb}
 use Rattle.std.specs.List.{range_with_len}
-use Rattle.std.specs.Prelude.{Contains, nat_le, nat_lt, unwrap_or}
+use Rattle.std.specs.Prelude.{Contains, unwrap_or}
 use Rattle.fr_capture.specs.Moments.{place_of, start_of as start_in_capture}
-use Rattle.fr_core.specs.Worlds.{WorldState}
-use Rattle.fr_exactness.specs.Delays.{run_cycle, start_of as start_in_run}
+use Rattle.fr_exactness.specs.Delays.{run_cycle}
 use Rattle.fr_picture.specs.Owners.{start_of as start_in_picture, end_of as end_in_picture}
 use Rattle.fr_slots.specs.Parameters.{Parameters}
-use Rattle.fr_slots.specs.Windows.{Opportunity, is_static}
+use Rattle.fr_slots.specs.Windows.{Opportunity}
 use Rattle.fr_timing.specs.declared.place.Place.{Place}
 use Rattle.fr_timing.specs.declared.place.Place.TheVariants.{Static, Minislot}
 use Rattle.fr_timing.specs.Division.{start_in_row, start_at}
-use Rattle.fr_timing.specs.Layout.{Part, Stretch, Interval, numbered, stretches, laid_from, layout, static_slot, minislot}
+use Rattle.fr_timing.specs.Layout.{Part, Stretch, Interval, numbered, laid_from, layout, static_slot, minislot}
 use Rattle.fr_timing.specs.Layout.{symbol_window, idle_time}
 use Rattle.fr_timing.specs.Segments.{dynamic_start}
-use Rattle.fr_concord.specs.Starts.{ArePicturedSlots, IsSlotWindow, IsMinislotWindow, IsPlacedAt, AreCapturedSlots}
+use Rattle.fr_concord.specs.Starts.{ArePicturedSlots, IsSlotWindow, IsMinislotWindow, AreCapturedSlots}
 use Rattle.fr_concord.specs.Starts.{minislot_start, AreCapturedMinislots, AreStartsOfRun, AreMinislotsOfRun}
 
 -- ---- the layout

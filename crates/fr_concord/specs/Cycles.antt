@@ -46,7 +46,8 @@ AreSentCycles = (s : State) (rs : List Recorded) (before later : List Entry) (w 
     → windows_fetched s ≡ windows_of rs → s.entries ≡ before ++ Fetch w a b ∷ later
     → run_cycle (before ++ Fetch w a b ∷ []) ≡ recorded_cycle rs (count_by is_fetch before)
 
--- A call in step with its line: the cycle that `commits` names for its entry is that of the line, which `answers` names.
+-- A call in step with its line: the cycle that `commits` names for its entry is that of the line. `answers` names the
+-- line's cycle.
 abbrev pub AreCallCycles : Type 0
 AreCallCycles = (s : State) (rs : List Recorded) (before later : List Entry) (cycle : ℕ)
     → windows_fetched s ≡ windows_of rs → s.entries ≡ before ++ later → IsInStep rs cycle before

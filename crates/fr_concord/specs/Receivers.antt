@@ -1,6 +1,6 @@
 -- The receivers of a frame in `commits` and in tables, against the buffers and receive FIFOs of journals
 -- (project-defined).
-use Rattle.std.specs.Prelude.{◌≡◌, ◌↔◌, ℕ, Bool, true, List, [], ◌∷◌, ◌++◌, length, map, Option, Some, None}
+use Rattle.std.specs.Prelude.{◌≡◌, ◌↔◌, ℕ, true, List, [], ◌∷◌, ◌++◌, length, map, Some, None}
 use Rattle.std.specs.Prelude.{if◌then◌else◌}
 use Rattle.fr_bus.specs.Record.{Recorded, seen_by}
 use Rattle.fr_capture.specs.declared.takers.Taker.{Taker}

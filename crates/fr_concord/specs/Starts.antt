@@ -7,15 +7,22 @@ use Rattle.fr_exactness.specs.Delays.{run_cycle, start_of as start_in_run}
 use Rattle.fr_picture.specs.Owners.{start_of as start_in_picture, end_of as end_in_picture}
 use Rattle.fr_slots.specs.Parameters.{Parameters}
 use Rattle.fr_slots.specs.Windows.{Opportunity, is_static}
-use Rattle.fr_timing.specs.Layout.{Interval, layout, static_slot, minislot}
+use Rattle.fr_timing.specs.Layout.{Part, Interval, layout, static_slot, minislot}
 use Rattle.fr_timing.specs.Segments.{dynamic_start}
 
 -- ---- in the cycle
 
--- a static slot in the picture of a cycle is its interval of the layout
+abbrev pub interval_of : Part → ℕ → ℕ → Interval
+interval_of part start end = record { part = part; start = start; end = end }
+
+-- a static slot of the picture of a cycle
+abbrev pub pictured : Parameters → ℕ → Interval
+pictured p slot = interval_of (static_slot slot) (start_in_picture p slot) (end_in_picture p slot)
+
+-- it is the slot's interval of the layout
 abbrev pub ArePicturedSlots : Type 0
 ArePicturedSlots = (p : Parameters) (slot : ℕ) → 1 ≤ slot → slot ≤ p.static_slots
-    → Contains (layout p) (record { part = static_slot slot; start = start_in_picture p slot; end = end_in_picture p slot })
+    → Contains (layout p) (pictured p slot)
 
 -- the window is that of a static slot, or begins at a minislot, and such a part of the cycle has a length
 pub record IsSlotWindow (p : Parameters) (w : Opportunity) (slot : ℕ) : Type 0 where
@@ -38,16 +45,19 @@ pub record IsPlacedAt (p : Parameters) (macrotick : ℕ) (interval : Interval) :
 
 abbrev pub AreCapturedSlots : Type 0
 AreCapturedSlots = (p : Parameters) (w : Opportunity) (slot : ℕ) → IsSlotWindow p w slot
-    → IsPlacedAt p (start_in_capture p w)
-    (record { part = static_slot slot; start = start_in_picture p slot; end = end_in_picture p slot })
+    → IsPlacedAt p (start_in_capture p w) (pictured p slot)
 
+-- the start of a minislot, and its interval
 abbrev pub minislot_start : Parameters → ℕ → ℕ
 minislot_start p number = dynamic_start p + (number - 1) * p.minislot_mt
 
+abbrev pub minislot_of : Parameters → ℕ → Interval
+minislot_of p number = interval_of (minislot number) (minislot_start p number)
+    (minislot_start p number + p.minislot_mt)
+
 abbrev pub AreCapturedMinislots : Type 0
 AreCapturedMinislots = (p : Parameters) (w : Opportunity) → IsMinislotWindow p w
-    → IsPlacedAt p (start_in_capture p w)
-    (record { part = minislot w.minislot; start = minislot_start p w.minislot; end = minislot_start p w.minislot + p.minislot_mt })
+    → IsPlacedAt p (start_in_capture p w) (minislot_of p w.minislot)
 
 -- ---- in the run
 

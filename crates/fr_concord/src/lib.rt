@@ -10,11 +10,12 @@
 //! - `Cycles`: the cycle of the run to which a window or a call belongs.
 //! - `Starts`: the macroticks at which static slots and minislots begin.
 //! - `Rising`: the times of a capture.
+//! - `Receivers`: the receivers in `commits` and in tables, against those of journals.
 //!
 //! # Laws
 //!
-//! - `SessionLemmas`: `sessions_determined`. The lines of a session determine its replies and its state. `MoveLemmas` and
-//!   `StepLemmas` have the windows and events.
+//! - `SessionLemmas`: `sessions_determined`. The lines of a session determine its replies and its state. `MoveLemmas`
+//!   and `StepLemmas` have the windows and events.
 //! - `PlayLemmas`: `runs_determined`. A scenario determines a single-threaded run.
 //! - `SpelledLemmas`: `read_again`. The spelling of a request is read as this request.
 //! - `RepliedLemmas`: `are_whole`. Each reply is one line, or a counted block of lines.
@@ -23,4 +24,6 @@
 //! - `StartLemmas`: `pictured_slots`, `captured_slots`, `captured_minislots`, `starts_of_run`, `minislots_of_run`.
 //!   Pictures, captures and latencies count from the starts of the layout.
 //! - `RisingLemmas`: `captures_rising`. The observations of a legal interface have rising times.
+//! - `ReceiverLemmas`: `buffers_stored`, `queues_filled`, `receivers_same`. `commits` and tables name the receivers that
+//!   the journals have.
 #![tactic(auto)]
