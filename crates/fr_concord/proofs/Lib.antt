@@ -9,3 +9,4 @@ pub mod StartLemmas
 pub mod PlanRowLemmas
 pub mod RisingLemmas
 pub mod ReceiverLemmas
+pub mod ListeningLemmas

@@ -6,3 +6,4 @@ pub mod Starts
 pub mod PlanRows
 pub mod Rising
 pub mod Receivers
+pub mod Listening

@@ -1,5 +1,5 @@
 -- The one spelling of each request of a session, apart from its reading (project-defined).
-use Rattle.std.specs.Prelude.{◌≡◌, ℕ, ◌<◌, ◌≤◌, ◌^◌, ◌⊎◌, List, [], ◌∷◌, length, codes, Some}
+use Rattle.std.specs.Prelude.{◌≡◌, ℕ, ◌<◌, ◌≤◌, ◌^◌, List, [], ◌∷◌, length, codes, Some}
 use Rattle.std.specs.Fmt.{decimal}
 use Rattle.fr_bus.specs.declared.fault.Fault.{Fault}
 use Rattle.fr_bus.specs.declared.fault.Fault.TheVariants.{Babble, Mute, Corrupt}
@@ -111,12 +111,3 @@ pub record IsReadAgain (asked : Request) : Type 0 where
 
 abbrev pub AreReadAgain : Type 0
 AreReadAgain = (asked : Request) → IsSpelledRequest asked → IsReadAgain asked
-
--- `cycle` is the short spelling of one cycle of a run
-abbrev pub IsShortRun : List ℕ → Request → Type 0
-IsShortRun line asked = (line ≡ codes "cycle") × (asked ≡ request.Run 1)
-
--- a line that is read as a request is its spelling, or the short one, and the request is in range
-abbrev pub AreSpelledOnly : Type 0
-AreSpelledOnly = (line : List ℕ) (asked : Request) → asked_in line ≡ Some asked
-    → IsSpelledRequest asked × ((line ≡ spelled asked) ⊎ IsShortRun line asked)
