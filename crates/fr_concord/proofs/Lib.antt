@@ -10,3 +10,4 @@ pub mod PlanRowLemmas
 pub mod RisingLemmas
 pub mod ReceiverLemmas
 pub mod ListeningLemmas
+pub mod FaultLineLemmas

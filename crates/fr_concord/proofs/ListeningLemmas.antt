@@ -1,12 +1,12 @@
 -- A listener hears what a silent node observes.
-use Rattle.std.proofs.Common.{◌≡◌, ℕ, ◌+◌, ◌||◌, ◌⊎◌, inl, inr, Bool, true, false, cond, List, [], ◌∷◌, length, Option, refl}
+use Rattle.std.proofs.Common.{◌≡◌, ℕ, ◌||◌, ◌⊎◌, inl, inr, Bool, true, false, cond, List, [], ◌∷◌, length, Option, refl}
 use Rattle.std.proofs.Common.{sym, ap, ◌∙◌}
 use Rattle.std.specs.List.{list_any}
 use Rattle.arrayvec.specs.ArrayVec.{ArrayVec}
 use Rattle.fr_bus.specs.declared.outcome.Sent.{Sent}
 use Rattle.fr_bus.specs.Corruption.{corrupted}
 use Rattle.fr_bus.specs.Outcome.{all_passed, heard_of, is_of, overruns, received, seen_of}
-use Rattle.fr_bus.specs.Record.{Recorded, corrupt_on, heard}
+use Rattle.fr_bus.specs.Record.{corrupt_on}
 use Rattle.fr_capture.specs.Pcap.{record_seen}
 use Rattle.fr_showing.specs.Listening.{heard_record}
 use Rattle.fr_slots.specs.declared.channel.Channel.{Channel}

@@ -7,3 +7,4 @@ pub mod PlanRows
 pub mod Rising
 pub mod Receivers
 pub mod Listening
+pub mod FaultLines

@@ -1,4 +1,5 @@
--- The passive listener of a capture of the bus, against the observations of a node that sends nothing (project-defined).
+-- The passive listener of a capture of the bus, against the observations of a node that sends nothing
+-- (project-defined).
 use Rattle.std.specs.Prelude.{◌≡◌, ℕ, ◌⊎◌, Bool, true, false, Option}
 use Rattle.std.specs.List.{list_any}
 use Rattle.arrayvec.specs.ArrayVec.{ArrayVec}

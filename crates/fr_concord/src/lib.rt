@@ -11,6 +11,8 @@
 //! - `Starts`: the macroticks at which static slots and minislots begin.
 //! - `Rising`: the times of a capture.
 //! - `Receivers`: the receivers in `commits` and in tables, against those of journals.
+//! - `Listening`: the listener of a capture of the bus.
+//! - `FaultLines`: the line numbers of faults in the record of a run.
 //!
 //! # Laws
 //!
@@ -24,6 +26,10 @@
 //! - `StartLemmas`: `pictured_slots`, `captured_slots`, `captured_minislots`, `starts_of_run`, `minislots_of_run`.
 //!   Pictures, captures and latencies count from the starts of the layout.
 //! - `RisingLemmas`: `captures_rising`. The observations of a legal interface have rising times.
-//! - `ReceiverLemmas`: `buffers_stored`, `queues_filled`, `receivers_same`. `commits` and tables name the receivers that
-//!   the journals have.
+//! - `ReceiverLemmas`: `buffers_stored`, `queues_filled`, `receivers_same`. `commits` and tables name the receivers
+//!   that the journals have.
+//! - `ListeningLemmas`: `is_heard_alike`, `is_captured_alike`, `is_own_or_conflict`. A listener hears what a silent
+//!   node observes.
+//! - `FaultLineLemmas`: `faults_numbered`, `offers_unnumbered`. Each babble and each muted offer has a line number, and
+//!   no other transmission has one.
 #![tactic(auto)]
