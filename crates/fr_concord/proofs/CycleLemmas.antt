@@ -3,22 +3,25 @@ use Rattle.std.proofs.Common.{◌≡◌, ℕ, suc, ◌+◌, ◌-◌, ◌%◌, Bo
 use Rattle.std.proofs.Common.{take, refl, sym, ap, ◌∙◌, arith, count_by, append_assoc}
 use Rattle.std.proofs.Math.Seq.{take-append_seam, take-append-add}
 use Rattle.std.proofs.lemmas.Grind.{flat_map-append}
-use Rattle.std.proofs.lemmas.List.{take-map}
+use Rattle.std.proofs.lemmas.List.{take-map, take-append-drop}
 use Rattle.std.proofs.lemmas.List.Sums.{sum_by-cons, sum_by-append}
 use Rattle.std.specs.List.{flat_map}
-use Rattle.std.specs.Prelude.{option_to_list}
+use Rattle.std.specs.Prelude.{option_to_list, IfSome, slice_get}
+use Rattle.std.proofs.Common.{drop, subst, Option}
 use Rattle.fr_bus.specs.Record.{Recorded}
 use Rattle.fr_bus.specs.Windows.{opens_cycle, begins_cycle, cycles_begun}
 use Rattle.fr_core.specs.Accounts.{begins_cycle_at}
-use Rattle.fr_core.specs.Settling.{fetched_window, fetches_at, windows_fetched, windows_of}
+use Rattle.fr_core.specs.Settling.{fetched_window, fetches_at, windows_fetched, windows_of, HasWindows, IfThere}
+use Rattle.fr_core.specs.declared.script.Line.{Line}
+use Rattle.fr_core.specs.Scripts.{Scripted}
 use Rattle.fr_interface.specs.State.{State}
 use Rattle.fr_journal.specs.declared.entry.Entry.TheVariants.{Commit, Withdraw, Read, Pop, Fetch, Observe}
 use Rattle.fr_journal.specs.Forms.{Entry}
-use Rattle.fr_runs.specs.Stepping.{is_fetch}
+use Rattle.fr_runs.specs.Stepping.{is_fetch, is_by, lines_given, IsInStep, IsInTurn, IsStepped}
 use Rattle.fr_showing.specs.Fates.{cycles_of}
 use Rattle.fr_slots.specs.History.{each_after}
 use Rattle.fr_slots.specs.Windows.{Opportunity}
-use Rattle.fr_concord.specs.Cycles.{AreWindowCycles, AreSentCycles, AreCallCycles}
+use Rattle.fr_concord.specs.Cycles.{AreWindowCycles, AreSentCycles, AreCallCycles, AreLineCycles}
 
 -- ---- counts
 
@@ -153,3 +156,26 @@ sent_cycles s rs before later w a b same cut =
     let all : s.entries ≡ parts ++ later = cut ∙ sym (append_assoc before (Fetch w a b ∷ []) later) in
     ap (λ (n : ℕ). n - 1) (begun_same s rs same parts later all
     ∙ ap (λ (n : ℕ). cycles_begun (take n rs)) (count_last is_fetch before (Fetch w a b)))
+
+-- the next line of the task is in step
+abbrev IsLineOf : List Recorded → List Scripted → ℕ → List Entry → ℕ → Type 0
+IsLineOf rs scripts n before task =
+    IfSome (slice_get (lines_given scripts n task) (count_by (is_by task) before)) (λ line.
+    IsInStep rs line.cycle before)
+
+pub line_cycles : AreLineCycles
+line_cycles d scripts lines cycles played settled n k task s e line few at entry_at task_is line_at =
+    let rs = played.world.bus.sealed in
+    let interfaces = played.world.interfaces in
+    let windows : HasWindows rs s =
+    subst (λ (o : Option State). IfThere o (HasWindows rs)) at (settled.agrees.windows n few) in
+    let stepped : IsStepped rs scripts n s =
+    subst (λ (o : Option State). IfThere o (IsStepped rs scripts n)) at (settled.stepped n few) in
+    let turn : IsInTurn rs scripts n (take k s.entries) e =
+    subst (λ (o : Option Entry). IfSome o (IsInTurn rs scripts n (take k s.entries))) entry_at (stepped k) in
+    let of_task : IsLineOf rs scripts n (take k s.entries) task =
+    subst (λ (o : Option ℕ). IfSome o (IsLineOf rs scripts n (take k s.entries))) task_is turn in
+    let step : IsInStep rs line.cycle (take k s.entries) =
+    subst (λ (o : Option Line). IfSome o (λ l. IsInStep rs l.cycle (take k s.entries))) line_at of_task in
+    call_cycles s rs (take k s.entries) (drop k s.entries) line.cycle windows.fetches
+    (sym (take-append-drop k s.entries)) step

@@ -305,8 +305,8 @@ count_feed : (b : ℕ) (bytes : List ℕ) → is_feed b ≡ true
 count_feed b bytes h =
     let all : count_by is_feed (b ∷ bytes) ≡ cond (is_feed b) 1 0 + count_by is_feed bytes =
     sum_by-cons (λ (x : ℕ). cond (is_feed x) 1 0) b bytes in
-    let one : cond (is_feed b) 1 0 ≡ 1 = ap (λ (x : Bool). cond x 1 0) h in
     let next : 1 + count_by is_feed bytes ≡ suc (count_by is_feed bytes) = omega arith in
+    let one : cond (is_feed b) 1 0 ≡ 1 = ap (λ (x : Bool). cond x 1 0) h in
     all ∙ ap (λ (n : ℕ). n + count_by is_feed bytes) one ∙ next
 
 count_other : (b : ℕ) (bytes : List ℕ) → is_feed b ≡ false
@@ -314,8 +314,8 @@ count_other : (b : ℕ) (bytes : List ℕ) → is_feed b ≡ false
 count_other b bytes h =
     let all : count_by is_feed (b ∷ bytes) ≡ cond (is_feed b) 1 0 + count_by is_feed bytes =
     sum_by-cons (λ (x : ℕ). cond (is_feed x) 1 0) b bytes in
-    let none : cond (is_feed b) 1 0 ≡ 0 = ap (λ (x : Bool). cond x 1 0) h in
     let same : 0 + count_by is_feed bytes ≡ count_by is_feed bytes = omega arith in
+    let none : cond (is_feed b) 1 0 ≡ 0 = ap (λ (x : Bool). cond x 1 0) h in
     all ∙ ap (λ (n : ℕ). n + count_by is_feed bytes) none ∙ same
 
 no_lines : HasLines 0 []

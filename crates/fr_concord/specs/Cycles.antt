@@ -1,9 +1,13 @@
 -- The cycle of the run to which a window or a call belongs. Several modules define it, each for its own data, and all
 -- of them name the same cycle (project-defined).
-use Rattle.std.specs.Prelude.{◌≡◌, ℕ, ◌%◌, List, [], ◌∷◌, ◌++◌, length, count_by}
+use Rattle.std.specs.Prelude.{◌≡◌, ℕ, ◌%◌, List, [], ◌∷◌, ◌++◌, length, count_by, ◌≤◌, take}
+use Rattle.std.specs.Prelude.{Some, slice_get}
 use Rattle.fr_bus.specs.Record.{Recorded}
 use Rattle.fr_core.specs.Accounts.{recorded_cycle, run_cycle}
+use Rattle.fr_core.specs.declared.script.Line.{Line}
+use Rattle.fr_core.specs.Scripts.{Scripted}
 use Rattle.fr_core.specs.Settling.{windows_fetched, windows_of}
+use Rattle.fr_slots.specs.Numbers.{last_node}
 use Rattle.fr_core.specs.Worlds.{WorldState}
 use Rattle.fr_exactness.specs.Delays.{run_cycle as cycle_of_delay}
 use Rattle.fr_guarantees.specs.Guarantees.{cycle_of as cycle_number}
@@ -12,9 +16,13 @@ use Rattle.fr_journal.specs.declared.entry.Entry.TheVariants.{Fetch}
 use Rattle.fr_journal.specs.declared.entry.Offered.{Offered}
 use Rattle.fr_journal.specs.Forms.{Entry}
 use Rattle.fr_matrix.specs.Cells.{cycle_of as cycle_of_row}
+use Rattle.fr_playing.specs.declared.play.Played.{Played}
 use Rattle.fr_playing.specs.Moving.{run_cycle_after}
+use Rattle.fr_playing.specs.Settled.{IsSettled}
+use Rattle.fr_runs.specs.declared.fault_line.FaultLine.{FaultLine}
 use Rattle.fr_runs.specs.Faulted.{cycle_at}
-use Rattle.fr_runs.specs.Stepping.{is_fetch, IsInStep}
+use Rattle.fr_runs.specs.Stepping.{is_fetch, task_of, is_by, lines_given, IsInStep}
+use Rattle.fr_schedule.specs.Descriptions.{Description}
 use Rattle.fr_showing.specs.Fates.{cycles_of}
 use Rattle.fr_slots.specs.Windows.{Opportunity}
 
@@ -52,3 +60,14 @@ abbrev pub AreCallCycles : Type 0
 AreCallCycles = (s : State) (rs : List Recorded) (before later : List Entry) (cycle : ℕ)
     → windows_fetched s ≡ windows_of rs → s.entries ≡ before ++ later → IsInStep rs cycle before
     → cycles_of before ≡ cycle
+
+-- ---- a settled run
+
+-- In a settled run the call of each line is such a call: `commits` names the cycle of the line for its entry.
+abbrev pub AreLineCycles : Type 0
+AreLineCycles = (d : Description) (scripts : List Scripted) (lines : List FaultLine) (cycles : ℕ) (played : Played)
+    → IsSettled d scripts lines cycles played
+    → (n k task : ℕ) (s : State) (e : Entry) (line : Line) → n ≤ last_node
+    → slice_get played.world.interfaces n ≡ Some s → slice_get s.entries k ≡ Some e → task_of e ≡ Some task
+    → slice_get (lines_given scripts n task) (count_by (is_by task) (take k s.entries)) ≡ Some line
+    → cycles_of (take k s.entries) ≡ line.cycle

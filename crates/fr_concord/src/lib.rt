@@ -22,7 +22,8 @@
 //! - `SpelledLemmas`: `read_again`. The spelling of a request is read as this request.
 //! - `RepliedLemmas`: `are_whole`. Each reply is one line, or a counted block of lines.
 //! - `PlanRowLemmas`: `plans_tables`. The lines of a plan for static slots name exactly the senders.
-//! - `CycleLemmas`: `window_cycles`, `sent_cycles`, `call_cycles`. All definitions of a cycle of the run agree.
+//! - `CycleLemmas`: `window_cycles`, `sent_cycles`, `call_cycles`, `line_cycles`. All definitions of a cycle of the
+//!   run agree.
 //! - `StartLemmas`: `pictured_slots`, `captured_slots`, `captured_minislots`, `starts_of_run`, `minislots_of_run`.
 //!   Pictures, captures and latencies count from the starts of the layout.
 //! - `RisingLemmas`: `captures_rising`. The observations of a legal interface have rising times.
