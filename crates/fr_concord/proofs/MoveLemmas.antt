@@ -1,4 +1,6 @@
 -- Windows and cycles that nothing hinders determine the world after them.
+use Rattle.std.proofs.Common.{◌⊎◌}
+use Rattle.std.specs.List.{fold}
 use Rattle.std.proofs.Common.{◌≡◌, ℕ, zero, suc, ◌<◌, Bool, true, false, inl, inr, List}
 use Rattle.std.proofs.Common.{Option, Some, None, Ok, Err, refl, sym, ap, subst, ◌∙◌, arith}
 use Rattle.std.proofs.lemmas.Bool.{cases_lt}
@@ -10,10 +12,10 @@ use Rattle.fr_core.specs.Runs.{Answer, StepsAll}
 use Rattle.fr_core.specs.Steps.{Steps, step_done}
 use Rattle.fr_core.specs.Worlds.{WorldState}
 use Rattle.fr_runs.specs.declared.fault_line.FaultLine.{FaultLine}
-use Rattle.fr_playing.specs.Moving.{hindrance, Strikes, MovesOn, struck_events, WithinCycle}
+use Rattle.fr_playing.specs.Moving.{first_refusal, hindrance, Strikes, MovesOn, struck_events, WithinCycle}
 use Rattle.fr_playing.specs.Moving.{is_at_cycle, most_windows, LastWindow, EndsCycle, PassesCycles}
-use Rattle.fr_concord.specs.Determined.{HasShortCycles}
-use Rattle.fr_concord.proofs.StepLemmas.{plain_steps, seals_last, two_lists, struck_plain, advance_sealed}
+use Rattle.fr_concord.specs.Determined.{IsPastOffers, HasShortCycles}
+use Rattle.fr_concord.proofs.StepLemmas.{plain_step, plain_steps, seals_last, two_lists, struck_plain, advance_sealed}
 
 -- ---- one window
 
@@ -53,6 +55,50 @@ module _ (faults : List FaultLine) (due : List Event) (last_is : seals_last due 
             elim late [
               | inl c ↦ absurd (no_both (collects between.bus.phase) one.sealed c)
               | inr c ↦ absurd (no_both (collects between'.bus.phase) other.sealed c)
+            ]
+      ]
+
+  -- nothing hinders the bus, or it is past its offers
+  abbrev pub IsFree : Option StepError → WorldState → Type 0
+  IsFree hinders w = (hinders ≡ None) ⊎ IsPastOffers w.bus
+
+  some_hindrance : (found : Option StepError) (e : StepError) → hindrance found (Err e) ≡ None → ⊥
+  some_hindrance None e none = cc none
+  some_hindrance (Some f) e none = cc none
+
+  -- a bus that still collects can't advance
+  not_collecting : (found : Option StepError) (between : WorldState) (last : Answer) (new : WorldState)
+      (hinders : Option StepError) → hinders ≡ hindrance found last → Steps between Advance last new
+      → IsFree hinders new → collects between.bus.phase ≡ true → ⊥
+  not_collecting found between (Ok reply) new hinders is step free collecting =
+      no_both (collects between.bus.phase) (advance_sealed between step.0) collecting
+  not_collecting found between (Err e) new hinders is step (inl none) collecting =
+      some_hindrance found e (sym is ∙ none)
+  not_collecting found between (Err e) new hinders is step (inr past) collecting =
+      no_both (collects between.bus.phase)
+      (sym (ap (λ (w : WorldState). collects w.bus.phase) step.1) ∙ past) collecting
+
+  pub moved_same : (old x y : WorldState) (h k : Option StepError) → MovesOn faults due old h x
+      → MovesOn faults due old k y → IsFree h x → IsFree k y → (h ≡ k) × (x ≡ y)
+  moved_same old x y h k first second free free' =
+      let (struck, between, found, answer, strikes, all, step, is) = first in
+      let (struck', between', found', answer', strikes', all', step', is') = second in
+      let start = struck_same old struck struck' strikes strikes' in
+      let steps' = subst (λ (w : WorldState). StepsAll w due all'.0 between') (sym start) all'.1 in
+      elim (two_lists struck due all.0 all'.0 between between' last_is all.1 steps') [
+        | inl same ↦
+            let other = subst (λ (w : WorldState). Steps w Advance answer' y) (sym same.1) step' in
+            let last = plain_step between Advance answer answer' x y refl step other in
+            let found_same : found ≡ found' =
+            all.2 ∙ ap (λ (l : List Answer). fold first_refusal None l) same.0 ∙ sym all'.2 in (
+              is ∙ ap (λ (f : Option StepError). hindrance f answer) found_same
+                  ∙ ap (λ (a : Answer). hindrance found' a) last.0 ∙ sym is',
+              last.1,
+            )
+        | inr late ↦
+            elim late [
+              | inl c ↦ absurd (not_collecting found between answer x h is step free c)
+              | inr c ↦ absurd (not_collecting found' between' answer' y k is' step' free' c)
             ]
       ]
 

@@ -1,4 +1,5 @@
 -- The lines of a session determine its replies and its state.
+use Rattle.std.proofs.Common.{◌⊎◌}
 use Rattle.std.proofs.Common.{◌≡◌, ◌≢◌, ◌↔◌, ℕ, ◌+◌, Bool, true, false, inl, inr, List, [], ◌∷◌, ◌++◌, length}
 use Rattle.std.proofs.Common.{Option, Some, None, refl, sym, ap, subst, ◌∙◌, slice_get, IsTrue}
 use Rattle.fr_bus.specs.declared.error.BusError.TheVariants.{Memory}
@@ -25,9 +26,9 @@ use Rattle.fr_session.specs.Replies.{answer_text}
 use Rattle.fr_session.specs.Sessions.{SessionState, state_of, DoesRequest, DoesIf, terms_of}
 use Rattle.fr_trace.specs.ReportText.{report_text}
 use Rattle.fr_trace.specs.TraceText.{trace_text}
-use Rattle.fr_concord.specs.Determined.{refusal_text, HasMemory, IsUnhindered, HasShortCycles, MovesFreely}
+use Rattle.fr_concord.specs.Determined.{refusal_text, HasMemory, IsUnhindered, IsPastOffers, HasShortCycles, MovesFreely}
 use Rattle.fr_concord.specs.Determined.{ServesFreely, AreSessionsDetermined}
-use Rattle.fr_concord.proofs.MoveLemmas.{moves_same, passes_same}
+use Rattle.fr_concord.proofs.MoveLemmas.{moved_same, passes_same}
 use Rattle.fr_concord.proofs.StepLemmas.{one_step, seals_last, window_last}
 
 -- the reply and the state are the same
@@ -99,14 +100,21 @@ unhindered None b reply is free = refl
 unhindered (Some e) b reply is free = absurd (free e is)
 
 module _ (faults : List FaultLine) (due : List Event) (last_is : seals_last due ≡ true) where
+  is_free : (h : Option StepError) (x : WorldState) (a : List ℕ) → a ≡ moved_text h x.bus
+      → IsUnhindered a ⊎ IsPastOffers x.bus → (h ≡ None) ⊎ IsPastOffers x.bus
+  is_free h x a is (inl free) = inl (unhindered h x.bus a is free)
+  is_free h x a is (inr past) = inr past
+
   window_same : (old x y : WorldState) (h k : Option StepError) (a b : List ℕ) → MovesOn faults due old h x
-      → MovesOn faults due old k y → a ≡ moved_text h x.bus → b ≡ moved_text k y.bus → IsUnhindered a
-      → IsUnhindered b → (a ≡ b) × (x ≡ y)
-  window_same old x y None None a b first second is is' free free' =
-      let same = moves_same faults due last_is old x y first second in
-      (is ∙ ap (λ (w : WorldState). now_text w.bus) same ∙ sym is', same)
-  window_same old x y None (Some e) a b first second is is' free free' = absurd (free' e is')
-  window_same old x y (Some e) k a b first second is is' free free' = absurd (free e is)
+      → MovesOn faults due old k y → a ≡ moved_text h x.bus → b ≡ moved_text k y.bus
+      → IsUnhindered a ⊎ IsPastOffers x.bus → IsUnhindered b ⊎ IsPastOffers y.bus → (a ≡ b) × (x ≡ y)
+  window_same old x y h k a b first second is is' free free' =
+      let same = moved_same faults due last_is old x y h k first second (is_free h x a is free)
+      (is_free k y b is' free') in (
+        is ∙ ap (λ (o : Option StepError). moved_text o x.bus) same.0
+            ∙ ap (λ (w : WorldState). moved_text k w.bus) same.1 ∙ sym is',
+        same.1,
+      )
 
   run_same : (cycles : ℕ) (old x y : WorldState) (h k : Option StepError) (a b : List ℕ)
       → RunsCycles faults due cycles old h x → RunsCycles faults due cycles old k y
@@ -126,8 +134,8 @@ unchanged old x y a b first second same = (same, first ∙ sym second)
 module _ (d : Description) (cycles : ℕ) where
   request_same : (old : SessionState) (asked : Request) (a b : List ℕ) (x y : SessionState)
       → DoesRequest (terms_of d cycles) old asked a x → DoesRequest (terms_of d cycles) old asked b y
-      → HasMemory a → HasMemory b → MovesFreely (terms_of d cycles) old (Some asked) a
-      → MovesFreely (terms_of d cycles) old (Some asked) b → AreSame a b x y
+      → HasMemory a → HasMemory b → MovesFreely (terms_of d cycles) old x (Some asked) a
+      → MovesFreely (terms_of d cycles) old y (Some asked) b → AreSame a b x y
   request_same old (request.Event event) a b x y first second memory memory' free free' =
       let (answer, step, is, kept) = first in
       let (answer', step', is', kept') = second in
@@ -171,8 +179,8 @@ module _ (d : Description) (cycles : ℕ) where
 
   if_same : (old : SessionState) (number : ℕ) (asked : Option Request) (a b : List ℕ) (x y : SessionState)
       → DoesIf (terms_of d cycles) old number asked a x → DoesIf (terms_of d cycles) old number asked b y
-      → HasMemory a → HasMemory b → MovesFreely (terms_of d cycles) old asked a
-      → MovesFreely (terms_of d cycles) old asked b → AreSame a b x y
+      → HasMemory a → HasMemory b → MovesFreely (terms_of d cycles) old x asked a
+      → MovesFreely (terms_of d cycles) old y asked b → AreSame a b x y
   if_same old number None a b x y first second memory memory' free free' =
       (first.0 ∙ sym second.0, first.1 ∙ sym second.1)
   if_same old number (Some asked) a b x y first second memory memory' free free' =

@@ -1,7 +1,8 @@
 -- A session's lines, and a single-threaded run's scenario, determine the result, unless an allocation fails
 -- (project-defined).
-use Rattle.std.specs.Prelude.{◌≡◌, ◌≢◌, ℕ, ◌+◌, List, [], ◌∷◌, ◌++◌, Option, Some, None}
+use Rattle.std.specs.Prelude.{◌≡◌, ◌≢◌, ℕ, ◌+◌, ◌⊎◌, false, List, [], ◌∷◌, ◌++◌, Option, Some, None}
 use Rattle.fr_bus.specs.declared.error.BusError.TheVariants.{Memory}
+use Rattle.fr_bus.specs.States.{BusState, collects}
 use Rattle.fr_core.specs.declared.error.StepError.{StepError}
 use Rattle.fr_core.specs.declared.error.StepError.TheVariants.{Bus}
 use Rattle.fr_core.specs.declared.event.Event.{Event}
@@ -34,6 +35,10 @@ pub record HasMemory (reply : List ℕ) : Type 0 where
 abbrev pub IsUnhindered : List ℕ → Type 0
 IsUnhindered reply = (error : StepError) → reply ≢ refusal_text error
 
+-- the open window is sealed, or the run is over
+abbrev pub IsPastOffers : BusState → Type 0
+IsPastOffers b = collects b.phase ≡ false
+
 -- after any number of cycles, the next one has fewer windows left than `run` tries
 abbrev pub HasShortCycles : List FaultLine → List Event → WorldState → Type 0
 HasShortCycles faults due old = (n : ℕ) (mid new : WorldState) → PassesCycles faults due n old mid
@@ -41,27 +46,28 @@ HasShortCycles faults due old = (n : ℕ) (mid new : WorldState) → PassesCycle
 
 -- ---- sessions
 
--- A request that moves the bus on isn't hindered. A failed allocation could stand behind a hindrance.
-abbrev pub MovesFreely : Terms → SessionState → Option Request → List ℕ → Type 0
-MovesFreely terms old None reply = Unit {0}
-MovesFreely terms old (Some (request.Event event)) reply = Unit {0}
-MovesFreely terms old (Some (request.Fault line)) reply = Unit {0}
-MovesFreely terms old (Some request.Forget) reply = Unit {0}
-MovesFreely terms old (Some request.Window) reply = IsUnhindered reply
-MovesFreely terms old (Some (request.Run cycles)) reply =
+-- A request that moves the bus on isn't hindered. A failed allocation could stand behind a hindrance, unless the bus is
+-- past its seal.
+abbrev pub MovesFreely : Terms → SessionState → SessionState → Option Request → List ℕ → Type 0
+MovesFreely terms old new None reply = Unit {0}
+MovesFreely terms old new (Some (request.Event event)) reply = Unit {0}
+MovesFreely terms old new (Some (request.Fault line)) reply = Unit {0}
+MovesFreely terms old new (Some request.Forget) reply = Unit {0}
+MovesFreely terms old new (Some request.Window) reply = IsUnhindered reply ⊎ IsPastOffers new.world.bus
+MovesFreely terms old new (Some (request.Run cycles)) reply =
     IsUnhindered reply × HasShortCycles old.faults terms.due old.world
-MovesFreely terms old (Some request.Now) reply = Unit {0}
-MovesFreely terms old (Some (request.Report node)) reply = Unit {0}
-MovesFreely terms old (Some (request.Trace node)) reply = Unit {0}
-MovesFreely terms old (Some (request.Origin node)) reply = Unit {0}
-MovesFreely terms old (Some (request.Record window)) reply = Unit {0}
+MovesFreely terms old new (Some request.Now) reply = Unit {0}
+MovesFreely terms old new (Some (request.Report node)) reply = Unit {0}
+MovesFreely terms old new (Some (request.Trace node)) reply = Unit {0}
+MovesFreely terms old new (Some (request.Origin node)) reply = Unit {0}
+MovesFreely terms old new (Some (request.Record window)) reply = Unit {0}
 
 -- the line is answered, and no allocation fails
 pub record DoesFreely (terms : Terms) (old : SessionState) (number : ℕ) (line reply : List ℕ) (new : SessionState)
     : Type 0 where
   pub does : Does terms old number line reply new
   pub memory : HasMemory reply
-  pub free : MovesFreely terms old (asked_in line) reply
+  pub free : MovesFreely terms old new (asked_in line) reply
 
 -- so are all lines, one after another; the first has this number
 unfoldable pub ServesFreely : Terms → SessionState → ℕ → List (List ℕ) → List ℕ → SessionState → Type 0
