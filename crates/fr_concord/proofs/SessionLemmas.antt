@@ -26,7 +26,8 @@ use Rattle.fr_session.specs.Replies.{answer_text}
 use Rattle.fr_session.specs.Sessions.{SessionState, state_of, DoesRequest, DoesIf, terms_of}
 use Rattle.fr_trace.specs.ReportText.{report_text}
 use Rattle.fr_trace.specs.TraceText.{trace_text}
-use Rattle.fr_concord.specs.Determined.{refusal_text, HasMemory, IsUnhindered, IsPastOffers, HasShortCycles, MovesFreely}
+use Rattle.fr_concord.specs.Determined.{refusal_text, HasMemory, IsUnhindered, IsPastOffers, HasShortCycles}
+use Rattle.fr_concord.specs.Determined.{MovesFreely}
 use Rattle.fr_concord.specs.Determined.{ServesFreely, AreSessionsDetermined}
 use Rattle.fr_concord.proofs.MoveLemmas.{moved_same, passes_same}
 use Rattle.fr_concord.proofs.StepLemmas.{one_step, seals_last, window_last}
