@@ -3,7 +3,6 @@ use Rattle.std.specs.Prelude.{ℕ, Option, Some, None, option_map}
 use Rattle.fr_capture.specs.declared.form.Form.TheVariants.{Capture, Table}
 use Rattle.fr_cli.specs.declared.view.Asked.{Asked}
 use Rattle.fr_cli.specs.declared.view.Asked.TheVariants as asked
-use Rattle.fr_cli.specs.declared.view.SlotAsked.{SlotAsked}
 use Rattle.fr_cli.specs.declared.view.ViewOrder.{ViewOrder}
 use Rattle.fr_cli.specs.declared.view.ViewOrder.TheVariants as order
 use Rattle.fr_matrix.specs.declared.view.View.{View}
@@ -35,15 +34,12 @@ shown_of (asked.Matrix channel (Some node) from) =
 
 -- ---- all commands
 
--- all latencies, or the way to the latest start of a slot
-abbrev pub worst_of : _ → Option SlotAsked → Option Task
-worst_of file None = Some (task.Latencies file)
-worst_of file (Some a) = option_map (λ slot. task.Way file slot a.channel) (number_within 1 last_slot a.slot)
-
 -- none if a number is out of its range
 abbrev pub task_of : ViewOrder → Option Task
 task_of (order.Schedule file cycle) = option_map (task.Cycle file) (number_within 0 last_cycle cycle)
-task_of (order.Latency file way) = worst_of file way
+task_of (order.Latency file None) = Some (task.Latencies file)
+task_of (order.Latency file (Some a)) =
+    option_map (λ slot. task.Way file slot a.channel) (number_within 1 last_slot a.slot)
 task_of (order.Capture until_fault own) = Some (task.Seen (Capture own) until_fault)
 task_of (order.Frames until_fault all) = Some (task.Seen (Table all) until_fault)
 task_of order.Why = Some task.Why

@@ -187,11 +187,14 @@ fn show_help<R: Print + Clock>(rt: &R) -> Result<(), ViewFailure> {
     }
 }
 
-/// Does what the command says.
+/// Does what the command says, if it says something that can be done.
 fn carry_out<R: Files + Input + Print + Eprint + AllocGlobal + Clock>(
     rt: &R,
-    task: Task<'_>,
+    task: Option<Task<'_>>,
 ) -> Result<ExitCode, ViewFailure> {
+    let Some(task) = task else {
+        return Err(ViewFailure::Words(OrderError::Usage));
+    };
     match task {
         Task::Cycle { file, cycle } => show_cycle(rt, file, cycle)?,
         Task::Latencies { file } => show_worst(rt, file)?,
@@ -219,10 +222,7 @@ fn run<R: Env + Files + Input + Print + Eprint + AllocGlobal + Clock>(
 ) -> Result<ExitCode, ViewFailure> {
     let words = words_given(rt)?;
     let texts: Vec<&str> = texts_of(rt.alloc(), &words)?;
-    match task_of(order(rt.alloc(), texts.as_slice())?) {
-        Some(task) => carry_out(rt, task),
-        None => Err(ViewFailure::Words(OrderError::Usage)),
-    }
+    carry_out(rt, task_of(order(rt.alloc(), texts.as_slice())?))
 }
 
 fn main(rt: HostRuntime) -> ExitCode {

@@ -1,10 +1,10 @@
 //! What each command does. All choices of the program are made here.
 
 ghost use Rattle.std.specs.Prelude.{◌≡◌};
-ghost use Rattle.fr_view.specs.Tasks.{shown_of, status_told, task_of, worst_of};
+ghost use Rattle.fr_view.specs.Tasks.{shown_of, status_told, task_of};
 
 use fr_capture::form::Form;
-use fr_cli::view::{Asked, SlotAsked, ViewOrder};
+use fr_cli::view::{Asked, ViewOrder};
 use fr_matrix::view::View;
 use fr_showing::shown::Shown;
 use fr_slots::channel::Channel;
@@ -91,20 +91,6 @@ fn shown_of(asked: Asked) -> Option<Shown>
     }
 }
 
-/// Returns the task of `latency` for a file, and for a slot if one is named. None if there is no such slot.
-fn worst_of(file: &str, way: Option<SlotAsked>) -> Option<Task<'_>>
-    ensures { result ≡ worst_of file way }
-{
-    match way {
-        None => Some(Task::Latencies { file }),
-        Some(asked) => Some(Task::Way {
-            file,
-            slot: SlotId::new(asked.slot)?,
-            channel: asked.channel,
-        }),
-    }
-}
-
 /// Returns what the command does. None if one of its numbers is out of its range.
 pub fn task_of(order: ViewOrder<'_>) -> Option<Task<'_>>
     ensures { result ≡ task_of order }
@@ -114,7 +100,15 @@ pub fn task_of(order: ViewOrder<'_>) -> Option<Task<'_>>
             file,
             cycle: Cycle::new(cycle)?,
         }),
-        ViewOrder::Latency { file, way } => worst_of(file, way),
+        ViewOrder::Latency { file, way: None } => Some(Task::Latencies { file }),
+        ViewOrder::Latency {
+            file,
+            way: Some(asked),
+        } => Some(Task::Way {
+            file,
+            slot: SlotId::new(asked.slot)?,
+            channel: asked.channel,
+        }),
         ViewOrder::Capture { until_fault, own } => Some(Task::Seen {
             form: Form::Capture { own },
             until_fault,

@@ -1,0 +1,13 @@
+pub mod StepLemmas
+pub mod MoveLemmas
+pub mod PlayLemmas
+pub mod SessionLemmas
+pub mod SpelledLemmas
+pub mod RepliedLemmas
+pub mod CycleLemmas
+pub mod StartLemmas
+pub mod PlanRowLemmas
+pub mod RisingLemmas
+pub mod ReceiverLemmas
+pub mod ListeningLemmas
+pub mod FaultLineLemmas

@@ -1,0 +1,36 @@
+//! Laws between definitions of several crates, where a definition follows the code. The crate has no code.
+//!
+//! *(project-defined)* marks a rule of this project, and makes no claim about the standard.
+//!
+//! # Definitions
+//!
+//! - `Determined`: sessions and single-threaded runs in which no allocation fails.
+//! - `Spelled`, `Replied`: the spelling of each request, and the lines of a reply.
+//! - `PlanRows`: the rows of a plan, against the sender table.
+//! - `Cycles`: the cycle of the run to which a window or a call belongs.
+//! - `Starts`: the macroticks at which static slots and minislots begin.
+//! - `Rising`: the times of a capture.
+//! - `Receivers`: the receivers in `commits` and in tables, against those of journals.
+//! - `Listening`: the listener of a capture of the bus.
+//! - `FaultLines`: the line numbers of faults in the record of a run.
+//!
+//! # Laws
+//!
+//! - `SessionLemmas`: `sessions_determined`. The lines of a session determine its replies and its state. `MoveLemmas`
+//!   and `StepLemmas` have the windows and events.
+//! - `PlayLemmas`: `runs_determined`. A scenario determines a single-threaded run.
+//! - `SpelledLemmas`: `read_again`. The spelling of a request is read as this request.
+//! - `RepliedLemmas`: `are_whole`. Each reply is one line, or a counted block of lines.
+//! - `PlanRowLemmas`: `plans_tables`. The lines of a plan for static slots name exactly the senders.
+//! - `CycleLemmas`: `window_cycles`, `sent_cycles`, `call_cycles`, `line_cycles`. All definitions of a cycle of the
+//!   run agree.
+//! - `StartLemmas`: `pictured_slots`, `captured_slots`, `captured_minislots`, `starts_of_run`, `minislots_of_run`.
+//!   Pictures, captures and latencies count from the starts of the layout.
+//! - `RisingLemmas`: `captures_rising`. The observations of a legal interface have rising times.
+//! - `ReceiverLemmas`: `buffers_stored`, `queues_filled`, `receivers_same`. `commits` and tables name the receivers
+//!   that the journals have.
+//! - `ListeningLemmas`: `is_heard_alike`, `is_captured_alike`, `is_own_or_conflict`. A listener hears what a silent
+//!   node observes.
+//! - `FaultLineLemmas`: `faults_numbered`, `offers_unnumbered`. Each babble and each muted offer has a line number, and
+//!   no other transmission has one.
+#![tactic(auto)]
