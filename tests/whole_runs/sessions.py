@@ -175,6 +175,11 @@ def some_fault_lines(count):
         yield f"{kind} {node} {channel} {cycle} {place}" + (" x00" if kind == "babble" else "")
 
 
+def without_place(output):
+    """Returns the lines of a session that don't name the open window, or the end of the run."""
+    return [line for line in output.splitlines() if not line.startswith((b"open", b"over"))]
+
+
 class Sessions:
     """Runs of the third program."""
 
@@ -218,9 +223,9 @@ class Sessions:
     def endless(self):
         """Checks that a session without history gives the replies of one with it, as far as these need no history."""
         last = [(ask, reply) for ask, reply in FAULT_LINES if not ask.startswith("record")]
-        for name, cluster, asked in (("a window by its events", self.small, A_WINDOW), ("fault lines", self.small, last),
-                                     ("a fault by hand", self.small, A_FAULT_BY_HAND)):
-            self.check_endless(name, cluster, ("--cycles", "2"), asked)
+        for name, asked in (("a window by its events", A_WINDOW), ("fault lines", last),
+                            ("a fault by hand", A_FAULT_BY_HAND)):
+            self.check_endless(name, self.small, ("--cycles", "2"), asked)
         self.check_endless("what isn't kept", THREE_NODES, (), [
             ("record 0", "refused NoWindow"), ("cycle", "open 7 1 0 1 1"), ("record 6", "lines 1\nwindow 6 0 4 7 7"),
             ("record 5", "refused NoWindow"), ("record 7", "refused NoWindow"), ("trace 0", "refused NoHistory"),
@@ -251,9 +256,8 @@ class Sessions:
             given = text_of(asked).encode()
             kept, free = (run([self.runs.program, cluster, *words], given)
                           for words in (("--cycles", str(cycles)), ("--endless",)))
-            # The run with history ends after its last cycle.
-            self.runs.compare(f"{folder}, endless", [line for line in free[0].splitlines() if not line.startswith(b"open")],
-                              [line for line in kept[0].splitlines() if not line.startswith((b"open", b"over"))])
+            # Only the run with history ends after its last cycle.
+            self.runs.compare(f"{folder}, endless", without_place(free[0]), without_place(kept[0]))
 
     def constant_memory(self):
         sizes = set()
