@@ -187,30 +187,27 @@ fn show_help<R: Print + Clock>(rt: &R) -> Result<(), ViewFailure> {
     }
 }
 
-/// Does what the command says, if it says something that can be done.
+/// Does what the command says.
 fn carry_out<R: Files + Input + Print + Eprint + AllocGlobal + Clock>(
     rt: &R,
-    task: Option<Task<'_>>,
+    task: &Task<'_>,
 ) -> Result<ExitCode, ViewFailure> {
-    let Some(task) = task else {
-        return Err(ViewFailure::Words(OrderError::Usage));
-    };
     match task {
-        Task::Cycle { file, cycle } => show_cycle(rt, file, cycle)?,
+        Task::Cycle { file, cycle } => show_cycle(rt, file, *cycle)?,
         Task::Latencies { file } => show_worst(rt, file)?,
         Task::Way {
             file,
             slot,
             channel,
-        } => show_before(rt, file, slot, channel)?,
-        Task::Seen { form, until_fault } => show_seen(rt, form, until_fault)?,
+        } => show_before(rt, file, *slot, *channel)?,
+        Task::Seen { form, until_fault } => show_seen(rt, *form, *until_fault)?,
         Task::Why => return explain(rt),
         Task::Run {
             shown,
             cluster,
             scenario,
             cycles,
-        } => show_files(rt, shown, cluster, scenario, cycles)?,
+        } => show_files(rt, *shown, cluster, scenario, *cycles)?,
         Task::Help => show_help(rt)?,
     }
     Ok(ExitCode::SUCCESS)
@@ -222,7 +219,10 @@ fn run<R: Env + Files + Input + Print + Eprint + AllocGlobal + Clock>(
 ) -> Result<ExitCode, ViewFailure> {
     let words = words_given(rt)?;
     let texts: Vec<&str> = texts_of(rt.alloc(), &words)?;
-    carry_out(rt, task_of(order(rt.alloc(), texts.as_slice())?))
+    match task_of(order(rt.alloc(), texts.as_slice())?) {
+        Some(task) => carry_out(rt, &task),
+        None => Err(ViewFailure::Words(OrderError::Usage)),
+    }
 }
 
 fn main(rt: HostRuntime) -> ExitCode {

@@ -93,7 +93,7 @@ fn shown_of(asked: Asked) -> Option<Shown>
 
 /// Returns what the command does. None if one of its numbers is out of its range.
 pub fn task_of(order: ViewOrder<'_>) -> Option<Task<'_>>
-    ensures { result ≡ task_of order }
+    ensures { result ≡ task_of order.entry }
 {
     match order {
         ViewOrder::Schedule { file, cycle } => Some(Task::Cycle {
