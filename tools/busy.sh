@@ -4,7 +4,7 @@
 # woken waits for a slice of its core, and the run takes many times its fair share. On one core it doesn't
 # (docs/PERFORMANCE.md).
 
-# Keeps this process, and so the program that takes its place, on one of its cores if all cores are busy.
+# Keeps this process, and so the program after it, on one of its cores for good if all cores are busy now.
 leave_busy_cores() {
     # The fourth word is RUNNABLE/ALL tasks, and this shell is one of the runnable ones.
     read -r _ _ _ tasks _ </proc/loadavg && [ "${tasks%%/*}" -gt "$(getconf _NPROCESSORS_ONLN)" ] || return 0

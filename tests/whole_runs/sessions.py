@@ -5,6 +5,7 @@ import resource
 import select
 import socket
 import subprocess
+from pathlib import Path
 
 from .cycles import STATIC_ALONE
 from .runner import EXAMPLES, SECONDS, USAGE, Folder, refused, run
@@ -260,16 +261,18 @@ class Sessions:
             self.runs.compare(f"{folder}, endless", without_place(free[0]), without_place(kept[0]))
 
     def constant_memory(self):
+        """Checks that a session needs the same memory after 200 and after 20,000 cycles."""
         sizes = set()
         for cycles in (200, 20_000):
             words = [self.runs.program, self.small, "--endless"]
-            text = text_of([f"run {min(cycles, 1000)}"] * max(1, cycles // 1000)).encode()
-            with subprocess.Popen(words, stdin=subprocess.PIPE, stdout=subprocess.DEVNULL) as ran:
-                ran.stdin.write(text)
-                ran.stdin.close()
-                _, _, used = os.wait4(ran.pid, 0)
-                ran.returncode = 0
-            sizes.add(used.ru_maxrss // 1024)
+            with subprocess.Popen(words, stdin=subprocess.PIPE, stdout=subprocess.PIPE, bufsize=0) as ran:
+                ran.stdout.readline()
+                for _ in range(max(1, cycles // 1000)):
+                    ran.stdin.write(f"run {min(cycles, 1000)}\n".encode())
+                    ran.stdout.readline()
+                # The peak that `wait4` returns is never below the size of this process.
+                status = Path(f"/proc/{ran.pid}/status").read_text()
+            sizes.add(int(status.partition("VmHWM:")[2].split()[0]) // 1024)
         self.runs.compare(f"megabytes of short and long endless sessions: {sizes}", max(sizes) - min(sizes) <= 1, True)
 
     def many_fault_lines(self):
