@@ -155,7 +155,14 @@ module _ (faults : List FaultLine) (due : List Event) where
         let first = so_far w is in
         let second = moves first.0 first.2 in (
           second.0,
-          inl (count, first.0, first.1, second.1, λ (none : Some error ≡ None). absurd (let none_is : ⊥ = cc in none_is)),
+          inl (
+            count,
+            first.0,
+            first.1,
+            second.1,
+            λ (none : Some error ≡ None). absurd
+                (let none_is : ⊥ = cc in none_is),
+          ),
           second.2,
         )
 

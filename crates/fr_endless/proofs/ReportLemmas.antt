@@ -83,7 +83,8 @@ module _ (h : Standing) (s : State) (is : IsHistory h s) where
   pub report_same : (count : ℕ) → count ≡ length s.plan.buffers → kept_report h count ≡ report_text s
   report_same count all =
       ap₂ (λ (xs : List ℕ) (ys : List ℕ). (xs ++ ys) ++ channel_lines h.counters)
-      (lines_are count (omega (arith, all)) ∙ ap (reports_from s 0) (take_all count s.plan.buffers (omega (arith, all))))
+      (lines_are count (omega (arith, all)) ∙ ap (reports_from s 0)
+      (take_all count s.plan.buffers (omega (arith, all))))
       queue_same
       ∙ ap (λ (t : List ℕ). (reports_from s 0 s.plan.buffers ++ queue_report s s.plan.queue) ++ t) channels_same
 

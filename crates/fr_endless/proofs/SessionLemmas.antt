@@ -110,7 +110,8 @@ pub begins : (terms : Terms) (text before after : Option (List ℕ)) (l : LiveSt
 begins terms text before after l kept told w is =
     (w, so_far_none terms text before after (state_of w kept) told, is)
 
-pub goes_on : (terms : Terms) (text left left' before after after' : Option (List ℕ)) (number : ℕ) (l mid new : LiveState)
+pub goes_on : (terms : Terms) (text left left' before after after' : Option (List ℕ)) (number : ℕ)
+    (l mid new : LiveState)
     (first kept keeps : List FaultLine)
     → SoFarAlike terms text left before after number l first mid kept
     → AnswersNextAlike terms true left left' after after' number mid kept new keeps
@@ -133,7 +134,8 @@ pub ends : (terms : Terms) (text left left' before after after' : Option (List �
 ends terms text left left' before after after' number l mid new first kept keeps so_far next =
     subst (λ (x : LiveState). Alike l (λ w v. Served terms text before after' (state_of w first) (state_of v keeps)) x)
     (sym next.1)
-    (subst (λ (f : List FaultLine). Alike l (λ w v. Served terms text before after' (state_of w first) (state_of v f)) mid)
+    (subst (λ (f : List FaultLine). Alike l (λ w v. Served terms text before after' (state_of w first) (state_of v f))
+    mid)
     (sym next.2) over)
   where
     over : Alike l (λ w v. Served terms text before after' (state_of w first) (state_of v kept)) mid

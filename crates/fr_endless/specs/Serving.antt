@@ -20,8 +20,8 @@ use Rattle.fr_session.specs.Sessions.{Terms, SessionState, state_of, opening, Do
 
 -- ---- one line
 
--- Every request does what it does in a session with history, and gets the same reply, with three exceptions. A trace and
--- an origin aren't known. A window of the record is known only if it is the last one.
+-- Every request does what it does in a session with history, and gets the same reply, with three exceptions. A trace
+-- and an origin aren't known. A window of the record is known only if it is the last one.
 abbrev pub DoesEndless : Terms → SessionState → Request → List ℕ → SessionState → Type 0
 DoesEndless terms old (request.Event event) reply new = DoesRequest terms old (request.Event event) reply new
 DoesEndless terms old (request.Fault line) reply new = DoesRequest terms old (request.Fault line) reply new

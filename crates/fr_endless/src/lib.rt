@@ -22,8 +22,8 @@
 //!
 //! An `EndlessWorld` is a `LiveWorld` (`fr_live`) with the number of buffers of each node, which a report needs. The
 //! requests are those of `fr_session`, read and written by its functions, and kept fault lines are its `KeptLines`.
-//! `window`, `cycle` and `run` are the events of `fr_playing::moving`. Each clause speaks of the worlds with their whole
-//! histories that lead to the kept data, and of the relations that `fr_session` defines on them.
+//! `window`, `cycle` and `run` are the events of `fr_playing::moving`. Each clause speaks of the worlds with their
+//! whole histories that lead to the kept data, and of the relations that `fr_session` defines on them.
 #![tactic(auto)]
 
 mod moving;

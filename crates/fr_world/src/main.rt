@@ -4,6 +4,7 @@
 //!
 //! ```text
 //! fr_world cluster.toml --cycles 4
+//! fr_world cluster.toml --endless
 //! ```
 //!
 //! Its exit status is 0 at the end of the input, 1 if the cluster is refused or a stream fails, and 2 if the words are
@@ -17,8 +18,8 @@
 //!
 //! # Inner workings
 //!
-//! `main` reads the words, makes the cluster, opens its world, and allocates the buffers for reading and writing. Then
-//! `serve` (`fr_session`) answers until the reader ends.
+//! `main` reads the words, makes the cluster, allocates the buffers for reading and writing, and opens the world. Then
+//! `serve` (`fr_session`) answers until the reader ends, or without history `serve_endless` (`fr_endless`).
 #![tactic(auto)]
 
 mod failure;

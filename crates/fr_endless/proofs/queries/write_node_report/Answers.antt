@@ -36,6 +36,7 @@ pub returns-else-place-interfaces : goal.returns-else-place-interfaces
 returns-else-place-interfaces g c =
     let l = c.args.world.now in
     let n = c.args.node in
-    replied g.W.Write.contents c.args.writer.now c.write_unknown-else-place-interfaces.new.writer c.write_unknown-else-place-interfaces.result
+    replied g.W.Write.contents c.args.writer.now c.write_unknown-else-place-interfaces.new.writer
+    c.write_unknown-else-place-interfaces.result
     (line_text (refusal_words UnknownNode)) (IsReportOf l n)
     (unknown_same l n (unknown_place l n (search rules))) c.write_unknown-else-place-interfaces.ensures

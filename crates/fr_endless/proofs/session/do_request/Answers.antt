@@ -1,4 +1,5 @@
-use Rattle.fr_endless.proofs.ReplyLemmas.{replied, replied_so, asked_so, event_so, line_so, forget_so, window_so, run_so}
+use Rattle.fr_endless.proofs.ReplyLemmas.{replied, replied_so, asked_so, event_so}
+use Rattle.fr_endless.proofs.ReplyLemmas.{line_so, forget_so, window_so, run_so}
 use Rattle.fr_endless.proofs.ReplyLemmas.{now_so, report_so, trace_so, origin_so, record_so}
 use Rattle.fr_session.specs.TermsFields.{terms_in}
 use Rattle.fr_endless.proofs.session.do_request.Goals as goal
@@ -8,10 +9,12 @@ returns-in-Event g c =
     let t = terms_in c.args.terms.now in
     let l = c.args.world.now in
     let kept = c.args.faults.now in
-    asked_so g.W.Write.contents c.args.writer.now c.write_answer.new.writer c.write_answer.result t l c.step-answer.new.self kept
+    asked_so g.W.Write.contents c.args.writer.now c.write_answer.new.writer c.write_answer.result t l
+    c.step-answer.new.self kept
     kept c.args.request _ c.in-Event.is
     (replied g.W.Write.contents c.args.writer.now c.write_answer.new.writer c.write_answer.result _ _
-    (event_so t l c.step-answer.new.self kept c.in-Event.event c.step-answer.result c.step-answer.ensures) c.write_answer.ensures)
+    (event_so t l c.step-answer.new.self kept c.in-Event.event c.step-answer.result c.step-answer.ensures)
+    c.write_answer.ensures)
 
 pub returns-in-Fault : goal.returns-in-Fault
 returns-in-Fault g c =
@@ -38,18 +41,21 @@ returns-in-Window g c =
     let t = terms_in c.args.terms.now in
     let l = c.args.world.now in
     let kept = c.args.faults.now in
-    asked_so g.W.Write.contents c.args.writer.now c.write_moved.new.writer c.write_moved.result t l c.finish_window-hindered.new.world kept
+    asked_so g.W.Write.contents c.args.writer.now c.write_moved.new.writer c.write_moved.result t l
+    c.finish_window-hindered.new.world kept
     kept c.args.request _ c.in-Window.is
     (replied g.W.Write.contents c.args.writer.now c.write_moved.new.writer c.write_moved.result _ _
     (window_so t l c.finish_window-hindered.new.world kept c.as_slice.result.now c.bus.result.now
-    c.finish_window-hindered.result c.as_slice.ensures c.bus.ensures c.finish_window-hindered.ensures) c.write_moved.ensures)
+    c.finish_window-hindered.result c.as_slice.ensures c.bus.ensures c.finish_window-hindered.ensures)
+    c.write_moved.ensures)
 
 pub returns-in-Run : goal.returns-in-Run
 returns-in-Run g c =
     let t = terms_in c.args.terms.now in
     let l = c.args.world.now in
     let kept = c.args.faults.now in
-    asked_so g.W.Write.contents c.args.writer.now c.write_moved-in-Run.new.writer c.write_moved-in-Run.result t l c.finish_cycles-hindered.new.world kept
+    asked_so g.W.Write.contents c.args.writer.now c.write_moved-in-Run.new.writer c.write_moved-in-Run.result t l
+    c.finish_cycles-hindered.new.world kept
     kept c.args.request _ c.in-Run.is
     (replied g.W.Write.contents c.args.writer.now c.write_moved-in-Run.new.writer c.write_moved-in-Run.result _ _
     (run_so t l c.finish_cycles-hindered.new.world kept c.as_slice-in-Run.result.now c.bus-in-Run.result.now
@@ -91,9 +97,11 @@ returns-in-Origin g c =
     let t = terms_in c.args.terms.now in
     let l = c.args.world.now in
     let kept = c.args.faults.now in
-    asked_so g.W.Write.contents c.args.writer.now c.write_no_history-in-Origin.new.writer c.write_no_history-in-Origin.result t l l kept
+    asked_so g.W.Write.contents c.args.writer.now c.write_no_history-in-Origin.new.writer
+    c.write_no_history-in-Origin.result t l l kept
     kept c.args.request _ c.in-Origin.is
-    (replied g.W.Write.contents c.args.writer.now c.write_no_history-in-Origin.new.writer c.write_no_history-in-Origin.result _ _
+    (replied g.W.Write.contents c.args.writer.now c.write_no_history-in-Origin.new.writer
+    c.write_no_history-in-Origin.result _ _
     (origin_so t l kept c.in-Origin.field-0) c.write_no_history-in-Origin.ensures)
 
 pub returns-in-Record : goal.returns-in-Record
