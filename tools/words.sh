@@ -80,8 +80,8 @@ is_in_range() {
     [ "$2" -ge "$least" ] && [ "$2" -le "$most" ]
 }
 
-# Sets `slip` to the first fault of the words, or to nothing. For a misspelt word it also sets `misspelt`, and `known` to
-# the words to choose from. For right words it sets `file` and `scenario` to the files that they name.
+# Sets `slip` to the first fault of the words, or to nothing. For a misspelt word it also sets `misspelt`, and `known`
+# to the words to choose from. For right words it sets `file` and `scenario` to the files that they name.
 read_words() {
     forget_words
     if ! is_ascii "$*" && ! is_utf8 "$*"; then

@@ -73,6 +73,16 @@ class Walks(Pages):
         ending = ENDING.format(walk=walk, steps=json.dumps(steps))
         return Path(self.written("walked.html", text.replace("</body>", f"{ending}</body>"))).as_uri()
 
+    def opened(self, page: str, steps: tuple[str, ...]) -> str:
+        """Returns the document of a page after a walk, as text. Each browser has its own way."""
+        raise NotImplementedError
+
+    def held(self, page: str, steps: tuple[str, ...]) -> str:
+        """Holds what a browser shows in a walk to what node shows, and returns the document after it."""
+        document = self.opened(page, steps)
+        self.compared(page, document, steps)
+        return document
+
     def shown(self, document: str) -> list[dict[str, Any]]:
         """Returns what the document of a browser showed after each step."""
         found = re.search(r'<pre id="(walked|failed)">(.*?)</pre>', document, re.DOTALL)
@@ -113,40 +123,30 @@ class Walks(Pages):
 @needs_node
 class InChromium(Walks):
     def opened(self, page: str, steps: tuple[str, ...]) -> str:
-        """Returns the document of a page after a walk, as text."""
         words = [str(BROWSER), "--headless", "--no-sandbox", "--disable-gpu", f"--user-data-dir={self.folder}/profile",
                  "--window-size=1280,1000", "--virtual-time-budget=30000", "--dump-dom", self.with_walk(page, steps)]
         return subprocess.run(words, capture_output=True, text=True, timeout=SECONDS, check=True).stdout
 
     def test_a_walk(self) -> None:
-        page = self.page()
-        self.compared(page, self.opened(page, STEPS))
+        self.held(self.page(), STEPS)
 
     def test_strange_names(self) -> None:
-        page = self.strange()
-        document = self.opened(page, STRANGE_STEPS)
-        self.compared(page, document, STRANGE_STEPS)
-        self.whole(document)
+        self.whole(self.held(self.strange(), STRANGE_STEPS))
 
 
 @unittest.skipUnless(FIREFOX, "there is no Firefox, in which the page is opened")
 @needs_node
 class InFirefox(Walks):
     def opened(self, page: str, steps: tuple[str, ...]) -> str:
-        """Returns the document of a page after a walk, as text."""
         with firefox(self.folder) as browser:
             browser.ask("WebDriver:Navigate", url=self.with_walk(page, steps))
             return str(browser.ask("WebDriver:ExecuteAsyncScript", script=WAITING, args=[])["value"])
 
     def test_a_walk(self) -> None:
-        page = self.page()
-        self.compared(page, self.opened(page, STEPS))
+        self.held(self.page(), STEPS)
 
     def test_strange_names(self) -> None:
-        page = self.strange()
-        document = self.opened(page, STRANGE_STEPS)
-        self.compared(page, document, STRANGE_STEPS)
-        self.whole(document)
+        self.whole(self.held(self.strange(), STRANGE_STEPS))
 
 
 if __name__ == "__main__":
