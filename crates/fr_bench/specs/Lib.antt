@@ -1,2 +1,3 @@
 pub mod Audits
+pub mod Commands
 pub mod Failures

@@ -19,20 +19,19 @@
 //!
 //! # Definitions
 //!
-//! - `Audits`, `Failures`: the bytes that the program's `audit` reads; the exit status of each failure.
+//! - `Audits`, `Commands`, `Failures`: the bytes that `audit` reads; what each command does; the exit status of each
+//!   failure.
 #![tactic(auto)]
 
 mod audit;
+mod command;
 mod failure;
 
+use command::{Source, Task, TextCommand, print_text, task_of};
 use failure::BenchFailure;
 use fr_cli::bench::order;
-use fr_cli::command::Order;
 use fr_cli::waiting::{WaitingReader, WaitingWriter};
 use fr_cli::words::{texts_of, words_given};
-use fr_commands::check::check_text;
-use fr_commands::midpoint::midpoint_text;
-use fr_commands::plan::plan_text;
 use fr_files::cluster_file::cluster_of;
 use fr_files::named::file_named;
 use fr_threads::outcome::{RunOptions, run_cluster};
@@ -49,8 +48,7 @@ fn run_files<R: Files + Print + AllocGlobal + Threads + Wait + Clock + Sync>(
     rt: &R,
     cluster: &str,
     scenario: &str,
-    cycles: u16,
-    free: bool,
+    options: RunOptions,
 ) -> Result<(), OutcomeError> {
     let alloc = rt.alloc();
     let cluster = cluster_of(alloc, &mut file_named(rt, cluster)?)?;
@@ -60,43 +58,35 @@ fn run_files<R: Files + Print + AllocGlobal + Threads + Wait + Clock + Sync>(
         alloc,
         &cluster,
         &mut file,
-        RunOptions { cycles, free },
+        options,
         &mut WaitingWriter::new(rt, io::writer(rt)),
     )
 }
 
-/// Executes the command.
+/// Executes the command on the text of its source.
+fn print_from<R: Files + Input + Print + AllocGlobal + Clock>(
+    rt: &R,
+    command: TextCommand,
+    source: Source<'_>,
+) -> Result<(), BenchFailure> {
+    let (alloc, mut output) = (rt.alloc(), WaitingWriter::new(rt, io::writer(rt)));
+    match source {
+        Source::Standard => {
+            let mut input = WaitingReader::new(rt, rt.reader());
+            print_text(alloc, command, &mut input, &mut output)
+        }
+        Source::Named(path) => print_text(alloc, command, &mut file_named(rt, path)?, &mut output),
+    }
+}
+
+/// Executes the task.
 fn carry_out<R: Files + Input + Print + AllocGlobal + Threads + Wait + Clock + Sync>(
     rt: &R,
-    order: Order<'_>,
+    task: &Task<'_>,
 ) -> Result<(), BenchFailure> {
-    let alloc = rt.alloc();
-    let mut output = WaitingWriter::new(rt, io::writer(rt));
-    match order {
-        Order::Audit => Ok(audit::audit(
-            alloc,
-            &mut WaitingReader::new(rt, rt.reader()),
-            &mut output,
-        )?),
-        Order::Check(path) => {
-            let mut file = file_named(rt, path)?;
-            Ok(check_text(alloc, &mut file, &mut output)?)
-        }
-        Order::Plan(path) => {
-            let mut file = file_named(rt, path)?;
-            Ok(plan_text(alloc, &mut file, &mut output)?)
-        }
-        Order::Midpoint => Ok(midpoint_text(
-            alloc,
-            &mut WaitingReader::new(rt, rt.reader()),
-            &mut output,
-        )?),
-        Order::Run {
-            cluster,
-            scenario,
-            cycles,
-            free,
-        } => Ok(run_files(rt, cluster, scenario, cycles, free)?),
+    match task {
+        Task::Text(command, source) => print_from(rt, *command, *source),
+        Task::Run(cluster, scenario, options) => { Ok(run_files(rt, cluster, scenario, *options)?) }
     }
 }
 
@@ -106,7 +96,7 @@ fn run<R: Env + Files + Input + Print + AllocGlobal + Threads + Wait + Clock + S
 ) -> Result<(), BenchFailure> {
     let words = words_given(rt)?;
     let texts: Vec<&str> = texts_of(rt.alloc(), &words)?;
-    carry_out(rt, order(rt.alloc(), texts.as_slice())?)
+    carry_out(rt, &task_of(&order(rt.alloc(), texts.as_slice())?))
 }
 
 fn main(rt: HostRuntime) -> ExitCode {
