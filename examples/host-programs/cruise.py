@@ -33,7 +33,7 @@ class Road:
     speed: float = 27.0
     ahead: float = 22.0
     acceleration: float = 0.0
-    """What the engine does, in metres per second squared."""
+    """Set by the engine, in metres per second squared."""
     closest: float = 60.0
     heard: dict[str, int] = field(default_factory=lambda: {"A": 0, "B": 0})
     """The measurements that the engine received on each channel."""

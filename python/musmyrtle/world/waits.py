@@ -1,4 +1,4 @@
-"""What a host program of `World.play` waits for."""
+"""Waits of host programs in `World.play`."""
 from dataclasses import dataclass
 
 from musmyrtle.world.bounds import buffer_number, node_number, slot_number, waited_cycles
