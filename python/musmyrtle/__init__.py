@@ -19,22 +19,24 @@ from musmyrtle.world.faults import Babble, Corrupt, Fault, Mute
 from musmyrtle.world.node import Buffer, Node
 from musmyrtle.world.refusals import (
     AlreadyPut, AlreadyTaken, BadCycles, BadFault, BadLine, BadName, BadWindow, BusMemory, BusRefused, BusUnknownNode,
-    ClusterRefused, HostFull, HostRefused, Memory, NoQueue, NotAllPut, NotAllTaken, NotCollecting, NotFetched,
-    NotObserved, NotReceive, NotSealed, NotStarted, NotTransmit, NoWindow, Refused, SessionOver, SlotFull, SlotRefused,
-    TimedOut, TooManyFaults, UnknownBuffer, UnknownNode, UnknownTask, WindowOrder, WrongLength, WrongTurn, WrongWindow,
+    ClusterRefused, HostFull, HostRefused, Memory, NoHistory, NoQueue, NotAllPut, NotAllTaken, NotCollecting,
+    NotFetched, NotObserved, NotReceive, NotSealed, NotStarted, NotTransmit, NoWindow, Refused, SessionOver, SlotFull,
+    SlotRefused, TimedOut, TooManyFaults, UnknownBuffer, UnknownNode, UnknownTask, WindowOrder, WrongLength, WrongTurn,
+    WrongWindow,
 )
 from musmyrtle.world.replies import (
     Channel, Counters, Frame, Queue, ReceiveBuffer, Record, Report, Sent, TransmitBuffer, Window,
 )
+from musmyrtle.world.waits import at_slot, every, on_frame
 from musmyrtle.world.world import World
 
 __all__ = [
     "AlreadyPut", "AlreadyTaken", "Babble", "BadCycles", "BadFault", "BadLine", "BadName", "BadWindow", "Buffer",
     "BusMemory", "BusRefused", "BusUnknownNode", "Channel", "ClusterRefused", "Corrupt", "Counters", "Fault", "Frame",
-    "HostFull", "HostRefused", "Memory", "Mute", "Names", "Node", "NoQueue", "NotAllPut", "NotAllTaken",
+    "HostFull", "HostRefused", "Memory", "Mute", "Names", "Node", "NoHistory", "NoQueue", "NotAllPut", "NotAllTaken",
     "NotCollecting", "NotFetched", "NotInAScenario", "NotObserved", "NotReceive", "NotSealed", "NotStarted",
     "NotTransmit", "NoWindow", "Queue", "ReceiveBuffer", "Record", "Refused", "Report", "Scenario", "ScenarioText",
     "Sent", "SessionOver", "SlotFull", "SlotRefused", "TimedOut", "TooManyFaults", "TransmitBuffer", "UnknownBuffer",
     "UnknownName", "UnknownNode", "UnknownTask", "Window", "WindowOrder", "World", "WrongLength", "WrongTurn",
-    "WrongWindow",
+    "WrongWindow", "at_slot", "every", "on_frame",
 ]

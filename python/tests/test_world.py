@@ -448,5 +448,18 @@ class TestBrakes(unittest.TestCase):
         self.assertEqual(lines, [f"frame {cycle} 1 --su x{100 * cycle:04x}0000" for cycle in range(8)])
 
 
+class TestCruise(unittest.TestCase):
+    def test_the_engine_drives_by_the_channel_that_has_guardians(self):
+        """Channel A has none, so it carries nothing beside the babbling logger. The other car is as far away."""
+        sys.path.insert(0, str(HOSTS))
+        self.addCleanup(sys.path.remove, str(HOSTS))
+        cruise = importlib.import_module("cruise")
+        (calm, calm_speeds), (disturbed, speeds) = (cruise.driven(babble, cycles=1_200) for babble in (False, True))
+        self.assertEqual((calm.heard, disturbed.heard), ({"A": 1_200, "B": 1_200}, {"A": 0, "B": 1_200}))
+        self.assertEqual((calm.distance, calm_speeds), (disturbed.distance, speeds))
+        self.assertEqual(len(speeds), 1_200)
+        self.assertGreater(disturbed.closest, 10.0)
+
+
 if __name__ == "__main__":
     unittest.main()

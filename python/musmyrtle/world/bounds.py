@@ -7,7 +7,8 @@ from musmyrtle.findings import counted
 from musmyrtle.scenario import GREATEST, MOST_BYTES
 from musmyrtle.world.replies import Channel, channel_of
 
-MOST_CYCLES = 1024
+MOST_CYCLES, MOST_ENDLESS = 1024, 4_000_000
+MOST_SLOT = 1023
 MOST_WINDOW = 2**32 - 1
 MOST_NODE, MOST_TASK, MOST_BUFFER, MOST_BIT = (GREATEST[name] for name in ("NODE", "TASK", "BUFFER", "BIT"))
 MOST_PAYLOAD, MOST_BABBLE = MOST_BYTES["commit"], MOST_BYTES["babble"]
@@ -56,9 +57,24 @@ def run_cycles(value: SupportsIndex) -> int:
     return within("the number of cycles", value, 1, MOST_CYCLES)
 
 
-def some_cycles(value: SupportsIndex) -> int:
-    """Returns a number of cycles to do, 0 to 1024. Raises `ValueError` and `TypeError`."""
-    return within("the number of cycles", value, 0, MOST_CYCLES)
+def endless_cycles(value: SupportsIndex) -> int:
+    """Returns the number of cycles of a world without history, 1 to 4000000. Raises `ValueError` and `TypeError`."""
+    return within("the number of cycles", value, 1, MOST_ENDLESS)
+
+
+def some_cycles(value: SupportsIndex, most: int = MOST_CYCLES) -> int:
+    """Returns a number of cycles to do, 0 to MOST. Raises `ValueError` and `TypeError`."""
+    return within("the number of cycles", value, 0, most)
+
+
+def waited_cycles(value: SupportsIndex) -> int:
+    """Returns a number of cycles to wait for, 1 to 4000000. Raises `ValueError` and `TypeError`."""
+    return within("the number of cycles to wait for", value, 1, MOST_ENDLESS)
+
+
+def slot_number(value: SupportsIndex) -> int:
+    """Returns the number of a static slot, 1 to 1023. Raises `ValueError` and `TypeError`."""
+    return within("the static slot", value, 1, MOST_SLOT)
 
 
 def payload_hex(payload: bytes, wanted: Callable[[], int | None] = lambda: None) -> str:

@@ -3,7 +3,9 @@ from typing import TYPE_CHECKING
 
 from musmyrtle.world.bounds import buffer_number, node_number, payload_hex, task_number
 from musmyrtle.world.refusals import UnknownNode, refusal
-from musmyrtle.world.replies import Frame, Report, Window, frame_of, number_or_none, report_of, window_of
+from musmyrtle.world.replies import (
+    Frame, ReceiveBuffer, Report, Window, frame_of, number_or_none, origin_channel, report_of, window_of,
+)
 
 if TYPE_CHECKING:
     from musmyrtle.world.world import World
@@ -56,14 +58,21 @@ class Node:
 
         Raises `UnknownTask`, `UnknownBuffer`, `NotReceive` and `HostFull`.
         """
-        return self._frame(f"read {self.number} {self._task} {buffer_number(buffer)}")
+        line = f"read {self.number} {self._task} {buffer_number(buffer)}"
+        if not self.world.has_history:
+            # The report has the channel of the frame that a receive buffer holds.
+            reply, report = self._answers([line, f"report {self.number}"])
+            held = report_of(report.partition("\n")[2]).buffers[buffer]
+            return frame_of(reply.split(" ")[1:], held.channel if isinstance(held, ReceiveBuffer) else None)
+        return self._frame(line)
 
     def pop(self) -> Frame | None:
         """Takes the oldest frame out of the receive FIFO and returns it, or None where the FIFO is empty.
 
         Raises `UnknownTask`, `NoQueue` and `HostFull`.
         """
-        return self._frame(f"pop {self.number} {self._task}")
+        line = f"pop {self.number} {self._task}"
+        return self._frame(line) if self.world.has_history else frame_of(self.world.ask(line).split(" ")[1:], None)
 
     def look(self) -> Window:
         """Has the controller ask the bus for the open window, and returns that. Raises `WrongTurn` and `BusRefused`."""
@@ -90,17 +99,21 @@ class Node:
         return report_of("".join(f"{line}\n" for line in self.world.block(f"report {self.number}")))
 
     def trace(self) -> str:
-        """Returns the node's trace, which `fr_bench audit` reads. Raises `Memory`."""
+        """Returns the node's trace, which `fr_bench audit` reads. Raises `Memory`, and `NoHistory` without history."""
         return "".join(f"{line}\n" for line in self.world.block(f"trace {self.number}"))
 
     def _frame(self, line: str) -> Frame | None:
         """Returns the frame of a read or a pop. Its origin is requested with it."""
-        asked = [line, f"origin {self.number}"]
-        reply, origin = replies = self.world.send(asked)
+        reply, origin = self._answers([line, f"origin {self.number}"])
+        return frame_of(reply.split(" ")[1:], origin_channel(origin))
+
+    def _answers(self, asked: list[str]) -> list[str]:
+        """Returns the replies to requests between which no other comes. Raises the first refusal."""
+        replies = self.world.send(asked)
         for request, answer in zip(asked, replies):
             if answer.startswith("refused "):
                 raise refusal(answer, request)
-        return frame_of(reply.split(" ")[1:], origin)
+        return replies
 
     def _ask(self, line: str) -> str:
         return self.world.ask(line).split(" ", 1)[1]

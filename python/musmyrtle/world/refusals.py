@@ -18,7 +18,7 @@ class BadName(SessionOver, ValueError):
 
 
 class BadCycles(SessionOver, ValueError):
-    """A run has 1 to 1024 cycles, so the world isn't opened."""
+    """A world has 1 to 1024 cycles, or 1 to 4000000 without history, so it isn't opened."""
 
 
 class ClusterRefused(SessionOver):
@@ -76,6 +76,10 @@ class BadFault(Refused):
 
 class NoWindow(Refused):
     """No window of this number is sealed."""
+
+
+class NoHistory(Refused):
+    """The world keeps no history, which the request asks for."""
 
 
 class Memory(Refused):
@@ -205,7 +209,7 @@ class BusMemory(BusRefused, Memory):
 
 
 _GROUPS: dict[str, tuple[type[Refused], ...]] = {
-    "": (BadLine, BadFault, NoWindow, Memory, UnknownNode, WrongTurn),
+    "": (BadLine, BadFault, NoWindow, NoHistory, Memory, UnknownNode, WrongTurn),
     "Host": (UnknownTask, UnknownBuffer, NotTransmit, NotReceive, WrongLength, HostFull, NoQueue),
     "Slot": (NotObserved, BadWindow, WindowOrder, SlotFull, NotFetched, WrongWindow),
     "Bus": (NotCollecting, TooManyFaults, NotAllPut, NotSealed, NotAllTaken, AlreadyPut, AlreadyTaken),

@@ -9,7 +9,8 @@ Channel = Literal["A", "B"]
 class Frame:
     """A frame that a task read or popped: its payload, the slot of its frame ID, 1 to 2047, and the cycle, 0 to 63.
 
-    `channel` is the channel on which the node received it.
+    `channel` is the channel on which the node received it. It is None for a frame of a receive FIFO in a world without
+    history, which doesn't keep it.
     """
 
     payload: bytes
@@ -146,14 +147,19 @@ def bytes_of(word: str) -> bytes:
     return bytes.fromhex(word[1:])
 
 
-def frame_of(words: list[str], origin: str) -> Frame | None:
-    """Returns the frame of the words after `frame`, or None for `-`, with the channel of its origin `ENTRY:CHANNEL`."""
+def frame_of(words: list[str], channel: Channel | None) -> Frame | None:
+    """Returns the frame of the words after `frame`, received on this channel, or None for `-`."""
     if words == ["-"]:
         return None
     cycle, slot, flags, payload = words
     preamble, null, sync, startup = (mark != "-" for mark in flags)
-    channel = channel_of(origin.split(":")[1])
     return Frame(bytes_of(payload), int(slot), int(cycle), preamble, null, sync, startup, channel)
+
+
+def origin_channel(reply: str) -> Channel | None:
+    """Returns the channel of the reply `origin ENTRY:CHANNEL`, or None for `origin -`."""
+    _, _, channel = reply.partition(":")
+    return channel_of(channel) if channel else None
 
 
 def record_of(lines: list[str]) -> Record:

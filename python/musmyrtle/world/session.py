@@ -3,6 +3,7 @@ import os
 import threading
 import time
 import weakref
+from collections import deque
 from collections.abc import Iterable
 
 from musmyrtle.world.child import Child, Gone, Late
@@ -13,6 +14,8 @@ from musmyrtle.world.world_program import not_started
 
 VERSION = "frworld 1"
 CLOSE_SECONDS = 1.0
+MOST_ASKED = 10_000
+"""The requests that a session without history remembers."""
 FileName = str | os.PathLike[str]
 
 
@@ -21,18 +24,22 @@ class Session:
 
     Threads can share a session: each waits until the reply to the request before is read. `lock` keeps several
     requests together. A session whose reply wasn't read to its end is broken: every later request raises `SessionOver`.
-    `asked` has all requests so far, to be asked again without Python, and `kept` the fault lines that the program has.
+    `asked` has all requests so far, to be asked again without Python, or without history the last ones. `kept` has the
+    fault lines that the program has.
     """
 
-    def __init__(self, program: FileName, cluster: FileName, cycles: int, timeout: float | None = None) -> None:
+    def __init__(self, program: FileName, cluster: FileName, cycles: int | None, timeout: float | None = None, *,
+                 endless: bool = False) -> None:
         """Starts the program and reads its first line.
 
-        TIMEOUT is the time limit of each request in seconds, or None for no limit. Raises `NotStarted`,
+        ENDLESS asks for a world without history, whose CYCLES are None for the most. TIMEOUT is the time limit of each
+        request in seconds, or None for no limit. Raises `NotStarted`,
         `ClusterRefused`, `SessionOver` where the program speaks another version, and `TimedOut`.
         """
-        command = [os.fspath(program), os.fspath(cluster), "--cycles", str(cycles)]
+        command = [os.fspath(program), os.fspath(cluster), *(["--endless"] if endless else []),
+                   *([] if cycles is None else ["--cycles", str(cycles)])]
         self.lock = threading.RLock()
-        self.asked: list[str] = []
+        self.asked: deque[str] = deque(maxlen=MOST_ASKED if endless else None)
         self.kept: list[str] = []
         self._timeout = timeout
         self._over: str | None = None

@@ -12,10 +12,13 @@ from functools import partial
 from musmyrtle.cluster_file import payload_length
 from musmyrtle.names import Names, UnknownName
 from musmyrtle.texts import FILE_LIMIT
-from musmyrtle.world.bounds import run_cycles, some_cycles, window_number
+from musmyrtle.world.bounds import (
+    MOST_CYCLES, MOST_ENDLESS, endless_cycles, run_cycles, some_cycles, window_number,
+)
 from musmyrtle.world.capture import captured, listener, only_bytes
 from musmyrtle.world.faults import Fault, fault_line
 from musmyrtle.world.node import Buffer, Node
+from musmyrtle.world.playing import Host, Play
 from musmyrtle.world.refusals import BadCycles, BadName, TooManyFaults, UnknownNode, WrongLength, refusal
 from musmyrtle.world.replies import Record, Window, record_of, window_of
 from musmyrtle.world.session import CLOSE_SECONDS, FileName, Session
@@ -23,8 +26,6 @@ from musmyrtle.world.stepping import requests_of
 from musmyrtle.world.world_program import usual_world
 
 __all__ = ["Buffer", "Host", "Node", "World"]
-
-Host = Iterator[object]
 
 
 class World:
@@ -37,28 +38,38 @@ class World:
                 world.cycle()
                 frame = receiver.read(1)
 
+    Without CYCLES the world is endless: it keeps no history, so its memory doesn't grow, and it runs for hours of
+    network time.
+
     Threads can share a world: each call is done whole before that of another thread. Every call raises `SessionOver`
     once the world is closed, its program has ended, or a request was broken off before its reply was read, as by an
     exception of a signal handler. A process that is forked can't use the worlds of its parent.
     """
 
-    def __init__(self, cluster: FileName, cycles: int, *, program: FileName | None = None,
-                 timeout: float | None = None) -> None:
+    def __init__(self, cluster: FileName, cycles: int | None = None, *, endless: bool = False,
+                 program: FileName | None = None, timeout: float | None = None) -> None:
         """Opens the world of a cluster file for a run of so many cycles, 1 to 1024.
+
+        Without CYCLES, or if ENDLESS is true, the world keeps no history. Then the cycles are 1 to 4000000, and the
+        most that the cluster allows unless they are given. `trace`, `capture` and `page` raise `NoHistory`, and
+        `record` has the window that was sealed last alone.
 
         PROGRAM is the `fr_world` to run, which `usual_world` finds otherwise. TIMEOUT is the time limit in seconds of
         each request and of the opening, or None. Raises `BadCycles` for another number of cycles, `NotStarted` where
         the program can't be started, `ClusterRefused`, `BadName` where a key `name` of the cluster file isn't a string,
         and `TimedOut`.
         """
+        self._is_endless = endless or cycles is None
         try:
-            cycles = run_cycles(cycles)
+            if cycles is not None:
+                cycles = endless_cycles(cycles) if self._is_endless else run_cycles(cycles)
         except ValueError as error:
             raise BadCycles(*error.args) from None
+        self._most_cycles = MOST_ENDLESS if self._is_endless else MOST_CYCLES
         self._cluster, self._data = cluster, regular_file(cluster)
         self._faults: list[tuple[Fault, Callable[[Window], bool]]] = []
         self._unread = ""
-        self._session = Session(program or usual_world(), cluster, cycles, timeout)
+        self._session = Session(program or usual_world(), cluster, cycles, timeout, endless=self._is_endless)
         try:
             self._names = self._read_names(self._data)
         except BaseException:
@@ -110,13 +121,18 @@ class World:
         return self._session.send(lines, timeout)
 
     def transcript(self) -> str:
-        """Returns all requests so far, a line each.
+        """Returns all requests so far, a line each, or without history the last 10,000.
 
-        On the standard input of `fr_world` they give the same replies again. A request that was broken off is there.
+        On the standard input of `fr_world` all give the same replies again. A request that was broken off is there.
         """
         return "".join(f"{line}\n" for line in self._session.asked)
 
     # ---- nodes
+
+    @property
+    def has_history(self) -> bool:
+        """Returns whether the world keeps its journals and its record, as one that was opened with cycles does."""
+        return not self._is_endless
 
     def node(self, number: int) -> Node:
         """Returns the node of this number, 0 to 15, in the order of the cluster file. Raises `ValueError` for others.
@@ -249,11 +265,18 @@ class World:
             return window
 
     def run(self, cycles: int) -> Window | None:
-        """Does so many cycles, 0 to 1024. Returns and raises as `window` does, and `ValueError` for other numbers."""
-        cycles = some_cycles(cycles)
-        if not self._faults:
-            return moved(self.ask(f"run {cycles}"))
+        """Does so many cycles, 0 to 1024, or to 4000000 without history.
+
+        Returns and raises as `window` does, and `ValueError` for other numbers. A request does 1024 cycles at most, so
+        a time limit is that of each 1024.
+        """
+        cycles = some_cycles(cycles, self._most_cycles)
         with self._session.lock:
+            if not self._faults:
+                while cycles > MOST_CYCLES:
+                    self.ask(f"run {MOST_CYCLES}")
+                    cycles -= MOST_CYCLES
+                return moved(self.ask(f"run {cycles}"))
             window = self.now()
             for _ in range(cycles):
                 window = self.cycle()
@@ -277,17 +300,14 @@ class World:
         return answers
 
     def play(self, *hosts: Host, cycles: int) -> Window | None:
-        """Runs host programs as generators for so many cycles, 0 to 1024.
+        """Runs host programs as generators for so many cycles, 0 to 1024, or to 4000000 without history.
 
-        At the start of each cycle each goes on to its next `yield`. Other threads can come in between. Returns and
-        raises what `cycle` does, `ValueError` for other numbers, and what a host program raises.
+        Each goes on to its next `yield` at the start of the next cycle, or of a later one after `yield every(cycles)`,
+        when a static slot opens after `yield at_slot(slot)`, and when a receive buffer has stored a frame after `yield
+        on_frame(node, buffer)`. Those that wait for the same go on in their order. Other threads can come in between.
+        Returns and raises what `cycle` does, `ValueError` for other numbers, and what a host program raises.
         """
-        cycles, running = some_cycles(cycles), list(hosts)
-        window = self.now()
-        for _ in range(cycles):
-            running = [host for host in running if next(host, self) is not self]
-            window = self.cycle()
-        return window
+        return Play(self, hosts).run(some_cycles(cycles, self._most_cycles))
 
     # ---- faults
 

@@ -1,0 +1,183 @@
+"""Tests of worlds without history, and of what host programs wait for."""
+import unittest
+from pathlib import Path
+
+from musmyrtle import (
+    BadCycles, Mute, NoHistory, NotReceive, NoWindow, UnknownNode, World, at_slot, every, on_frame,
+)
+
+TOP = Path(__file__).resolve().parents[2]
+THREE_NODES = TOP / "examples/three-nodes/cluster.toml"
+
+
+def words(number: int) -> bytes:
+    return number.to_bytes(2, "big")
+
+
+class TestEndless(unittest.TestCase):
+    def setUp(self):
+        self.world = World(THREE_NODES)
+        self.addCleanup(self.world.close)
+        self.sender, self.receiver = self.world.node(0), self.world.node(1)
+
+    def test_it_goes_on_after_1024_cycles(self):
+        self.assertFalse(self.world.has_history)
+        self.world.run(3_000)
+        self.sender.commit(0, words(7))
+        window = self.world.cycle()
+        self.assertEqual(window.cycle, 3_001 % 64)
+        self.assertEqual(self.receiver.read(1).payload, words(7))
+
+    def test_a_read_has_its_channel_and_a_pop_has_none(self):
+        """Slot 1 is sent on both channels, and slot 4 goes to the receive FIFO of node 0."""
+        self.sender.commit(0, words(1))
+        self.world.node(2).commit(0, words(2))
+        self.world.cycle()
+        self.assertEqual((self.receiver.read(1).channel, self.receiver.read(2).channel), ("A", "B"))
+        frame = self.sender.pop()
+        self.assertEqual((frame.payload, frame.slot, frame.channel), (words(2), 4, None))
+        self.assertIsNone(self.sender.pop())
+        self.assertIsNone(self.world.node(2).read(1))
+
+    def test_what_asks_for_history_is_refused(self):
+        self.world.run(2)
+        for call in (self.receiver.trace, lambda: self.world.capture("unwritten"),
+                     lambda: self.world.page("unwritten")):
+            with self.assertRaises(NoHistory):
+                call()
+        self.assertFalse(Path("unwritten").exists())
+        last = self.world.now().number - 1
+        self.assertEqual(self.world.record(last).window.number, last)
+        with self.assertRaises(NoWindow):
+            self.world.record(0)
+
+    def test_its_cycles_can_be_given(self):
+        with World(THREE_NODES, cycles=2_000, endless=True) as world:
+            self.assertIsNotNone(world.run(1_999))
+            self.assertIsNone(world.run(1))
+        for cycles in (0, 4_000_001):
+            with self.assertRaises(BadCycles):
+                World(THREE_NODES, cycles=cycles, endless=True)
+        with self.assertRaises(BadCycles):
+            World(THREE_NODES, cycles=1_025)
+
+    def test_cycles_to_do_are_up_to_4000000(self):
+        for cycles in (-1, 4_000_001):
+            with self.assertRaises(ValueError):
+                self.world.run(cycles)
+            with self.assertRaises(ValueError):
+                self.world.play(cycles=cycles)
+        with World(THREE_NODES, cycles=8) as kept, self.assertRaises(ValueError):
+            kept.run(1_025)
+
+    def test_the_last_requests_are_remembered(self):
+        self.world.send(["now"] * 10_005)
+        self.sender.commit(0, words(1))
+        asked = self.world.transcript().splitlines()
+        self.assertEqual((len(asked), asked[-1]), (10_000, "commit 0 0 0 x0001"))
+
+    def test_faults_of_blocks_come_in_it(self):
+        self.world.run(1_500)
+        with self.world.fault(Mute(0, "A"), when=lambda window: window.a == 1), self.world.fault("mute 0 B * s*"):
+            self.sender.commit(0, words(9))
+            self.world.run(2)
+            self.assertIsNone(self.receiver.read(1))
+        self.sender.commit(0, words(8))
+        self.world.cycle()
+        self.assertEqual(self.receiver.read(1).payload, words(8))
+
+
+class TestWaits(unittest.TestCase):
+    def setUp(self):
+        self.world = World(THREE_NODES, cycles=16)
+        self.addCleanup(self.world.close)
+        self.sender, self.receiver = self.world.node(0), self.world.node(1)
+
+    def test_every_so_many_cycles(self):
+        seen = []
+
+        def host():
+            while True:
+                seen.append(self.world.now().cycle)
+                yield every(5)
+
+        self.world.play(host(), cycles=16)
+        self.assertEqual(seen, [0, 5, 10, 15])
+
+    def test_a_slot_of_each_cycle(self):
+        seen = []
+
+        def host():
+            for _ in range(3):
+                yield at_slot(2)
+                seen.append((self.world.now().cycle, self.world.now().a))
+
+        self.world.play(host(), cycles=8)
+        self.assertEqual(seen, [(0, 2), (1, 2), (2, 2)])
+
+    def test_the_first_slot_of_the_next_cycle(self):
+        seen = []
+
+        def host():
+            yield at_slot(1)
+            seen.append(self.world.now().cycle)
+
+        self.world.play(host(), cycles=3)
+        self.assertEqual(seen, [1])
+
+    def test_a_frame_also_with_the_same_payload(self):
+        seen = []
+
+        def sender():
+            for number in (1, 1, 2):
+                self.sender.commit(0, words(number))
+                yield every(2)
+
+        def receiver():
+            while True:
+                yield on_frame(1, 1)
+                seen.append((self.world.now().cycle, self.world.now().a, self.receiver.read(1).payload))
+
+        self.world.play(receiver(), sender(), cycles=6)
+        # Node 1 receives slot 1 by the time that slot 2 opens.
+        self.assertEqual(seen, [(0, 2, words(1)), (2, 2, words(1)), (4, 2, words(2))])
+
+    def test_hosts_without_a_wait_go_on_beside_those(self):
+        turns = []
+
+        def plain():
+            for number in range(3):
+                turns.append(("plain", number))
+                yield
+
+        def waiting():
+            yield at_slot(2)
+            turns.append(("slot", self.world.now().cycle))
+            yield "anything else"
+            turns.append(("cycle", self.world.now().cycle))
+
+        self.world.play(plain(), waiting(), cycles=4)
+        self.assertEqual(turns, [("plain", 0), ("slot", 0), ("plain", 1), ("cycle", 1), ("plain", 2)])
+
+    def test_the_run_ends_while_a_host_waits(self):
+        def host():
+            yield at_slot(1023)
+
+        self.assertIsNone(self.world.play(host(), cycles=16))
+
+    def test_what_no_host_can_wait_for(self):
+        for wait in (lambda: every(0), lambda: at_slot(0), lambda: at_slot(1024), lambda: on_frame(16, 0),
+                     lambda: on_frame(0, 64)):
+            with self.assertRaises(ValueError):
+                wait()
+
+        def host(node, buffer):
+            yield on_frame(node, buffer)
+
+        for node, buffer, kind in ((0, 0, NotReceive), (1, 63, NotReceive), (9, 0, UnknownNode)):
+            with self.assertRaises(kind):
+                self.world.play(host(node, buffer), cycles=1)
+
+
+if __name__ == "__main__":
+    unittest.main()
