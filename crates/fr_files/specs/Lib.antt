@@ -1,3 +1,4 @@
 pub mod ClusterFiles
 pub mod Inputs
 pub mod NodeTexts
+pub mod Outputs
