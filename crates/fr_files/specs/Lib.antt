@@ -2,3 +2,4 @@ pub mod ClusterFiles
 pub mod Inputs
 pub mod NodeTexts
 pub mod Outputs
+pub mod ErrorNames
