@@ -4,6 +4,7 @@ use Rattle.std.specs.Io.KnownBytes.{Keeps}
 use Rattle.std.specs.Str.{IsUtf8}
 use Rattle.fr_files.specs.declared.error.BenchError.{BenchError}
 use Rattle.fr_files.specs.declared.error.BenchError.TheVariants as error
+use Rattle.fr_files.specs.Outputs.{IsCut}
 use Rattle.fr_schedule.specs.Descriptions.{Description}
 use Rattle.fr_schedule.specs.Files.{described}
 use Rattle.fr_schedule.specs.declared.error.ConfigError.{ConfigError}
@@ -38,15 +39,15 @@ IsClusterOf text (Err error.Read) = ⊤
 IsClusterOf text (Err error.Memory) = ⊤
 IsClusterOf text (Err e) = ⊥
 
--- After success the text describes a cluster, and `IsWritten` holds for the output. `Write` comes only for such a text.
--- Every other error leaves the output unchanged: the text is too long, or it is refused by its first fault, or the
--- reader or an allocation failed.
+-- After success the text describes a cluster, and `IsWritten` holds for the output. After `Write` the text describes a
+-- cluster, and a front of such an output is written. Every other error leaves the output unchanged: the text is too
+-- long, or it is refused by its first fault, or the reader or an allocation failed.
 abbrev pub Tells : (Description → Option (List ℕ) → Option (List ℕ) → Type 0) → List ℕ → Option (List ℕ)
     → Option (List ℕ) → Result (Unit {0}) BenchError → Type 0
 Tells IsWritten text old new (Ok _) = (d : Description) × IsDescribed text d × IsWritten d old new
 Tells IsWritten text old new (Err error.TooLong) = (1048576 < length text) × Keeps old new
 Tells IsWritten text old new (Err (error.Config e)) = IsShort text × IsRefused text e × Keeps old new
-Tells IsWritten text old new (Err error.Write) = (d : Description) × IsDescribed text d
+Tells IsWritten text old new (Err error.Write) = (d : Description) × IsDescribed text d × IsCut (IsWritten d) old new
 Tells IsWritten text old new (Err error.Read) = Keeps old new
 Tells IsWritten text old new (Err error.Memory) = Keeps old new
 Tells IsWritten text old new (Err e) = ⊥

@@ -5,35 +5,50 @@ ghost use Rattle.fr_files.specs.declared.error.BenchError.TheVariants as refusal
 
 use fr_midpoint::ranks::MidpointError;
 use fr_schedule::error::ConfigError;
-use thiserror::Error;
+use std::error::Error;
+use std::fmt;
 
 /// Reasons for which an input isn't read, or an output isn't written (project-defined).
 ///
 /// Printed, it is the error's name, and for an error of a crate below the names and values of that error.
-#[derive(Clone, Copy, Debug, Drop, PartialEq, Eq, Error)]
+#[derive(Clone, Copy, Debug, Drop, PartialEq, Eq)]
 pub enum BenchError {
     /// The input has more bytes than the command reads.
-    #[error("TooLong")]
     TooLong,
     /// The input couldn't be read.
-    #[error("Read")]
     Read,
     /// The output couldn't be written.
-    #[error("Write")]
     Write,
     /// An allocation failed.
-    #[error("Memory")]
     Memory,
     /// A word of the input of `midpoint` isn't a number.
-    #[error("BadNumber")]
     BadNumber,
     /// The cluster file is refused for another reason than a failed allocation.
-    #[error("{0}")]
     Config(ConfigError),
     /// The values have no midpoint.
-    #[error("{0}")]
     Midpoint(MidpointError),
 }
+
+impl fmt::Display for BenchError {
+    ghost use Rattle.fr_files.specs.ErrorNames.{bench_error_text};
+
+    ghost output = { bench_error_text };
+
+    /// Writes the error's name, or the error of the crate below.
+    fn fmt<W: fmt::Write>(&self, f: &mut fmt::Formatter<W>) -> fmt::Result {
+        match self {
+            BenchError::TooLong => write!(f, "TooLong"),
+            BenchError::Read => write!(f, "Read"),
+            BenchError::Write => write!(f, "Write"),
+            BenchError::Memory => write!(f, "Memory"),
+            BenchError::BadNumber => write!(f, "BadNumber"),
+            BenchError::Config(error) => write!(f, "{error}"),
+            BenchError::Midpoint(error) => write!(f, "{error}"),
+        }
+    }
+}
+
+impl Error for BenchError {}
 
 impl From<ConfigError> for BenchError {
     ghost from_gives = { λ error given. given ≡ given_of error };

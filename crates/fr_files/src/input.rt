@@ -1,5 +1,5 @@
 //! A whole input, up to a limit.
-ghost use Rattle.std.specs.Prelude.{◌<◌, ◌^◌, IfSome};
+ghost use Rattle.std.specs.Prelude.{◌<◌, ◌^◌, ℕ, List, IfSome};
 ghost use Rattle.fr_files.specs.Inputs.{IsReadUpTo};
 
 use crate::error::BenchError;
@@ -13,7 +13,9 @@ use std::io::{ErrorKind, Read};
 #[tactic(auto, using(crate::proofs::InputLemmas::whole))]
 pub fn read_up_to<R: Read>(alloc: Global, reader: &mut R, limit: u64) -> Result<Vec<u8>, BenchError>
     requires { limit < 2 ^ 32 }
-    ensures { IfSome (R.remaining reader.old) (λ text. IsReadUpTo limit text result) }
+    ensures known { IfSome (R.remaining reader.old) (λ text. IsReadUpTo limit text result) }
+    // The same for a reader whose bytes aren't known.
+    ensures some { (text : List ℕ) × IsReadUpTo limit text result }
 {
     let mut bytes = Vec::new(alloc);
     match reader.take(limit + 1).read_to_end(&mut bytes) {

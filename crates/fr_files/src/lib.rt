@@ -11,15 +11,17 @@
 //!
 //! # Definitions
 //!
-//! - `Inputs`, `ClusterFiles`, `NodeTexts`: the reading of an input; the reading of a cluster file, and the end of a
-//!   command that reads one; the texts of nodes, one after another.
+//! - `Inputs`, `Outputs`: the reading of an input; what a failing writer has taken of an output.
+//! - `ClusterFiles`, `NodeTexts`: the reading of a cluster file, and the end of a command that reads one; the texts of
+//!   nodes, one after another.
+//! - `ErrorNames`: the printed text of an error.
 //!
 //! # Inner workings
 //!
 //! 1. `read_up_to` (`input`) reads the whole input, or one byte more than it may have.
 //! 2. `cluster_of` (`cluster_file`) reports the parser's failed allocations as `Memory`, and other texts that are no
 //!    TOML as `Toml`.
-//! 3. `write_whole` (`output`) hands the whole text to the writer.
+//! 3. `write_whole` (`output`) hands the whole text to the writer, by `write_text`.
 //!
 //! `BenchError` (`error`) has the errors of the command `midpoint`, too, so that a program has one error for its inputs
 //! and outputs.

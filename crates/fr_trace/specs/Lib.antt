@@ -7,3 +7,4 @@ pub mod Stream
 pub mod TraceText
 pub mod Views
 pub mod Refusals
+pub mod ErrorNames

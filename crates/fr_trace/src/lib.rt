@@ -19,6 +19,7 @@
 //! - `Refusals`: the line that a refusal names; no continuation helps after it; the longest trace.
 //! - `Feeds`: the effect of a piece of a trace on an auditor, and the places where memory may run out.
 //! - `Audit`: the audit of a reader, and how far it reads.
+//! - `ErrorNames`: the printed text of a refusal.
 //!
 //! `TraceText` is the meaning of a trace: a text is accepted exactly if it is the text of a legal interface. The module
 //! `Stream` reads that text byte by byte, which is needed to define which error comes and when. Two laws in `Refusals`
