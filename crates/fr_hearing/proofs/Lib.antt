@@ -7,8 +7,6 @@ mod StepLemmas
 mod CourseLemmas
 mod RecordLemmas
 pub mod AlarmLaws
-mod FirstLemmas
-mod DueLemmas
 pub mod OfferLaws
 pub mod CaptureLaws
 mod OwnedLemmas

@@ -28,8 +28,8 @@ use Rattle.fr_journal.specs.Offers.{transmitter, is_admitting, ready, ready_in, 
 use Rattle.fr_journal.specs.Offers.{line_of}
 use Rattle.fr_journal.specs.Offers.{data_or, offered_at, offered, payload_in, payload_of, sync_of, startup_of}
 use Rattle.fr_journal.specs.Offers.{preamble_of, preamble_in, null_frame, data_frame_of, frame_of_offer, frame_with}
-use Rattle.fr_hearing.proofs.DueLemmas.{due_is_owners, due_is_senders}
-use Rattle.fr_hearing.proofs.FirstLemmas.{find_position, IsThere, there}
+use Rattle.fr_logged.proofs.DueLemmas.{due_is_owners, due_is_senders}
+use Rattle.fr_logged.proofs.FirstLemmas.{find_position, IsThere, there}
 use Rattle.fr_hearing.specs.Offering.{IsFetched, IsOwnWindow, HandsDue, OwnersSend, IsOpenWindow}
 use Rattle.fr_hearing.specs.Offering.{IsDueThere, SendersSend}
 use Rattle.fr_logged.specs.Dues.{line_in, buffer_in, static_due, dynamic_due, preamble_of as due_preamble, due_of}

@@ -46,8 +46,8 @@ use Rattle.fr_minislot.specs.DynamicRows.{minislots_filled_by}
 use Rattle.fr_schedule.specs.Clusters.{IsCluster}
 use Rattle.fr_schedule.specs.Descriptions.{Description}
 use Rattle.fr_schedule.specs.SenderTable.{IsSender}
-use Rattle.fr_hearing.proofs.DueLemmas.{static_sender}
-use Rattle.fr_hearing.proofs.FirstLemmas.{any_found_in, there, IsThere}
+use Rattle.fr_logged.proofs.DueLemmas.{static_sender}
+use Rattle.fr_logged.proofs.FirstLemmas.{any_found_in, there, IsThere}
 use Rattle.fr_hearing.proofs.OfferLaws.{line_is}
 use Rattle.fr_slots.proofs.PlaceLemmas.{same_some}
 use Rattle.fr_slots.specs.Admission.{is_channel}

@@ -1,4 +1,5 @@
 mod ClockLemmas
 mod FreshLemmas
 mod LoopLemmas
+mod PlainLemmas
 mod SenderLemmas

@@ -8,7 +8,7 @@ use Rattle.std.specs.Option.{is_some, is_none, option_or}
 use Rattle.fr_frame.specs.Fields.{Fields}
 use Rattle.fr_logged.specs.Findings.{bare, with_numbers, number_word}
 use Rattle.fr_logged.specs.Logged.{kind_of, spelled, cut, place_in, place_of as frame_place}
-use Rattle.fr_logged.specs.Rules.{same, static_finding, dynamic_finding, minislot_finding}
+use Rattle.fr_logged.specs.Rules.{same, static_rules, static_finding, dynamic_finding, minislot_finding}
 use Rattle.fr_logged.specs.declared.due.Due.{Due}
 use Rattle.fr_logged.specs.declared.finding.Finding.{Finding}
 use Rattle.fr_logged.specs.declared.finding.Name.{Name}
@@ -223,9 +223,12 @@ differ f None = None
 differ f (Some g) =
     if same f.has_data g.has_data && are_equal f.payload g.payload then None else Some (bare name.Channels)
 
+abbrev pub both_finding : State → Fields → Due → Option Finding
+both_finding s f d = if d.both then differ f (beside s f) else None
+
 unfoldable pub channels_finding : State → Fields → Option Due → Option Finding
 channels_finding s f None = None
-channels_finding s f (Some d) = if d.both then differ f (beside s f) else None
+channels_finding s f (Some d) = both_finding s f d
 
 abbrev pub show_frame : State → Fields → State
 show_frame s f = record s {
@@ -267,11 +270,13 @@ count_frame s f at = with_tally s f.id s.channel (with_time s f at (with_frame f
 
 -- ---- the slot's frame
 
--- the frame counts, and has this finding
+-- the frame counts
+abbrev pub keep_plain : State → Fields → At → State
+keep_plain s f at = count_frame (record s { mine = record s.mine { last = f.id; ill = 0 } }) f at
+
+-- and has this finding
 unfoldable pub keep_frame : State → Fields → At → Option Finding → State
-keep_frame s f at finding =
-    find_some (count_frame (record s { mine = record s.mine { last = f.id; ill = 0 } }) f at) (Some at)
-    (frame_place s.channel f) finding
+keep_frame s f at finding = find_some (keep_plain s f at) (Some at) (frame_place s.channel f) finding
 
 abbrev pub fix : State → Fields → At → Option Finding → State
 fix s f at wrong = record s {
@@ -288,6 +293,17 @@ static_found s f at due finding = static_with s f at due finding (time_finding s
 -- a frame of a static slot
 unfoldable pub static_came : State → Fields → At → Option Due → State
 static_came s f at due = static_found s f at due (option_or (static_finding due f) (channels_finding s f due))
+
+-- a frame of a static slot has no finding
+abbrev pub is_fine : State → Fields → At → Option Due → Bool
+is_fine s f at None = false
+is_fine s f at (Some d) =
+    is_none (static_rules d f) && (is_none (both_finding s f d)
+    && is_none (time_finding s.rules s.mine f.id at.time None))
+
+-- and then this comes of it
+unfoldable pub plain_came : State → Fields → At → Option Due → State
+plain_came s f at due = keep_plain (fix (show (back s f at due) f due) f at None) f at
 
 -- the minislot at which the slot opens is known
 abbrev pub is_placed : State → Bool

@@ -1,16 +1,16 @@
 //! The frame of a slot.
 
-ghost use Rattle.std.specs.Prelude.{◌≡◌, ◌<◌, ◌≤◌, ◌+◌, ◌%◌};
+ghost use Rattle.std.specs.Prelude.{◌≡◌, ◌<◌, ◌≤◌, ◌+◌, ◌%◌, None, Some};
 ghost use Rattle.fr_judging.specs.Judging.{back_line, add_back, back_of, back, shown_in, is_beside, beside, differ};
-ghost use Rattle.fr_judging.specs.Judging.{channels_finding, show_frame, show, quiet, span_since, with_time};
-ghost use Rattle.fr_judging.specs.Judging.{with_frame};
-ghost use Rattle.fr_judging.specs.Judging.{count_frame, keep_frame, fix, static_with, static_found, static_came};
+ghost use Rattle.fr_judging.specs.Judging.{channels_finding, both_finding, show_frame, show, quiet, span_since};
+ghost use Rattle.fr_judging.specs.Judging.{with_frame, is_fine, plain_came, keep_plain, count_frame, keep_frame, fix};
+ghost use Rattle.fr_judging.specs.Judging.{static_with, static_found, static_came};
 ghost use Rattle.fr_judging.specs.Judging.{is_placed, placed_finding, dynamic_came, came_with, came, are_equal};
-ghost use Rattle.std.specs.Option.{option_or};
+ghost use Rattle.std.specs.Option.{option_or, is_none};
 ghost use Rattle.fr_judging.specs.Lanes.{same_open, opens_at, after_dynamic};
 
-use crate::distance::{fixed_after, time_finding};
-use crate::judge::{Judge, Shown, other_channel, static_place};
+use crate::distance::{fixed_after, is_timely, time_finding};
+use crate::judge::{Judge, Shown, other_channel, place_of as place_of_slot, static_place};
 use crate::lane::Lane;
 use crate::line::{At, Line};
 use crate::tally::{Came, SlotTally, Span, span_between};
@@ -18,7 +18,7 @@ use fr_frame::lent::LentFrame;
 use fr_logged::due::Due;
 use fr_logged::finding::{Finding, Name};
 use fr_logged::record::place_of;
-use fr_logged::rules::{dynamic_finding, minislot_finding, static_finding};
+use fr_logged::rules::{dynamic_finding, is_well, minislot_finding, static_finding};
 use fr_slots::channel::Channel;
 use fr_slots::numbers::Cycle;
 use fr_slots::params::Params;
@@ -87,16 +87,21 @@ fn pass_dynamic(params: &Params, lane: &mut Lane, frame: &LentFrame<'_>, words: 
 }
 
 /// Counts a frame with data, or a null frame.
-fn with_frame(frame: &LentFrame<'_>, tally: SlotTally) -> SlotTally
-    ensures { result ≡ with_frame frame.now tally }
+fn count_kind(frame: &LentFrame<'_>, tally: &mut SlotTally)
+    ensures { tally.new ≡ with_frame frame.now tally.old }
 {
-    let mut counted = tally;
     if frame.has_data {
-        counted.data_frames = tally.data_frames.saturating_add(1);
+        tally.data_frames = tally.data_frames.saturating_add(1);
     } else {
-        counted.null_frames = tally.null_frames.saturating_add(1);
+        tally.null_frames = tally.null_frames.saturating_add(1);
     }
-    counted
+}
+
+/// Returns whether the frame is like the one on the other channel.
+fn is_alike(frame: &LentFrame<'_>, shown: &Shown) -> bool
+    ensures { result ≡ is_none (differ frame.now (Some shown.now.frame)) }
+{
+    differ(frame, shown).is_none()
 }
 
 impl Judge {
@@ -198,33 +203,36 @@ impl Judge {
         }
     }
 
-    /// Returns the counts of a slot with the time of its frame, if one was due.
-    #[tactic(auto, unfolding(crate::specs::Judging::with_time))]
-    fn with_time(&self, frame: &LentFrame<'_>, at: &At, tally: &SlotTally) -> SlotTally
-        ensures { result ≡ with_time self.now frame.now at.now tally.now }
-    {
-        if !self.rules.is_sent(frame.id, self.channel, frame.cycle) {
-            return *tally;
-        }
-        let mut timed = *tally;
-        timed.span = self.span_since(frame, at, tally);
-        timed.latest = Some(Came {
-            number: self.mine.number,
-            cycle: frame.cycle,
-            time: at.time,
-        });
-        timed
-    }
-
     /// Counts the frame of a slot.
-    #[tactic(auto, unfolding(crate::specs::Judging::count_frame))]
+    #[tactic(auto, unfolding(crate::specs::Judging::count_frame), using(crate::proofs::PlainLemmas::timed_is, crate::proofs::PlainLemmas::untimed_is))]
     fn count_frame(&mut self, frame: &LentFrame<'_>, at: &At)
         ensures { self.new ≡ count_frame self.old frame.now at.now }
     {
-        let slot = u32::from(frame.id);
-        let tally = with_frame(frame, self.tally_at(slot, self.channel));
-        let timed = self.with_time(frame, at, &tally);
-        self.with_tally(slot, self.channel, timed);
+        let place = place_of_slot(u32::from(frame.id), self.channel);
+        if !self.rules.is_sent(frame.id, self.channel, frame.cycle) {
+            count_kind(frame, &mut self.slots[place]);
+            return;
+        }
+        let span = self.span_since(frame, at, &self.slots[place]);
+        let came = Came {
+            number: self.mine.number,
+            cycle: frame.cycle,
+            time: at.time,
+        };
+        // The counts stay in their place, since they are longer than all else that is moved for a frame.
+        let tally = &mut self.slots[place];
+        count_kind(frame, tally);
+        tally.span = span;
+        tally.latest = Some(came);
+    }
+
+    /// Keeps the frame of a slot.
+    fn keep_plain(&mut self, frame: &LentFrame<'_>, at: &At)
+        ensures { self.new ≡ keep_plain self.old frame.now at.now }
+    {
+        self.mine.last = frame.id;
+        self.mine.ill = 0;
+        self.count_frame(frame, at);
     }
 
     /// Keeps the frame of a slot, and tells its finding.
@@ -233,15 +241,54 @@ impl Judge {
         ensures { self.new ≡ keep_frame self.old frame.now at.now finding }
     {
         let place = place_of(self.channel, frame);
-        self.mine.last = frame.id;
-        self.mine.ill = 0;
-        self.count_frame(frame, at);
+        self.keep_plain(frame, at);
         self.find_some(&Some(*at), &place, finding);
+    }
+
+    /// Returns whether the frame of a static slot isn't unlike the other channel's.
+    fn are_channels_well(&self, frame: &LentFrame<'_>, due: &Due) -> bool
+        ensures { result ≡ is_none (both_finding self.now frame.now due.now) }
+    {
+        if !due.both || !self.is_beside(frame) {
+            return true;
+        }
+        let channel = other_channel(self.channel);
+        let shown = &self.shown[static_place(u32::from(frame.id), channel)];
+        if shown.opened != self.other.cycles {
+            return true;
+        }
+        is_alike(frame, shown)
+    }
+
+    /// Returns whether the frame of a static slot has no finding. It makes none, which would take longer than the rest.
+    fn is_fine(&self, frame: &LentFrame<'_>, at: &At, due: &Option<Due>) -> bool
+        ensures { result ≡ is_fine self.now frame.now at.now due.now }
+    {
+        match due {
+            Some(due) => {
+                is_well(due, frame)
+                    && (self.are_channels_well(frame, due)
+                        && is_timely(&self.rules, &self.mine, frame.id, at.time))
+            }
+            None => false,
+        }
+    }
+
+    /// Takes the frame of a static slot that has no finding.
+    #[tactic(auto, unfolding(crate::specs::Judging::plain_came))]
+    fn plain_came(&mut self, frame: &LentFrame<'_>, at: &At, due: Option<Due>)
+        ensures { self.new ≡ plain_came self.old frame.now at.now due }
+    {
+        self.back(frame, at, due);
+        self.show(frame, due);
+        let fixed = fixed_after(&self.rules, &self.mine, frame.id, at.time, None);
+        self.mine.fixed = fixed;
+        self.keep_plain(frame, at);
     }
 
     /// Takes the frame of a static slot.
     #[tactic(auto, unfolding(crate::specs::Judging::static_came))]
-    fn static_came(&mut self, frame: &LentFrame<'_>, at: &At, due: Option<Due>)
+    fn told_came(&mut self, frame: &LentFrame<'_>, at: &At, due: Option<Due>)
         ensures { self.new ≡ static_came self.old frame.now at.now due }
     {
         let finding = first_of(
@@ -254,6 +301,18 @@ impl Judge {
         let fixed = fixed_after(&self.rules, &self.mine, frame.id, at.time, wrong);
         self.mine.fixed = fixed;
         self.keep_frame(frame, at, first_of(finding, wrong));
+    }
+
+    /// Takes the frame of a static slot.
+    #[tactic(auto, using(crate::proofs::PlainLemmas::plain_is))]
+    fn static_came(&mut self, frame: &LentFrame<'_>, at: &At, due: Option<Due>)
+        ensures { self.new ≡ static_came self.old frame.now at.now due }
+    {
+        if self.is_fine(frame, at, &due) {
+            self.plain_came(frame, at, due);
+        } else {
+            self.told_came(frame, at, due);
+        }
     }
 
     /// Returns the finding of the minislot at which the slot of a frame opens.

@@ -6,6 +6,8 @@ ghost use Rattle.fr_judging.specs.Distances.{distance_with, distance_by, by_time
 ghost use Rattle.fr_judging.specs.Distances.{is_long};
 ghost use Rattle.fr_judging.specs.Distances.{time_off, time_by, time_from, time_finding, fixed_at, fixed_after};
 ghost use Rattle.fr_judging.specs.Distances.{steps_from};
+ghost use Rattle.std.specs.Option.{is_none};
+ghost use Rattle.std.specs.Prelude.{None};
 
 use crate::lane::{Fixed, Lane};
 use crate::rules::Rules;
@@ -266,4 +268,14 @@ pub(crate) fn fixed_after(
         Some(time) => Some(Fixed { slot, time }),
         None => None,
     }
+}
+
+/// Returns whether the time of a static frame has no finding.
+pub(crate) fn is_timely(rules: &Rules, lane: &Lane, slot: u16, time: Option<Moment>) -> bool
+    ensures { result ≡ is_none (time_finding rules.now lane.now slot time None) }
+{
+    if rules.macrotick == 0 {
+        return true;
+    }
+    time_finding(rules, lane, slot, time, None).is_none()
 }

@@ -105,6 +105,10 @@ impl Judge {
     pub(crate) fn settle(&mut self, next: Option<Next>)
         ensures { self.new ≡ settle self.old next }
     {
+        // A frame waits at the start of a cycle alone, and to take one moves its bytes.
+        if self.mine.held.is_none() {
+            return;
+        }
         if let Some(held) = self.mine.held.take() {
             let since = self.mine.ill_held;
             self.mine.ill_held = 0;

@@ -1,1 +1,4 @@
+pub mod DueLemmas
+pub mod FirstLemmas
 mod HeaderLemmas
+mod SenderLemmas

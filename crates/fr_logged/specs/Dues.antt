@@ -84,6 +84,13 @@ sender_from p slot channel cycle node (plan ∷ plans) =
     sender_or p channel node plan (buffer_in slot channel cycle plan)
     (sender_from p slot channel cycle (node + 1) plans)
 
+-- what this node may send in the slot, if anything
+abbrev pub due_from : Parameters → ℕ → Plan → ℕ → Channel → ℕ → Option Due
+due_from p node plan slot channel cycle =
+    if is_static_slot p slot
+    then owner_or p node plan (line_in slot channel cycle plan) (buffer_in slot channel cycle plan) None
+    else sender_or p channel node plan (buffer_in slot channel cycle plan) None
+
 -- what may be sent in the slot, if anything
 abbrev pub due_of : Description → ℕ → Channel → ℕ → Option Due
 due_of d slot channel cycle =

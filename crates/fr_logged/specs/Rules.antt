@@ -49,12 +49,15 @@ abbrev pub buffer_finding : ℕ → Option Bool → Fields → Option Finding
 buffer_finding node None f = Some (record { name = name.NoBuffer; expected = number_word node; found = Absent })
 buffer_finding node (Some preamble) f = preamble_finding preamble f
 
+-- by its kind: a data frame or a null frame
+abbrev pub kind_finding : Due → Fields → Option Finding
+kind_finding d f = if f.has_data then buffer_finding d.node d.preamble f else null_finding f
+
 abbrev pub static_rules : Due → Fields → Option Finding
 static_rules d f =
     if not (length f.payload / 2 == d.words) then Some (with_numbers name.Words d.words (length f.payload / 2))
     else if not (same d.sync f.sync && same d.startup f.startup) then Some (bits_finding d.sync d.startup f)
-    else if f.has_data then buffer_finding d.node d.preamble f
-    else null_finding f
+    else kind_finding d f
 
 abbrev pub static_finding : Option Due → Fields → Option Finding
 static_finding None f = Some (bare name.Nobody)

@@ -1,13 +1,13 @@
 //! What a cluster allows in a slot on a channel in a cycle.
 
-ghost use Rattle.std.specs.Prelude.{◌≡◌, ◌≤◌, length};
-ghost use Rattle.fr_logged.specs.Dues.{due_of, owner_from, sender_from, line_in, buffer_in, preamble_of, is_both};
-ghost use Rattle.fr_logged.specs.Dues.{is_for_both, static_due, dynamic_due};
+ghost use Rattle.std.specs.Prelude.{◌≡◌, None};
+ghost use Rattle.fr_logged.specs.Dues.{due_of, line_in, buffer_in, preamble_of, is_both};
+ghost use Rattle.fr_logged.specs.Dues.{is_for_both, static_due, dynamic_due, owner_or, sender_or, due_from};
 ghost use Rattle.fr_slots.specs.Faults.{sends_at};
 
 use fr_schedule::cluster::Cluster;
 use fr_slots::channel::{Channel, Channels};
-use fr_slots::numbers::{Cycle, SlotId};
+use fr_slots::numbers::{Cycle, NodeId, SlotId};
 use fr_slots::params::Params;
 use fr_slots::plan::{Buffer, NodePlan, Own};
 
@@ -108,24 +108,21 @@ fn static_due(params: &Params, node: u8, plan: &NodePlan, own: &Own, buffer: &Op
     }
 }
 
-/// Returns what the owner of a static slot may send there, if there is one.
-fn owner_of(
+/// Returns what the node that owns a static slot may send there.
+fn owner_due(
     params: &Params,
-    plans: &[NodePlan],
+    node: u8,
+    plan: &NodePlan,
     slot: SlotId,
     channel: Channel,
     cycle: Cycle,
 ) -> Option<Due>
-    requires { length plans.now ≤ 16 }
-    ensures { result ≡ owner_from params.now slot channel cycle 0 plans.now }
+    ensures { result ≡ owner_or params.now node plan.now (line_in slot channel cycle plan.now)
+        (buffer_in slot channel cycle plan.now) None }
 {
-    for (node, plan) in plans.iter().enumerate() {
-        if let Some(own) = line_in(slot, channel, cycle, plan) {
-            let buffer = buffer_in(slot, channel, cycle, plan);
-            return Some(static_due(params, node as u8, plan, &own, &buffer));
-        }
-    }
-    None
+    let own = line_in(slot, channel, cycle, plan)?;
+    let buffer = buffer_in(slot, channel, cycle, plan);
+    Some(static_due(params, node, plan, &own, &buffer))
 }
 
 /// Returns what the sender of a dynamic slot may send there.
@@ -152,33 +149,47 @@ fn dynamic_due(
     })
 }
 
-/// Returns what the sender of a dynamic slot may send there, if there is one.
-fn sender_of(
+/// Returns what the node that sends in a dynamic slot may send there.
+fn sender_due(
     params: &Params,
-    plans: &[NodePlan],
+    node: u8,
+    plan: &NodePlan,
     slot: SlotId,
     channel: Channel,
     cycle: Cycle,
 ) -> Option<Due>
-    requires { length plans.now ≤ 16 }
-    ensures { result ≡ sender_from params.now slot channel cycle 0 plans.now }
+    ensures { result ≡ sender_or params.now channel node plan.now (buffer_in slot channel cycle plan.now) None }
 {
-    for (node, plan) in plans.iter().enumerate() {
-        if let Some(buffer) = buffer_in(slot, channel, cycle, plan) {
-            return dynamic_due(params, channel, node as u8, plan, &buffer);
-        }
-    }
-    None
+    let buffer = buffer_in(slot, channel, cycle, plan)?;
+    dynamic_due(params, channel, node, plan, &buffer)
 }
 
-/// Returns what may be sent in the slot on the channel in the cycle, if anything.
-pub fn due_of(cluster: &Cluster, slot: SlotId, channel: Channel, cycle: Cycle) -> Option<Due>
-    ensures { result ≡ due_of cluster.now slot channel cycle }
+/// Returns what the sender of the slot may send there.
+fn due_from(
+    cluster: &Cluster,
+    node: NodeId,
+    plan: &NodePlan,
+    slot: SlotId,
+    channel: Channel,
+    cycle: Cycle,
+) -> Option<Due>
+    ensures { result ≡ due_from cluster.now.params node plan.now slot channel cycle }
 {
     let params = cluster.params();
     if params.is_static(slot) {
-        owner_of(params, cluster.plans(), slot, channel, cycle)
+        owner_due(params, node.number(), plan, slot, channel, cycle)
     } else {
-        sender_of(params, cluster.plans(), slot, channel, cycle)
+        sender_due(params, node.number(), plan, slot, channel, cycle)
     }
+}
+
+/// Returns what may be sent in the slot on the channel in the cycle, if anything.
+#[tactic(auto, using(crate::proofs::SenderLemmas::due_somebody))]
+pub fn due_of(cluster: &Cluster, slot: SlotId, channel: Channel, cycle: Cycle) -> Option<Due>
+    ensures { result ≡ due_of cluster.now slot channel cycle }
+{
+    // The table of senders has the node, so that only its own plan is searched.
+    let node = cluster.sender(cycle, slot, channel)?;
+    let plan = cluster.node(node)?;
+    due_from(cluster, node, plan, slot, channel, cycle)
 }

@@ -1,10 +1,11 @@
 //! The finding of a frame in its slot.
 
-ghost use Rattle.std.specs.Prelude.{◌≡◌};
+ghost use Rattle.std.specs.Prelude.{◌≡◌, ℕ};
 ghost use Rattle.std.specs.List.{list_all};
+ghost use Rattle.std.specs.Option.{is_none};
 ghost use Rattle.fr_logged.specs.Rules.{letters_of, unlike, bits_finding, preamble_finding, is_zero, null_finding};
 ghost use Rattle.fr_logged.specs.Rules.{buffer_finding, static_rules, static_finding, words_finding, dynamic_rules};
-ghost use Rattle.fr_logged.specs.Rules.{dynamic_finding, minislot_finding};
+ghost use Rattle.fr_logged.specs.Rules.{dynamic_finding, minislot_finding, kind_finding};
 
 use crate::due::Due;
 use crate::finding::{Finding, Letters, Name, Word};
@@ -93,6 +94,43 @@ fn buffer_finding(node: u8, preamble: Option<bool>, frame: &LentFrame<'_>) -> Op
             found: Word::Absent,
         }),
     }
+}
+
+/// Returns whether a data frame has the payload preamble indicator of its transmit buffer.
+fn is_preamble_well(preamble: Option<bool>, frame: &LentFrame<'_>) -> bool
+    ensures { (node : ℕ) → result ≡ is_none (buffer_finding node preamble frame.now) }
+{
+    match preamble {
+        Some(preamble) if preamble == frame.preamble => true,
+        _ => false,
+    }
+}
+
+/// Returns whether the frame of a static slot has no finding by its kind.
+fn is_kind_well(due: &Due, frame: &LentFrame<'_>) -> bool
+    ensures { result ≡ is_none (kind_finding due.now frame.now) }
+{
+    if frame.has_data {
+        is_preamble_well(due.preamble, frame)
+    } else {
+        null_finding(frame).is_none()
+    }
+}
+
+/// Returns whether the frame of a static slot has no finding, by what is due there. It makes no finding, which would
+/// take longer than all the rest.
+pub fn is_well(due: &Due, frame: &LentFrame<'_>) -> bool
+    ensures { result ≡ is_none (static_rules due.now frame.now) }
+{
+    let words = frame.payload.len() / 2;
+    if words != usize::from(due.words) {
+        return false;
+    }
+    let alike = due.sync == frame.sync && due.startup == frame.startup;
+    if !alike {
+        return false;
+    }
+    is_kind_well(due, frame)
 }
 
 /// Returns the finding of a frame in a static slot, by what is due there.

@@ -31,12 +31,34 @@ module _ {X : Type 0} where
       let parts : (test x ≡ false) × (list_any test xs ≡ false) = or_parts (test x) (list_any test xs) e in
       ap (λ (b : Bool). cond b (Some x) (find test xs)) parts.0 ∙ none_found_in test xs parts.1
 
+  pub not_any : (test : X → Bool) (xs : List X) → find test xs ≡ None → list_any test xs ≡ false
+  not_any test [] e = refl
+  not_any test (x ∷ xs) e = by (test x) refl e (not_any test xs)
+    where
+      by : (b : Bool) → test x ≡ b → cond b (Some x) (find test xs) ≡ None
+          → (find test xs ≡ None → list_any test xs ≡ false) → list_any test (x ∷ xs) ≡ false
+      by true is none more = absurd (let wrong : ⊥ = cc none in wrong)
+      by false is none more = ap (λ (b : Bool). b || list_any test xs) is ∙ more none
+
   pub any_found_in : (test : X → Bool) (xs : List X) (x : X) → find test xs ≡ Some x → list_any test xs ≡ true
   any_found_in test xs x e = by (list_any test xs) refl
     where
       by : (b : Bool) → list_any test xs ≡ b → list_any test xs ≡ true
       by true is = is
       by false is = absurd (let none : ⊥ = cc (none_found_in test xs is, e) in none)
+
+-- an item that passes the test is found
+pub record Found {X : Type 0} (test : X → Bool) (xs : List X) : Type 0 where
+  pub value : X
+  pub is : find test xs ≡ Some value
+
+module _ {X : Type 0} where
+  pub some_found_in : (test : X → Bool) (xs : List X) → list_any test xs ≡ true → Found test xs
+  some_found_in test xs some = by (find test xs) refl
+    where
+      by : (o : Option X) → find test xs ≡ o → Found test xs
+      by (Some x) e = record { value = x; is = e }
+      by None e = absurd (let none : ⊥ = cc (not_any test xs e, some) in none)
 
 -- an option that is there
 pub record IsThere {X : Type 0} (o : Option X) : Type 0 where

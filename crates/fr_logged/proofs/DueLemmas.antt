@@ -3,7 +3,7 @@ use Rattle.std.proofs.Common.{◌≡◌, ℕ, zero, suc, ◌+◌, ◌<◌, ◌�
 use Rattle.std.proofs.Common.{ap, subst, ◌∙◌, arith, Option, Some, None, slice_get}
 use Rattle.std.proofs.lemmas.Bool.{cond-true, cond-false, false_from_ne_true}
 use Rattle.std.specs.List.{find, list_any}
-use Rattle.fr_hearing.proofs.FirstLemmas.{none_found_in, any_found_in}
+use Rattle.fr_logged.proofs.FirstLemmas.{none_found_in, any_found_in}
 use Rattle.fr_logged.specs.Dues.{line_in, buffer_in, static_due, dynamic_due, owner_or, owner_from}
 use Rattle.fr_logged.specs.Dues.{sender_or, sender_from, due_of}
 use Rattle.fr_logged.specs.declared.due.Due.{Due}
@@ -111,7 +111,7 @@ sender_at p slot channel cycle (q ∷ qs) start (suc k) plan b at is before =
     ∙ ap (λ (n : ℕ). dynamic_due p channel n plan b)
     (let more : start + 1 + k ≡ start + suc k = omega arith in more)
 
-dynamic_sender : (d : Description) (slot : ℕ) (channel : Channel) (cycle n : ℕ) (plan : Plan)
+pub dynamic_sender : (d : Description) (slot : ℕ) (channel : Channel) (cycle n : ℕ) (plan : Plan)
     → is_static_slot d.params slot ≡ false → slice_get d.plans n ≡ Some plan
     → list_any (sends_at slot channel cycle) plan.buffers ≡ true → IsSender d cycle slot channel n
 dynamic_sender d slot channel cycle n plan dynamic at some = record {
