@@ -1,9 +1,12 @@
 -- The text of the observations so far: some of it was handed to the writer, and the rest is in a piece.
-use Rattle.std.proofs.Common.{◌≡◌, ℕ, ◌+◌, ◌<◌, ◌≤◌, List, [], ◌∷◌, ◌++◌, length, take, get_or, Option, Some, None}
+use Rattle.std.proofs.Common.{◌≡◌, ℕ, ◌+◌, ◌<◌, ◌≤◌, List, [], ◌∷◌, ◌++◌, length, take, drop, get_or, Option, Some, None}
 use Rattle.std.proofs.Common.{Result, Ok, Err, refl, sym, ap, subst, ◌∙◌, arith, append_assoc, append-nil, inl, inr}
+use Rattle.std.proofs.Common.{take-append-drop}
 use Rattle.std.specs.Io.KnownBytes.{Appends, Keeps}
+use Rattle.fr_files.specs.Outputs.{AppendsFront, FallsShort}
+use Rattle.fr_files.proofs.OutputLemmas.{short_front}
 use Rattle.std.specs.List.{flat_map}
-use Rattle.std.specs.Prelude.{OnOk, IfErr, IfSome, ◌⊎◌}
+use Rattle.std.specs.Prelude.{OnErr, OnOk, IfErr, IfSome}
 use Rattle.std.proofs.KnownBytes.{Appends-nil, Appends-trans}
 use Rattle.std.proofs.lemmas.Grind.{flat_map-append}
 use Rattle.std.proofs.lemmas.List.{length-take, take_more, take_all}
@@ -16,10 +19,27 @@ use Rattle.fr_trace.specs.declared.error.TraceError.{TraceError}
 use Rattle.fr_trace.specs.declared.error.TraceError.TheVariants as error
 use Rattle.fr_trace.proofs.OutcomeLemmas.{accepted_begins}
 use Rattle.fr_capture.specs.declared.moment.Moment.{Moment}
-use Rattle.fr_capture.specs.Shows.{heading, shown, shown_of, Shows, Ends, EndsAt}
+use Rattle.fr_capture.specs.Shows.{heading, shown, shown_of, IsUnwritten, Shows, Ends, EndsAt}
 use Rattle.fr_capture.specs.Sightings.{Sighting, sightings_at, sightings_in}
 use Rattle.fr_capture.proofs.MomentLemmas.{one_moment, seen_same, sightings-snoc, few_rounds}
 use Rattle.fr_journal.specs.Forms.{Entry}
+use Rattle.fr_slots.specs.History.{each_after}
+
+-- the values of two lists of events, one after the other
+each_after-append : {X A : Type 0} (f : List X → X → List A) (before xs ys : List X)
+    → each_after f before (xs ++ ys) ≡ each_after f before xs ++ each_after f (before ++ xs) ys
+unfolding each_after
+each_after-append {X = X} {A = A} f before [] ys = ap (λ (b : List X). each_after f b ys) (sym (append-nil before))
+each_after-append {X = X} {A = A} f before (x ∷ xs) ys =
+    ap (λ (t : List A). f before x ++ t)
+    (each_after-append f (before ++ x ∷ []) xs ys
+    ∙ ap (λ (b : List X). each_after f (before ++ x ∷ []) xs ++ each_after f b ys) (append_assoc before (x ∷ []) xs))
+    ∙ sym (append_assoc (f before x) (each_after f (before ++ x ∷ []) xs) (each_after f (before ++ x ∷ xs) ys))
+
+-- a fact that holds of each result
+pub on_each : {A E : Type 0} (P : Type 0) (r : Result A E) → P → OnErr r P
+on_each P (Ok x) h = tt
+on_each P (Err e) h = h
 
 -- after the heading, the observations of the first `count` entries have been written
 pub record IsShown (form : Form) (s : State) (entries : List Entry) (count : ℕ) (start now : Option (List ℕ))
@@ -97,6 +117,49 @@ module _ (form : Form) (s : State) (entries : List Entry) (start : Option (List 
       (take_all count entries all) in
       subst (λ (t : List ℕ). Appends start next t) text (Appends-trans start now next h.handed piece h.written handed)
 
+  -- the observations of the first entries are a front of those of all entries
+  begins-texts : (count : ℕ) → (more : List ℕ)
+      × (shown_of form s entries ≡ (heading form ++ flat_map (shown form s.params) (sightings_in s (take count entries))) ++ more)
+  begins-texts count =
+      let front = take count entries in
+      let rest = drop count entries in
+      let behind = each_after (sightings_at s) front rest in
+      let text = flat_map (shown form s.params) in (
+        text behind,
+        ap (λ (es : List Entry). heading form ++ text (sightings_in s es)) (sym (take-append-drop count entries))
+            ∙ ap (λ (t : List Sighting). heading form ++ text t) (each_after-append (sightings_at s) [] front rest)
+            ∙ ap (λ (t : List ℕ). heading form ++ t)
+            (flat_map-append (shown form s.params) (sightings_in s front) behind)
+            ∙ sym (append_assoc (heading form) (text (sightings_in s front)) (text behind)),
+      )
+
+  -- what was written is a front of the whole output, if a front of the piece was
+  pub shown_cut : (count : ℕ) (now next : Option (List ℕ)) (piece : List ℕ) (last : Option Moment)
+      → IsShown form s entries count start now piece last → AppendsFront now next piece
+      → AppendsFront start next (shown_of form s entries)
+  shown_cut count now next piece last h (front, rest, is, taken) =
+      let (more, begins) = begins-texts count in (
+        h.handed ++ front,
+        rest ++ more,
+        begins
+            ∙ ap (λ (t : List ℕ). t ++ more) (sym h.text_is ∙ ap (λ (t : List ℕ). h.handed ++ t) is)
+            ∙ ap (λ (t : List ℕ). t ++ more) (sym (append_assoc h.handed front rest))
+            ∙ append_assoc (h.handed ++ front) rest more,
+        Appends-trans start now next h.handed front h.written taken,
+      )
+
+  -- nothing more was written
+  pub shown_part : (count : ℕ) (now : Option (List ℕ)) (piece : List ℕ) (last : Option Moment)
+      → IsShown form s entries count start now piece last → AppendsFront start now (shown_of form s entries)
+  shown_part count now piece last h = shown_cut count now now piece last h ([], piece, refl, Appends-nil now)
+
+  pub shown_last : {X E : Type 0} (r : Result X E) (count : ℕ) (now next : Option (List ℕ)) (piece : List ℕ)
+      (last : Option Moment) → IsShown form s entries count start now piece last
+      → OnErr r (FallsShort now next piece) → OnErr r (AppendsFront start next (shown_of form s entries))
+  shown_last (Ok x) count now next piece last h short = tt
+  shown_last (Err e) count now next piece last h short =
+      shown_cut count now next piece last h (short_front now next piece short)
+
   pub shown_rounds : (count most : ℕ) (now : Option (List ℕ)) (piece : List ℕ) (last : Option Moment)
       → IsShown form s entries count start now piece last → count ≤ most → HasRounds most last
   shown_rounds count most now piece last h few = few_rounds s.params (take count entries) last most h.moment_is
@@ -104,78 +167,83 @@ module _ (form : Form) (s : State) (entries : List Entry) (start : Option (List 
 
 -- ---- the output for an accepted trace
 
-abbrev IsWritingFault : Option (List ℕ) → Option (List ℕ) → TraceError → Type 0
-IsWritingFault old new e = (e ≡ error.Write) ⊎ ((e ≡ error.Memory) × Keeps old new)
+no_other : (out : List ℕ) (old new : Option (List ℕ)) (e : TraceError) → IsOfText e → IsUnwritten out old new e → ⊥
+no_other out old new e of_text (inl h) = subst IsOfText h.0 of_text
+no_other out old new e of_text (inr h) = subst IsOfText h.0 of_text
 
-no_other : (old new : Option (List ℕ)) (e : TraceError) → IsOfText e → IsWritingFault old new e → ⊥
-no_other old new e of_text (inl is) = subst IsOfText is of_text
-no_other old new e of_text (inr h) = subst IsOfText h.0 of_text
+no_read : (out : List ℕ) (old new : Option (List ℕ)) → IsUnwritten out old new error.Read → ⊥
+no_read out old new (inl h) = let is = h.0 in cc
+no_read out old new (inr h) = let is = h.0 in cc
 
-no_read : (old new : Option (List ℕ)) → IsWritingFault old new error.Read → ⊥
-no_read old new (inl is) = cc
-no_read old new (inr h) = let is = h.0 in cc
+kept_memory : (out : List ℕ) (old new : Option (List ℕ)) → IsUnwritten out old new error.Memory → Keeps old new
+kept_memory out old new (inl h) = let is = h.0 in absurd (cc)
+kept_memory out old new (inr h) = h.1
 
-kept_memory : (old new : Option (List ℕ)) → IsWritingFault old new error.Memory → Keeps old new
-kept_memory old new (inl is) = absurd (cc)
-kept_memory old new (inr h) = h.1
+part_write : (out : List ℕ) (old new : Option (List ℕ)) → IsUnwritten out old new error.Write
+    → AppendsFront old new out
+part_write out old new (inl h) = h.1
+part_write out old new (inr h) = let is = h.0 in absurd (cc)
 
 pub shows_form : (written : State → List ℕ) (text old new : Option (List ℕ)) (s : State)
     (r : Result (Unit {0}) TraceError) → Understands text (Ok s)
-    → OnOk r (Appends old new (written s)) → IfErr r (IsWritingFault old new) → Shows written text old new r
+    → OnOk r (Appends old new (written s)) → IfErr r (IsUnwritten (written s) old new) → Shows written text old new r
 shows_form written text old new s (Ok x) told done refused = (s, told.0, told.1, done)
-shows_form written text old new s (Err error.Write) told done refused = (s, told.0, told.1)
+shows_form written text old new s (Err error.Write) told done refused =
+    (s, told.0, told.1, part_write (written s) old new refused)
 shows_form written text old new s (Err error.Memory) told done refused =
-    (accepted_begins text s told.1 told.0, kept_memory old new refused)
-shows_form written text old new s (Err error.Read) told done refused = absurd (no_read old new refused)
+    (accepted_begins text s told.1 told.0, kept_memory (written s) old new refused)
+shows_form written text old new s (Err error.Read) told done refused = absurd (no_read (written s) old new refused)
 shows_form written text old new s (Err error.BadMagic) told done refused =
-    absurd (no_other old new error.BadMagic tt refused)
+    absurd (no_other (written s) old new error.BadMagic tt refused)
 shows_form written text old new s (Err (error.BadLine n)) told done refused =
-    absurd (no_other old new (error.BadLine n) tt refused)
+    absurd (no_other (written s) old new (error.BadLine n) tt refused)
 shows_form written text old new s (Err (error.LineTooLong n)) told done refused =
-    absurd (no_other old new (error.LineTooLong n) tt refused)
+    absurd (no_other (written s) old new (error.LineTooLong n) tt refused)
 shows_form written text old new s (Err (error.Refused n)) told done refused =
-    absurd (no_other old new (error.Refused n) tt refused)
+    absurd (no_other (written s) old new (error.Refused n) tt refused)
 shows_form written text old new s (Err (error.WrongAnswer n)) told done refused =
-    absurd (no_other old new (error.WrongAnswer n) tt refused)
+    absurd (no_other (written s) old new (error.WrongAnswer n) tt refused)
 shows_form written text old new s (Err error.Truncated) told done refused =
-    absurd (no_other old new error.Truncated tt refused)
+    absurd (no_other (written s) old new error.Truncated tt refused)
 
-ends_at : (text rest : List ℕ) (old new : Option (List ℕ)) (s : State) (r : Result (Unit {0}) TraceError)
+ends_at : (out text rest : List ℕ) (old new : Option (List ℕ)) (s : State) (r : Result (Unit {0}) TraceError)
     → StopsAtEnd text rest → Understands (Some text) (Ok s)
-    → IfErr r (IsWritingFault old new) → EndsAt text rest r
-ends_at text rest old new s (Ok x) stops told refused = stops
-ends_at text rest old new s (Err error.Write) stops told refused = stops
-ends_at text rest old new s (Err error.Memory) stops told refused = inr (stops, (s, told.0, told.1))
-ends_at text rest old new s (Err error.Read) stops told refused = absurd (no_read old new refused)
-ends_at text rest old new s (Err error.BadMagic) stops told refused =
-    absurd (no_other old new error.BadMagic tt refused)
-ends_at text rest old new s (Err (error.BadLine n)) stops told refused =
-    absurd (no_other old new (error.BadLine n) tt refused)
-ends_at text rest old new s (Err (error.LineTooLong n)) stops told refused =
-    absurd (no_other old new (error.LineTooLong n) tt refused)
-ends_at text rest old new s (Err (error.Refused n)) stops told refused =
-    absurd (no_other old new (error.Refused n) tt refused)
-ends_at text rest old new s (Err (error.WrongAnswer n)) stops told refused =
-    absurd (no_other old new (error.WrongAnswer n) tt refused)
-ends_at text rest old new s (Err error.Truncated) stops told refused =
-    absurd (no_other old new error.Truncated tt refused)
+    → IfErr r (IsUnwritten out old new) → EndsAt text rest r
+ends_at out text rest old new s (Ok x) stops told refused = stops
+ends_at out text rest old new s (Err error.Write) stops told refused = stops
+ends_at out text rest old new s (Err error.Memory) stops told refused = inr (stops, (s, told.0, told.1))
+ends_at out text rest old new s (Err error.Read) stops told refused = absurd (no_read out old new refused)
+ends_at out text rest old new s (Err error.BadMagic) stops told refused =
+    absurd (no_other out old new error.BadMagic tt refused)
+ends_at out text rest old new s (Err (error.BadLine n)) stops told refused =
+    absurd (no_other out old new (error.BadLine n) tt refused)
+ends_at out text rest old new s (Err (error.LineTooLong n)) stops told refused =
+    absurd (no_other out old new (error.LineTooLong n) tt refused)
+ends_at out text rest old new s (Err (error.Refused n)) stops told refused =
+    absurd (no_other out old new (error.Refused n) tt refused)
+ends_at out text rest old new s (Err (error.WrongAnswer n)) stops told refused =
+    absurd (no_other out old new (error.WrongAnswer n) tt refused)
+ends_at out text rest old new s (Err error.Truncated) stops told refused =
+    absurd (no_other out old new error.Truncated tt refused)
 
 -- the bytes of an accepted trace that are read
-pub ends_form : (text rest old new : Option (List ℕ)) (s : State) (r : Result (Unit {0}) TraceError)
+pub ends_form : (out : List ℕ) (text rest old new : Option (List ℕ)) (s : State) (r : Result (Unit {0}) TraceError)
     → Stops text rest (Ok tt) → Understands text (Ok s)
-    → IfErr r (IsWritingFault old new) → Ends text rest r
-ends_form None rest old new s r stops told refused = tt
-ends_form (Some text) None old new s r stops told refused = stops
-ends_form (Some text) (Some rest) old new s r stops told refused = ends_at text rest old new s r stops told refused
+    → IfErr r (IsUnwritten out old new) → Ends text rest r
+ends_form out None rest old new s r stops told refused = tt
+ends_form out (Some text) None old new s r stops told refused = stops
+ends_form out (Some text) (Some rest) old new s r stops told refused =
+    ends_at out text rest old new s r stops told refused
 
 -- an error of writing names no line
-line_of_writing : (text : List ℕ) (old new : Option (List ℕ)) (e : TraceError) → IsWritingFault old new e
+line_of_writing : (out text : List ℕ) (old new : Option (List ℕ)) (e : TraceError) → IsUnwritten out old new e
     → NamesItsLine e text
-line_of_writing text old new e (inl is) = subst (λ (x : TraceError). NamesItsLine x text) (sym is) tt
-line_of_writing text old new e (inr h) = subst (λ (x : TraceError). NamesItsLine x text) (sym h.0) tt
+line_of_writing out text old new e (inl h) = subst (λ (x : TraceError). NamesItsLine x text) (sym h.0) tt
+line_of_writing out text old new e (inr h) = subst (λ (x : TraceError). NamesItsLine x text) (sym h.0) tt
 
-pub line_form : (text old new : Option (List ℕ)) (r : Result (Unit {0}) TraceError) → IfErr r (IsWritingFault old new)
+pub line_form : (out : List ℕ) (text old new : Option (List ℕ)) (r : Result (Unit {0}) TraceError)
+    → IfErr r (IsUnwritten out old new)
     → IfSome text (λ t. LineIsNamed r t)
-line_form None old new r refused = tt
-line_form (Some text) old new (Ok x) refused = tt
-line_form (Some text) old new (Err e) refused = line_of_writing text old new e refused
+line_form out None old new r refused = tt
+line_form out (Some text) old new (Ok x) refused = tt
+line_form out (Some text) old new (Err e) refused = line_of_writing out text old new e refused

@@ -1,7 +1,8 @@
 -- The result of a command that reads a trace and shows its observations.
-use Rattle.std.specs.Prelude.{ℕ, List, ◌++◌, Option, Some, None, Result, Ok, Err, ◌⊎◌}
+use Rattle.std.specs.Prelude.{◌≡◌, ℕ, List, ◌++◌, Option, Some, None, Result, Ok, Err, ◌⊎◌}
 use Rattle.std.specs.Io.KnownBytes.{Keeps, Appends}
 use Rattle.std.specs.List.{flat_map}
+use Rattle.fr_files.specs.Outputs.{AppendsFront}
 use Rattle.fr_interface.specs.State.{State, IsNodeInterface}
 use Rattle.fr_journal.specs.Forms.{Entry}
 use Rattle.fr_slots.specs.Parameters.{Parameters}
@@ -34,12 +35,17 @@ text_of form s = shown_of form s s.entries
 
 -- ---- a command
 
--- The text is one of a legal interface, whose output is written, or the writer failed at that. Or nothing is written:
--- the text is refused by its first line at fault, or memory ran out, or the reader failed.
+-- the writer failed, and has taken a front of the text; or memory ran out, and nothing is written
+abbrev pub IsUnwritten : List ℕ → Option (List ℕ) → Option (List ℕ) → TraceError → Type 0
+IsUnwritten text old new e = ((e ≡ Write) × AppendsFront old new text) ⊎ ((e ≡ Memory) × Keeps old new)
+
+-- The text is one of a legal interface, whose output is written, or a front of the output if the writer failed. Or
+-- nothing is written: the text is refused by its first line at fault, or memory ran out, or the reader failed.
 abbrev pub Shows : (State → List ℕ) → Option (List ℕ) → Option (List ℕ) → Option (List ℕ) → Result (Unit {0}) TraceError
     → Type 0
 Shows written text old new (Ok x) = (s : State) × IsTextOf s text × IsNodeInterface s × Appends old new (written s)
 Shows written text old new (Err Write) = (s : State) × IsTextOf s text × IsNodeInterface s
+    × AppendsFront old new (written s)
 Shows written text old new (Err Read) = Keeps old new
 Shows written text old new (Err Memory) = HasBegin text × Keeps old new
 Shows written text old new (Err e) = IsRefusedBy e text × Keeps old new

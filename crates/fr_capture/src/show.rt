@@ -3,16 +3,17 @@
 //! A capture is an audit and one walk. Each entry is made anew and each frame is decoded again, since a journal keeps
 //! neither.
 
-ghost use Rattle.std.specs.Prelude.{◌≡◌, ◌≤◌, ◌⊎◌, ◌++◌, [], IfErr, IfSome, IsSomeAnd, OnOk};
-ghost use Rattle.std.specs.Io.KnownBytes.{Appends, Keeps};
+ghost use Rattle.std.specs.Prelude.{◌≡◌, ◌≤◌, ◌++◌, [], IfErr, IfSome, IsSomeAnd, OnErr, OnOk};
+ghost use Rattle.std.specs.Io.KnownBytes.{Appends};
 ghost use Rattle.std.specs.List.{flat_map};
+ghost use Rattle.fr_files.specs.Outputs.{AppendsFront, FallsShort};
 ghost use Rattle.fr_text.specs.Writing.{Writes};
 ghost use Rattle.fr_interface.specs.State.{State, IsNodeInterface};
 ghost use Rattle.fr_trace.specs.Audit.{IsNotRefused};
 ghost use Rattle.fr_trace.specs.Refusals.{LineIsNamed};
 ghost use Rattle.fr_trace.specs.TraceText.{IsTraceOf};
 ghost use Rattle.fr_capture.specs.Clocks.{seen_after, sighting_at, HasRounds};
-ghost use Rattle.fr_capture.specs.Shows.{heading, shown, shown_of, text_of, Ends, Shows};
+ghost use Rattle.fr_capture.specs.Shows.{heading, shown, shown_of, text_of, Ends, IsUnwritten, Shows};
 
 use crate::captured::write_captured;
 use crate::form::Form;
@@ -20,6 +21,7 @@ use crate::lines::write_lines;
 use crate::moment::{Moment, moment_after};
 use crate::pcap::write_file_header;
 use crate::table::write_head_line;
+use fr_files::output::write_text;
 use fr_interface::interface::Interface;
 use fr_journal::entry::Entry;
 use fr_slots::channel::Channel;
@@ -94,8 +96,9 @@ fn write_entry<W: Write>(
 fn hand_on<W: Write>(writer: &mut W, piece: &mut Vec<u8>) -> io::Result<()>
     ensures written { OnOk result (Appends (W.contents writer.old) (W.contents writer.new) piece.old.items) }
     ensures empty { OnOk result (piece.new.items ≡ []) }
+    ensures cut { OnErr result (FallsShort (W.contents writer.old) (W.contents writer.new) piece.old.items) }
 {
-    writer.write_all(piece.as_slice())?;
+    write_text(writer, piece.as_slice())?;
     piece.clear();
     Ok(())
 }
@@ -108,8 +111,10 @@ fn write_pieces<W: Write>(
     piece: &mut Vec<u8>,
 ) -> io::Result<()>
     requires { piece.old.items ≡ [] }
-    ensures { Writes W.contents writer.old writer.new result
+    ensures written { Writes W.contents writer.old writer.new result
         (shown_of form interface.now interface.now.entries) }
+    ensures cut { OnErr result (AppendsFront (W.contents writer.old) (W.contents writer.new)
+        (shown_of form interface.now interface.now.entries)) }
 {
     let (params, journal) = (interface.params(), interface.journal());
     let mut last = None;
@@ -129,7 +134,7 @@ fn write_pieces<W: Write>(
 /// Writes the observations of a controller in this form, as a capture or a table (project-defined).
 ///
 /// Returns `Memory` if an allocation for the first piece fails; nothing is written then. Returns `Write` if the writer
-/// fails; a part of the output may then have been written.
+/// fails; a front of the output may then have been written.
 pub fn write_form<W: Write>(
     alloc: Global,
     form: Form,
@@ -137,8 +142,8 @@ pub fn write_form<W: Write>(
     writer: &mut W,
 ) -> Result<(), TraceError>
     ensures written { Writes W.contents writer.old writer.new result (text_of form interface.now) }
-    ensures refused { IfErr result (λ e. (e ≡ TraceError.Write)
-        ⊎ ((e ≡ TraceError.Memory) × Keeps (W.contents writer.old) (W.contents writer.new))) }
+    ensures refused { IfErr result (λ e.
+        IsUnwritten (text_of form interface.now) (W.contents writer.old) (W.contents writer.new) e) }
 {
     let Ok(mut piece) = Vec::with_capacity(alloc, ROOM) else {
         return Err(TraceError::Memory);
@@ -153,7 +158,7 @@ pub fn write_form<W: Write>(
 ///
 /// Returns the error of the first line at fault, at which it stops reading; `Read` if the reader fails; `Memory` if an
 /// allocation fails; and `Write` if the writer fails. Nothing is written on an error other than `Write`. After `Write`
-/// a part of the output may have been written.
+/// a front of the output may have been written.
 pub fn show_trace<R: Read, W: Write>(
     alloc: Global,
     form: Form,
