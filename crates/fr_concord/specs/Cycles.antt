@@ -15,7 +15,7 @@ use Rattle.fr_interface.specs.State.{State}
 use Rattle.fr_journal.specs.declared.entry.Entry.TheVariants.{Fetch}
 use Rattle.fr_journal.specs.declared.entry.Offered.{Offered}
 use Rattle.fr_journal.specs.Forms.{Entry}
-use Rattle.fr_matrix.specs.Cells.{cycle_of as cycle_of_row}
+use Rattle.fr_matrix.specs.Places.{cycle_of as cycle_of_row}
 use Rattle.fr_playing.specs.declared.play.Played.{Played}
 use Rattle.fr_playing.specs.Moving.{run_cycle_after}
 use Rattle.fr_playing.specs.Settled.{IsSettled}

@@ -1,18 +1,19 @@
--- The cells of a matrix: for each window of the record in which the channel has a slot, the observation and the
+-- A matrix, and its cells: for each window of the record in which the channel has a slot, the observation and the
 -- transmissions there (project-defined).
-use Rattle.std.specs.Prelude.{◌≡◌, ℕ, ◌+◌, ◌-◌, ◌*◌, nat_lt, nat_le, Bool, ◌&&◌, List, [], ◌∷◌, ◌++◌}
-use Rattle.std.specs.Prelude.{length, codes, Option, Some, None, if◌then◌else◌}
+use Rattle.std.specs.Prelude.{◌≡◌, ℕ, ◌-◌, Bool, List, [], ◌++◌, codes, Option, Some, None, if◌then◌else◌}
 use Rattle.std.specs.Fmt.{decimal}
 use Rattle.std.specs.List.{flat_map}
 use Rattle.fr_bus.specs.declared.outcome.SentFate.{SentFate}
 use Rattle.fr_bus.specs.declared.outcome.SentFate.TheVariants.{Passed, Blocked, Muted}
 use Rattle.fr_bus.specs.declared.outcome.Sent.{Sent}
 use Rattle.fr_bus.specs.Record.{Recorded}
-use Rattle.fr_bus.specs.Windows.{cycles_begun, this_cycle}
+use Rattle.fr_bus.specs.Windows.{cycles_begun}
 use Rattle.fr_matrix.specs.declared.cell.Cell.{Cell}
 use Rattle.fr_matrix.specs.declared.look.Marks.{Marks}
 use Rattle.fr_matrix.specs.declared.view.View.{View}
 use Rattle.fr_matrix.specs.Looks.{look_in, look_word, marks_in, sender_in, sign, turned_bit}
+use Rattle.fr_matrix.specs.Pages.{page_end, page_front}
+use Rattle.fr_matrix.specs.Places.{across, column_of, columns_in, cycle_of, down, is_drawn, most_windows, rows_in}
 use Rattle.fr_slots.specs.Admission.{is_channel}
 use Rattle.fr_slots.specs.declared.channel.Channel.{Channel}
 use Rattle.fr_slots.specs.History.{each_after}
@@ -88,25 +89,6 @@ abbrev pub cell_text : Cell → Channel → List Sent → Option ℕ → List �
 cell_text c channel sent turned =
     front_text c channel sent turned ++ rect_text c.left c.top 20 20 ++ label_text c ++ group_end
 
--- ---- the place of a window
-
--- the row of a window is its cycle of the run, its column the number of windows of that cycle before it
-abbrev pub cycle_of : List Recorded → Recorded → ℕ
-cycle_of before r = cycles_begun (before ++ r ∷ []) - 1
-
-abbrev pub column_of : List Recorded → Recorded → ℕ
-column_of before r = length (this_cycle (before ++ r ∷ [])) - 1
-
--- a matrix has at most 64 rows and 512 columns
-abbrev pub is_drawn : View → ℕ → ℕ → Bool
-is_drawn v cycle column = nat_le v.from cycle && nat_lt (cycle - v.from) 64 && nat_lt column 512
-
-abbrev pub across : ℕ → ℕ
-across column = 70 + 22 * column
-
-abbrev pub down : ℕ → ℕ
-down row = 90 + 22 * row
-
 -- ---- the cells
 
 abbrev pub cell_of : Parameters → View → ℕ → ℕ → ℕ → Recorded → Cell
@@ -138,9 +120,13 @@ cell_after p v before r = cell_at p v (cycle_of before r) (column_of before r) r
 abbrev pub cells_text : Parameters → View → List Recorded → List ℕ
 cells_text p v recorded = each_after (cell_after p v) [] recorded
 
--- The cells stand one after another in the picture. Nothing is said of the parts before and after them, such as the
--- style and the legend.
+-- ---- the matrix
+
+-- the whole text: the front of the page with its style, headings and numbers, then the cells, then the legend
+abbrev pub matrix_text : Parameters → View → List Recorded → List ℕ
+matrix_text p v recorded =
+    page_front p.static_slots v.channel v.node v.from (cycles_begun recorded) (most_windows recorded)
+    (rows_in v recorded) (columns_in v recorded) ++ cells_text p v recorded ++ page_end (rows_in v recorded)
+
 pub record IsMatrix (p : Parameters) (v : View) (recorded : List Recorded) (text : List ℕ) : Type 0 where
-  pub before : List ℕ
-  pub after : List ℕ
-  pub text_is : text ≡ before ++ cells_text p v recorded ++ after
+  pub text_is : text ≡ matrix_text p v recorded

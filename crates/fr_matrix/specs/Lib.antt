@@ -1,2 +1,4 @@
 pub mod Looks
+pub mod Places
+pub mod Pages
 pub mod Cells

@@ -4,7 +4,8 @@ ghost use Rattle.std.specs.Prelude.{◌≡◌, ◌≤◌, ◌<◌, ◌-◌, ◌+
 ghost use Rattle.fr_bus.specs.Windows.{cycles_begun, this_cycle};
 ghost use Rattle.fr_slots.specs.Windows.{slot_of};
 ghost use Rattle.fr_text.specs.Writing.{Writes};
-ghost use Rattle.fr_matrix.specs.Cells.{across, cell_at, cell_of, cells_text, down, is_drawn, slot_cell};
+ghost use Rattle.fr_matrix.specs.Cells.{cell_at, cell_of, cells_text, slot_cell};
+ghost use Rattle.fr_matrix.specs.Places.{across, down, has_row, is_drawn};
 
 use crate::cell::{Cell, write_cell};
 use crate::look::{look_in, marks_in, sender_in, turned_bit};
@@ -38,12 +39,19 @@ pub(crate) fn down(row: usize) -> u64
     90 + 22 * (row as u64)
 }
 
+/// Returns whether the cycle of the run has a row.
+pub(crate) fn has_row(view: &View, cycle: usize) -> bool
+    ensures { result ≡ has_row view.now cycle }
+{
+    let from = usize::from(view.from);
+    from <= cycle && cycle - from < MOST_CYCLES
+}
+
 /// Returns whether a window of this cycle of the run and of this column is drawn.
 fn is_drawn(view: &View, cycle: usize, column: usize) -> bool
     ensures { result ≡ is_drawn view.now cycle column }
 {
-    let from = usize::from(view.from);
-    from <= cycle && cycle - from < MOST_CYCLES && column < MOST_WINDOWS
+    has_row(view, cycle) && column < MOST_WINDOWS
 }
 
 /// Returns the cell of a window in which the channel has this slot.

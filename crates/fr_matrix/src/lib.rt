@@ -10,17 +10,19 @@
 //!
 //! # Definitions
 //!
-//! - `Looks`, `Cells`: the content of a cell; the cells of a record.
+//! - `Looks`, `Places`: the content of a cell; its row and column, and the extent of a record.
+//! - `Pages`, `Cells`: the text around the cells; the cells of a record, and the whole matrix.
 //!
 //! # Inner workings
 //!
-//! A matrix is three texts, which `matrix_of` gathers: the part before the cells, the cells (`cells`) and the legend.
-//! The place of a cell follows from the windows before it, so the walk along the record counts cycles and the windows
-//! of the last one. The observation (`look`) is asked of the record. The clause speaks of the cells.
+//! The place of a cell follows from the windows before it, so the walks along the record count cycles and the windows
+//! of the last one. `extent` walks it first for the size of the page and its headings (`page`), and then `cells` for the
+//! cells. The observation (`look`) is asked of the record. Each writer's clause gives the whole text that it writes.
 #![tactic(auto)]
 
 pub mod cell;
 pub mod cells;
+pub mod extent;
 pub mod look;
 pub mod matrix;
 mod page;

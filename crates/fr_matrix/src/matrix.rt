@@ -1,30 +1,32 @@
 //! The matrix of a run.
 
 ghost use Rattle.std.specs.Prelude.{◌≡◌, IfOk};
-ghost use Rattle.fr_matrix.specs.Cells.{cells_text, IsMatrix};
+ghost use Rattle.fr_matrix.specs.Cells.{IsMatrix, matrix_text};
+ghost use Rattle.fr_text.specs.Writing.{Writes};
 
 use crate::cells::write_cells;
-use crate::page::{write_after, write_before};
+use crate::extent::extent_of;
+use crate::page::{write_end, write_front};
 use crate::view::View;
 use fr_bus::outcome::Sealed;
 use fr_slots::params::Params;
 use std::alloc::{AllocError, Global};
+use std::io;
+use std::io::Write;
 
-/// Returns the cells.
-fn cells_of(
-    alloc: Global,
+/// Writes the matrix of a run with this record.
+fn write_matrix<W: Write>(
+    writer: &mut W,
     params: &Params,
-    recorded: &[Sealed],
     view: &View,
-) -> Result<Vec<u8>, AllocError>
-    ensures { IfOk result (λ text. text.items ≡ cells_text params.now view.now recorded.now) }
+    recorded: &[Sealed],
+) -> io::Result<()>
+    ensures { Writes W.contents writer.old writer.new result (matrix_text params.now view.now recorded.now) }
 {
-    let mut text = Vec::new(alloc);
-    match write_cells(&mut text, params, view, recorded) {
-        Ok(()) => Ok(text),
-        // A list of bytes takes no more only if an allocation fails, here and below.
-        Err(_) => Err(AllocError),
-    }
+    let extent = extent_of(view, recorded);
+    write_front(writer, params.static_slots, view, &extent)?;
+    write_cells(writer, params, view, recorded)?;
+    write_end(writer, extent.rows)
 }
 
 /// Returns the communication matrix of a run with this record: an SVG text (project-defined).
@@ -40,20 +42,10 @@ pub fn matrix_of(
 ) -> Result<Vec<u8>, AllocError>
     ensures { IfOk result (λ text. IsMatrix params.now view.now recorded.now text.items) }
 {
-    let cells = cells_of(alloc, params, recorded, view)?;
     let mut text = Vec::new(alloc);
-    if write_before(&mut text, params, view, recorded).is_err() {
-        return Err(AllocError);
+    match write_matrix(&mut text, params, view, recorded) {
+        Ok(()) => Ok(text),
+        // A list of bytes takes no more only if an allocation fails.
+        Err(_) => Err(AllocError),
     }
-    let mut after = Vec::new(alloc);
-    if write_after(&mut after, view, recorded).is_err() {
-        return Err(AllocError);
-    }
-    if text.extend_from_slice(cells.as_slice()).is_err() {
-        return Err(AllocError);
-    }
-    if text.extend_from_slice(after.as_slice()).is_err() {
-        return Err(AllocError);
-    }
-    Ok(text)
 }

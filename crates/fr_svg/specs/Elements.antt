@@ -25,12 +25,20 @@ moved_front left top right down =
     codes "<text x='" ++ (decimal left ++ (codes "' y='" ++ (decimal top ++ (codes "' dx='"
     ++ (decimal right ++ (codes "' dy='" ++ (decimal down ++ codes "'>")))))))
 
+-- the front of a text at this place
+unfoldable pub placed_front : ℕ → ℕ → List ℕ
+placed_front left top = codes "<text x='" ++ (decimal left ++ (codes "' y='" ++ (decimal top ++ codes "'>")))
+
 abbrev pub text_end : List ℕ
 text_end = codes "</text>"
 
 -- the front of a group of this class, with its title
 unfoldable pub group_front : List ℕ → List ℕ → List ℕ
 group_front class title = codes "<g class='" ++ (class ++ (codes "'><title>" ++ (title ++ codes "</title>")))
+
+-- the front of a group of this class, without a title
+unfoldable pub plain_front : List ℕ → List ℕ
+plain_front class = codes "<g class='" ++ (class ++ codes "'>")
 
 abbrev pub group_end : List ℕ
 group_end = codes "</g>" ++ codes "\n"

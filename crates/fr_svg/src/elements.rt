@@ -1,7 +1,7 @@
 //! The elements.
 ghost use Rattle.std.specs.Fmt.{decimal};
 ghost use Rattle.fr_svg.specs.Elements.{picture_end, group_end, group_front, picture_front, moved_front, placed_text};
-ghost use Rattle.fr_svg.specs.Elements.{rect_text, text_end};
+ghost use Rattle.fr_svg.specs.Elements.{placed_front, plain_front, rect_text, text_end};
 ghost use Rattle.fr_text.specs.Writing.{Writes};
 
 use std::io;
@@ -74,6 +74,14 @@ pub fn open_text<W: Write>(
     )
 }
 
+/// Writes the front of a text at a place.
+#[tactic(auto, unfolding(crate::specs::Elements::placed_front))]
+pub fn open_placed<W: Write>(writer: &mut W, left: u64, top: u64) -> io::Result<()>
+    ensures { Writes W.contents writer.old writer.new result (placed_front left top) }
+{
+    write!(writer, "<text x='{left}' y='{top}'>")
+}
+
 /// Writes the end of a text.
 pub fn close_text<W: Write>(writer: &mut W) -> io::Result<()>
     ensures { Writes W.contents writer.old writer.new result text_end }
@@ -87,6 +95,14 @@ pub fn open_group<W: Write>(writer: &mut W, class: &str, title: &str) -> io::Res
     ensures { Writes W.contents writer.old writer.new result (group_front class.now title.now) }
 {
     write!(writer, "<g class='{class}'><title>{title}</title>")
+}
+
+/// Writes the front of a group of a class, without a title.
+#[tactic(auto, unfolding(crate::specs::Elements::plain_front))]
+pub fn open_plain<W: Write>(writer: &mut W, class: &str) -> io::Result<()>
+    ensures { Writes W.contents writer.old writer.new result (plain_front class.now) }
+{
+    write!(writer, "<g class='{class}'>")
 }
 
 /// Writes the end of a group, and a line feed.
