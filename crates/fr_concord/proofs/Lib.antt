@@ -11,3 +11,4 @@ pub mod RisingLemmas
 pub mod ReceiverLemmas
 pub mod ListeningLemmas
 pub mod FaultLineLemmas
+pub mod FaultRunLemmas

@@ -8,3 +8,4 @@ pub mod Rising
 pub mod Receivers
 pub mod Listening
 pub mod FaultLines
+pub mod FaultRuns

@@ -13,6 +13,7 @@
 //! - `Receivers`: the receivers in `commits` and in tables, against those of journals.
 //! - `Listening`: the listener of a capture of the bus.
 //! - `FaultLines`: the line numbers of faults in the record of a run.
+//! - `FaultRuns`: a session of fault lines, against the single-threaded run with these faults.
 //!
 //! # Laws
 //!
@@ -31,6 +32,8 @@
 //!   that the journals have.
 //! - `ListeningLemmas`: `is_heard_alike`, `is_captured_alike`, `is_own_or_conflict`. A listener hears what a silent
 //!   node observes.
+//! - `FaultRunLemmas`: `sessions_played`. A session of fault lines and a run leads to the world of the single-threaded
+//!   run.
 //! - `FaultLineLemmas`: `faults_numbered`, `offers_unnumbered`. Each babble and each muted offer has a line number, and
 //!   no other transmission has one.
 #![tactic(auto)]
