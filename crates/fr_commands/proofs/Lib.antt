@@ -1,2 +1,3 @@
+pub mod MidpointLemmas
 pub mod NumberLemmas
 pub mod PlanTextLemmas

@@ -7,6 +7,7 @@ use Rattle.fr_midpoint.specs.Midpoint.{IsMidpoint}
 use Rattle.fr_midpoint.specs.Refusals.{refusal}
 use Rattle.fr_files.specs.declared.error.BenchError.{BenchError}
 use Rattle.fr_files.specs.declared.error.BenchError.TheVariants as error
+use Rattle.fr_files.specs.Outputs.{FallsShort}
 use Rattle.fr_commands.specs.Numbers.{numbers_in, words_in}
 
 -- the line of the midpoint
@@ -29,9 +30,9 @@ abbrev pub HasMidpoint : List ℕ → Option Midpoint → Type 0
 HasMidpoint text answer = IsShort text × (numbers : List ℤ) × (numbers_in (words_in text) ≡ Some numbers)
     × IsAnswer numbers answer
 
--- After success the line of the midpoint of the text's numbers is written. `Write` comes only for a text that has a
--- midpoint. Every other error leaves the output unchanged: the text is refused by its first fault, or the reader or an
--- allocation failed.
+-- After success the line of the midpoint of the text's numbers is written, and after `Write` a front of this line.
+-- Every other error leaves the output unchanged: the text is refused by its first fault, or the reader or an allocation
+-- failed.
 abbrev pub Midpoints : List ℕ → Option (List ℕ) → Option (List ℕ) → Result (Unit {0}) BenchError → Type 0
 Midpoints text old new (Ok _) = (answer : Option Midpoint) × HasMidpoint text answer
     × Appends old new (midpoint_line answer)
@@ -41,6 +42,7 @@ Midpoints text old new (Err (error.Midpoint e)) =
     IsShort text × (numbers : List ℤ) × (numbers_in (words_in text) ≡ Some numbers) × (refusal numbers ≡ Some e)
     × Keeps old new
 Midpoints text old new (Err error.Write) = (answer : Option Midpoint) × HasMidpoint text answer
+    × FallsShort old new (midpoint_line answer)
 Midpoints text old new (Err error.Read) = Keeps old new
 Midpoints text old new (Err error.Memory) = Keeps old new
 Midpoints text old new (Err e) = ⊥
