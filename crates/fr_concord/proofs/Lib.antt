@@ -11,3 +11,6 @@ pub mod RisingLemmas
 pub mod ReceiverLemmas
 pub mod ListeningLemmas
 pub mod FaultLineLemmas
+pub mod DynamicRowLemmas
+pub mod GuardRowLemmas
+pub mod MisfitLemmas

@@ -8,3 +8,6 @@ pub mod Rising
 pub mod Receivers
 pub mod Listening
 pub mod FaultLines
+pub mod DynamicRows
+pub mod GuardRows
+pub mod Misfits
