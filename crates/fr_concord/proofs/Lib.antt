@@ -12,3 +12,6 @@ pub mod ReceiverLemmas
 pub mod ListeningLemmas
 pub mod FaultLineLemmas
 pub mod FaultRunLemmas
+pub mod DynamicRowLemmas
+pub mod GuardRowLemmas
+pub mod MisfitLemmas

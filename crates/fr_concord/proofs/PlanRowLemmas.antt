@@ -24,28 +24,28 @@ use Rattle.fr_concord.specs.PlanRows.{PlanRow, row_line, IsAmong, IsTold, ArePla
 -- ---- elements of joined lists
 
 module _ {A : Type 0} where
-  among_left : (x : A) (xs ys : List A) → IsAmong x xs → IsAmong x (xs ++ ys)
+  pub among_left : (x : A) (xs ys : List A) → IsAmong x xs → IsAmong x (xs ++ ys)
   among_left x [] ys is = absurd is
   among_left x (z ∷ xs) ys (inl same) = inl same
   among_left x (z ∷ xs) ys (inr later) = inr (among_left x xs ys later)
 
-  among_right : (x : A) (xs ys : List A) → IsAmong x ys → IsAmong x (xs ++ ys)
+  pub among_right : (x : A) (xs ys : List A) → IsAmong x ys → IsAmong x (xs ++ ys)
   among_right x [] ys is = is
   among_right x (z ∷ xs) ys is = inr (among_right x xs ys is)
 
-  among_either : (x : A) (xs ys : List A) → IsAmong x (xs ++ ys) → IsAmong x xs ⊎ IsAmong x ys
+  pub among_either : (x : A) (xs ys : List A) → IsAmong x (xs ++ ys) → IsAmong x xs ⊎ IsAmong x ys
   among_either x [] ys is = inr is
   among_either x (z ∷ xs) ys (inl same) = inl (inl same)
   among_either x (z ∷ xs) ys (inr later) =
       elim (among_either x xs ys later) [ inl here ↦ inl (inr here) | inr there ↦ inr there ]
 
 -- an element of a flattened list, and the one that it comes from
-record IsFrom {A B : Type 0} (x : B) (f : A → List B) (ys : List A) : Type 0 where
-  source : A
-  among : IsAmong source ys
-  made : IsAmong x (f source)
+pub record IsFrom {A B : Type 0} (x : B) (f : A → List B) (ys : List A) : Type 0 where
+  pub source : A
+  pub among : IsAmong source ys
+  pub made : IsAmong x (f source)
 
-from_flat : {A B : Type 0} (x : B) (f : A → List B) (ys : List A) → IsAmong x (flat_map f ys) → IsFrom x f ys
+pub from_flat : {A B : Type 0} (x : B) (f : A → List B) (ys : List A) → IsAmong x (flat_map f ys) → IsFrom x f ys
 from_flat x f [] is = absurd is
 from_flat x f (y ∷ ys) is =
     elim (among_either x (f y) (flat_map f ys) is) [
@@ -55,7 +55,7 @@ from_flat x f (y ∷ ys) is =
           record { source = rest.source; among = inr rest.among; made = rest.made }
     ]
 
-to_flat : {A B : Type 0} (x : B) (f : A → List B) (y : A) (ys : List A) → IsAmong y ys → IsAmong x (f y)
+pub to_flat : {A B : Type 0} (x : B) (f : A → List B) (y : A) (ys : List A) → IsAmong y ys → IsAmong x (f y)
     → IsAmong x (flat_map f ys)
 to_flat x f y [] is made = absurd is
 to_flat x f y (z ∷ ys) (inl same) made =
@@ -217,21 +217,21 @@ rest_of : (p q : Bool) → p ≡ false → (p || q) ≡ true → q ≡ true
 rest_of true q fail any = absurd (let none : ⊥ = cc fail in none)
 rest_of false q fail any = any
 
-both_true : (p q : Bool) → p ≡ true → q ≡ true → (p && q) ≡ true
+pub both_true : (p q : Bool) → p ≡ true → q ≡ true → (p && q) ≡ true
 both_true true q first second = second
 both_true false q first second = absurd (let none : ⊥ = cc first in none)
 
-any_among : {X : Type 0} (p : X → Bool) (x : X) (xs : List X) → IsAmong x xs → p x ≡ true → list_any p xs ≡ true
+pub any_among : {X : Type 0} (p : X → Bool) (x : X) (xs : List X) → IsAmong x xs → p x ≡ true → list_any p xs ≡ true
 any_among p x [] is pass = absurd is
 any_among p x (y ∷ xs) (inl same) pass = or_first (p y) (list_any p xs) (sym (ap p same) ∙ pass)
 any_among p x (y ∷ xs) (inr later) pass = or_rest (p y) (list_any p xs) (any_among p x xs later pass)
 
-record IsFound {X : Type 0} (p : X → Bool) (xs : List X) : Type 0 where
-  one : X
-  among : IsAmong one xs
-  passes : p one ≡ true
+pub record IsFound {X : Type 0} (p : X → Bool) (xs : List X) : Type 0 where
+  pub one : X
+  pub among : IsAmong one xs
+  pub passes : p one ≡ true
 
-found_any : {X : Type 0} (p : X → Bool) (xs : List X) → list_any p xs ≡ true → IsFound p xs
+pub found_any : {X : Type 0} (p : X → Bool) (xs : List X) → list_any p xs ≡ true → IsFound p xs
 found_any p [] any = absurd (let none : ⊥ = cc any in none)
 found_any p (x ∷ xs) any =
     elim (cases_Bool (p x)) [

@@ -6,7 +6,9 @@
 //!
 //! - `Determined`: sessions and single-threaded runs in which no allocation fails.
 //! - `Spelled`, `Replied`: the spelling of each request, and the lines of a reply.
-//! - `PlanRows`: the rows of a plan, against the sender table.
+//! - `PlanRows`, `DynamicRows`, `GuardRows`: the rows of a plan, against the sender table and the open parts of the
+//!   cycle.
+//! - `Misfits`: the word that `why` names as wrong, against the lines that can be read.
 //! - `Cycles`: the cycle of the run to which a window or a call belongs.
 //! - `Starts`: the macroticks at which static slots and minislots begin.
 //! - `Rising`: the times of a capture.
@@ -23,6 +25,10 @@
 //! - `SpelledLemmas`: `read_again`. The spelling of a request is read as this request.
 //! - `RepliedLemmas`: `are_whole`. Each reply is one line, or a counted block of lines.
 //! - `PlanRowLemmas`: `plans_tables`. The lines of a plan for static slots name exactly the senders.
+//! - `DynamicRowLemmas`: `dynamic_tables`. So do those for dynamic slots.
+//! - `GuardRowLemmas`: `plans_guards`. The lines of a plan for guardians have exactly the open macroticks, and a
+//!   transmission in a static slot passes exactly if its slot is among them.
+//! - `MisfitLemmas`: `wrong_words`. No line can be read with the words up to the one that `why` names.
 //! - `CycleLemmas`: `window_cycles`, `sent_cycles`, `call_cycles`, `line_cycles`. All definitions of a cycle of the
 //!   run agree.
 //! - `StartLemmas`: `pictured_slots`, `captured_slots`, `captured_minislots`, `starts_of_run`, `minislots_of_run`.
