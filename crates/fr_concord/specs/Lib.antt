@@ -8,10 +8,7 @@ pub mod Rising
 pub mod Receivers
 pub mod Listening
 pub mod FaultLines
-<<<<<<< HEAD
 pub mod FaultRuns
-=======
 pub mod DynamicRows
 pub mod GuardRows
 pub mod Misfits
->>>>>>> 356a1462c6d59f3f08c40140a95f2fb53baa6f4e
