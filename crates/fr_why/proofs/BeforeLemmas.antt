@@ -4,7 +4,6 @@ use Rattle.std.proofs.Common.{subst}
 use Rattle.std.proofs.lemmas.List.Sums.{fold-append}
 use Rattle.fr_interface.specs.State.{State}
 use Rattle.fr_lines.specs.declared.versions.Version.{Version}
-use Rattle.fr_trace.specs.Audit.{IsOfText}
 use Rattle.fr_trace.specs.declared.error.TraceError.{TraceError}
 use Rattle.fr_trace.specs.declared.error.TraceError.TheVariants.{Memory}
 use Rattle.fr_trace.specs.Feeds.{Begins}
@@ -26,10 +25,10 @@ Answers text r = (r ≡ outcome_of (take_bytes fresh text)) ⊎ ((r ≡ Err Memo
 -- it is the state after these lines, or memory ran out
 abbrev pub LeavesIn : Progress → Result State TraceError → Type 0
 LeavesIn s (Ok t) = Some t ≡ state_at s
-LeavesIn s (Err e) = IsOfText e → ⊥
+LeavesIn s (Err e) = e ≡ Memory
 
 none_left : (s : Progress) (r : Result State TraceError) → r ≡ Err Memory → LeavesIn s r
-none_left s r is = subst (λ (x : Result State TraceError). LeavesIn s x) (sym is) (λ of_text. of_text)
+none_left s r is = subst (λ (x : Result State TraceError). LeavesIn s x) (sym is) refl
 
 in_body : (v : Version) (p : Phase) (front : List ℕ) (r : Result State TraceError) → head.Body v ≡ head_of p
     → take_bytes fresh front ≡ reading p []

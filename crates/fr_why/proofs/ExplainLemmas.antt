@@ -3,10 +3,11 @@ use Rattle.std.proofs.Common.{◌≡◌, ℕ, ◌<◌, ◌≤◌, List, [], ◌+
 use Rattle.std.proofs.Common.{Result, OnOk, IfErr, sym, ◌⊎◌, inr, ap, ◌∙◌, subst, arith, lit<}
 use Rattle.std.proofs.lemmas.Bool.{cases_lt}
 use Rattle.std.proofs.lemmas.List.{length-take-le, take_all}
-use Rattle.std.specs.Io.KnownBytes.{Appends, Keeps}
+use Rattle.std.specs.Io.KnownBytes.{Appends}
+use Rattle.std.proofs.KnownBytes.{Keeps-refl}
 use Rattle.std.specs.Prelude.{option_map}
 use Rattle.fr_capture.specs.declared.form.Form.{Form}
-use Rattle.fr_capture.specs.Shows.{text_of}
+use Rattle.fr_capture.specs.Shows.{text_of, IsUnwritten}
 use Rattle.fr_interface.specs.State.{State, IsNodeInterface}
 use Rattle.fr_trace.specs.Audit.{IsOfText}
 use Rattle.fr_trace.specs.declared.error.TraceError.{TraceError}
@@ -18,7 +19,7 @@ use Rattle.fr_why.specs.declared.head.Head.{Head}
 use Rattle.fr_why.specs.declared.reason.Reason.{Reason}
 use Rattle.fr_why.specs.declared.verdict.Verdict.{Verdict}
 use Rattle.fr_why.specs.declared.verdict.Verdict.TheVariants.{Accepted, Refused}
-use Rattle.fr_why.specs.Explains.{kept, IsExplained, IsReadWhole, shown_so_far, ShowsUntil}
+use Rattle.fr_why.specs.Explains.{kept, Explains, IsExplained, IsReadWhole, shown_so_far, ShowsUntil}
 use Rattle.fr_why.specs.Faults.{IsAtFault, state_at, windows_of}
 use Rattle.fr_why.specs.Heads.{Tells}
 use Rattle.fr_why.specs.Reasons.{reason_for}
@@ -69,7 +70,43 @@ pub read_whole : (known : Option (List ℕ)) (bytes words : List ℕ) (v : Verdi
 read_whole None bytes words v read explained = tt
 read_whole (Some text) bytes words v read explained = whole_by text bytes words v read explained
 
+-- ---- the explanation is handed to the writer
+
+-- nothing was written, since the reader failed or memory ran out
+pub explains_none : (text : List ℕ) (old : Option (List ℕ)) (e : TraceError)
+    → (e ≡ refusal.Read) ⊎ (e ≡ refusal.Memory) → Explains text old old (Err e)
+explains_none text old e (inl read) =
+    subst (λ (x : TraceError). Explains text old old (Err x)) (sym read) (Keeps-refl old)
+explains_none text old e (inr memory) =
+    subst (λ (x : TraceError). Explains text old old (Err x)) (sym memory) (Keeps-refl old)
+
+-- for a reader whose bytes are known, the same holds of the bytes that are kept
+pub explains_known : (known : Option (List ℕ)) (bytes : List ℕ) (old new : Option (List ℕ))
+    (r : Result Verdict TraceError) → IfSome known (λ text. bytes ≡ kept text) → Explains bytes old new r
+    → IfSome known (λ text. Explains (kept text) old new r)
+explains_known None bytes old new r is explained = tt
+explains_known (Some text) bytes old new r is explained =
+    subst (λ (t : List ℕ). Explains t old new r) is explained
+
 -- ---- until the fault
+
+pub shows_none : (form : Form) (text : List ℕ) (old : Option (List ℕ)) (e : TraceError)
+    → (e ≡ refusal.Read) ⊎ (e ≡ refusal.Memory) → ShowsUntil form text old old (Err e)
+shows_none form text old e (inl read) =
+    subst (λ (x : TraceError). ShowsUntil form text old old (Err x)) (sym read) (Keeps-refl old)
+shows_none form text old e (inr memory) =
+    subst (λ (x : TraceError). ShowsUntil form text old old (Err x)) (sym memory) (Keeps-refl old)
+
+-- the output of the lines before the line at fault isn't written whole
+pub shows_part : (form : Form) (text front line rest : List ℕ) (old new : Option (List ℕ)) (e f : TraceError)
+    → IsAtFault f text front line rest
+    → IsUnwritten (shown_so_far form (state_at (take_bytes fresh front))) old new e
+    → ShowsUntil form text old new (Err e)
+shows_part form text front line rest old new e f fault (inl (write, part)) =
+    subst (λ (x : TraceError). ShowsUntil form text old new (Err x)) (sym write)
+    (inr (f, front, line, rest, fault, part))
+shows_part form text front line rest old new e f fault (inr (memory, keeps)) =
+    subst (λ (x : TraceError). ShowsUntil form text old new (Err x)) (sym memory) keeps
 
 pub shows_fault : (form : Form) (text front line rest : List ℕ) (old new : Option (List ℕ)) (e : TraceError)
     → IsOfText e → IsAtFault e text front line rest
@@ -88,12 +125,12 @@ shows_fault form text front line rest old new refusal.Memory is fault shown = ab
 pub shows_accepted : (form : Form) (text : List ℕ) (old new : Option (List ℕ)) (s : State)
     (r : Result (Unit {0}) TraceError) → outcome_of (take_bytes fresh text) ≡ Ok s → IsNodeInterface s
     → OnOk r (Appends old new (text_of form s))
-    → IfErr r (λ e. (e ≡ refusal.Write) ⊎ ((e ≡ refusal.Memory) × Keeps old new)) → ShowsUntil form text old new r
+    → IfErr r (IsUnwritten (text_of form s) old new) → ShowsUntil form text old new r
 shows_accepted form text old new s (Ok x) is legal shown failed = (s, is, legal, shown)
-shows_accepted form text old new s (Err e) is legal shown (inl write) =
-    subst (λ (d : TraceError). ShowsUntil form text old new (Err d)) (sym write) tt
-shows_accepted form text old new s (Err e) is legal shown (inr memory) =
-    subst (λ (d : TraceError). ShowsUntil form text old new (Err d)) (sym memory.0) memory.1
+shows_accepted form text old new s (Err e) is legal shown (inl (write, part)) =
+    subst (λ (d : TraceError). ShowsUntil form text old new (Err d)) (sym write) (inl (s, is, legal, part))
+shows_accepted form text old new s (Err e) is legal shown (inr (memory, keeps)) =
+    subst (λ (d : TraceError). ShowsUntil form text old new (Err d)) (sym memory) keeps
 
 -- for a reader whose bytes are known, the same holds of the bytes that are kept
 pub shows_known : (form : Form) (known : Option (List ℕ)) (bytes : List ℕ) (old new : Option (List ℕ))

@@ -280,13 +280,13 @@ found_holds text refusal.Read f h = tt
 found_holds text refusal.Write f h = tt
 found_holds text refusal.Memory f h = tt
 
-pub found_not : (e : TraceError) (f : FaultyLine) → IfErr (found_of e f) (λ x. IsOfText x → ⊥)
+pub found_not : (e : TraceError) (f : FaultyLine) → IfErr (found_of e f) (λ x. x ≡ refusal.Memory)
 found_not refusal.BadMagic f = tt
 found_not (refusal.BadLine n) f = tt
 found_not (refusal.LineTooLong n) f = tt
 found_not (refusal.Refused n) f = tt
 found_not (refusal.WrongAnswer n) f = tt
 found_not refusal.Truncated f = tt
-found_not refusal.Read f = λ is. is
-found_not refusal.Write f = λ is. is
-found_not refusal.Memory f = λ is. is
+found_not refusal.Read f = refl
+found_not refusal.Write f = refl
+found_not refusal.Memory f = refl

@@ -1,10 +1,11 @@
 -- The result of a command that explains why a text is refused, and of one that shows the observations before that fault
 -- (project-defined).
-use Rattle.std.specs.Prelude.{⊤, ◌≡◌, ℕ, ◌+◌, ◌≤◌, List, [], length, take, Option, Some, None, Result, Ok, Err, Vec}
+use Rattle.std.specs.Prelude.{⊤, ◌≡◌, ℕ, ◌+◌, ◌≤◌, List, [], length, take, Option, Some, None, Result, Ok, Err, Vec, ◌⊎◌}
 use Rattle.std.specs.declared.alloc.Global.{Global}
 use Rattle.std.specs.Io.KnownBytes.{Keeps, Appends}
 use Rattle.fr_capture.specs.declared.form.Form.{Form}
 use Rattle.fr_capture.specs.Shows.{text_of}
+use Rattle.fr_files.specs.Outputs.{AppendsFront, FallsShort}
 use Rattle.fr_interface.specs.State.{State, IsNodeInterface}
 use Rattle.fr_trace.specs.declared.error.TraceError.{TraceError}
 use Rattle.fr_trace.specs.declared.error.TraceError.TheVariants.{Read, Write, Memory}
@@ -43,12 +44,13 @@ IsExplained text Refused words = (e : TraceError) × (front : List ℕ) × (line
     × (words ≡ refused_text e front line)
 
 -- The explanation of the text is written; or nothing is written, since the reader failed or memory ran out; or the
--- writer failed.
+-- writer failed, and has taken a front of the explanation.
 abbrev pub Explains : List ℕ → Option (List ℕ) → Option (List ℕ) → Result Verdict TraceError → Type 0
 Explains text old new (Ok verdict) = (words : List ℕ) × IsExplained text verdict words × Appends old new words
 Explains text old new (Err Read) = Keeps old new
 Explains text old new (Err Memory) = Keeps old new
-Explains text old new (Err Write) = ⊤
+Explains text old new (Err Write) = (verdict : Verdict) × (words : List ℕ) × IsExplained text verdict words
+    × FallsShort old new words
 Explains text old new (Err e) = ⊥
 
 -- an accepted text was read whole
@@ -64,13 +66,23 @@ abbrev pub shown_so_far : Form → Option State → List ℕ
 shown_so_far form None = []
 shown_so_far form (Some s) = text_of form s
 
+-- A front of the output is written: for an accepted text of the whole output, and for a refused text of that of the
+-- lines before its line at fault.
+abbrev pub ShowsFront : Form → List ℕ → Option (List ℕ) → Option (List ℕ) → Type 0
+ShowsFront form text old new =
+    ((s : State) × (outcome_of (take_bytes fresh text) ≡ Ok s) × IsNodeInterface s
+    × AppendsFront old new (text_of form s))
+    ⊎ ((e : TraceError) × (front : List ℕ) × (line : List ℕ) × (rest : List ℕ) × IsAtFault e text front line rest
+    × AppendsFront old new (shown_so_far form (state_at (take_bytes fresh front))))
+
 -- An accepted text is shown whole. For a refused text, the output of the lines before its line at fault is written, and
--- the result is the audit's. If the reader failed or memory ran out, nothing is written.
+-- the result is the audit's. If the reader failed or memory ran out, nothing is written. If the writer failed, it has
+-- taken a front of the output.
 abbrev pub ShowsUntil : Form → List ℕ → Option (List ℕ) → Option (List ℕ) → Result (Unit {0}) TraceError → Type 0
 ShowsUntil form text old new (Ok x) = (s : State) × (outcome_of (take_bytes fresh text) ≡ Ok s) × IsNodeInterface s
     × Appends old new (text_of form s)
 ShowsUntil form text old new (Err Read) = Keeps old new
 ShowsUntil form text old new (Err Memory) = Keeps old new
-ShowsUntil form text old new (Err Write) = ⊤
+ShowsUntil form text old new (Err Write) = ShowsFront form text old new
 ShowsUntil form text old new (Err e) = (front : List ℕ) × (line : List ℕ) × (rest : List ℕ)
     × IsAtFault e text front line rest × Appends old new (shown_so_far form (state_at (take_bytes fresh front)))

@@ -33,10 +33,10 @@ IsFound text (Accepted s lines) = (outcome_of (take_bytes fresh text) ≡ Ok s) 
     × (lines ≡ feed_count text) × (length text ≤ longest_text)
 IsFound text (Refused f) = IsFaultIn text f
 
--- an error that doesn't come from the text is returned at once
+-- An error that doesn't come from the text ends the search. An auditor has no reader and no writer, so memory ran out.
 abbrev pub found_of : TraceError → FaultyLine → Result Found TraceError
-found_of Read f = Err Read
-found_of Write f = Err Write
+found_of Read f = Err Memory
+found_of Write f = Err Memory
 found_of Memory f = Err Memory
 found_of e f = Ok (Refused f)
 

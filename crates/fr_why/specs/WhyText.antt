@@ -14,7 +14,7 @@ use Rattle.fr_slots.specs.declared.params.RangeError.TheVariants as range
 use Rattle.fr_slots.specs.Parameters.{name_of}
 use Rattle.fr_text.specs.Spelling.{hex_text}
 use Rattle.fr_trace.specs.declared.error.TraceError.{TraceError}
-use Rattle.fr_trace.specs.declared.error.TraceError.TheVariants as refusal
+use Rattle.fr_trace.specs.ErrorNames.{trace_error_text}
 use Rattle.fr_trace.specs.Refusals.{feed_count}
 use Rattle.fr_trace.specs.Stream.{fresh, take_bytes, longest_line}
 use Rattle.fr_trace.specs.TraceText.{entry_line}
@@ -27,16 +27,8 @@ use Rattle.fr_why.specs.Reasons.{reason_for}
 
 -- ---- the refusal, as an audit prints it
 
-abbrev pub error_words : TraceError → List (List ℕ)
-error_words refusal.BadMagic = codes "BadMagic" ∷ []
-error_words (refusal.BadLine n) = codes "BadLine" ∷ decimal n ∷ []
-error_words (refusal.LineTooLong n) = codes "LineTooLong" ∷ decimal n ∷ []
-error_words (refusal.Refused n) = codes "Refused" ∷ decimal n ∷ []
-error_words (refusal.WrongAnswer n) = codes "WrongAnswer" ∷ decimal n ∷ []
-error_words refusal.Truncated = codes "Truncated" ∷ []
-error_words refusal.Read = codes "Read" ∷ []
-error_words refusal.Write = codes "Write" ∷ []
-error_words refusal.Memory = codes "Memory" ∷ []
+abbrev pub refusal_line : TraceError → List ℕ
+refusal_line e = codes "refused " ++ trace_error_text e ++ line_feed
 
 -- ---- the text of a line
 
@@ -105,7 +97,7 @@ accepted_text lines windows = line_text (codes "accepted" ∷ []) ++ count_text 
 -- the error, the line with its number, the reason of the refusal, and the counts of what stands before it
 abbrev pub fault_text : TraceError → ℕ → List ℕ → Reason → ℕ → List ℕ
 fault_text e before line reason windows =
-    line_text (codes "refused" ∷ error_words e) ++ (place_text (before + 1) line ++ (reason_text reason
+    refusal_line e ++ (place_text (before + 1) line ++ (reason_text reason
     ++ count_text before windows))
 
 -- the same for this line after these lines

@@ -1,6 +1,5 @@
 //! The interface after the lines before the one at fault.
 ghost use Rattle.std.specs.Prelude.{◌≡◌, IfOk, IfErr};
-ghost use Rattle.fr_trace.specs.Audit.{IsOfText};
 ghost use Rattle.fr_trace.specs.Stream.{fresh, take_bytes};
 ghost use Rattle.fr_why.specs.Faults.{state_at};
 ghost use Rattle.fr_why.specs.Heads.{Tells};
@@ -21,7 +20,7 @@ pub(crate) fn interface_after(
 ) -> Result<Option<Interface>, TraceError>
     requires { Tells lines.now head.now }
     ensures left { IfOk result (λ o. o ≡ state_at (take_bytes fresh lines.now)) }
-    ensures refused { IfErr result (λ e. IsOfText e → ⊥) }
+    ensures refused { IfErr result (λ e. e ≡ TraceError.Memory) }
 {
     let text = match head {
         Head::Body(_) => audit_pieces(alloc, &[lines, b"end\n"]),

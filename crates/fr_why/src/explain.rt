@@ -1,6 +1,5 @@
 //! The explanation of an audit's result.
-ghost use Rattle.std.specs.Prelude.{◌≡◌, IfOk, IfErr, IfSome, OnOk, take};
-ghost use Rattle.fr_trace.specs.Audit.{IsOfText};
+ghost use Rattle.std.specs.Prelude.{◌≡◌, ℕ, List, IfOk, IfErr, IfSome, OnOk, take};
 ghost use Rattle.fr_why.specs.Explains.{kept, Explains, IsExplained, IsReadWhole};
 ghost use Rattle.fr_why.specs.Faults.{is_fetch, window_count, windows_of};
 ghost use Rattle.fr_why.specs.Finding.{between, IsFaultIn};
@@ -14,6 +13,7 @@ use crate::kept::kept_of;
 use crate::reasons::reason_of;
 use crate::verdict::Verdict;
 use crate::words::{write_accepted, write_refused};
+use fr_files::output::write_text;
 use fr_interface::interface::Interface;
 use fr_journal::entry::Entry;
 use fr_journal::journal::Journal;
@@ -64,7 +64,7 @@ fn fault_words(alloc: Global, text: &[u8], fault: &FaultyLine) -> Result<Vec<u8>
         (between fault.now.start fault.now.end text.now)) }
     ensures named { OnOk result (IsReasonOf fault.now.error (reason_for fault.now.error
         (take_bytes fresh (take fault.now.start text.now)) (between fault.now.start fault.now.end text.now))) }
-    ensures refused { IfErr result (λ e. IsOfText e → ⊥) }
+    ensures refused { IfErr result (λ e. e ≡ TraceError.Memory) }
 {
     // The lines before the fault are audited a second time. An auditor that kept reasons would pay at each line, and
     // six crates depend on it.
@@ -88,7 +88,7 @@ fn fault_words(alloc: Global, text: &[u8], fault: &FaultyLine) -> Result<Vec<u8>
 fn accepted_words(alloc: Global, interface: &Interface, lines: usize) -> Result<Vec<u8>, TraceError>
     ensures told { IfOk result (λ words. words.items
         ≡ accepted_text lines (window_count interface.now.entries)) }
-    ensures refused { IfErr result (λ e. IsOfText e → ⊥) }
+    ensures refused { IfErr result (λ e. e ≡ TraceError.Memory) }
 {
     let windows = window_count(interface.journal());
     let mut words = Vec::new(alloc);
@@ -103,7 +103,7 @@ fn accepted_words(alloc: Global, interface: &Interface, lines: usize) -> Result<
 /// Returns `Memory` if an allocation fails.
 fn explained(alloc: Global, text: &[u8]) -> Result<(Verdict, Vec<u8>), TraceError>
     ensures told { IfOk result (λ r. IsExplained text.now r.0 r.1.items) }
-    ensures refused { IfErr result (λ e. IsOfText e → ⊥) }
+    ensures refused { IfErr result (λ e. e ≡ TraceError.Memory) }
 {
     match find(alloc, text) {
         Ok(Found::Accepted(interface, lines)) => match accepted_words(alloc, &interface, lines) {
@@ -151,7 +151,7 @@ fn explained(alloc: Global, text: &[u8]) -> Result<(Verdict, Vec<u8>), TraceErro
 /// it breaks off.
 ///
 /// Returns `Read` if the reader fails and `Memory` if an allocation fails; nothing is written then. Returns `Write` if
-/// the writer fails. Of a text of more than 98,548,055 bytes, which is longer than any accepted text, only these bytes
+/// the writer fails; a front of the explanation may then have been written. Of a text of more than 98,548,055 bytes, which is longer than any accepted text, only these bytes
 /// are read, and the text is rejected for them.
 pub fn explain_trace<R: Read, W: Write>(
     alloc: Global,
@@ -160,12 +160,14 @@ pub fn explain_trace<R: Read, W: Write>(
 ) -> Result<Verdict, TraceError>
     ensures told { IfSome (R.remaining reader.old)
         (λ text. Explains (kept text) (W.contents writer.old) (W.contents writer.new) result) }
+    // The same for a reader whose bytes aren't known.
+    ensures some { (text : List ℕ) × Explains text (W.contents writer.old) (W.contents writer.new) result }
     // An accepted text was read whole.
     ensures whole { IfSome (R.remaining reader.old) (λ text. IsReadWhole text result) }
 {
     let text = kept_of(alloc, reader)?;
     let (verdict, words) = explained(alloc, text.as_slice())?;
-    match writer.write_all(words.as_slice()) {
+    match write_text(writer, words.as_slice()) {
         Ok(()) => Ok(verdict),
         Err(_) => Err(TraceError::Write),
     }

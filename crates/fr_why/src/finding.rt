@@ -1,7 +1,6 @@
 //! The line at which a text is refused.
 ghost use Rattle.std.specs.Prelude.{◌≡◌, IfOk, IfErr};
 ghost use Rattle.fr_interface.specs.State.{IsNodeInterface};
-ghost use Rattle.fr_trace.specs.Audit.{IsOfText};
 ghost use Rattle.fr_trace.specs.Refusals.{HasFewLines};
 ghost use Rattle.fr_why.specs.Finding.{IsFound, found_of};
 
@@ -41,7 +40,8 @@ fn refused(fault: FaultyLine) -> Result<Found, TraceError>
     ensures { result ≡ found_of fault.error fault }
 {
     match fault.error {
-        TraceError::Read | TraceError::Write | TraceError::Memory => Err(fault.error),
+        // An auditor has no reader and no writer.
+        TraceError::Read | TraceError::Write | TraceError::Memory => Err(TraceError::Memory),
         _ => Ok(Found::Refused(fault)),
     }
 }
@@ -64,7 +64,7 @@ fn accepted(interface: Interface, lines: usize) -> Found
 /// The lines are fed to an auditor one after another. Returns `Memory` if an allocation fails.
 pub(crate) fn find(alloc: Global, text: &[u8]) -> Result<Found, TraceError>
     ensures found { IfOk result (IsFound text.now) }
-    ensures refused { IfErr result (λ e. IsOfText e → ⊥) }
+    ensures refused { IfErr result (λ e. e ≡ TraceError.Memory) }
 {
     let mut auditor = Auditor::new(alloc);
     let mut head = Head::Start;

@@ -1,5 +1,5 @@
 //! The text of a trace, kept whole.
-ghost use Rattle.std.specs.Prelude.{IfSome};
+ghost use Rattle.std.specs.Prelude.{◌≡◌, ◌⊎◌, IfErr, IfSome};
 ghost use Rattle.fr_why.specs.Explains.{IsKept};
 
 use fr_trace::error::TraceError;
@@ -14,7 +14,8 @@ const MOST_KEPT: u64 = 98_548_055;
 ///
 /// Returns `Read` if the reader fails, and `Memory` if an allocation fails.
 pub(crate) fn kept_of<R: Read>(alloc: Global, reader: &mut R) -> Result<Vec<u8>, TraceError>
-    ensures { IfSome (R.remaining reader.old) (λ text. IsKept text result) }
+    ensures known { IfSome (R.remaining reader.old) (λ text. IsKept text result) }
+    ensures refused { IfErr result (λ e. (e ≡ TraceError.Read) ⊎ (e ≡ TraceError.Memory)) }
 {
     let mut bytes = Vec::new(alloc);
     match reader.take(MOST_KEPT).read_to_end(&mut bytes) {

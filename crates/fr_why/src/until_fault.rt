@@ -1,5 +1,5 @@
 //! The observations of a trace, up to the line at fault.
-ghost use Rattle.std.specs.Prelude.{IfSome};
+ghost use Rattle.std.specs.Prelude.{ℕ, List, IfSome};
 ghost use Rattle.fr_why.specs.Explains.{kept, ShowsUntil};
 ghost use Rattle.fr_why.specs.Finding.{IsFaultIn};
 
@@ -40,7 +40,7 @@ fn show_before<W: Write>(
 /// complete the plan, nothing is written.
 ///
 /// Returns `Read` if the reader fails and `Memory` if an allocation fails; nothing is written then. Returns `Write` if
-/// the writer fails; a part of the output may then have been written. Of a text of more than 98,548,055 bytes, which is
+/// the writer fails; a front of the output may then have been written. Of a text of more than 98,548,055 bytes, which is
 /// longer than any accepted text, only these bytes are read, and the text is rejected for them.
 pub fn show_until_fault<R: Read, W: Write>(
     alloc: Global,
@@ -48,8 +48,10 @@ pub fn show_until_fault<R: Read, W: Write>(
     reader: &mut R,
     writer: &mut W,
 ) -> Result<(), TraceError>
-    ensures { IfSome (R.remaining reader.old)
+    ensures shown { IfSome (R.remaining reader.old)
         (λ text. ShowsUntil form (kept text) (W.contents writer.old) (W.contents writer.new) result) }
+    // The same for a reader whose bytes aren't known.
+    ensures some { (text : List ℕ) × ShowsUntil form text (W.contents writer.old) (W.contents writer.new) result }
 {
     let text = kept_of(alloc, reader)?;
     match find(alloc, text.as_slice()) {

@@ -1,9 +1,8 @@
 //! The lines that are written about a text.
-ghost use Rattle.std.specs.Prelude.{◌≡◌, ◌∷◌, ◌<◌, ◌^◌, codes};
+ghost use Rattle.std.specs.Prelude.{◌≡◌, ◌<◌, ◌^◌};
 ghost use Rattle.std.specs.List.{flat_map};
 ghost use Rattle.fr_text.specs.Writing.{Writes};
-ghost use Rattle.fr_lines.specs.Spelling.{line_text};
-ghost use Rattle.fr_why.specs.WhyText.{error_words, is_shown, byte_text, after_space, place_text, reason_text};
+ghost use Rattle.fr_why.specs.WhyText.{refusal_line, is_shown, byte_text, after_space, place_text, reason_text};
 ghost use Rattle.fr_why.specs.WhyText.{misfit_word, count_text, accepted_text, fault_text};
 
 use crate::reason::{Misfit, Reason};
@@ -19,19 +18,9 @@ use std::io::Write;
 
 /// Writes the line of a refusal, as an audit prints it.
 fn write_error<W: Write>(writer: &mut W, error: TraceError) -> io::Result<()>
-    ensures { Writes W.contents writer.old writer.new result (line_text (codes "refused" ∷ error_words error)) }
+    ensures { Writes W.contents writer.old writer.new result (refusal_line error) }
 {
-    match error {
-        TraceError::BadMagic => writeln!(writer, "refused BadMagic"),
-        TraceError::BadLine(line) => writeln!(writer, "refused BadLine {line}"),
-        TraceError::LineTooLong(line) => writeln!(writer, "refused LineTooLong {line}"),
-        TraceError::Refused(line) => writeln!(writer, "refused Refused {line}"),
-        TraceError::WrongAnswer(line) => writeln!(writer, "refused WrongAnswer {line}"),
-        TraceError::Truncated => writeln!(writer, "refused Truncated"),
-        TraceError::Read => writeln!(writer, "refused Read"),
-        TraceError::Write => writeln!(writer, "refused Write"),
-        TraceError::Memory => writeln!(writer, "refused Memory"),
-    }
+    writeln!(writer, "refused {error}")
 }
 
 // A terminal would execute some bytes of a line at fault, so those print as hexadecimal digits.
