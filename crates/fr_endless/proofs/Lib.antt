@@ -4,3 +4,4 @@ pub mod MovingLemmas
 pub mod ReportLemmas
 pub mod ReplyLemmas
 pub mod SessionLemmas
+pub mod OpeningLemmas

@@ -1,5 +1,5 @@
 -- A reply by the kept data is that of each world with its history.
-use Rattle.std.proofs.Common.{◌≡◌, ℕ, List, [], Option, None, Result, Ok, Err}
+use Rattle.std.proofs.Common.{◌≡◌, ℕ, List, [], Option, None, Result}
 use Rattle.std.proofs.Common.{refl, sym, ap, subst, ◌∙◌}
 use Rattle.fr_bus.specs.Record.{Recorded}
 use Rattle.fr_bus.specs.Standing.{LiveStanding, bare}
@@ -28,19 +28,11 @@ module _ {W A E : Type 0} (contents : W → Option (List ℕ)) (old new : W) (re
   -- a text that is such a reply
   pub replied : (text : List ℕ) (IsReply : List ℕ → Type 0) → IsReply text → Writes contents old new result text
       → Replies contents old new result IsReply
-  replied text IsReply holds told = by_result result told
-    where
-      by_result : (r : Result A E) → Writes contents old new r text → Replies contents old new r IsReply
-      by_result (Ok x) told = (text, holds, told)
-      by_result (Err e) told = tt
+  replied text IsReply holds told = (text, holds, told)
 
   pub replied_so : (IsReply IsAnswer : List ℕ → Type 0) → ((reply : List ℕ) → IsReply reply → IsAnswer reply)
       → Replies contents old new result IsReply → Replies contents old new result IsAnswer
-  replied_so IsReply IsAnswer so told = by_result result told
-    where
-      by_result : (r : Result A E) → Replies contents old new r IsReply → Replies contents old new r IsAnswer
-      by_result (Ok x) told = (told.0, so told.0 told.1, told.2)
-      by_result (Err e) told = tt
+  replied_so IsReply IsAnswer so told = (told.0, so told.0 told.1, told.2)
 
   -- a request that is this one
   pub asked_so : (terms : Terms) (l left : LiveState) (kept keeps : List FaultLine) (given asked : Request)

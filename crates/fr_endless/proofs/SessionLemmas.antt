@@ -1,17 +1,22 @@
 -- An endless session continues by one line.
 use Rattle.std.proofs.Common.{◌≡◌, ℕ, ◌+◌, true, false, List, [], ◌∷◌, ◌++◌, length, Option, Some, None, refl, sym, ap}
 use Rattle.std.proofs.Common.{Result, Ok, Err}
-use Rattle.std.specs.Prelude.{OnOk}
+use Rattle.std.specs.Prelude.{IfErr, OnOk}
 use Rattle.std.proofs.Common.{subst, ◌∙◌, append_assoc, arith, length-append}
 use Rattle.std.proofs.lemmas.List.{append-nil}
 use Rattle.std.specs.List.{flat_map}
 use Rattle.std.specs.Io.KnownBytes.{Appends, Keeps}
 use Rattle.fr_endless.specs.Alike.{Alike}
-use Rattle.fr_endless.specs.Serving.{AnswersNextAlike, Does, DoesAlikeIf, Served, ServedEndless, Serves}
-use Rattle.fr_live.specs.LiveWorlds.{LiveState}
+use Rattle.fr_endless.specs.Serving.{AnswersNextAlike, Does, DoesAlikeIf, EndsEndless, FailsNextAlike, Served}
+use Rattle.fr_endless.specs.Serving.{ServedEndless, Serves}
+use Rattle.fr_live.specs.LiveWorlds.{IsWorldHistory, LiveState}
 use Rattle.fr_runs.specs.declared.fault_line.FaultLine.{FaultLine}
+use Rattle.fr_session.proofs.CutLemmas.{ends_full, ends_greeting, ends_reading, ends_writing}
 use Rattle.fr_session.proofs.LineLemmas.{front_asks}
-use Rattle.fr_session.proofs.SessionLemmas.{are_lines_more, feeds_more, appends_more, appends_kept}
+use Rattle.fr_session.proofs.SessionLemmas.{SoFarBy, are_lines_more, feeds_more, appends_more, appends_kept}
+use Rattle.fr_session.specs.Cuts.{EndsEarly, IsFront}
+use Rattle.fr_session.specs.declared.error.SessionError.{SessionError}
+use Rattle.fr_session.specs.declared.error.SessionError.TheVariants.{Read, Write, Memory}
 use Rattle.fr_session.specs.Lines.{AreLines, Comes, ComesFront, with_feed}
 use Rattle.fr_session.specs.Reading.{asked_in}
 use Rattle.fr_session.specs.Replies.{greeting}
@@ -43,14 +48,9 @@ serves_more terms old number (first ∷ lines) replies between line reply new so
       serves_more terms mid (number + 1) lines later between line reply new rest there,
     )
 
--- the lines that were read so far are answered
 abbrev pub SoFar : Terms → Option (List ℕ) → Option (List ℕ) → Option (List ℕ) → Option (List ℕ) → ℕ → SessionState
     → SessionState → Type 0
-SoFar terms None left before after number old new = Unit {0}
-SoFar terms (Some text) None before after number old new = ⊥
-SoFar terms (Some text) (Some left) before after number old new =
-    (lines : List (List ℕ)) × (replies : List ℕ) × (text ≡ flat_map with_feed lines ++ left) × AreLines lines
-    × (number ≡ 1 + length lines) × Serves terms old 1 lines replies new × Appends before after (greeting ++ replies)
+SoFar terms text left before after number old new = SoFarBy (Serves terms) text left before after number old new
 
 so_far_none : (terms : Terms) (text before after : Option (List ℕ)) (w : SessionState)
     → Appends before after greeting → SoFar terms text text before after 1 w w
@@ -181,11 +181,88 @@ opened_so (Ok x) terms given text before after l new first keeps same none serve
       got.2,
     )
 
--- a line that was answered and whose reply was flushed
-pub flushed : {A E : Type 0} (r : Result A E) (start mid end : Option (List ℕ)) (Is : List ℕ → List ℕ → Type 0)
-    (line items : List ℕ) → line ≡ items → (reply : List ℕ) × Is line reply × Appends start mid reply → Keeps mid end
-    → OnOk r ((reply : List ℕ) × Is items reply × Appends start end reply)
-flushed (Ok x) start mid end Is line items same answered keeps =
-    let (reply, is, tells) = answered in
-    (reply, subst (λ (t : List ℕ). Is t reply) same is, appends_kept start mid end reply tells keeps)
-flushed (Err e) start mid end Is line items same answered keeps = tt
+-- ---- a stream fails
+
+-- a line of which the front was kept is answered by its front, in part
+pub failed_front_alike : (terms : Terms) (text left before after : Option (List ℕ)) (number : ℕ) (start : List ℕ)
+    (old : LiveState) (kept : List FaultLine) (new : LiveState) (keeps : List FaultLine)
+    → ComesFront true text left start
+    → (reply : List ℕ) × DoesAlikeIf terms old kept number (asked_in start) reply new keeps
+    × ((front : List ℕ) × IsFront front reply × Appends before after front)
+    → FailsNextAlike terms Write text left before after number old kept new keeps
+failed_front_alike terms text left before after number start old kept new keeps comes answered =
+    let (line, whole, is) = comes in
+    let (reply, does, told) = answered in (
+      line,
+      reply,
+      told.0,
+      whole,
+      subst (λ asked. DoesAlikeIf terms old kept number asked reply new keeps) (ap asked_in is ∙ front_asks line) does,
+      told.1,
+      told.2,
+    )
+
+pub ends_greeting_alike : (terms : Terms) (text before after : Option (List ℕ)) (front : List ℕ) (l : LiveState)
+    (kept : List FaultLine) → IsFront front greeting → Appends before after front
+    → Alike l (λ w v. EndsEarly (Does terms) (Serves terms) Write text text before after (state_of w kept)
+    (state_of v kept)) l
+ends_greeting_alike terms text before after front l kept is told w leads =
+    (w, ends_greeting (Does terms) (Serves terms) text before after front (state_of w kept) is told, leads)
+
+pub ends_so_alike : (terms : Terms) (error : SessionError) (text left left' before after after' : Option (List ℕ))
+    (number : ℕ) (l mid new : LiveState) (first kept keeps : List FaultLine)
+    → SoFarAlike terms text left before after number l first mid kept
+    → FailsNextAlike terms error left left' after after' number mid kept new keeps
+    → Alike l (λ w v. EndsEarly (Does terms) (Serves terms) error text left' before after' (state_of w first)
+    (state_of v keeps)) new
+ends_so_alike terms Read text left left' before after after' number l mid new first kept keeps so_far fails w is =
+    let (taken, told, same, lines) = fails in
+    let (part, plain, takes) = taken in
+    let got = so_far w is in (
+      got.0,
+      ends_reading (Does terms) (Serves terms) text left left' before after after' number (state_of w first)
+          (state_of got.0 kept) (state_of got.0 keeps) part got.1 plain takes told (ap (state_of got.0) lines),
+      subst (λ (x : LiveState). IsWorldHistory x got.0) (sym same) got.2,
+    )
+ends_so_alike terms Write text left left' before after after' number l mid new first kept keeps so_far fails w is =
+    let (line, reply, front, comes, does, is_front, tells) = fails in
+    let got = so_far w is in
+    let did = does got.0 got.2 in (
+      did.0,
+      ends_writing (Does terms) (Serves terms) text left left' before after after' number (state_of w first)
+          (state_of got.0 kept) (state_of did.0 keeps) line reply front got.1 comes did.1 is_front tells,
+      did.2,
+    )
+ends_so_alike terms Memory text left left' before after after' number l mid new first kept keeps so_far fails w is =
+    absurd fails
+
+pub ends_full_alike : (terms : Terms) (text left before after : Option (List ℕ)) (number : ℕ) (l new : LiveState)
+    (first kept : List FaultLine) → SoFarAlike terms text left before after number l first new kept
+    → Alike l (λ w v. EndsEarly (Does terms) (Serves terms) Read text left before after (state_of w first)
+    (state_of v kept)) new
+ends_full_alike terms text left before after number l new first kept so_far w is =
+    let got = so_far w is in (
+      got.0,
+      ends_full (Does terms) (Serves terms) text left before after number (state_of w first) (state_of got.0 kept) got.1,
+      got.2,
+    )
+
+-- a session from an opening world, of which no line is kept, that ends with an error
+pub ended_so : {A : Type 0} (r : Result A SessionError) (terms given : Terms) (text left before after : Option (List ℕ))
+    (l new : LiveState) (first keeps : List FaultLine) → given ≡ terms → first ≡ []
+    → IfErr r (λ error. Alike l (λ w v. EndsEarly (Does given) (Serves given) error text left before after
+    (state_of w first) (state_of v keeps)) new)
+    → IfErr r (λ error. Alike l (λ w v. EndsEndless terms error text left before after w v) new)
+ended_so (Ok x) terms given text left before after l new first keeps same none ends = tt
+ended_so (Err error) terms given text left before after l new first keeps same none ends = λ w is.
+    let got = ends w is in (
+      got.0,
+      (
+        keeps,
+        subst (λ (t : Terms). EndsEarly (Does t) (Serves t) error text left before after (state_of w [])
+            (state_of got.0 keeps)) same
+            (subst (λ (f : List FaultLine). EndsEarly (Does given) (Serves given) error text left before after
+            (state_of w f) (state_of got.0 keeps)) none got.1),
+      ),
+      got.2,
+    )

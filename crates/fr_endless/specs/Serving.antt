@@ -1,18 +1,21 @@
 -- The effect of an endless session on the lines that it reads (project-defined).
 use Rattle.std.specs.Prelude.{◌≡◌, ℕ, ◌+◌, Bool, true, false, List, [], ◌∷◌, ◌++◌, Option, Some, None, Result, Ok, Err}
 use Rattle.std.specs.Io.KnownBytes.{Appends, Keeps}
+use Rattle.fr_bus.specs.Standing.{roomless}
 use Rattle.fr_bus.specs.States.{last_recorded}
 use Rattle.fr_endless.specs.Alike.{Alike}
 use Rattle.fr_endless.specs.Answers.{if_numbered, no_history_text}
 use Rattle.fr_core.specs.Worlds.{WorldState}
 use Rattle.fr_lines.specs.Spelling.{line_text}
-use Rattle.fr_live.specs.LiveWorlds.{LiveState}
+use Rattle.fr_live.specs.LiveWorlds.{LiveState, ForEachWorld}
 use Rattle.fr_runs.specs.declared.fault_line.FaultLine.{FaultLine}
+use Rattle.fr_schedule.specs.Descriptions.{Description}
 use Rattle.fr_session.specs.declared.error.SessionError.{SessionError}
 use Rattle.fr_session.specs.declared.error.SessionError.TheVariants.{Read, Write, Memory}
 use Rattle.fr_session.specs.declared.request.Request.{Request}
 use Rattle.fr_session.specs.declared.request.Request.TheVariants as request
-use Rattle.fr_session.specs.Lines.{IsCut, Comes}
+use Rattle.fr_session.specs.Cuts.{EndsEarly, IsFront}
+use Rattle.fr_session.specs.Lines.{IsCut, Comes, TakesPart}
 use Rattle.fr_session.specs.Queries.{IsRecordOf}
 use Rattle.fr_session.specs.Reading.{asked_in}
 use Rattle.fr_session.specs.Replies.{bad_line_words, greeting}
@@ -68,6 +71,11 @@ ServedEndless terms text before after old new =
 
 -- ---- by the kept data
 
+-- Each world that leads to the data is one of this cluster, in a run of so many cycles. Only the room of its journals
+-- may be another.
+abbrev pub IsOf : Description → ℕ → LiveState → Type 0
+IsOf d cycles l = ForEachWorld l (λ w. (roomless w.bus.cluster ≡ roomless d) × (w.bus.cycles ≡ cycles))
+
 -- the request of each world that leads to the data gets this reply
 abbrev pub DoesAlike : Terms → LiveState → List FaultLine → Request → List ℕ → LiveState → List FaultLine → Type 0
 DoesAlike terms old kept asked reply new keeps =
@@ -87,12 +95,30 @@ AnswersNextAlike terms true text left before after number old kept new keeps =
 AnswersNextAlike terms false text left before after number old kept new keeps =
     Comes false text left [] × (new ≡ old) × (keeps ≡ kept) × Keeps before after
 
+-- the next line isn't answered whole
+abbrev pub FailsNextAlike : Terms → SessionError → Option (List ℕ) → Option (List ℕ) → Option (List ℕ)
+    → Option (List ℕ) → ℕ → LiveState → List FaultLine → LiveState → List FaultLine → Type 0
+FailsNextAlike terms Read text left before after number old kept new keeps =
+    TakesPart text left × Keeps before after × (new ≡ old) × (keeps ≡ kept)
+FailsNextAlike terms Write text left before after number old kept new keeps =
+    (line : List ℕ) × (reply : List ℕ) × (front : List ℕ) × Comes true text left line
+    × DoesAlikeIf terms old kept number (asked_in line) reply new keeps × IsFront front reply
+    × Appends before after front
+FailsNextAlike terms Memory text left before after number old kept new keeps = ⊥
+
+-- a session from an opening world to another world, with any fault lines kept there, that ends with the error
+abbrev pub EndsEndless : Terms → SessionError → Option (List ℕ) → Option (List ℕ) → Option (List ℕ)
+    → Option (List ℕ) → WorldState → WorldState → Type 0
+EndsEndless terms error text left before after old new =
+    (kept : List FaultLine) × EndsEarly (Does terms) (Serves terms) error text left before after (opening old)
+    (state_of new kept)
+
 -- ---- a failed allocation
 
--- if an allocation fails, nothing was written, and the data are unchanged
-abbrev pub IsUntouched : {A : Type 0} → Result A SessionError → Option (List ℕ) → Option (List ℕ) → LiveState
-    → LiveState → Type 0
-IsUntouched (Ok done) before after old new = Unit {0}
-IsUntouched (Err Read) before after old new = Unit {0}
-IsUntouched (Err Write) before after old new = Unit {0}
-IsUntouched (Err Memory) before after old new = Keeps before after × (new ≡ old)
+-- if an allocation fails, nothing was taken or written, and the data are unchanged
+abbrev pub IsUntouched : {A : Type 0} → Result A SessionError → Option (List ℕ) → Option (List ℕ) → Option (List ℕ)
+    → Option (List ℕ) → LiveState → LiveState → Type 0
+IsUntouched (Ok done) text left before after old new = Unit {0}
+IsUntouched (Err Read) text left before after old new = Unit {0}
+IsUntouched (Err Write) text left before after old new = Unit {0}
+IsUntouched (Err Memory) text left before after old new = Keeps text left × Keeps before after × (new ≡ old)

@@ -12,6 +12,7 @@ use fr_bus::error::Phase;
 use fr_bus::live::LiveBus;
 use fr_core::error::StepError;
 use fr_interface::state::InterfaceState;
+use fr_session::prepared::BlockWriter;
 use fr_session::queries::{write_block, write_memory, write_sealed_block, write_unknown};
 use fr_session::replies::{write_refusal, write_window};
 use fr_slots::numbers::NodeId;
@@ -54,7 +55,7 @@ pub(crate) fn write_no_history<W: Write>(writer: &mut W) -> io::Result<()>
 }
 
 /// Writes the report of an interface with so many buffers as a block.
-fn write_report_block<W: Write>(
+fn write_report_block<W: BlockWriter>(
     alloc: Global,
     writer: &mut W,
     interface: &InterfaceState,
@@ -64,7 +65,7 @@ fn write_report_block<W: Write>(
 {
     let mut block = Vec::new(alloc);
     match write_kept_report(interface, count, &mut block) {
-        Ok(()) => write_block(writer, block.as_slice()),
+        Ok(()) => write_block(writer, block),
         Err(_) => write_memory(writer),
     }
 }
@@ -77,7 +78,7 @@ fn count_at(buffers: &[u8], place: usize) -> Option<u8>
 }
 
 /// Writes the report of the node's interface as a block.
-pub(crate) fn write_node_report<W: Write>(
+pub(crate) fn write_node_report<W: BlockWriter>(
     alloc: Global,
     writer: &mut W,
     world: &EndlessWorld,
@@ -98,7 +99,7 @@ pub(crate) fn write_node_report<W: Write>(
 }
 
 /// Writes the window that was sealed last, if it has this number.
-pub(crate) fn write_last<W: Write>(
+pub(crate) fn write_last<W: BlockWriter>(
     alloc: Global,
     writer: &mut W,
     bus: &LiveBus,

@@ -1,8 +1,8 @@
 //! An endless session: requests in, and a reply to each before the next is read.
-ghost use Rattle.std.specs.Prelude.{◌≡◌, OnOk, min};
+ghost use Rattle.std.specs.Prelude.{◌≡◌, IfErr, OnOk, min};
 ghost use Rattle.fr_core.specs.Headline.{Headline};
 ghost use Rattle.fr_endless.specs.Alike.{Alike};
-ghost use Rattle.fr_endless.specs.Serving.{DoesAlike, DoesAlikeIf, IsUntouched, ServedEndless};
+ghost use Rattle.fr_endless.specs.Serving.{DoesAlike, DoesAlikeIf, EndsEndless, IsOf, IsUntouched, ServedEndless};
 ghost use Rattle.fr_live.specs.LiveWorlds.{ForEachWorld};
 ghost use Rattle.fr_session.specs.Queries.{Replies};
 ghost use Rattle.fr_session.specs.Reading.{asked_in};
@@ -18,6 +18,7 @@ use fr_session::error::SessionError;
 use fr_session::keeping::keep_line;
 use fr_session::kept::KeptLines;
 use fr_session::lines::{Line, next_line};
+use fr_session::prepared::{BlockWriter, Prepared};
 use fr_session::reading::request_of;
 use fr_session::replies::{write_answer, write_bad_line, write_done};
 use fr_session::request::Request;
@@ -29,15 +30,16 @@ use std::io::{BufRead, Write};
 /// The cycles that a fault line can name are 0 to 1023.
 const NAMED_CYCLES: u32 = 1_024;
 
-/// The state that a session keeps from line to line: the fault lines, and room for a line.
+/// The state that a session keeps from line to line: the fault lines, and room for a line and for its reply.
 #[derive(Drop)]
 struct EndlessSession {
     faults: KeptLines,
     line: Line,
+    reply: Prepared,
 }
 
 /// Executes the request, and writes the reply.
-fn do_request<W: Write>(
+fn do_request<W: BlockWriter>(
     terms: &Terms<'_>,
     faults: &mut KeptLines,
     world: &mut EndlessWorld,
@@ -74,7 +76,7 @@ fn do_request<W: Write>(
 }
 
 /// Executes the request of the line of this number, and writes the reply.
-fn answer_line<W: Write>(
+fn answer_line<W: BlockWriter>(
     terms: &Terms<'_>,
     faults: &mut KeptLines,
     world: &mut EndlessWorld,
@@ -95,9 +97,9 @@ impl EndlessSession {
     ghost use Rattle.std.specs.Prelude.{◌≡◌, IfOk, IfErr, OnOk};
     ghost use Rattle.fr_core.specs.Headline.{Headline};
     ghost use Rattle.fr_endless.specs.Alike.{Alike};
-    ghost use Rattle.fr_endless.specs.Serving.{AnswersNextAlike, DoesAlikeIf, Served};
+    ghost use Rattle.fr_endless.specs.Serving.{AnswersNextAlike, Does, DoesAlikeIf, FailsNextAlike, Served, Serves};
     ghost use Rattle.fr_live.specs.LiveWorlds.{ForEachWorld};
-    ghost use Rattle.fr_session.specs.Queries.{Replies};
+    ghost use Rattle.fr_session.specs.Cuts.{EndsEarly, Sends};
     ghost use Rattle.fr_session.specs.Reading.{asked_in};
     ghost use Rattle.fr_session.specs.Sessions.{IsOfStream, state_of};
     ghost use Rattle.fr_session.specs.TermsFields.{terms_in};
@@ -110,12 +112,20 @@ impl EndlessSession {
         number: u64,
         writer: &mut W,
     ) -> io::Result<()>
-        ensures { Replies W.contents writer.old writer.new result (λ reply. DoesAlikeIf (terms_in terms.now)
+        ensures { Sends W.contents writer.old writer.new result (λ reply. DoesAlikeIf (terms_in terms.now)
             world.old self.old.faults number (asked_in self.old.line.items) reply world.new self.new.faults) }
     {
+        self.reply.clear(terms.alloc);
         let line = self.line.as_slice();
-        answer_line(terms, &mut self.faults, world, line, number, writer)?;
-        writer.flush()
+        answer_line(
+            terms,
+            &mut self.faults,
+            world,
+            line,
+            number,
+            &mut self.reply,
+        )?;
+        self.reply.send(terms.alloc, writer)
     }
 
     /// Answers the next line, if there is a whole one. Returns whether there was.
@@ -130,7 +140,9 @@ impl EndlessSession {
         ensures answers { IfOk result (λ more. AnswersNextAlike (terms_in terms.now) more (R.remaining reader.old)
             (R.remaining reader.new) (W.contents writer.old) (W.contents writer.new) number
             world.old self.old.faults world.new self.new.faults) }
-        ensures early { IfErr result IsOfStream }
+        ensures early { IfErr result (λ error. FailsNextAlike (terms_in terms.now) error (R.remaining reader.old)
+            (R.remaining reader.new) (W.contents writer.old) (W.contents writer.new) number world.old self.old.faults
+            world.new self.new.faults) }
     {
         match next_line(reader, &mut self.line) {
             Ok(true) => {}
@@ -155,11 +167,15 @@ impl EndlessSession {
             (W.contents writer.old) (W.contents writer.new) (state_of w self.old.faults)
             (state_of v self.new.faults)) world.new) }
         ensures headline { ForEachWorld world.new Headline }
-        ensures early { IfErr result IsOfStream }
+        ensures early { IfErr result (λ error. Alike world.old (λ w v. EndsEarly (Does (terms_in terms.now))
+            (Serves (terms_in terms.now)) error (R.remaining reader.old) (R.remaining reader.new)
+            (W.contents writer.old) (W.contents writer.new) (state_of w self.old.faults)
+            (state_of v self.new.faults)) world.new) }
+        ensures stream { IfErr result IsOfStream }
     {
         // For the prover: the clause of this call.
         world.known();
-        if greet(writer).is_err() {
+        if greet(terms.alloc, &mut self.reply, writer).is_err() {
             return Err(SessionError::Write);
         }
         for number in 1..u64::MAX {
@@ -198,11 +214,17 @@ pub fn serve_endless<R: BufRead, W: Write>(
     reader: &mut R,
     writer: &mut W,
 ) -> Result<(), SessionError>
+    requires { IsOf cluster.now cycles world.old }
     // Each world with its history that leads to the data is served so, and then leads to the data after the session.
     ensures served { OnOk result (Alike world.old (λ w v. ServedEndless (terms_of cluster.now (min cycles 1024))
         (R.remaining reader.old) (W.contents writer.old) (W.contents writer.new) w v) world.new) }
     // A failed allocation ends the session only before its first line.
-    ensures memory { IsUntouched result (W.contents writer.old) (W.contents writer.new) world.old world.new }
+    ensures memory { IsUntouched result (R.remaining reader.old) (R.remaining reader.new) (W.contents writer.old)
+        (W.contents writer.new) world.old world.new }
+    // If a stream fails, the replies to the lines that were taken are written, the last one perhaps in part.
+    ensures early { IfErr result (λ error. Alike world.old (λ w v. EndsEndless (terms_of cluster.now
+        (min cycles 1024)) error (R.remaining reader.old) (R.remaining reader.new) (W.contents writer.old)
+        (W.contents writer.new) w v) world.new) }
     ensures headline { ForEachWorld world.new Headline }
 {
     let Ok(events) = window_events(alloc, cluster.nodes()) else {
@@ -216,9 +238,15 @@ pub fn serve_endless<R: BufRead, W: Write>(
         cluster,
         cycles: cycles.min(NAMED_CYCLES) as u16,
     };
+    let Ok(reply) = Prepared::new(alloc) else {
+        // For the prover: the clause of this call.
+        world.known();
+        return Err(SessionError::Memory);
+    };
     let mut session = EndlessSession {
         faults: KeptLines::new(alloc),
         line: Line::new(),
+        reply,
     };
     session.answer_all(&terms, world, reader, writer)
 }

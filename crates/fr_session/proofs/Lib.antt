@@ -1,5 +1,6 @@
 pub mod LineLemmas
 pub mod SessionLemmas
+pub mod CutLemmas
 pub mod QueryLemmas
 pub mod KeepingLemmas
 pub mod LawLemmas

@@ -1,13 +1,18 @@
 -- A session continues by one line.
 use Rattle.std.proofs.Common.{◌≡◌, ℕ, ◌+◌, true, false, List, [], ◌∷◌, ◌++◌, length, Option, Some, None, refl, sym, ap}
-use Rattle.std.proofs.Common.{subst, ◌∙◌, append_assoc, arith, length-append}
+use Rattle.std.proofs.Common.{ap₂, subst, ◌∙◌, append_assoc, arith, length-append, Result, Ok, Err}
+use Rattle.std.specs.Prelude.{OnOk}
 use Rattle.std.proofs.lemmas.List.{append-nil}
 use Rattle.std.specs.List.{flat_map}
 use Rattle.std.specs.Io.KnownBytes.{Appends, Keeps}
+use Rattle.fr_core.specs.Worlds.{WorldState}
+use Rattle.fr_runs.specs.declared.fault_line.FaultLine.{FaultLine}
+use Rattle.fr_schedule.specs.Descriptions.{Description}
 use Rattle.fr_session.specs.Lines.{AreLines, ComesFront, IsLine, with_feed}
 use Rattle.fr_session.specs.Reading.{asked_in}
 use Rattle.fr_session.specs.Replies.{greeting}
-use Rattle.fr_session.specs.Sessions.{AnswersNext, Does, DoesIf, Served, Serves, SessionState, Terms}
+use Rattle.fr_session.specs.Sessions.{AnswersNext, Does, DoesIf, IsOf, Served, ServedWorld, Serves, SessionState, Terms}
+use Rattle.fr_session.specs.Sessions.{opening, state_of, terms_of}
 use Rattle.fr_session.proofs.LineLemmas.{front_asks}
 
 serves_none : (terms : Terms) (w : SessionState) (number : ℕ) → Serves terms w number [] [] w
@@ -49,14 +54,18 @@ feeds_more (first ∷ lines) line left =
     ∙ ap (λ l. with_feed first ++ l) (feeds_more lines line left)
     ∙ sym (append_assoc (with_feed first) (flat_map with_feed lines) (line ++ 10 ∷ left))
 
--- the lines that were read so far are answered
+-- the lines that were read so far are answered, where lines do this one after another
+abbrev pub SoFarBy : (SessionState → ℕ → List (List ℕ) → List ℕ → SessionState → Type 0) → Option (List ℕ)
+    → Option (List ℕ) → Option (List ℕ) → Option (List ℕ) → ℕ → SessionState → SessionState → Type 0
+SoFarBy DoesLines None left before after number old new = Unit {0}
+SoFarBy DoesLines (Some text) None before after number old new = ⊥
+SoFarBy DoesLines (Some text) (Some left) before after number old new =
+    (lines : List (List ℕ)) × (replies : List ℕ) × (text ≡ flat_map with_feed lines ++ left) × AreLines lines
+    × (number ≡ 1 + length lines) × DoesLines old 1 lines replies new × Appends before after (greeting ++ replies)
+
 abbrev pub SoFar : Terms → Option (List ℕ) → Option (List ℕ) → Option (List ℕ) → Option (List ℕ) → ℕ → SessionState
     → SessionState → Type 0
-SoFar terms None left before after number old new = Unit {0}
-SoFar terms (Some text) None before after number old new = ⊥
-SoFar terms (Some text) (Some left) before after number old new =
-    (lines : List (List ℕ)) × (replies : List ℕ) × (text ≡ flat_map with_feed lines ++ left) × AreLines lines
-    × (number ≡ 1 + length lines) × Serves terms old 1 lines replies new × Appends before after (greeting ++ replies)
+SoFar terms text left before after number old new = SoFarBy (Serves terms) text left before after number old new
 
 pub appends_more : (a b c : Option (List ℕ)) (xs ys : List ℕ) → Appends a b xs → Appends b c ys → Appends a c (xs ++ ys)
 appends_more None b c xs ys first second = tt
@@ -128,3 +137,17 @@ answered_front terms text left before after number front old new comes answered 
       subst (λ asked. DoesIf terms old number asked reply new) (ap asked_in is ∙ front_asks line) does,
       tells,
     )
+
+-- a session that began with no fault line, by the terms of its world
+pub opened_so : {A E : Type 0} (r : Result A E) (given : Terms) (text before after : Option (List ℕ))
+    (old new : WorldState) (d : Description) (cycles : ℕ) (first kept : List FaultLine) → IsOf d cycles old
+    → given ≡ terms_of d cycles → first ≡ [] → OnOk r (Served given text before after (state_of old first)
+    (state_of new kept))
+    → OnOk r (ServedWorld text before after old new)
+opened_so (Err e) given text before after old new d cycles first kept is_of same none served = tt
+opened_so (Ok x) given text before after old new d cycles first kept is_of same none served = (
+  kept,
+  subst (λ (t : Terms). Served t text before after (opening old) (state_of new kept))
+      (same ∙ ap₂ terms_of (sym is_of.0) (sym is_of.1))
+      (subst (λ (f : List FaultLine). Served given text before after (state_of old f) (state_of new kept)) none served),
+)

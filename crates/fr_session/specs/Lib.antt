@@ -5,6 +5,7 @@ pub mod RecordWords
 pub mod Queries
 pub mod Keeping
 pub mod Sessions
+pub mod Cuts
 pub mod TermsFields
 pub mod Laws
 pub mod Marks

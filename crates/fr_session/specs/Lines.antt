@@ -36,6 +36,10 @@ Comes true (Some text) None line = ⊥
 Comes true (Some text) (Some left) line = (text ≡ line ++ 10 ∷ left) × IsLine line
 Comes false (Some text) left line = IsLine text
 
+-- bytes of a line are taken from a reader, without its line feed
+abbrev pub TakesPart : Option (List ℕ) → Option (List ℕ) → Type 0
+TakesPart text left = (part : List ℕ) × IsLine part × Consumes text left part
+
 -- ---- a line from a reader, piece by piece
 
 -- the part of a line that is kept: enough to see that a line is too long

@@ -36,6 +36,14 @@ pub record Terms : Type 0 where
 abbrev pub terms_of : Description → ℕ → Terms
 terms_of d cycles = record { due = window_events (length d.plans); cluster = d; cycles = cycles }
 
+-- the world is one of this cluster, in a run of so many cycles
+abbrev pub IsOf : Description → ℕ → WorldState → Type 0
+IsOf d cycles w = (w.bus.cluster ≡ d) × (w.bus.cycles ≡ cycles)
+
+-- the terms of a session with this world
+abbrev pub terms_with : WorldState → Terms
+terms_with w = terms_of w.bus.cluster w.bus.cycles
+
 -- the world, and the fault lines that are kept, in their order
 pub record SessionState : Type 0 where
   pub world : WorldState
@@ -97,10 +105,10 @@ Served terms (Some text) before after old new =
     (lines : List (List ℕ)) × (rest : List ℕ) × (replies : List ℕ) × IsCut text lines rest
     × Serves terms old 1 lines replies new × Appends before after (greeting ++ replies)
 
--- from an opening world to another world, with any fault lines kept there
-abbrev pub ServedWorld : Terms → Option (List ℕ) → Option (List ℕ) → Option (List ℕ) → WorldState → WorldState → Type 0
-ServedWorld terms text before after old new =
-    (kept : List FaultLine) × Served terms text before after (opening old) (state_of new kept)
+-- From an opening world to another world, with any fault lines kept there. The terms are the opening world's own.
+abbrev pub ServedWorld : Option (List ℕ) → Option (List ℕ) → Option (List ℕ) → WorldState → WorldState → Type 0
+ServedWorld text before after old new =
+    (kept : List FaultLine) × Served (terms_with old) text before after (opening old) (state_of new kept)
 
 -- ---- a failed allocation
 
@@ -110,13 +118,13 @@ IsOfStream Read = Unit {0}
 IsOfStream Write = Unit {0}
 IsOfStream Memory = ⊥
 
--- if an allocation fails, nothing was written, and the world is unchanged
-abbrev pub IsUntouched : {A : Type 0} → Result A SessionError → Option (List ℕ) → Option (List ℕ) → WorldState
-    → WorldState → Type 0
-IsUntouched (Ok done) before after old new = Unit {0}
-IsUntouched (Err Read) before after old new = Unit {0}
-IsUntouched (Err Write) before after old new = Unit {0}
-IsUntouched (Err Memory) before after old new = Keeps before after × (new ≡ old)
+-- if an allocation fails, nothing was taken or written, and the world is unchanged
+abbrev pub IsUntouched : {A : Type 0} → Result A SessionError → Option (List ℕ) → Option (List ℕ) → Option (List ℕ)
+    → Option (List ℕ) → WorldState → WorldState → Type 0
+IsUntouched (Ok done) text left before after old new = Unit {0}
+IsUntouched (Err Read) text left before after old new = Unit {0}
+IsUntouched (Err Write) text left before after old new = Unit {0}
+IsUntouched (Err Memory) text left before after old new = Keeps text left × Keeps before after × (new ≡ old)
 
 -- ---- one line after another
 

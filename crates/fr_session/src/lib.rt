@@ -20,6 +20,7 @@
 //! - `Keeping`: kept fault lines.
 //! - `Marks`: marks of the windows that fault lines name, by which a line is compared with all others at once.
 //! - `Sessions`, `Laws`: a session; laws of all sessions.
+//! - `Cuts`: sessions that a failing reader or writer ends.
 //!
 //! Modules that follow the steps of the code, for private functions, with the module that has the meaning:
 //!
@@ -28,7 +29,8 @@
 //!
 //! # Inner workings
 //!
-//! 1. `serve` (`session`) writes the first line. Then it reads a line, answers it and flushes, until the reader ends.
+//! 1. `serve` (`session`) writes the first line. Then it reads a line, answers it and flushes, until the reader ends. Each
+//!    reply is prepared in memory (`prepared`), and handed to the writer once it is whole.
 //! 2. `next_line` (`lines`) takes the bytes that the reader has up to the line feed, and keeps at most 1,201.
 //! 3. `request_of` (`reading`) uses the readers of traces and scenarios (`fr_lines::parts`). A line that is no other
 //!    request is read as a fault line (`fr_scenario::lines`).
@@ -47,6 +49,7 @@ pub mod kept;
 pub mod laws;
 pub mod lines;
 mod marks;
+pub mod prepared;
 pub mod queries;
 pub mod reading;
 pub mod replies;

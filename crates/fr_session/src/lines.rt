@@ -1,7 +1,7 @@
 //! The lines of a reader, one after another.
 ghost use Rattle.std.specs.Prelude.{◌≡◌, ◌++◌, IfOk, OnErr};
 ghost use Rattle.std.specs.Io.KnownBytes.{Keeps};
-ghost use Rattle.fr_session.specs.Lines.{line_front, TakesPiece, ComesFront};
+ghost use Rattle.fr_session.specs.Lines.{line_front, TakesPart, TakesPiece, ComesFront};
 
 use arrayvec::ArrayVec;
 use memchr::memchr;
@@ -68,8 +68,11 @@ fn take_piece<R: BufRead>(reader: &mut R, line: &mut Line) -> io::Result<Piece>
 /// Takes the next line from the reader, with its line feed, and keeps its front.
 ///
 /// The front replaces that of the line before. Returns whether there was a whole line. An interrupted read is repeated.
+/// If the reader fails, bytes of the line are taken, and not its line feed.
 pub fn next_line<R: BufRead>(reader: &mut R, line: &mut Line) -> io::Result<bool>
-    ensures { IfOk result (λ more. ComesFront more (R.remaining reader.old) (R.remaining reader.new) line.new.items) }
+    ensures comes { IfOk result (λ more. ComesFront more (R.remaining reader.old) (R.remaining reader.new)
+        line.new.items) }
+    ensures part { OnErr result (TakesPart (R.remaining reader.old) (R.remaining reader.new)) }
 {
     // A longer line is read to its end and not kept, so the session continues with the next.
     line.clear();

@@ -1,17 +1,18 @@
 //! A session: requests in, and a reply to each before the next is read.
-ghost use Rattle.std.specs.Prelude.{◌≡◌, OnOk};
+ghost use Rattle.std.specs.Prelude.{◌≡◌, IfErr, OnOk};
 ghost use Rattle.fr_core.specs.Headline.{Headline};
+ghost use Rattle.fr_session.specs.Cuts.{EndsWorld, Hands};
 ghost use Rattle.fr_session.specs.Queries.{Replies};
 ghost use Rattle.fr_session.specs.Replies.{greeting};
-ghost use Rattle.fr_session.specs.Sessions.{DoesRequest, DoesIf, IsUntouched, ServedWorld, state_of, terms_of};
+ghost use Rattle.fr_session.specs.Sessions.{DoesRequest, DoesIf, IsOf, IsUntouched, ServedWorld, state_of};
 ghost use Rattle.fr_session.specs.Reading.{asked_in};
 ghost use Rattle.fr_session.specs.TermsFields.{terms_in};
-ghost use Rattle.fr_text.specs.Writing.{Writes};
 
 use crate::error::SessionError;
 use crate::keeping::keep_line;
 use crate::kept::KeptLines;
 use crate::lines::{Line, next_line};
+use crate::prepared::{BlockWriter, Prepared};
 use crate::queries::{
     write_moved, write_node_origin, write_node_report, write_node_trace, write_now, write_recorded,
 };
@@ -39,15 +40,16 @@ pub struct Terms<'a> {
     pub cycles: u16,
 }
 
-/// The state that a session keeps from line to line: the fault lines, and room for a line.
+/// The state that a session keeps from line to line: the fault lines, and room for a line and for its reply.
 #[derive(Drop)]
 struct Session {
     faults: KeptLines,
     line: Line,
+    reply: Prepared,
 }
 
 /// Executes the request, and writes the reply.
-fn do_request<W: Write>(
+fn do_request<W: BlockWriter>(
     terms: &Terms<'_>,
     faults: &mut KeptLines,
     world: &mut World,
@@ -84,7 +86,7 @@ fn do_request<W: Write>(
 }
 
 /// Executes the request of the line of this number, and writes the reply.
-fn answer_line<W: Write>(
+fn answer_line<W: BlockWriter>(
     terms: &Terms<'_>,
     faults: &mut KeptLines,
     world: &mut World,
@@ -102,20 +104,21 @@ fn answer_line<W: Write>(
     }
 }
 
-/// Writes the first line, and flushes.
-pub fn greet<W: Write>(writer: &mut W) -> io::Result<()>
-    ensures { Writes W.contents writer.old writer.new result greeting }
+/// Writes the first line, and flushes. If that fails, the writer has got a front of it.
+pub fn greet<W: Write>(alloc: Global, reply: &mut Prepared, writer: &mut W) -> io::Result<()>
+    ensures { Hands W.contents writer.old writer.new result greeting }
 {
-    write_greeting(writer)?;
-    writer.flush()
+    reply.clear(alloc);
+    write_greeting(reply)?;
+    reply.send(alloc, writer)
 }
 
 impl Session {
     ghost use Rattle.std.specs.Prelude.{◌≡◌, IfOk, IfErr, OnOk};
     ghost use Rattle.fr_core.specs.Headline.{Headline};
-    ghost use Rattle.fr_session.specs.Queries.{Replies};
+    ghost use Rattle.fr_session.specs.Cuts.{EndsEarly, FailsNext, Sends};
     ghost use Rattle.fr_session.specs.Reading.{asked_in};
-    ghost use Rattle.fr_session.specs.Sessions.{AnswersNext, DoesIf, Served, IsOfStream, state_of};
+    ghost use Rattle.fr_session.specs.Sessions.{AnswersNext, Does, DoesIf, IsOfStream, Served, Serves, state_of};
     ghost use Rattle.fr_session.specs.TermsFields.{terms_in};
 
     /// Answers the line that was read, which has this number, and flushes the reply.
@@ -126,13 +129,21 @@ impl Session {
         number: u64,
         writer: &mut W,
     ) -> io::Result<()>
-        ensures { Replies W.contents writer.old writer.new result (λ reply. DoesIf (terms_in terms.now)
+        ensures { Sends W.contents writer.old writer.new result (λ reply. DoesIf (terms_in terms.now)
             (state_of world.old self.old.faults) number (asked_in self.old.line.items) reply
             (state_of world.new self.new.faults)) }
     {
+        self.reply.clear(terms.alloc);
         let line = self.line.as_slice();
-        answer_line(terms, &mut self.faults, world, line, number, writer)?;
-        writer.flush()
+        answer_line(
+            terms,
+            &mut self.faults,
+            world,
+            line,
+            number,
+            &mut self.reply,
+        )?;
+        self.reply.send(terms.alloc, writer)
     }
 
     /// Answers the next line, if there is a whole one. Returns whether there was.
@@ -147,7 +158,9 @@ impl Session {
         ensures answers { IfOk result (λ more. AnswersNext (terms_in terms.now) more (R.remaining reader.old)
             (R.remaining reader.new) (W.contents writer.old) (W.contents writer.new) number
             (state_of world.old self.old.faults) (state_of world.new self.new.faults)) }
-        ensures early { IfErr result IsOfStream }
+        ensures early { IfErr result (λ error. FailsNext (Does (terms_in terms.now)) (Serves (terms_in terms.now))
+            error (R.remaining reader.old) (R.remaining reader.new) (W.contents writer.old) (W.contents writer.new)
+            number (state_of world.old self.old.faults) (state_of world.new self.new.faults)) }
     {
         match next_line(reader, &mut self.line) {
             Ok(true) => {}
@@ -172,11 +185,14 @@ impl Session {
             (W.contents writer.new) (state_of world.old self.old.faults)
             (state_of world.new self.new.faults)) }
         ensures headline { Headline world.new }
-        ensures early { IfErr result IsOfStream }
+        ensures early { IfErr result (λ error. EndsEarly (Does (terms_in terms.now)) (Serves (terms_in terms.now))
+            error (R.remaining reader.old) (R.remaining reader.new) (W.contents writer.old) (W.contents writer.new)
+            (state_of world.old self.old.faults) (state_of world.new self.new.faults)) }
+        ensures stream { IfErr result IsOfStream }
     {
         // For the prover: the clause of this call.
         world.known();
-        if greet(writer).is_err() {
+        if greet(terms.alloc, &mut self.reply, writer).is_err() {
             return Err(SessionError::Write);
         }
         for number in 1..u64::MAX {
@@ -220,11 +236,16 @@ pub fn serve<R: BufRead, W: Write>(
     reader: &mut R,
     writer: &mut W,
 ) -> Result<(), SessionError>
+    requires { IsOf cluster.now cycles world.old }
     // It writes the first line and then the reply to each line, in order, by the definition of events.
-    ensures served { OnOk result (ServedWorld (terms_of cluster.now cycles) (R.remaining reader.old)
-        (W.contents writer.old) (W.contents writer.new) world.old world.new) }
+    ensures served { OnOk result (ServedWorld (R.remaining reader.old) (W.contents writer.old)
+        (W.contents writer.new) world.old world.new) }
     // A failed allocation ends the session only before its first line.
-    ensures memory { IsUntouched result (W.contents writer.old) (W.contents writer.new) world.old world.new }
+    ensures memory { IsUntouched result (R.remaining reader.old) (R.remaining reader.new) (W.contents writer.old)
+        (W.contents writer.new) world.old world.new }
+    // If a stream fails, the replies to the lines that were taken are written, the last one perhaps in part.
+    ensures early { IfErr result (λ error. EndsWorld error (R.remaining reader.old) (R.remaining reader.new)
+        (W.contents writer.old) (W.contents writer.new) world.old world.new) }
     ensures headline { Headline world.new }
 {
     let Ok(events) = window_events(alloc, cluster.nodes()) else {
@@ -232,16 +253,22 @@ pub fn serve<R: BufRead, W: Write>(
         world.known();
         return Err(SessionError::Memory);
     };
-    // A world has its cluster and cycles, but doesn't return them, so they are given.
+    // A world has its cluster and cycles, but doesn't return them, so they are given, and required to be its own.
     let terms = Terms {
         alloc,
         events: events.as_slice(),
         cluster,
         cycles,
     };
+    let Ok(reply) = Prepared::new(alloc) else {
+        // For the prover: the clause of this call.
+        world.known();
+        return Err(SessionError::Memory);
+    };
     let mut session = Session {
         faults: KeptLines::new(alloc),
         line: Line::new(),
+        reply,
     };
     session.answer_all(&terms, world, reader, writer)
 }

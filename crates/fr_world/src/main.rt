@@ -15,30 +15,28 @@
 //! # Definitions
 //!
 //! - `Failures`: the exit status of each failure of `fr_world`.
+//! - `Serving`: the session of a run, with the world that it opens.
 //!
 //! # Inner workings
 //!
-//! `main` reads the words, makes the cluster, allocates the buffers for reading and writing, and opens the world. Then
-//! `serve` (`fr_session`) answers until the reader ends, or without history `serve_endless` (`fr_endless`).
+//! `main` reads the words, makes the cluster, and allocates the buffers for reading and writing. `serve_run` (`serving`)
+//! opens the world. Then `serve` (`fr_session`) answers until the reader ends, or without history `serve_endless`
+//! (`fr_endless`).
 #![tactic(auto)]
 
 mod failure;
+mod serving;
 
 use failure::WorldFailure;
 use fr_cli::waiting::{WaitingReader, WaitingWriter};
 use fr_cli::words::{texts_of, words_given};
-use fr_cli::world::{WorldCommand, WorldRun, command_of};
-use fr_core::world::World;
-use fr_endless::session::serve_endless;
-use fr_endless::world::{EndlessWorld, greatest_cycles};
+use fr_cli::world::{WorldCommand, command_of};
 use fr_files::cluster_file::cluster_of;
 use fr_files::named::file_named;
-use fr_live::room::Room;
 use fr_schedule::cluster::Cluster;
-use fr_session::session::serve;
-use std::alloc::Global;
+use serving::serve_run;
 use std::io;
-use std::io::{BufRead, BufReader, BufWriter, Write};
+use std::io::{BufReader, BufWriter};
 use std::process::ExitCode;
 use std::rt::{Env, Files};
 use std::time::Clock;
@@ -50,30 +48,6 @@ fn cluster_in<R: Files + AllocGlobal>(
 ) -> Result<Cluster, WorldFailure> {
     let mut file = file_named(rt, command.file)?;
     Ok(cluster_of(rt.alloc(), &mut file)?)
-}
-
-/// Serves a world that keeps its history.
-fn serve_kept<R: BufRead, W: Write>(
-    alloc: Global,
-    cluster: &Cluster,
-    cycles: u16,
-    reader: &mut R,
-    writer: &mut W,
-) -> Result<(), WorldFailure> {
-    let mut world = World::new(alloc, cluster, cycles)?;
-    Ok(serve(alloc, cluster, cycles, &mut world, reader, writer)?)
-}
-
-/// Serves a world without history.
-fn serve_live<R: BufRead, W: Write>(
-    alloc: Global,
-    cluster: &Cluster,
-    cycles: u32,
-    reader: &mut R,
-    writer: &mut W,
-) -> Result<(), WorldFailure> {
-    let mut world = EndlessWorld::new(alloc, cluster, cycles, &Room::greatest())?;
-    Ok(serve_endless(alloc, cluster, cycles, &mut world, reader, writer)?)
 }
 
 /// Serves the world of the command's cluster on standard input and output.
@@ -90,13 +64,7 @@ fn serve_world<R: Files + Input + Print + AllocGlobal + Clock>(
     let Ok(mut writer) = BufWriter::new(alloc, WaitingWriter::new(rt, io::writer(rt))) else {
         return Err(WorldFailure::Memory);
     };
-    let served = match command.run {
-        WorldRun::Kept(cycles) => serve_kept(alloc, &cluster, cycles, &mut reader, &mut writer),
-        WorldRun::Endless(cycles) => {
-            let cycles = cycles.unwrap_or(greatest_cycles(&cluster));
-            serve_live(alloc, &cluster, cycles, &mut reader, &mut writer)
-        }
-    };
+    let served = serve_run(alloc, &cluster, command.run, &mut reader, &mut writer);
     // The rest of a failed write is dropped, so that nothing comes after the failure.
     let _left = writer.into_parts();
     served

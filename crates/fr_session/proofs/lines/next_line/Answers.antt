@@ -6,14 +6,14 @@ use Rattle.fr_session.specs.declared.lines.Piece.TheVariants.{Last, Part, Nothin
 use Rattle.fr_session.proofs.lines.next_line.Goals.{in-Ok-Part, in-Err}
 use Rattle.fr_session.proofs.lines.next_line.Goals as goal
 
-pub returns-in-Ok-Last : goal.returns-in-Ok-Last
-returns-in-Ok-Last g c =
+pub returns-in-Ok-Last-clause-comes : goal.returns-in-Ok-Last-clause-comes
+returns-in-Ok-Last-clause-comes g c =
     let taken : TakesPiece Last (g.R.Read.remaining c.loop.reader)
     (g.R.Read.remaining c.take_piece.new.reader) c.loop.line.items c.take_piece.new.line.items = search rules in
     front_last _ _ _ _ _ c.loop.invariant taken
 
-pub returns-in-Ok-Nothing : goal.returns-in-Ok-Nothing
-returns-in-Ok-Nothing g c =
+pub returns-in-Ok-Nothing-clause-comes : goal.returns-in-Ok-Nothing-clause-comes
+returns-in-Ok-Nothing-clause-comes g c =
     let taken : TakesPiece Nothing (g.R.Read.remaining c.loop.reader)
     (g.R.Read.remaining c.take_piece.new.reader) c.loop.line.items c.take_piece.new.line.items = search rules in
     front_over _ _ (g.R.Read.remaining c.take_piece.new.reader) _ c.take_piece.new.line.items c.loop.invariant taken

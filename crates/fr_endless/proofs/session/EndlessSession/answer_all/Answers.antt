@@ -1,6 +1,6 @@
 use Rattle.std.proofs.Common.{rules, subst}
 use Rattle.std.specs.Io.KnownBytes.{Appends}
-use Rattle.fr_endless.proofs.SessionLemmas.{begins, goes_on, ends}
+use Rattle.fr_endless.proofs.SessionLemmas.{begins, ends, ends_full_alike, ends_so_alike, goes_on}
 use Rattle.fr_endless.specs.Serving.{AnswersNextAlike}
 use Rattle.fr_session.specs.Replies.{greeting}
 use Rattle.fr_session.specs.TermsFields.{terms_in}
@@ -37,3 +37,19 @@ returns-in-Ok-false-clause-served g c =
     ends (terms_in c.args.terms.now) _ _ _ _ _ _ c.loop-number.number c.args.world.now c.loop-number.world
     c.answer_next-answered.new.world c.args.self.now.faults c.loop-number.self.faults
     c.answer_next-answered.new.self.faults c.loop-number.invariant next
+
+pub returns-in-Err-clause-early : goal.returns-in-Err-clause-early
+returns-in-Err-clause-early g c =
+    ends_so_alike (terms_in c.args.terms.now) c.in-Err.error (g.R.Read.remaining c.args.reader.now)
+    (g.R.Read.remaining c.loop-number.reader) (g.R.Read.remaining c.answer_next-answered.new.reader)
+    (g.W.Write.contents c.args.writer.now) (g.W.Write.contents c.loop-number.writer)
+    (g.W.Write.contents c.answer_next-answered.new.writer) c.loop-number.number c.args.world.now c.loop-number.world
+    c.answer_next-answered.new.world c.args.self.now.faults c.loop-number.self.faults
+    c.answer_next-answered.new.self.faults c.loop-number.invariant c.in-Err.ensures.early
+
+pub returns-clause-early : goal.returns-clause-early
+returns-clause-early g c =
+    ends_full_alike (terms_in c.args.terms.now) (g.R.Read.remaining c.args.reader.now)
+    (g.R.Read.remaining c.loop-number.reader) (g.W.Write.contents c.args.writer.now)
+    (g.W.Write.contents c.loop-number.writer) c.loop-number.number c.args.world.now c.loop-number.world
+    c.args.self.now.faults c.loop-number.self.faults c.loop-number.invariant

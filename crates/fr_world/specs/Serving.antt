@@ -1,0 +1,75 @@
+-- The session of a run, with the world that it opens (project-defined).
+use Rattle.std.specs.Prelude.{◌≡◌, ℕ, ◌≤◌, List, true, Option, Some, None, Result, Ok, Err, min}
+use Rattle.std.specs.Io.KnownBytes.{Keeps}
+use Rattle.fr_bus.specs.Live.{cycles_suit}
+use Rattle.fr_bus.specs.States.{cycles_fit}
+use Rattle.fr_cli.specs.declared.world.WorldRun.{WorldRun}
+use Rattle.fr_cli.specs.declared.world.WorldRun.TheVariants.{Kept, Endless}
+use Rattle.fr_core.specs.Worlds.{OpensWorld, WorldState, opening_world}
+use Rattle.fr_endless.specs.Serving.{EndsEndless, ServedEndless}
+use Rattle.fr_live.specs.LiveWorlds.{Entries, OpensLiveWorld, with_room}
+use Rattle.fr_schedule.specs.Descriptions.{Description}
+use Rattle.fr_session.specs.Cuts.{EndsWorld}
+use Rattle.fr_session.specs.Sessions.{ServedWorld, Terms, terms_of}
+use Rattle.fr_slots.specs.Numbers.{last_host_limit, last_slot_limit}
+use Rattle.fr_world.specs.declared.failure.WorldFailure.{WorldFailure}
+use Rattle.fr_world.specs.declared.failure.WorldFailure.TheVariants as failure
+
+-- ---- with history
+
+-- The opening world of a run of so many cycles is served, and the session ends with its input or early. Or there is no
+-- such world, and nothing is taken or written.
+abbrev pub ServesKept : Description → ℕ → Option (List ℕ) → Option (List ℕ) → Option (List ℕ) → Option (List ℕ)
+    → Result (Unit {0}) WorldFailure → Type 0
+ServesKept d cycles text left before after (Ok done) =
+    (cycles_fit cycles ≡ true) × (new : WorldState) × ServedWorld text before after (opening_world d cycles) new
+ServesKept d cycles text left before after (Err (failure.Session error)) =
+    (cycles_fit cycles ≡ true) × (new : WorldState)
+    × EndsWorld error text left before after (opening_world d cycles) new
+ServesKept d cycles text left before after (Err (failure.World error)) =
+    OpensWorld d cycles (Err error) × Keeps text left × Keeps before after
+ServesKept d cycles text left before after (Err (failure.Words error)) = ⊥
+ServesKept d cycles text left before after (Err failure.Memory) = ⊥
+ServesKept d cycles text left before after (Err (failure.Text error)) = ⊥
+
+-- ---- without history
+
+-- the most calls of host and controller that entry numbers allow
+abbrev pub greatest_room : Entries
+greatest_room = record { host = last_host_limit; slot = last_slot_limit }
+
+abbrev pub endless_world : Description → ℕ → WorldState
+endless_world d cycles = opening_world (with_room greatest_room d) cycles
+
+-- a fault line names cycles 0 to 1023 at most
+abbrev pub endless_terms : Description → ℕ → Terms
+endless_terms d cycles = terms_of d (min cycles 1024)
+
+-- the same for a world without history: only the room of its journals is another
+abbrev pub ServesLive : Description → ℕ → Option (List ℕ) → Option (List ℕ) → Option (List ℕ) → Option (List ℕ)
+    → Result (Unit {0}) WorldFailure → Type 0
+ServesLive d cycles text left before after (Ok done) =
+    (cycles_suit d.params cycles ≡ true) × (new : WorldState)
+    × ServedEndless (endless_terms d cycles) text before after (endless_world d cycles) new
+ServesLive d cycles text left before after (Err (failure.Session error)) =
+    (cycles_suit d.params cycles ≡ true) × (new : WorldState)
+    × EndsEndless (endless_terms d cycles) error text left before after (endless_world d cycles) new
+ServesLive d cycles text left before after (Err (failure.World error)) =
+    OpensLiveWorld d cycles greatest_room (Err error) × Keeps text left × Keeps before after
+ServesLive d cycles text left before after (Err (failure.Words error)) = ⊥
+ServesLive d cycles text left before after (Err failure.Memory) = ⊥
+ServesLive d cycles text left before after (Err (failure.Text error)) = ⊥
+
+-- ---- the run of a command
+
+-- the most cycles that a run of the cluster without history may have
+abbrev pub IsGreatest : Description → ℕ → Type 0
+IsGreatest d cycles =
+    (cycles_suit d.params cycles ≡ true) × ((other : ℕ) → cycles_suit d.params other ≡ true → other ≤ cycles)
+
+abbrev pub ServesRun : WorldRun → Description → Option (List ℕ) → Option (List ℕ) → Option (List ℕ)
+    → Option (List ℕ) → Result (Unit {0}) WorldFailure → Type 0
+ServesRun (Kept cycles) d text left before after result = ServesKept d cycles text left before after result
+ServesRun (Endless (Some cycles)) d text left before after result = ServesLive d cycles text left before after result
+ServesRun (Endless None) d text left before after result =
+    (cycles : ℕ) × IsGreatest d cycles × ServesLive d cycles text left before after result
