@@ -1,1 +1,3 @@
 pub mod OwnerLemmas
+pub mod TickLemmas
+pub mod GuardLemmas

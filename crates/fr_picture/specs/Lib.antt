@@ -1,3 +1,5 @@
-pub mod Owners
 pub mod Places
+pub mod Owners
+pub mod Frames
+pub mod Guards
 pub mod Schedules

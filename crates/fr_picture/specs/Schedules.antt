@@ -1,18 +1,23 @@
 -- The command `schedule` on the text of a cluster file.
-use Rattle.std.specs.Prelude.{◌≡◌, ℕ, List, ◌++◌, Option, Result}
+use Rattle.std.specs.Prelude.{◌≡◌, ℕ, List, ◌++◌, length, Option, Result}
 use Rattle.fr_files.specs.ClusterFiles.{Tells}
 use Rattle.fr_files.specs.declared.error.BenchError.{BenchError}
+use Rattle.fr_picture.specs.Frames.{front_text}
+use Rattle.fr_picture.specs.Guards.{AreGuardRows}
 use Rattle.fr_picture.specs.Owners.{Adds, AreOwnerTexts}
 use Rattle.fr_schedule.specs.Descriptions.{Description}
+use Rattle.fr_svg.specs.Elements.{picture_end}
 
--- The elements of the static slots stand one after another in the picture of a cycle, and name exactly the owners of
--- the sender table. Nothing is said of the parts before and after them, such as the style and the guardians' rows.
+-- A picture is exactly these parts: the front with its style, heading, segments and names; the elements of the static
+-- slots, which name exactly the owners of the sender table; the dynamic segment; and the rows of the guardians, which
+-- have exactly the open intervals. Nothing is said of the elements of the dynamic segment.
 pub record IsPicture (d : Description) (cycle : ℕ) (text : List ℕ) : Type 0 where
-  pub before : List ℕ
   pub owners : List ℕ
-  pub after : List ℕ
+  pub dynamics : List ℕ
+  pub guards : List ℕ
   pub owners_are : AreOwnerTexts d cycle d.params.static_slots owners
-  pub text_is : text ≡ before ++ owners ++ after
+  pub guards_are : AreGuardRows d cycle (length d.plans) guards
+  pub text_is : text ≡ front_text d cycle ++ owners ++ dynamics ++ guards ++ picture_end
 
 -- the output of `schedule` for a cluster
 abbrev pub HasPicture : ℕ → Description → Option (List ℕ) → Option (List ℕ) → Type 0

@@ -12,12 +12,15 @@
 //!
 //! # Definitions
 //!
-//! - `Places`, `Owners`, `Schedules`: places in a picture; the elements of the static slots; the picture.
+//! - `Places`, `Frames`: places in a picture; its front, with the style, the heading, the segments and the names.
+//! - `Owners`, `Guards`: the elements of the static slots, and the rows of the guardians.
+//! - `Schedules`: the picture.
 //!
 //! # Inner workings
 //!
-//! A picture is three texts, which `picture_of` gathers: the part before the static slots, their elements by the sender
-//! table (`owners`), and the part after them, with the guardians' intervals. The clause speaks of the elements.
+//! A picture is written part by part: the front (`frame`), the static slots by the sender table (`owners`), the dynamic
+//! segment (`dynamics`, `ranges`), and the guardians' intervals (`guards`). The clause gives the text of each part but
+//! the dynamic segment's, which is gathered before.
 #![tactic(auto)]
 
 mod dynamics;

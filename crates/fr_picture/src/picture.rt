@@ -1,16 +1,16 @@
 //! A picture of a cycle.
 
-ghost use Rattle.std.specs.Prelude.{◌≡◌, IfErr, IfOk, IfSome};
+ghost use Rattle.std.specs.Prelude.{◌≡◌, IfErr, IfOk, IfSome, OnOk};
 ghost use Rattle.fr_files.specs.declared.error.BenchError.TheVariants as refusal;
-ghost use Rattle.fr_picture.specs.Owners.{AreOwnerTexts};
+ghost use Rattle.fr_picture.specs.Owners.{Adds};
 ghost use Rattle.fr_picture.specs.Schedules.{Draws, IsPicture};
+ghost use Rattle.fr_text.specs.Writing.{Writes};
 
 use crate::dynamics::write_dynamic;
-use crate::frame::{write_axis, write_head, write_name, write_segments};
+use crate::frame::write_front;
 use crate::guards::write_guards;
 use crate::owners::write_owners;
 use crate::ranges::write_ranges;
-use crate::scale::row_of;
 use fr_files::cluster_file::cluster_of;
 use fr_files::error::BenchError;
 use fr_files::output::write_whole;
@@ -24,17 +24,8 @@ use std::alloc::Global;
 use std::io;
 use std::io::{Read, Write};
 
-/// Writes the part before the static slots.
-fn write_before<W: Write>(writer: &mut W, cluster: &Cluster, cycle: Cycle) -> io::Result<()> {
-    write_head(writer, cluster, cycle)?;
-    write_segments(writer, cluster.params())?;
-    write_axis(writer, cluster.params())?;
-    write_name(writer, row_of(Channel::A).saturating_add(210), "channel A")?;
-    write_name(writer, row_of(Channel::B).saturating_add(210), "channel B")
-}
-
-/// Writes the part after the static slots.
-fn write_after(
+/// Writes the dynamic segments of both channels.
+fn write_dynamics(
     alloc: Global,
     text: &mut Vec<u8>,
     cluster: &Cluster,
@@ -45,29 +36,59 @@ fn write_after(
     match openings_of(alloc, cluster) {
         Ok(openings) => {
             write_ranges(text, cluster, &openings, cycle, Channel::A)?;
-            write_ranges(text, cluster, &openings, cycle, Channel::B)?;
+            write_ranges(text, cluster, &openings, cycle, Channel::B)
         }
-        Err(error) => return Err(io::Error::from(error)),
+        Err(error) => Err(io::Error::from(error)),
     }
-    match Guardian::new(alloc, cluster) {
-        Ok(guardian) => write_guards(alloc, text, &guardian, cycle)?,
-        Err(error) => return Err(io::Error::from(error)),
-    }
-    close_picture(text)
 }
 
-/// Returns the elements of the static slots.
-fn owners_of(alloc: Global, cluster: &Cluster, cycle: Cycle) -> Result<Vec<u8>, BenchError>
-    ensures owners { IfOk result
-        (λ text. AreOwnerTexts cluster.now cycle cluster.now.params.static_slots text.items) }
+/// Returns the elements of the dynamic segments.
+fn dynamics_of(alloc: Global, cluster: &Cluster, cycle: Cycle) -> Result<Vec<u8>, BenchError>
     ensures refused { IfErr result (λ e. e ≡ refusal.Memory) }
 {
     let mut text = Vec::new(alloc);
-    match write_owners(&mut text, cluster, cycle) {
+    match write_dynamics(alloc, &mut text, cluster, cycle) {
         Ok(()) => Ok(text),
         // A list of bytes takes no more only if an allocation fails.
         Err(_) => Err(BenchError::Memory),
     }
+}
+
+/// Returns the guardian of the cluster.
+fn guardian_of(alloc: Global, cluster: &Cluster) -> Result<Guardian, BenchError>
+    ensures guardian { IfOk result (λ guardian. guardian ≡ cluster.now) }
+    ensures refused { IfErr result (λ e. e ≡ refusal.Memory) }
+{
+    match Guardian::new(alloc, cluster) {
+        Ok(guardian) => Ok(guardian),
+        Err(_) => Err(BenchError::Memory),
+    }
+}
+
+/// Writes bytes.
+fn write_bytes<W: Write>(writer: &mut W, bytes: &[u8]) -> io::Result<()>
+    ensures { Writes W.contents writer.old writer.new result bytes.now }
+{
+    writer.write_all(bytes)
+}
+
+/// Writes the picture of a cycle, with these elements of the dynamic segments.
+fn write_picture<W: Write>(
+    writer: &mut W,
+    cluster: &Cluster,
+    cycle: Cycle,
+    dynamics: &[u8],
+    guardian: &Guardian,
+) -> io::Result<()>
+    requires { guardian.now ≡ cluster.now }
+    ensures { OnOk result
+        (Adds (IsPicture cluster.now cycle) (W.contents writer.old) (W.contents writer.new)) }
+{
+    write_front(writer, cluster, cycle)?;
+    write_owners(writer, cluster, cycle)?;
+    write_bytes(writer, dynamics)?;
+    write_guards(writer, guardian, cycle, cluster.nodes())?;
+    close_picture(writer)
 }
 
 /// Returns the picture of a cycle: an SVG text (project-defined).
@@ -84,22 +105,14 @@ pub fn picture_of(alloc: Global, cluster: &Cluster, cycle: Cycle) -> Result<Vec<
     ensures picture { IfOk result (λ text. IsPicture cluster.now cycle text.items) }
     ensures refused { IfErr result (λ e. e ≡ refusal.Memory) }
 {
-    let owners = owners_of(alloc, cluster, cycle)?;
+    let dynamics = dynamics_of(alloc, cluster, cycle)?;
+    let guardian = guardian_of(alloc, cluster)?;
     let mut text = Vec::new(alloc);
-    if write_before(&mut text, cluster, cycle).is_err() {
-        return Err(BenchError::Memory);
+    match write_picture(&mut text, cluster, cycle, dynamics.as_slice(), &guardian) {
+        Ok(()) => Ok(text),
+        // A list of bytes takes no more only if an allocation fails.
+        Err(_) => Err(BenchError::Memory),
     }
-    let mut after = Vec::new(alloc);
-    if write_after(alloc, &mut after, cluster, cycle).is_err() {
-        return Err(BenchError::Memory);
-    }
-    if text.extend_from_slice(owners.as_slice()).is_err() {
-        return Err(BenchError::Memory);
-    }
-    if text.extend_from_slice(after.as_slice()).is_err() {
-        return Err(BenchError::Memory);
-    }
-    Ok(text)
 }
 
 /// Reads a cluster file to its end, and writes a picture of one of its cycles (project-defined).

@@ -1,6 +1,6 @@
 //! The places of a picture.
 
-ghost use Rattle.std.specs.Prelude.{◌≡◌};
+ghost use Rattle.std.specs.Prelude.{◌≡◌, ◌<◌, ◌^◌};
 ghost use Rattle.fr_picture.specs.Places.{across, extent, row_of};
 
 use fr_slots::channel::Channel;
@@ -21,7 +21,8 @@ pub const NUMBER_LENGTH: u64 = 150;
 /// Returns the distance of a macrotick of the cycle from the left.
 #[tactic(auto, unfolding(crate::specs::Places::across))]
 pub fn across(params: &Params, macrotick: u32) -> u64
-    ensures { result ≡ across params.now macrotick }
+    ensures value { result ≡ across params.now macrotick }
+    ensures small { result < 2 ^ 60 }
 {
     LEFT + u64::from(macrotick) * LENGTH / u64::from(params.cycle_mt)
 }
@@ -29,7 +30,8 @@ pub fn across(params: &Params, macrotick: u32) -> u64
 /// Returns the length of the box of an interval, at least 1.
 #[tactic(auto, unfolding(crate::specs::Places::extent))]
 pub fn extent(params: &Params, start: u32, end: u32) -> u64
-    ensures { result ≡ extent params.now start end }
+    ensures value { result ≡ extent params.now start end }
+    ensures small { result < 2 ^ 60 }
 {
     across(params, end)
         .saturating_sub(across(params, start))
@@ -39,7 +41,8 @@ pub fn extent(params: &Params, start: u32, end: u32) -> u64
 /// Returns the distance of the row of a channel from the top.
 #[tactic(auto, unfolding(crate::specs::Places::row_of))]
 pub fn row_of(channel: Channel) -> u64
-    ensures { result ≡ row_of channel }
+    ensures value { result ≡ row_of channel }
+    ensures small { result < 2000 }
 {
     match channel {
         Channel::A => 1000,
