@@ -182,7 +182,7 @@ front_collects : (cycle : ℕ) (window : Opportunity) (lines : List FaultLine) (
 front_collects cycle window [] rest old new passes more = more passes
 front_collects cycle window (line ∷ lines) rest old new passes more =
     let same : (strike_events cycle window line ++ flat_map (strike_events cycle window) lines) ++ rest
-        ≡ strike_events cycle window line ++ (flat_map (strike_events cycle window) lines ++ rest) =
+    ≡ strike_events cycle window line ++ (flat_map (strike_events cycle window) lines ++ rest) =
     append_assoc (strike_events cycle window line) (flat_map (strike_events cycle window) lines) rest in
     line_collects (strikes line cycle window) line (flat_map (strike_events cycle window) lines ++ rest) old new
     (subst (λ (l : List Event). Passes old l new) same passes)
@@ -248,9 +248,11 @@ module _ (d : Description) (lines : List FaultLine) where
 
     struck : Strikes lines old striking.mid
     struck =
-        let done : AreDone old strikes_due striking.mid = passes_done old strikes_due striking.mid striking.first in
-        (done.answers, subst (λ (l : List Event). StepsAll old l done.answers striking.mid) (sym struck_are)
-            done.steps)
+        let done : AreDone old strikes_due striking.mid = passes_done old strikes_due striking.mid striking.first in (
+          done.answers,
+          subst (λ (l : List Event). StepsAll old l done.answers striking.mid) (sym struck_are)
+              done.steps,
+        )
 
     turn_is : (n : ℕ) → n < 0 + nodes → step_refusal striking.mid (Observe n) ≡ Some WrongTurn
     turn_is n below =
@@ -359,8 +361,7 @@ module _ (d : Description) (lines : List FaultLine) where
         let stage : IsStage d [] lines count before mid = stage_after d [] lines cycles (λ i. tt) count before
         (more ++ later) mid split so_far in
         let (called, asked, does, windows) = cycle in
-        let same : called ≡ mid = no_change more mid called (no_calls more asked) does in
-        (
+        let same : called ≡ mid = no_change more mid called (no_calls more asked) does in (
           mid,
           cycles_pass count before (more ++ later) mid split so_far,
           cycle_ends count mid w (stage_mid count before mid stage)
