@@ -1,5 +1,5 @@
--- The parts of a matrix around its cells: its front with the style and the heading, the numbers of its rows and columns,
--- and the legend (project-defined).
+-- The parts of a matrix around its cells: its front with the style and the heading, the numbers of its rows and
+-- columns, and the legend (project-defined).
 use Rattle.std.specs.Prelude.{ℕ, ◌+◌, ◌-◌, ◌==◌, nat_lt, max, min, List, [], ◌++◌, codes, Option, Some, None}
 use Rattle.std.specs.Prelude.{if◌then◌else◌}
 use Rattle.std.specs.Fmt.{decimal}

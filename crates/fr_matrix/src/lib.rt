@@ -16,8 +16,8 @@
 //! # Inner workings
 //!
 //! The place of a cell follows from the windows before it, so the walks along the record count cycles and the windows
-//! of the last one. `extent` walks it first for the size of the page and its headings (`page`), and then `cells` for the
-//! cells. The observation (`look`) is asked of the record. Each writer's clause gives the whole text that it writes.
+//! of the last one. `extent` walks it first, for the size of the page and its headings (`page`), and then `cells` for
+//! the cells. The observation (`look`) is asked of the record. Each writer's clause gives the whole text that it writes.
 #![tactic(auto)]
 
 pub mod cell;

@@ -5,8 +5,9 @@ ghost use Rattle.std.specs.List.{flat_map, range_with_len};
 ghost use Rattle.fr_matrix.specs.Pages.{broken_rule, column_text, columns_text, cut_text, drawn_text, dynamic_text};
 ghost use Rattle.fr_matrix.specs.Pages.{filled_rule, first_rules, heading_text, high_rule, last_rules, legend_text};
 ghost use Rattle.fr_matrix.specs.Pages.{letters_meaning, low_rule, more_text, none_text, numbers_meaning, opening_text};
-ghost use Rattle.fr_matrix.specs.Pages.{page_end, page_front, paper_text, range_text, row_numbers, row_text, rows_text, scope_text};
-ghost use Rattle.fr_matrix.specs.Pages.{height_of, signs_meaning, style_text, subject_text, title_line, width_of};
+ghost use Rattle.fr_matrix.specs.Pages.{page_end, page_front, paper_text, range_text, row_numbers, row_text};
+ghost use Rattle.fr_matrix.specs.Pages.{height_of, rows_text, scope_text, signs_meaning, style_text, subject_text};
+ghost use Rattle.fr_matrix.specs.Pages.{title_line, width_of};
 ghost use Rattle.fr_svg.specs.Elements.{placed_text};
 ghost use Rattle.fr_text.specs.Writing.{Writes};
 

@@ -1,8 +1,8 @@
 use Rattle.std.proofs.Common.{ℕ, ◌++◌, min, subst}
 use Rattle.std.specs.Io.KnownBytes.{Appends}
 use Rattle.std.proofs.KnownBytes.{Appends-trans}
-use Rattle.fr_matrix.specs.Pages.{columns_text, dynamic_text, heading_text, height_of, opening_text, page_front, rows_text}
-use Rattle.fr_matrix.specs.Pages.{width_of}
+use Rattle.fr_matrix.specs.Pages.{columns_text, dynamic_text, heading_text, height_of, opening_text, page_front}
+use Rattle.fr_matrix.specs.Pages.{rows_text, width_of}
 use Rattle.fr_svg.proofs.NumberedLemmas.{last-written}
 use Rattle.fr_matrix.proofs.page.write_front.Goals as goal
 
