@@ -3,6 +3,7 @@ use Rattle.std.proofs.Common.{◌≡◌, ◌⊎◌, ℕ, List, Option, Some, Non
 use Rattle.std.specs.Prelude.{IfSome}
 use Rattle.std.specs.Io.KnownBytes.{Appends}
 use Rattle.fr_files.specs.declared.error.BenchError.TheVariants as bench
+use Rattle.fr_files.specs.Outputs.{FallsShort}
 use Rattle.fr_outcome.specs.ScenarioFiles.{RunIsRefused}
 use Rattle.fr_playing.specs.declared.error.PlayError.{PlayError}
 use Rattle.fr_playing.specs.declared.error.PlayError.TheVariants as refusal
@@ -11,7 +12,7 @@ use Rattle.fr_playing.specs.Files.{IsPlayOf}
 use Rattle.fr_schedule.specs.Descriptions.{Description}
 use Rattle.fr_showing.specs.declared.shown.Shown.{Shown}
 use Rattle.fr_showing.specs.Idle.{idle_lines}
-use Rattle.fr_showing.specs.Shows.{Adds, IsShown, LacksNode, Prints, Tells}
+use Rattle.fr_showing.specs.Shows.{Adds, AddsFront, IsShown, LacksNode, Prints, Tells}
 
 -- a run that wasn't executed isn't shown
 unshown : (d : Description) (cycles : ℕ) (shown : Shown) (text : List ℕ) (e : PlayError)
@@ -36,20 +37,66 @@ unshown_of d cycles shown None e is = tt
 unshown_of d cycles shown (Some t) e is = unshown d cycles shown t e is
 
 -- the errors that leave the writer unchanged
-pub unwritten : (d : Description) (cycles : ℕ) (shown : Shown) (text old new : Option (List ℕ)) (e : PlayError)
-    → new ≡ old → Prints d cycles shown text old new (Err e)
-unwritten d cycles shown text old new (refusal.Run e) same = same
-unwritten d cycles shown text old new (refusal.Step e) same = same
-unwritten d cycles shown text old new refusal.Unfinished same = same
-unwritten d cycles shown text old new refusal.UnknownNode same = same
-unwritten d cycles shown text old new (refusal.Scenario e) same = same
-unwritten d cycles shown text old new (refusal.Text bench.Memory) same = same
-unwritten d cycles shown text old new (refusal.Text bench.TooLong) same = same
-unwritten d cycles shown text old new (refusal.Text bench.Read) same = same
-unwritten d cycles shown text old new (refusal.Text bench.Write) same = tt
-unwritten d cycles shown text old new (refusal.Text bench.BadNumber) same = same
-unwritten d cycles shown text old new (refusal.Text (bench.Config e)) same = same
-unwritten d cycles shown text old new (refusal.Text (bench.Midpoint e)) same = same
+abbrev IsNotWrite : PlayError → Type 0
+IsNotWrite (refusal.Text bench.Write) = ⊥
+IsNotWrite e = Unit {0}
+
+unwritten : (d : Description) (cycles : ℕ) (shown : Shown) (text old new : Option (List ℕ)) (e : PlayError)
+    → IsNotWrite e → new ≡ old → Prints d cycles shown text old new (Err e)
+unwritten d cycles shown text old new (refusal.Run e) is same = same
+unwritten d cycles shown text old new (refusal.Step e) is same = same
+unwritten d cycles shown text old new refusal.Unfinished is same = same
+unwritten d cycles shown text old new refusal.UnknownNode is same = same
+unwritten d cycles shown text old new (refusal.Scenario e) is same = same
+unwritten d cycles shown text old new (refusal.Text bench.Memory) is same = same
+unwritten d cycles shown text old new (refusal.Text bench.TooLong) is same = same
+unwritten d cycles shown text old new (refusal.Text bench.Read) is same = same
+unwritten d cycles shown text old new (refusal.Text bench.Write) is same = absurd is
+unwritten d cycles shown text old new (refusal.Text bench.BadNumber) is same = same
+unwritten d cycles shown text old new (refusal.Text (bench.Config e)) is same = same
+unwritten d cycles shown text old new (refusal.Text (bench.Midpoint e)) is same = same
+
+not_write : (d : Description) (cycles : ℕ) (text : List ℕ) (e : PlayError) → IsPlayOf d cycles text (Err e)
+    → IsNotWrite e
+not_write d cycles text (refusal.Run e) is = tt
+not_write d cycles text (refusal.Step e) is = tt
+not_write d cycles text refusal.Unfinished is = tt
+not_write d cycles text refusal.UnknownNode is = tt
+not_write d cycles text (refusal.Scenario e) is = tt
+not_write d cycles text (refusal.Text bench.Memory) is = tt
+not_write d cycles text (refusal.Text bench.TooLong) is = tt
+not_write d cycles text (refusal.Text bench.Read) is = tt
+not_write d cycles text (refusal.Text bench.Write) is = is
+not_write d cycles text (refusal.Text bench.BadNumber) is = tt
+not_write d cycles text (refusal.Text (bench.Config e)) is = tt
+not_write d cycles text (refusal.Text (bench.Midpoint e)) is = tt
+
+-- a run that wasn't executed
+pub unwritten_file : (d : Description) (cycles : ℕ) (shown : Shown) (text old new : Option (List ℕ)) (e : PlayError)
+    → IfSome text (λ t. IsPlayOf d cycles t (Err e)) → new ≡ old → Prints d cycles shown text old new (Err e)
+unwritten_file d cycles shown None old new (refusal.Text bench.Write) is same = tt
+unwritten_file d cycles shown None old new (refusal.Run e) is same = same
+unwritten_file d cycles shown None old new (refusal.Step e) is same = same
+unwritten_file d cycles shown None old new refusal.Unfinished is same = same
+unwritten_file d cycles shown None old new refusal.UnknownNode is same = same
+unwritten_file d cycles shown None old new (refusal.Scenario e) is same = same
+unwritten_file d cycles shown None old new (refusal.Text bench.Memory) is same = same
+unwritten_file d cycles shown None old new (refusal.Text bench.TooLong) is same = same
+unwritten_file d cycles shown None old new (refusal.Text bench.Read) is same = same
+unwritten_file d cycles shown None old new (refusal.Text bench.BadNumber) is same = same
+unwritten_file d cycles shown None old new (refusal.Text (bench.Config e)) is same = same
+unwritten_file d cycles shown None old new (refusal.Text (bench.Midpoint e)) is same = same
+unwritten_file d cycles shown (Some t) old new e is same =
+    unwritten d cycles shown (Some t) old new e (not_write d cycles t e is) same
+
+-- a run without a view
+pub unwritten_view : (d : Description) (cycles : ℕ) (shown : Shown) (text old new : Option (List ℕ)) (file : PlayedFile)
+    (e : PlayError) → (e ≡ refusal.Text bench.Memory) ⊎ ((e ≡ refusal.UnknownNode) × LacksNode shown file) → new ≡ old
+    → Prints d cycles shown text old new (Err e)
+unwritten_view d cycles shown text old new file e (inl memory) same =
+    subst (λ (x : PlayError). Prints d cycles shown text old new (Err x)) (sym memory) same
+unwritten_view d cycles shown text old new file e (inr (unknown, none)) same =
+    subst (λ (x : PlayError). Prints d cycles shown text old new (Err x)) (sym unknown) same
 
 -- a node that the cluster doesn't have, or a failed allocation
 pub node_missing : (d : Description) (cycles : ℕ) (shown : Shown) (text : Option (List ℕ)) (file : PlayedFile)
@@ -71,6 +118,14 @@ pub shown_of : (d : Description) (cycles : ℕ) (shown : Shown) (text old new : 
 shown_of d cycles shown None old new file written idle is of_run added told = tt
 shown_of d cycles shown (Some t) old new file written idle is of_run added told =
     (file, written, is.1, of_run, added, told)
+
+-- a front of the text of the run was written
+pub shown_part : (d : Description) (cycles : ℕ) (shown : Shown) (text old new : Option (List ℕ)) (file : PlayedFile)
+    (written : List ℕ)
+    → IfSome text (λ t. IsPlayOf d cycles t (Ok file)) → IsShown shown file written → FallsShort old new written
+    → IfSome text (AddsFront d cycles shown old new)
+shown_part d cycles shown None old new file written is of_run short = tt
+shown_part d cycles shown (Some t) old new file written is of_run short = (file, written, is.1, of_run, short)
 
 -- the cluster accepts the run
 pub can_be_had : (d : Description) (cycles : ℕ) (text : Option (List ℕ)) (file : PlayedFile)

@@ -5,6 +5,7 @@ use Rattle.std.specs.Global.{Vec}
 use Rattle.std.specs.Io.KnownBytes.{Appends}
 use Rattle.std.specs.List.{flat_map}
 use Rattle.fr_files.specs.declared.error.BenchError.TheVariants as bench
+use Rattle.fr_files.specs.Outputs.{FallsShort}
 use Rattle.fr_core.specs.Worlds.{WorldState}
 use Rattle.fr_lines.specs.declared.versions.Version.TheVariants.{Three}
 use Rattle.fr_matrix.specs.Cells.{IsMatrix}
@@ -68,13 +69,19 @@ Adds d cycles shown old new idle text =
     (file : PlayedFile) × (written : List ℕ) × IsPlayIn d cycles text file × IsShown shown file written
     × Appends old new written × (idle ≡ idle_lines file)
 
+-- a front of the text of a run with that scenario was written, and nothing else
+abbrev pub AddsFront : Description → ℕ → Shown → Option (List ℕ) → Option (List ℕ) → List ℕ → Type 0
+AddsFront d cycles shown old new text =
+    (file : PlayedFile) × (written : List ℕ) × IsPlayIn d cycles text file × IsShown shown file written
+    × FallsShort old new written
+
 -- If the text of the scenario is known, the view of a run with it was written, and the lines without effect are
--- returned. A refusal other than `Write` leaves the writer unchanged.
+-- returned. After `Write` a front of such a view was written. Every other refusal leaves the writer unchanged.
 abbrev pub Prints : Description → ℕ → Shown → Option (List ℕ) → Option (List ℕ) → Option (List ℕ)
     → Result (Vec ℕ) PlayError
     → Type 0
 Prints d cycles shown text old new (Ok idle) = IfSome text (Adds d cycles shown old new idle.items)
-Prints d cycles shown text old new (Err (refusal.Text bench.Write)) = ⊤
+Prints d cycles shown text old new (Err (refusal.Text bench.Write)) = IfSome text (AddsFront d cycles shown old new)
 Prints d cycles shown text old new (Err e) = new ≡ old
 
 -- ---- the reason why no view was written

@@ -34,8 +34,8 @@ fn idle_in(alloc: Global, file: &PlayedFile) -> Result<Vec<u32>, PlayError>
 /// does.
 ///
 /// Returns the error of `play_file`, then that of `text_of`, then `Write` if the writer fails. Nothing is written on an
-/// error other than `Write`.
-#[tactic(auto, using(crate::proofs::ShowLemmas::unshown_of, crate::proofs::ShowLemmas::unwritten, crate::proofs::ShowLemmas::node_missing, crate::proofs::ShowLemmas::shown_of, crate::proofs::ShowLemmas::can_be_had))]
+/// error other than `Write`, after which a front of the view may have been written.
+#[tactic(auto, using(crate::proofs::ShowLemmas::unshown_of, crate::proofs::ShowLemmas::unwritten_view, crate::proofs::ShowLemmas::node_missing, crate::proofs::ShowLemmas::shown_of, crate::proofs::ShowLemmas::can_be_had))]
 pub fn show_run<R: Read, W: Write>(
     alloc: Global,
     cluster: &Cluster,

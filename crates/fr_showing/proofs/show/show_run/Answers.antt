@@ -1,11 +1,34 @@
-use Rattle.std.proofs.Common.{◌≡◌, ℕ, List, Result, Err, inl, rules, subst, sym}
+use Rattle.std.proofs.Common.{◌≡◌, ◌∙◌, ℕ, List, Result, Err, ap, inl, refl, rules, subst, sym}
 use Rattle.std.specs.Prelude.{IfSome}
 use Rattle.std.specs.Global.{Vec}
 use Rattle.std.specs.Io.KnownBytes.{Appends}
-use Rattle.fr_showing.proofs.ShowLemmas.{node_missing, shown_of}
+use Rattle.fr_files.specs.declared.error.BenchError.{BenchError}
+use Rattle.fr_files.specs.Outputs.{FallsShort}
+use Rattle.fr_showing.proofs.ShowLemmas.{node_missing, shown_of, shown_part, unwritten_file, unwritten_view}
 use Rattle.fr_playing.specs.declared.error.PlayError.{PlayError}
-use Rattle.fr_showing.specs.Shows.{Tells}
+use Rattle.fr_playing.specs.declared.error.PlayError.TheVariants as refusal
+use Rattle.fr_showing.specs.Shows.{Prints, Tells}
 use Rattle.fr_showing.proofs.show.show_run.Goals as goal
+
+pub returns-in_err-file-clause-written : goal.returns-in_err-file-clause-written
+returns-in_err-file-clause-written g c =
+    let old = g.W.Write.contents c.args.writer.now in
+    let remaining = g.R.Read.remaining c.args.reader.now in
+    let e = c.in_err-file.field-0.0 in
+    let gone : c.from_residual.result ≡ Err e = search rules in
+    subst (λ (r : Result (Vec ℕ) PlayError). Prints c.args.cluster.now c.args.cycles c.args.shown remaining old old r)
+    (sym gone)
+    (unwritten_file c.args.cluster.now c.args.cycles c.args.shown remaining old old e c.in_err-file.ensures refl)
+
+pub returns-in_err-text-clause-written : goal.returns-in_err-text-clause-written
+returns-in_err-text-clause-written g c =
+    let old = g.W.Write.contents c.args.writer.now in
+    let e = c.in_err-text.field-0.0 in
+    let gone : c.from_residual-in_err-text.result ≡ Err e = search rules in
+    subst (λ (r : Result (Vec ℕ) PlayError). Prints c.args.cluster.now c.args.cycles c.args.shown
+    (g.R.Read.remaining c.args.reader.now) old old r) (sym gone)
+    (unwritten_view c.args.cluster.now c.args.cycles c.args.shown (g.R.Read.remaining c.args.reader.now) old old
+    c.in_ok-file.file e c.in_err-text.ensures.refused refl)
 
 pub returns-in_err-text-clause-refused : goal.returns-in_err-text-clause-refused
 returns-in_err-text-clause-refused g c =
@@ -17,6 +40,16 @@ returns-in_err-text-clause-refused g c =
     (node_missing c.args.cluster.now c.args.cycles c.args.shown remaining c.in_ok-file.file e c.in_ok-file.ensures
     c.in_err-text.ensures.refused)
 
+pub returns-in_err-idle-clause-written : goal.returns-in_err-idle-clause-written
+returns-in_err-idle-clause-written g c =
+    let old = g.W.Write.contents c.args.writer.now in
+    let e = c.in_err-idle.field-0.0 in
+    let gone : c.from_residual-in_err-idle.result ≡ Err e = search rules in
+    subst (λ (r : Result (Vec ℕ) PlayError). Prints c.args.cluster.now c.args.cycles c.args.shown
+    (g.R.Read.remaining c.args.reader.now) old old r) (sym gone)
+    (unwritten_view c.args.cluster.now c.args.cycles c.args.shown (g.R.Read.remaining c.args.reader.now) old old
+    c.in_ok-file.file e (inl c.in_err-idle.ensures.refused) refl)
+
 pub returns-in_err-idle-clause-refused : goal.returns-in_err-idle-clause-refused
 returns-in_err-idle-clause-refused g c =
     let remaining = g.R.Read.remaining c.args.reader.now in
@@ -26,6 +59,20 @@ returns-in_err-idle-clause-refused g c =
     (λ text. Tells c.args.cluster.now c.args.cycles c.args.shown text r)) (sym gone)
     (node_missing c.args.cluster.now c.args.cycles c.args.shown remaining c.in_ok-file.file e c.in_ok-file.ensures
     (inl c.in_err-idle.ensures.refused))
+
+pub returns-in_err-write_whole-clause-written : goal.returns-in_err-write_whole-clause-written
+returns-in_err-write_whole-clause-written g c =
+    let remaining = g.R.Read.remaining c.args.reader.now in
+    let old = g.W.Write.contents c.args.writer.now in
+    let new = g.W.Write.contents c.write_whole.new.writer in
+    let e = c.in_err-write_whole.field-0.0 in
+    let gone : c.from_residual-in_err-write_whole.result ≡ Err (refusal.Text e) = search rules in
+    let named = gone ∙ ap (λ (x : BenchError). Err (refusal.Text x)) c.in_err-write_whole.ensures.refused in
+    subst (λ (r : Result (Vec ℕ) PlayError). Prints c.args.cluster.now c.args.cycles c.args.shown remaining old new r)
+    (sym named)
+    (shown_part c.args.cluster.now c.args.cycles c.args.shown remaining old new c.in_ok-file.file
+    c.in_ok-text.text.items c.in_ok-file.ensures c.in_ok-text.ensures.text
+    (subst (λ (xs : List ℕ). FallsShort old new xs) c.as_slice.ensures.value c.in_err-write_whole.ensures.cut))
 
 pub returns-clause-written : goal.returns-clause-written
 returns-clause-written g c =
