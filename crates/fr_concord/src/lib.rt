@@ -28,7 +28,7 @@
 //! - `DynamicRowLemmas`: `dynamic_tables`. So do those for dynamic slots.
 //! - `GuardRowLemmas`: `plans_guards`. The lines of a plan for guardians have exactly the open macroticks, and a
 //!   transmission in a static slot passes exactly if its slot is among them.
-//! - `MisfitLemmas`: `wrong_words`. No line can be read with the words up to the one that `why` names.
+//! - `MisfitLemmas`: `wrong_words`. No line after the first can be read with the words up to the one that `why` names.
 //! - `CycleLemmas`: `window_cycles`, `sent_cycles`, `call_cycles`, `line_cycles`. All definitions of a cycle of the
 //!   run agree.
 //! - `StartLemmas`: `pictured_slots`, `captured_slots`, `captured_minislots`, `starts_of_run`, `minislots_of_run`.

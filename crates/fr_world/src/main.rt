@@ -19,9 +19,9 @@
 //!
 //! # Inner workings
 //!
-//! `main` reads the words, makes the cluster, and allocates the buffers for reading and writing. `serve_run` (`serving`)
-//! opens the world. Then `serve` (`fr_session`) answers until the reader ends, or without history `serve_endless`
-//! (`fr_endless`).
+//! `main` reads the words, makes the cluster, and allocates the buffers for reading and writing. `serve_run`
+//! (`serving`) opens the world. Then `serve` (`fr_session`) answers until the reader ends, or without history
+//! `serve_endless` (`fr_endless`).
 #![tactic(auto)]
 
 mod failure;
@@ -52,7 +52,7 @@ fn cluster_in<R: Files + AllocGlobal>(
 
 /// Serves the world of the command's cluster on standard input and output.
 ///
-/// The buffers for reading and writing are allocated first, so that no reply needs memory of its own.
+/// The buffers for reading and writing are allocated first. The session allocates the room for a reply.
 fn serve_world<R: Files + Input + Print + AllocGlobal + Clock>(
     rt: &R,
     command: WorldCommand<'_>,
