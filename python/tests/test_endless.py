@@ -1,6 +1,8 @@
 """Tests of worlds without history, and of what host programs wait for."""
+import threading
 import unittest
 from pathlib import Path
+from tempfile import TemporaryDirectory
 
 from musmyrtle import (
     BadCycles, Mute, NoHistory, NotReceive, NoWindow, UnknownNode, World, at_slot, every, on_frame,
@@ -61,6 +63,34 @@ class TestEndless(unittest.TestCase):
         with self.assertRaises(BadCycles):
             World(THREE_NODES, cycles=1_025)
 
+    def test_a_cluster_with_too_many_windows_for_its_cycles(self):
+        """2,000 windows a cycle: 4,000,000 cycles have more than 2^32 - 1."""
+        lines = ["[params]", "static_slots = 1000", "minislots = 1000", "static_words = 1", "static_mt = 10",
+                 "minislot_mt = 2", "symbol_mt = 0", "nit_mt = 10", "cycle_mt = 12010", "idle = 0",
+                 "words_per_minislot = 1", "[[node]]", "own = []", "buffer = []"]
+        with TemporaryDirectory() as folder:
+            cluster = Path(folder) / "cluster.toml"
+            cluster.write_text("".join(f"{line}\n" for line in lines))
+            with self.assertRaises(BadCycles):
+                World(cluster, cycles=4_000_000, endless=True)
+            World(cluster).close()
+
+    def test_a_transcript_while_another_thread_asks(self):
+        over = threading.Event()
+
+        def ask():
+            while not over.is_set():
+                self.world.now()
+
+        thread = threading.Thread(target=ask)
+        thread.start()
+        try:
+            for _ in range(300):
+                self.world.transcript()
+        finally:
+            over.set()
+            thread.join()
+
     def test_cycles_to_do_are_up_to_4000000(self):
         for cycles in (-1, 4_000_001):
             with self.assertRaises(ValueError):
@@ -116,14 +146,21 @@ class TestWaits(unittest.TestCase):
         self.assertEqual(seen, [(0, 2), (1, 2), (2, 2)])
 
     def test_the_first_slot_of_the_next_cycle(self):
+        """A cycle that begins as the wait ends isn't counted for the next wait."""
         seen = []
 
         def host():
             yield at_slot(1)
             seen.append(self.world.now().cycle)
+            yield
+            seen.append(self.world.now().cycle)
+            yield at_slot(1)
+            seen.append(self.world.now().cycle)
+            yield every(5)
+            seen.append(self.world.now().cycle)
 
-        self.world.play(host(), cycles=3)
-        self.assertEqual(seen, [1])
+        self.world.play(host(), cycles=12)
+        self.assertEqual(seen, [1, 2, 3, 8])
 
     def test_a_frame_also_with_the_same_payload(self):
         seen = []

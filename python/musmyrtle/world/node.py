@@ -56,7 +56,8 @@ class Node:
     def read(self, buffer: int) -> Frame | None:
         """Returns the frame that a receive buffer, 0 to 63, holds, or None.
 
-        Raises `UnknownTask`, `UnknownBuffer`, `NotReceive` and `HostFull`.
+        Raises `UnknownTask`, `UnknownBuffer`, `NotReceive` and `HostFull`; without history also `Memory`, after which
+        the read is done.
         """
         line = f"read {self.number} {self._task} {buffer_number(buffer)}"
         if not self.world.has_history:

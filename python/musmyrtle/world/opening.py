@@ -2,18 +2,18 @@
 import os
 
 from musmyrtle.visible import visible
-from musmyrtle.world.refusals import ClusterRefused
+from musmyrtle.world.refusals import BadCycles, ClusterRefused
 
 REFUSED = "refused "
 OF_THE_MACHINE = ("Memory", "Write")
 """Refusals that aren't about the cluster file."""
 
 
-def refused_cluster(said: str, cluster: str) -> ClusterRefused | None:
+def refused_cluster(said: str, cluster: str) -> ClusterRefused | BadCycles | None:
     """Returns the exception for the program's answer in place of its first line.
 
-    Returns None if that is no refusal of the file. SAID may have further lines: before the refusal those of a launcher,
-    and after it those that explain it.
+    Returns None if that is no refusal of the file or of the number of cycles. SAID may have further lines: before
+    the refusal those of a launcher, and after it those that explain it.
     """
     lines = said.split("\n")
     places = [number for number, line in enumerate(lines) if line.startswith(REFUSED)]
@@ -22,6 +22,8 @@ def refused_cluster(said: str, cluster: str) -> ClusterRefused | None:
     refusal, _, explained = lines[places[-1]].removeprefix(REFUSED).partition(": ")
     if refusal in OF_THE_MACHINE:
         return None
+    if refusal == "BadCycles":
+        return BadCycles("a run of the cluster can't have so many cycles")
     told = " ".join(filter(None, (explained, *lines[places[-1] + 1:])))
     return ClusterRefused(refusal, visible(reason_of(refusal, cluster) or told))
 

@@ -66,23 +66,26 @@ class Play:
         for one in list(self._running):
             if isinstance(one.wait, AtSlot):
                 if window and window.is_static and window.a == one.wait.slot:
-                    self._go_on(one)
+                    self._go_on(one, window)
             elif isinstance(one.wait, OnFrame):
                 node = one.wait.node
                 if node not in reports:
                     reports[node] = self._world.node(node).report()
                 if stored(reports[node], one.wait) != one.entry:
-                    self._go_on(one)
+                    self._go_on(one, window)
 
-    def _go_on(self, one: Running) -> None:
-        """Runs a host program up to its next `yield`, and notes what it waits for. Any other value is a cycle."""
+    def _go_on(self, one: Running, window: Window | None = None) -> None:
+        """Runs a host program up to its next `yield`, and notes what it waits for. Any other value is a cycle.
+
+        WINDOW is the one that has opened. If it opens a cycle, the start of this cycle is still to be counted.
+        """
         value = next(one.host, _END)
         if value is _END:
             self._running.remove(one)
             return
         one.wait = value if isinstance(value, Every | AtSlot | OnFrame) else NEXT_CYCLE
         if isinstance(one.wait, Every):
-            one.left = one.wait.cycles
+            one.left = one.wait.cycles + (window is not None and window.opens_cycle)
         elif isinstance(one.wait, OnFrame):
             one.entry = stored(self._world.node(one.wait.node).report(), one.wait)
 

@@ -33,8 +33,8 @@ class Session:
         """Starts the program and reads its first line.
 
         ENDLESS asks for a world without history, whose CYCLES are None for the most. TIMEOUT is the time limit of each
-        request in seconds, or None for no limit. Raises `NotStarted`,
-        `ClusterRefused`, `SessionOver` where the program speaks another version, and `TimedOut`.
+        request in seconds, or None for no limit. Raises `NotStarted`, `ClusterRefused`, `BadCycles` where the cluster
+        can't have so many, `SessionOver` where the program speaks another version, and `TimedOut`.
         """
         command = [os.fspath(program), os.fspath(cluster), *(["--endless"] if endless else []),
                    *([] if cycles is None else ["--cycles", str(cycles)])]

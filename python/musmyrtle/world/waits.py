@@ -48,7 +48,7 @@ def on_frame(node: int, buffer: int) -> OnFrame:
     """Waits until the receive buffer of a node stores a frame, also one with the same payload.
 
     The buffer is examined at the end of each window. Raises `ValueError` for a node that isn't 0 to 15 and a buffer
-    that isn't 0 to 63. At the `yield`, `UnknownNode` comes for a node that the cluster doesn't have, and `NotReceive`
-    for a buffer that isn't one of the node's receive buffers.
+    that isn't 0 to 63. When a host yields it, `World.play` raises `UnknownNode` for a node that the cluster doesn't
+    have, and `NotReceive` for a buffer that isn't one of the node's receive buffers.
     """
     return OnFrame(node_number(node), buffer_number(buffer))

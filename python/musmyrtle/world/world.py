@@ -125,7 +125,7 @@ class World:
 
         On the standard input of `fr_world` all give the same replies again. A request that was broken off is there.
         """
-        return "".join(f"{line}\n" for line in self._session.asked)
+        return "".join(f"{line}\n" for line in list(self._session.asked))
 
     # ---- nodes
 
@@ -210,7 +210,8 @@ class World:
 
         It has the records of `fr_view bus`: each transmission that passed alone and wasn't too long. A window counts
         once nodes 0 and 1 have observed it. PROGRAM is the `fr_view` to run, which is otherwise looked for. Raises
-        `NotStarted` where it can't be started, `OSError` where the file can't be written, and `SessionOver`.
+        `NoHistory` in a world without history, `NotStarted` where the program can't be started, `OSError` where the
+        file can't be written, and `SessionOver`.
         """
         with self._session.lock:
             first = self.block("trace 0")
@@ -228,7 +229,8 @@ class World:
 
         PROGRAM is the `fr_view` to run, which is otherwise looked for. Raises `ValueError` where no cycle is done, or
         where the calls are those of no scenario: each one comes between two cycles, and in each cycle those of task 0
-        come first. Raises `OSError` where the file can't be written, and `SessionOver` where a program can't be asked.
+        come first. Raises `NoHistory` in a world without history, `OSError` where the file can't be written, and
+        `SessionOver` where a program can't be asked.
         """
         # Each program that opens a world would wait for these imports.
         from musmyrtle.show.page_session import first_of_cycle, page_of_session, traces_of
@@ -304,8 +306,10 @@ class World:
 
         Each goes on to its next `yield` at the start of the next cycle, or of a later one after `yield every(cycles)`,
         when a static slot opens after `yield at_slot(slot)`, and when a receive buffer has stored a frame after `yield
-        on_frame(node, buffer)`. Those that wait for the same go on in their order. Other threads can come in between.
-        Returns and raises what `cycle` does, `ValueError` for other numbers, and what a host program raises.
+        on_frame(node, buffer)`. Those that wait for the same go on in their order. At the end all waits are forgotten.
+        Other threads can come in between; one that moves the world on makes hosts miss slots and cycles. Returns and
+        raises what `cycle` does, `ValueError` for other numbers, `UnknownNode` and `NotReceive` for a buffer that
+        `on_frame` can't wait for, and what a host program raises.
         """
         return Play(self, hosts).run(some_cycles(cycles, self._most_cycles))
 
