@@ -1,7 +1,7 @@
 -- The dynamic segments of a picture: an element for each dynamic slot with a sender in the cycle, which names the
 -- sender by the sender table. These elements share the room of the segment: their place isn't the time of the slot.
-use Rattle.std.specs.Prelude.{◌≡◌, ◌⊎◌, ℕ, zero, suc, ◌+◌, ◌/◌, ◌==◌, ◌<◌, ◌≤◌, nat_lt, Bool, true, false, List, [], ◌++◌}
-use Rattle.std.specs.Prelude.{codes, Option, Some, None, slice_get, if◌then◌else◌}
+use Rattle.std.specs.Prelude.{◌≡◌, ◌⊎◌, ℕ, zero, suc, ◌+◌, ◌/◌, ◌==◌, ◌<◌, ◌≤◌, nat_lt, Bool, true, false, List, []}
+use Rattle.std.specs.Prelude.{◌++◌, codes, Option, Some, None, slice_get, if◌then◌else◌}
 use Rattle.std.specs.Fmt.{decimal}
 use Rattle.std.specs.List.{find}
 use Rattle.fr_picture.specs.Places.{across, extent, row_of}

@@ -3,10 +3,9 @@
 ghost use Rattle.std.specs.Prelude.{◌≡◌, ◌<◌, ◌≤◌, ◌^◌, false, OnOk, option_map};
 ghost use Rattle.std.specs.List.{find};
 ghost use Rattle.fr_picture.specs.Dynamics.{AreSlotTexts, buffer_text, class_text, cycles_text, dynamic_box};
-ghost use Rattle.fr_picture.specs.Dynamics.{dynamic_front};
-ghost use Rattle.fr_picture.specs.Dynamics.{first_text, IsDynamicText, IsRoomText, IsSentText, IsSlotText, never_class};
-ghost use Rattle.fr_picture.specs.Dynamics.{never_sends, never_words, sender_front, sender_numbers, sender_text, sender_title};
-ghost use Rattle.fr_picture.specs.Dynamics.{size_text};
+ghost use Rattle.fr_picture.specs.Dynamics.{dynamic_front, first_text, IsDynamicText, IsRoomText, IsSentText};
+ghost use Rattle.fr_picture.specs.Dynamics.{IsSlotText, never_class, never_sends, never_words, sender_front};
+ghost use Rattle.fr_picture.specs.Dynamics.{sender_numbers, sender_text, sender_title, size_text};
 ghost use Rattle.fr_picture.specs.Owners.{Adds};
 ghost use Rattle.fr_schedule.specs.SenderTable.{IsSender};
 ghost use Rattle.fr_slots.specs.Faults.{sends_at};

@@ -1,4 +1,4 @@
-use Rattle.std.proofs.Common.{rules, arith, ◌<◌, ◌≤◌, inl, inr, [], refl}
+use Rattle.std.proofs.Common.{rules, ◌<◌, ◌≤◌, inl, inr, [], refl}
 use Rattle.std.proofs.KnownBytes.{Appends-nil}
 use Rattle.fr_picture.proofs.DynamicLemmas.{adds_other}
 use Rattle.fr_picture.specs.Dynamics.{IsDynamicText, IsRoomText}
