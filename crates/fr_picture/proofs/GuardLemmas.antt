@@ -4,6 +4,7 @@ use Rattle.std.proofs.Common.{add-one}
 use Rattle.std.specs.Prelude.{OnOk}
 use Rattle.std.specs.Io.KnownBytes.{Appends}
 use Rattle.std.proofs.KnownBytes.{Appends-nil, Appends-trans}
+use Rattle.fr_picture.specs.Dynamics.{IsDynamicText}
 use Rattle.fr_picture.specs.Frames.{front_text}
 use Rattle.fr_picture.specs.Guards.{AreGuardRows, IsGuardRow}
 use Rattle.fr_picture.specs.Owners.{Adds, AreOwnerTexts}
@@ -29,33 +30,44 @@ one_guard d cycle node old mid first new before on_a on_b =
       Appends-trans old first new (texts ++ a) b (Appends-trans old mid first texts a added added_a) added_b,
     )
 
--- the front, the static slots, the dynamic segment and the guardians have been written, and then the end
+-- all parts have been written, and then the end
 pub picture_done : {X E : Type 0} (r : Result X E) (d guarded : Description) (cycle nodes : ℕ)
-    (dynamics : List ℕ) (w0 w1 w2 w3 w4 w5 : Option (List ℕ)) → guarded ≡ d → nodes ≡ length d.plans
+    (ranges : List ℕ) (w0 w1 w2 w3 w4 w5 w6 w7 : Option (List ℕ)) → guarded ≡ d → nodes ≡ length d.plans
     → Appends w0 w1 (front_text d cycle)
     → Adds (AreOwnerTexts d cycle d.params.static_slots) w1 w2
-    → Appends w2 w3 dynamics
-    → Adds (AreGuardRows guarded cycle nodes) w3 w4
-    → OnOk r (Appends w4 w5 picture_end)
-    → OnOk r (Adds (IsPicture d cycle) w0 w5)
-picture_done (Err e) d guarded cycle nodes dynamics w0 w1 w2 w3 w4 w5 same count front owners between guards last = tt
-picture_done (Ok x) d guarded cycle nodes dynamics w0 w1 w2 w3 w4 w5 same count front owners between guards last =
+    → Adds (IsDynamicText d cycle A) w2 w3 → Adds (IsDynamicText d cycle B) w3 w4
+    → Appends w4 w5 ranges
+    → Adds (AreGuardRows guarded cycle nodes) w5 w6
+    → OnOk r (Appends w6 w7 picture_end)
+    → OnOk r (Adds (IsPicture d cycle) w0 w7)
+picture_done (Err e) d guarded cycle nodes ranges w0 w1 w2 w3 w4 w5 w6 w7 same count front owners on_a on_b between
+    guards last = tt
+picture_done (Ok x) d guarded cycle nodes ranges w0 w1 w2 w3 w4 w5 w6 w7 same count front owners on_a on_b between
+    guards last =
     let (slots, slots_are, with_slots) = owners in
+    let (a, a_is, with_a) = on_a in
+    let (b, b_is, with_b) = on_b in
     let (rows, rows_are, with_rows) = guards in
     let head = front_text d cycle in
     let here = subst (λ (n : ℕ). AreGuardRows d cycle n rows) count
     (subst (λ (x : Description). AreGuardRows x cycle nodes rows) same rows_are) in (
-      head ++ slots ++ dynamics ++ rows ++ picture_end,
+      head ++ slots ++ a ++ b ++ ranges ++ rows ++ picture_end,
       record {
         owners = slots;
-        dynamics = dynamics;
+        dynamic_a = a;
+        dynamic_b = b;
+        ranges = ranges;
         guards = rows;
         owners_are = slots_are;
+        dynamic_on_a = a_is;
+        dynamic_on_b = b_is;
         guards_are = here;
         text_is = refl;
       },
-      Appends-trans w0 w4 w5 (head ++ slots ++ dynamics ++ rows) picture_end
-          (Appends-trans w0 w3 w4 (head ++ slots ++ dynamics) rows
-          (Appends-trans w0 w2 w3 (head ++ slots) dynamics
-          (Appends-trans w0 w1 w2 head slots front with_slots) between) with_rows) last,
+      Appends-trans w0 w6 w7 (head ++ slots ++ a ++ b ++ ranges ++ rows) picture_end
+          (Appends-trans w0 w5 w6 (head ++ slots ++ a ++ b ++ ranges) rows
+          (Appends-trans w0 w4 w5 (head ++ slots ++ a ++ b) ranges
+          (Appends-trans w0 w3 w4 (head ++ slots ++ a) b
+          (Appends-trans w0 w2 w3 (head ++ slots) a
+          (Appends-trans w0 w1 w2 head slots front with_slots) with_a) with_b) between) with_rows) last,
     )

@@ -1,3 +1,4 @@
 pub mod OwnerLemmas
 pub mod TickLemmas
+pub mod DynamicLemmas
 pub mod GuardLemmas

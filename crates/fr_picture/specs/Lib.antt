@@ -1,5 +1,6 @@
 pub mod Places
 pub mod Owners
 pub mod Frames
+pub mod Dynamics
 pub mod Guards
 pub mod Schedules

@@ -2,22 +2,29 @@
 use Rattle.std.specs.Prelude.{◌≡◌, ℕ, List, ◌++◌, length, Option, Result}
 use Rattle.fr_files.specs.ClusterFiles.{Tells}
 use Rattle.fr_files.specs.declared.error.BenchError.{BenchError}
+use Rattle.fr_picture.specs.Dynamics.{IsDynamicText}
 use Rattle.fr_picture.specs.Frames.{front_text}
 use Rattle.fr_picture.specs.Guards.{AreGuardRows}
 use Rattle.fr_picture.specs.Owners.{Adds, AreOwnerTexts}
 use Rattle.fr_schedule.specs.Descriptions.{Description}
+use Rattle.fr_slots.specs.declared.channel.Channel.TheVariants.{A, B}
 use Rattle.fr_svg.specs.Elements.{picture_end}
 
 -- A picture is exactly these parts: the front with its style, heading, segments and names; the elements of the static
--- slots, which name exactly the owners of the sender table; the dynamic segment; and the rows of the guardians, which
--- have exactly the open intervals. Nothing is said of the elements of the dynamic segment.
+-- slots, which name exactly the owners of the sender table; for each channel the dynamic segment, which names exactly
+-- the senders of its slots; the ranges of these slots; and the rows of the guardians, which have exactly the open
+-- intervals. Nothing is said of the ranges.
 pub record IsPicture (d : Description) (cycle : ℕ) (text : List ℕ) : Type 0 where
   pub owners : List ℕ
-  pub dynamics : List ℕ
+  pub dynamic_a : List ℕ
+  pub dynamic_b : List ℕ
+  pub ranges : List ℕ
   pub guards : List ℕ
   pub owners_are : AreOwnerTexts d cycle d.params.static_slots owners
+  pub dynamic_on_a : IsDynamicText d cycle A dynamic_a
+  pub dynamic_on_b : IsDynamicText d cycle B dynamic_b
   pub guards_are : AreGuardRows d cycle (length d.plans) guards
-  pub text_is : text ≡ front_text d cycle ++ owners ++ dynamics ++ guards ++ picture_end
+  pub text_is : text ≡ front_text d cycle ++ owners ++ dynamic_a ++ dynamic_b ++ ranges ++ guards ++ picture_end
 
 -- the output of `schedule` for a cluster
 abbrev pub HasPicture : ℕ → Description → Option (List ℕ) → Option (List ℕ) → Type 0

@@ -1,26 +1,30 @@
 //! The dynamic segment of a channel, with the slots that have a sender in the cycle.
 
+ghost use Rattle.std.specs.Prelude.{◌≡◌, ◌<◌, ◌≤◌, ◌^◌, false, OnOk, option_map};
+ghost use Rattle.std.specs.List.{find};
+ghost use Rattle.fr_picture.specs.Dynamics.{AreSlotTexts, buffer_text, class_text, cycles_text, dynamic_box};
+ghost use Rattle.fr_picture.specs.Dynamics.{dynamic_front, first_text, IsDynamicText, IsRoomText, IsSentText};
+ghost use Rattle.fr_picture.specs.Dynamics.{IsSlotText, never_class, never_sends, never_words, sender_front};
+ghost use Rattle.fr_picture.specs.Dynamics.{sender_numbers, sender_text, sender_title, size_text};
+ghost use Rattle.fr_picture.specs.Owners.{Adds};
+ghost use Rattle.fr_schedule.specs.SenderTable.{IsSender};
+ghost use Rattle.fr_slots.specs.Faults.{sends_at};
+ghost use Rattle.fr_slots.specs.Parameters.{is_static_slot};
+ghost use Rattle.fr_text.specs.Writing.{Writes};
+
 use crate::scale::{CHANNEL_HEIGHT, NUMBER_LENGTH, across, extent, row_of};
 use fr_schedule::cluster::Cluster;
 use fr_slots::channel::Channel;
+use fr_slots::filter::CycleFilter;
 use fr_slots::numbers::{Cycle, LAST_SLOT, NodeId, SlotId};
-use fr_slots::plan::Buffer;
+use fr_slots::plan::{Buffer, NodePlan};
 use fr_svg::elements::{close_group, write_number, write_rect};
-use fr_timing::segments::{Segments, segments_of};
+use fr_timing::segments::segments_of;
 use std::io;
 use std::io::Write;
 
 /// The length of a box that has room for the number of a slot.
 const SLOT_LENGTH: u64 = 300;
-
-/// The cell of a slot among those of the segment: the slot, its sender, the left end of the cell, and its length.
-#[derive(Clone, Copy)]
-struct Cell {
-    slot: SlotId,
-    node: NodeId,
-    left: u64,
-    length: u64,
-}
 
 /// Returns the node that sends in the dynamic slot of this number in the cycle.
 pub(crate) fn sender_in(
@@ -48,111 +52,369 @@ pub(crate) fn count_senders(cluster: &Cluster, cycle: Cycle, channel: Channel) -
     count
 }
 
-/// Returns the buffer from which the node sends in the slot.
-fn buffer_for(
-    cluster: &Cluster,
-    node: NodeId,
-    cycle: Cycle,
-    slot: SlotId,
-    channel: Channel,
-) -> Option<Buffer> {
-    for buffer in cluster.node(node)?.buffers() {
-        if buffer.transmits() && buffer.filter.admits(cycle, slot, channel) {
-            return Some(*buffer);
-        }
-    }
-    None
-}
-
-/// Writes the payload length of a buffer in two-byte words, and its base and repetition.
-fn write_buffer<W: Write>(writer: &mut W, buffer: &Buffer) -> io::Result<()> {
-    if let Some(words) = buffer.words {
-        write!(writer, ", {words} words")?;
-    }
-    let cycles = buffer.filter.cycles;
-    write!(
-        writer,
-        ", base {}, repetition {}",
-        cycles.base(),
-        cycles.repetition()
-    )
+/// Returns whether the buffer sends in the slot.
+fn sends_at(buffer: &Buffer, slot: SlotId, channel: Channel, cycle: Cycle) -> bool
+    ensures { result ≡ sends_at slot channel cycle buffer.now }
+{
+    buffer.transmits() && buffer.filter.admits(cycle, slot, channel)
 }
 
 /// Returns whether the node never begins a transmission in the dynamic segment of the channel.
-fn never_sends(cluster: &Cluster, node: NodeId, channel: Channel) -> bool {
-    match cluster.node(node) {
-        Some(plan) => plan.latest(channel) == 0,
-        None => false,
-    }
+fn never_sends(plan: &NodePlan, channel: Channel) -> bool
+    ensures { result ≡ never_sends plan.now channel }
+{
+    plan.latest(channel) == 0
 }
 
-/// Writes the numbers of the slot and of its node into a cell, if they fit.
-fn write_numbers<W: Write>(writer: &mut W, cell: Cell, top: u64) -> io::Result<()> {
-    let node = u64::from(cell.node.number());
-    let middle = cell.left.saturating_add(cell.length / 2);
-    let (over, under) = (top.saturating_add(195), top.saturating_add(315));
-    if cell.length >= SLOT_LENGTH {
-        write_number(writer, middle, over, u64::from(cell.slot.number()))?;
-        write_number(writer, middle, under, node)
-    } else if cell.length >= NUMBER_LENGTH {
-        write_number(writer, middle, top.saturating_add(260), node)
+/// Returns the class of a slot in which the node never sends.
+fn never_class(never: bool) -> &'static str
+    ensures { result.now ≡ never_class never }
+{
+    if never { " never" } else { "" }
+}
+
+/// Returns the words for a slot in which the node never sends.
+fn never_words(never: bool) -> &'static str
+    ensures { result.now ≡ never_words never }
+{
+    if never {
+        ", never sent: the node's latest minislot is 0"
     } else {
-        Ok(())
+        ""
     }
 }
 
 /// Writes the front of the element of a dynamic slot.
-fn write_sender<W: Write>(
+#[tactic(auto, unfolding(crate::specs::Dynamics::sender_front))]
+fn write_sender_front<W: Write>(
     writer: &mut W,
-    cluster: &Cluster,
+    slot: u16,
+    channel: Channel,
+    node: u8,
+    class: &str,
+) -> io::Result<()>
+    ensures { Writes W.contents writer.old writer.new result (sender_front slot channel node class.now) }
+{
+    write!(
+        writer,
+        "<g class='sender n{node}{class}'><title>dynamic slot {slot} on {channel}: node {node}"
+    )
+}
+
+/// Writes the payload length of a buffer in two-byte words, if it has one.
+#[tactic(auto, unfolding(crate::specs::Dynamics::size_text))]
+fn write_size<W: Write>(writer: &mut W, words: Option<u8>) -> io::Result<()>
+    ensures { Writes W.contents writer.old writer.new result (size_text words) }
+{
+    match words {
+        Some(words) => write!(writer, ", {words} words"),
+        None => Ok(()),
+    }
+}
+
+/// Writes base and repetition.
+#[tactic(auto, unfolding(crate::specs::Dynamics::class_text))]
+fn write_class<W: Write>(writer: &mut W, base: u8, repetition: u8) -> io::Result<()>
+    ensures { Writes W.contents writer.old writer.new result (class_text base repetition) }
+{
+    write!(writer, ", base {base}, repetition {repetition}")
+}
+
+/// Writes base and repetition of a cycle counter filter.
+fn write_cycles<W: Write>(writer: &mut W, cycles: CycleFilter) -> io::Result<()>
+    ensures { Writes W.contents writer.old writer.new result (cycles_text cycles) }
+{
+    write_class(writer, cycles.base(), cycles.repetition())
+}
+
+/// Writes the payload length of the buffer, and its base and repetition.
+#[tactic(auto, unfolding(crate::specs::Dynamics::buffer_text))]
+fn write_buffer<W: Write>(writer: &mut W, buffer: &Buffer) -> io::Result<()>
+    ensures { Writes W.contents writer.old writer.new result (buffer_text buffer.now) }
+{
+    write_size(writer, buffer.words)?;
+    write_cycles(writer, buffer.filter.cycles)
+}
+
+/// Returns the buffer from which the node sends in the slot.
+fn first_buffer(plan: &NodePlan, slot: SlotId, channel: Channel, cycle: Cycle) -> Option<&Buffer>
+    ensures { option_map (λ b. b.now) result ≡ find (sends_at slot channel cycle) plan.now.buffers }
+{
+    plan.buffers()
+        .iter()
+        .find(|b| sends_at(b, slot, channel, cycle))
+}
+
+/// Writes the data of the buffer from which the node sends in the slot.
+fn write_buffer_at<W: Write>(
+    writer: &mut W,
+    plan: &NodePlan,
+    slot: SlotId,
+    channel: Channel,
+    cycle: Cycle,
+) -> io::Result<()>
+    ensures { Writes W.contents writer.old writer.new result
+        (first_text (find (sends_at slot channel cycle) plan.now.buffers)) }
+{
+    match first_buffer(plan, slot, channel, cycle) {
+        Some(buffer) => write_buffer(writer, buffer),
+        None => Ok(()),
+    }
+}
+
+/// Writes the title of the element of a dynamic slot, behind its front.
+#[tactic(auto, unfolding(crate::specs::Dynamics::sender_title))]
+fn write_title<W: Write>(
+    writer: &mut W,
+    plan: &NodePlan,
+    cycle: Cycle,
     channel: Channel,
     slot: SlotId,
     node: NodeId,
-) -> io::Result<()> {
-    let never = if never_sends(cluster, node, channel) {
-        " never"
-    } else {
-        ""
-    };
-    write!(
+) -> io::Result<()>
+    ensures { Writes W.contents writer.old writer.new result (sender_title plan.now cycle channel slot node) }
+{
+    let never = never_sends(plan, channel);
+    write_sender_front(
         writer,
-        "<g class='sender n{node}{never}'><title>dynamic slot {slot}"
+        slot.number(),
+        channel,
+        node.number(),
+        never_class(never),
     )?;
-    write!(writer, " on {channel}: node {node}")
+    write_buffer_at(writer, plan, slot, channel, cycle)?;
+    writer.write_all(never_words(never).as_bytes())?;
+    writer.write_all(b"</title>")
 }
 
-/// Writes the element of a dynamic slot. The place of its cell isn't the time of the slot.
+/// Writes the numbers of the slot and of its node into a box, if they fit.
+#[tactic(auto, unfolding(crate::specs::Dynamics::sender_numbers))]
+fn write_numbers<W: Write>(
+    writer: &mut W,
+    slot: u16,
+    node: u8,
+    left: u64,
+    length: u64,
+    top: u64,
+) -> io::Result<()>
+    requires left { left < 2 ^ 61 }
+    requires length { length < 2 ^ 62 }
+    requires top { top < 2000 }
+    ensures { Writes W.contents writer.old writer.new result (sender_numbers slot node left length top) }
+{
+    let middle = left + length / 2;
+    if length < NUMBER_LENGTH {
+        Ok(())
+    } else if length < SLOT_LENGTH {
+        write_number(writer, middle, top + 260, u64::from(node))
+    } else {
+        write_number(writer, middle, top + 195, u64::from(slot))?;
+        write_number(writer, middle, top + 315, u64::from(node))
+    }
+}
+
+/// Writes the element of a dynamic slot. The place of its box isn't the time of the slot.
+#[tactic(auto, unfolding(crate::specs::Dynamics::sender_text))]
+fn write_sender<W: Write>(
+    writer: &mut W,
+    plan: &NodePlan,
+    cycle: Cycle,
+    channel: Channel,
+    slot: SlotId,
+    node: NodeId,
+    left: u64,
+    length: u64,
+) -> io::Result<()>
+    requires left { left < 2 ^ 61 }
+    requires length { length < 2 ^ 62 }
+    ensures { Writes W.contents writer.old writer.new result
+        (sender_text plan.now cycle channel slot node left length) }
+{
+    write_title(writer, plan, cycle, channel, slot, node)?;
+    write_rect(writer, left, row_of(channel) + 70, length, 280)?;
+    write_numbers(
+        writer,
+        slot.number(),
+        node.number(),
+        left,
+        length,
+        row_of(channel),
+    )?;
+    close_group(writer)
+}
+
+/// Writes the element of a dynamic slot in which the node sends.
+fn write_sent<W: Write>(
+    writer: &mut W,
+    cluster: &Cluster,
+    cycle: Cycle,
+    channel: Channel,
+    slot: SlotId,
+    node: NodeId,
+    left: u64,
+    length: u64,
+) -> io::Result<()>
+    requires sender { IsSender cluster.now cycle slot channel node }
+    requires left { left < 2 ^ 61 }
+    requires length { length < 2 ^ 62 }
+    ensures { OnOk result
+        (Adds (IsSentText cluster.now cycle channel slot node) (W.contents writer.old) (W.contents writer.new)) }
+{
+    match cluster.node(node) {
+        Some(plan) => write_sender(writer, plan, cycle, channel, slot, node, left, length),
+        None => Ok(()),
+    }
+}
+
+/// Writes the element of a dynamic slot, if it has a sender in the cycle.
+fn write_open_slot<W: Write>(
+    writer: &mut W,
+    cluster: &Cluster,
+    cycle: Cycle,
+    channel: Channel,
+    slot: SlotId,
+    left: u64,
+    length: u64,
+) -> io::Result<()>
+    requires dynamic { is_static_slot cluster.now.params slot ≡ false }
+    requires left { left < 2 ^ 61 }
+    requires length { length < 2 ^ 62 }
+    ensures { OnOk result
+        (Adds (IsSlotText cluster.now cycle channel slot) (W.contents writer.old) (W.contents writer.new)) }
+{
+    match cluster.sender(cycle, slot, channel) {
+        Some(node) => write_sent(writer, cluster, cycle, channel, slot, node, left, length),
+        None => Ok(()),
+    }
+}
+
+/// Writes the element of a slot, if it is a dynamic one and has a sender in the cycle.
 fn write_slot<W: Write>(
     writer: &mut W,
     cluster: &Cluster,
     cycle: Cycle,
     channel: Channel,
-    cell: Cell,
-) -> io::Result<()> {
-    let Cell {
-        slot,
-        node,
-        left,
-        length,
-    } = cell;
-    let top = row_of(channel);
-    write_sender(writer, cluster, channel, slot, node)?;
-    if let Some(buffer) = buffer_for(cluster, node, cycle, slot, channel) {
-        write_buffer(writer, &buffer)?;
+    slot: SlotId,
+    left: u64,
+    length: u64,
+) -> io::Result<()>
+    requires left { left < 2 ^ 61 }
+    requires length { length < 2 ^ 62 }
+    ensures { OnOk result
+        (Adds (IsSlotText cluster.now cycle channel slot) (W.contents writer.old) (W.contents writer.new)) }
+{
+    let fixed = cluster.params().is_static(slot);
+    if fixed {
+        Ok(())
+    } else {
+        write_open_slot(writer, cluster, cycle, channel, slot, left, length)
     }
-    if never_sends(cluster, node, channel) {
-        write!(writer, ", never sent: the node's latest minislot is 0")?;
+}
+
+/// The room of the dynamic segment, and the number of slots that share it.
+#[derive(Clone, Copy)]
+struct Room {
+    left: u64,
+    length: u64,
+    count: u64,
+}
+
+/// Returns where the share of this index begins.
+fn share_of(room: Room, index: u64) -> u64
+    requires left { room.left < 2 ^ 60 }
+    requires length { room.length < 2 ^ 60 }
+    requires count { 1 ≤ room.count }
+    ensures { result < 2 ^ 61 }
+{
+    room.left + (index.saturating_mul(room.length) / room.count).min(room.length)
+}
+
+/// Returns the length of a share, at least 1, so that it can be seen.
+fn length_of(start: u64, end: u64) -> u64
+    requires { end < 2 ^ 61 }
+    ensures { result < 2 ^ 62 }
+{
+    end.saturating_sub(start).max(1)
+}
+
+/// Returns the index of the share after that of a slot. A slot without a sender has none.
+fn index_after(cluster: &Cluster, cycle: Cycle, channel: Channel, number: u16, index: u64) -> u64 {
+    if sender_in(cluster, cycle, number, channel).is_some() {
+        index.saturating_add(1)
+    } else {
+        index
     }
-    write!(writer, "</title>")?;
-    write_rect(
+}
+
+/// Writes the elements of all dynamic slots.
+fn write_slots<W: Write>(
+    writer: &mut W,
+    cluster: &Cluster,
+    cycle: Cycle,
+    channel: Channel,
+    room: Room,
+) -> io::Result<()>
+    requires left { room.left < 2 ^ 60 }
+    requires length { room.length < 2 ^ 60 }
+    requires count { 1 ≤ room.count }
+    ensures { OnOk result
+        (Adds (AreSlotTexts cluster.now cycle channel 2047) (W.contents writer.old) (W.contents writer.new)) }
+{
+    let mut index: u64 = 0;
+    for earlier in 0..LAST_SLOT {
+        let start = share_of(room, index);
+        index = index_after(cluster, cycle, channel, earlier + 1, index);
+        let length = length_of(start, share_of(room, index));
+        if let Some(slot) = SlotId::new(earlier + 1) {
+            write_slot(writer, cluster, cycle, channel, slot, start, length)?;
+        }
+    }
+    Ok(())
+}
+
+/// Writes the front of the element of the segment.
+#[tactic(auto, unfolding(crate::specs::Dynamics::dynamic_front))]
+fn write_dynamic_front<W: Write>(writer: &mut W, channel: Channel) -> io::Result<()>
+    ensures { Writes W.contents writer.old writer.new result (dynamic_front channel) }
+{
+    write!(
         writer,
-        left,
-        top.saturating_add(70),
-        length,
-        CHANNEL_HEIGHT - 140,
-    )?;
-    write_numbers(writer, cell, top)?;
+        "<g class='dynamic'><title>dynamic segment on {channel}</title>"
+    )
+}
+
+/// Writes the box of the segment.
+#[tactic(auto, unfolding(crate::specs::Dynamics::dynamic_box))]
+fn write_box<W: Write>(writer: &mut W, left: u64, length: u64, channel: Channel) -> io::Result<()>
+    ensures { Writes W.contents writer.old writer.new result (dynamic_box left length channel) }
+{
+    write_dynamic_front(writer, channel)?;
+    write_rect(writer, left, row_of(channel), length, CHANNEL_HEIGHT)?;
     close_group(writer)
+}
+
+/// Writes the box of the segment, and the elements of its slots.
+fn write_room<W: Write>(
+    writer: &mut W,
+    cluster: &Cluster,
+    cycle: Cycle,
+    channel: Channel,
+) -> io::Result<()>
+    ensures { OnOk result
+        (Adds (IsRoomText cluster.now cycle channel) (W.contents writer.old) (W.contents writer.new)) }
+{
+    let params = cluster.params();
+    let segments = segments_of(params);
+    let left = across(params, segments.dynamic);
+    let length = extent(params, segments.dynamic, segments.symbol);
+    let count = count_senders(cluster, cycle, channel).max(1);
+    write_box(writer, left, length, channel)?;
+    let room = Room {
+        left,
+        length,
+        count,
+    };
+    write_slots(writer, cluster, cycle, channel, room)
 }
 
 /// Writes the dynamic segment of a channel, in which the slots with a sender share the room.
@@ -161,39 +423,15 @@ pub(crate) fn write_dynamic<W: Write>(
     cluster: &Cluster,
     cycle: Cycle,
     channel: Channel,
-) -> io::Result<()> {
-    let params = cluster.params();
-    let Segments {
-        dynamic,
-        symbol,
-        ..
-    } = segments_of(params);
-    if dynamic >= symbol {
-        return Ok(());
+) -> io::Result<()>
+    ensures { OnOk result
+        (Adds (IsDynamicText cluster.now cycle channel) (W.contents writer.old) (W.contents writer.new)) }
+{
+    let segments = segments_of(cluster.params());
+    let has_room = segments.dynamic < segments.symbol;
+    if has_room {
+        write_room(writer, cluster, cycle, channel)
+    } else {
+        Ok(())
     }
-    let left = across(params, dynamic);
-    let length = extent(params, dynamic, symbol);
-    write!(
-        writer,
-        "<g class='dynamic'><title>dynamic segment on {channel}</title>"
-    )?;
-    write_rect(writer, left, row_of(channel), length, CHANNEL_HEIGHT)?;
-    close_group(writer)?;
-    let count = count_senders(cluster, cycle, channel).max(1);
-    let mut index: u64 = 0;
-    for number in 1..=LAST_SLOT {
-        if let Some((slot, node)) = sender_in(cluster, cycle, number, channel) {
-            let start = left.saturating_add(index.saturating_mul(length) / count);
-            index = index.saturating_add(1);
-            let end = left.saturating_add(index.saturating_mul(length) / count);
-            let cell = Cell {
-                slot,
-                node,
-                left: start,
-                length: end.saturating_sub(start).max(1),
-            };
-            write_slot(writer, cluster, cycle, channel, cell)?;
-        }
-    }
-    Ok(())
 }

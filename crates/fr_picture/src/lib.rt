@@ -13,14 +13,16 @@
 //! # Definitions
 //!
 //! - `Places`, `Frames`: places in a picture; its front, with the style, the heading, the segments and the names.
-//! - `Owners`, `Guards`: the elements of the static slots, and the rows of the guardians.
+//! - `Owners`, `Dynamics`, `Guards`: the elements of the static slots, those of the dynamic slots, and the rows of the
+//!   guardians.
 //! - `Schedules`: the picture.
 //!
 //! # Inner workings
 //!
 //! A picture is written part by part: the front (`frame`), the static slots by the sender table (`owners`), the dynamic
-//! segment (`dynamics`, `ranges`), and the guardians' intervals (`guards`). The clause gives the text of each part but
-//! the dynamic segment's, which is gathered before.
+//! segments (`dynamics`) with the ranges of their slots (`ranges`), and the guardians' intervals (`guards`). The clause
+//! gives the text of each part but the ranges', which are gathered before, and leaves free where the box of a dynamic
+//! slot lies.
 #![tactic(auto)]
 
 mod dynamics;

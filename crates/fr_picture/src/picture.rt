@@ -24,15 +24,13 @@ use std::alloc::Global;
 use std::io;
 use std::io::{Read, Write};
 
-/// Writes the dynamic segments of both channels.
-fn write_dynamics(
+/// Writes the ranges of the dynamic slots of both channels.
+fn write_all_ranges(
     alloc: Global,
     text: &mut Vec<u8>,
     cluster: &Cluster,
     cycle: Cycle,
 ) -> io::Result<()> {
-    write_dynamic(text, cluster, cycle, Channel::A)?;
-    write_dynamic(text, cluster, cycle, Channel::B)?;
     match openings_of(alloc, cluster) {
         Ok(openings) => {
             write_ranges(text, cluster, &openings, cycle, Channel::A)?;
@@ -42,12 +40,12 @@ fn write_dynamics(
     }
 }
 
-/// Returns the elements of the dynamic segments.
-fn dynamics_of(alloc: Global, cluster: &Cluster, cycle: Cycle) -> Result<Vec<u8>, BenchError>
+/// Returns the ranges of the dynamic slots of both channels.
+fn ranges_of(alloc: Global, cluster: &Cluster, cycle: Cycle) -> Result<Vec<u8>, BenchError>
     ensures refused { IfErr result (λ e. e ≡ refusal.Memory) }
 {
     let mut text = Vec::new(alloc);
-    match write_dynamics(alloc, &mut text, cluster, cycle) {
+    match write_all_ranges(alloc, &mut text, cluster, cycle) {
         Ok(()) => Ok(text),
         // A list of bytes takes no more only if an allocation fails.
         Err(_) => Err(BenchError::Memory),
@@ -72,12 +70,12 @@ fn write_bytes<W: Write>(writer: &mut W, bytes: &[u8]) -> io::Result<()>
     writer.write_all(bytes)
 }
 
-/// Writes the picture of a cycle, with these elements of the dynamic segments.
+/// Writes the picture of a cycle, with these ranges of its dynamic slots.
 fn write_picture<W: Write>(
     writer: &mut W,
     cluster: &Cluster,
     cycle: Cycle,
-    dynamics: &[u8],
+    ranges: &[u8],
     guardian: &Guardian,
 ) -> io::Result<()>
     requires { guardian.now ≡ cluster.now }
@@ -86,7 +84,9 @@ fn write_picture<W: Write>(
 {
     write_front(writer, cluster, cycle)?;
     write_owners(writer, cluster, cycle)?;
-    write_bytes(writer, dynamics)?;
+    write_dynamic(writer, cluster, cycle, Channel::A)?;
+    write_dynamic(writer, cluster, cycle, Channel::B)?;
+    write_bytes(writer, ranges)?;
     write_guards(writer, guardian, cycle, cluster.nodes())?;
     close_picture(writer)
 }
@@ -105,10 +105,10 @@ pub fn picture_of(alloc: Global, cluster: &Cluster, cycle: Cycle) -> Result<Vec<
     ensures picture { IfOk result (λ text. IsPicture cluster.now cycle text.items) }
     ensures refused { IfErr result (λ e. e ≡ refusal.Memory) }
 {
-    let dynamics = dynamics_of(alloc, cluster, cycle)?;
+    let ranges = ranges_of(alloc, cluster, cycle)?;
     let guardian = guardian_of(alloc, cluster)?;
     let mut text = Vec::new(alloc);
-    match write_picture(&mut text, cluster, cycle, dynamics.as_slice(), &guardian) {
+    match write_picture(&mut text, cluster, cycle, ranges.as_slice(), &guardian) {
         Ok(()) => Ok(text),
         // A list of bytes takes no more only if an allocation fails.
         Err(_) => Err(BenchError::Memory),
