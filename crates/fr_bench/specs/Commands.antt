@@ -1,5 +1,5 @@
 -- What each command of the program does: the text that it reads, and the text that it prints (project-defined).
-use Rattle.std.specs.Prelude.{ℕ, List, Option, Some, None, IfSome, Result, Ok, Err}
+use Rattle.std.specs.Prelude.{ℕ, List, Option, Result, Ok, Err}
 use Rattle.fr_bench.specs.Audits.{Finds}
 use Rattle.fr_bench.specs.declared.command.Source.{Source}
 use Rattle.fr_bench.specs.declared.command.Source.TheVariants as source
@@ -14,6 +14,7 @@ use Rattle.fr_cli.specs.declared.command.Order.TheVariants as order
 use Rattle.fr_commands.specs.Checks.{Checks, Plans}
 use Rattle.fr_commands.specs.Midpoints.{Midpoints}
 use Rattle.fr_files.specs.declared.error.BenchError.{BenchError}
+use Rattle.fr_files.specs.Inputs.{ForText}
 use Rattle.fr_trace.specs.declared.error.TraceError.{TraceError}
 
 -- ---- the task of a command
@@ -40,10 +41,10 @@ EndsAsText Ends (Ok done) = Ends (Ok done)
 EndsAsText Ends (Err (failure.Text e)) = Ends (Err e)
 EndsAsText Ends (Err e) = ⊥
 
--- The command reads this text, where it is known, and what the writer held becomes what it holds then.
+-- The command reads this text, or some text if it isn't known, and what the writer held becomes what it holds then.
 abbrev pub Prints : TextCommand → Option (List ℕ) → Option (List ℕ) → Option (List ℕ) → Result (Unit {0}) BenchFailure
     → Type 0
 Prints command.Audit text old new result = EndsAsAudit (Finds text old new) result
-Prints command.Check text old new result = IfSome text (λ bytes. EndsAsText (Checks bytes old new) result)
-Prints command.Plan text old new result = IfSome text (λ bytes. EndsAsText (Plans bytes old new) result)
-Prints command.Midpoint text old new result = IfSome text (λ bytes. EndsAsText (Midpoints bytes old new) result)
+Prints command.Check text old new result = ForText text (λ bytes. EndsAsText (Checks bytes old new) result)
+Prints command.Plan text old new result = ForText text (λ bytes. EndsAsText (Plans bytes old new) result)
+Prints command.Midpoint text old new result = ForText text (λ bytes. EndsAsText (Midpoints bytes old new) result)

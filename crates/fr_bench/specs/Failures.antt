@@ -1,9 +1,19 @@
--- The exit status of each of the program's failures (project-defined).
-use Rattle.std.specs.Prelude.{ℕ}
+-- The printed text and the exit status of each of the program's failures (project-defined).
+use Rattle.std.specs.Prelude.{ℕ, List, codes, ◌++◌}
 use Rattle.fr_bench.specs.declared.failure.BenchFailure.{BenchFailure}
-use Rattle.fr_bench.specs.declared.failure.BenchFailure.TheVariants.{Words}
-use Rattle.fr_cli.specs.Commands.{status_of_words}
+use Rattle.fr_bench.specs.declared.failure.BenchFailure.TheVariants as failure
+use Rattle.fr_cli.specs.Commands.{order_error_text, status_of_words}
+use Rattle.fr_files.specs.ErrorNames.{bench_error_text}
+use Rattle.fr_threads.specs.ErrorNames.{outcome_error_text}
+use Rattle.fr_trace.specs.ErrorNames.{trace_error_text}
 
 abbrev pub status_of : BenchFailure → ℕ
-status_of (Words error) = status_of_words error
+status_of (failure.Words error) = status_of_words error
 status_of _ = 1
+
+-- The line on standard error, without its line feed. Every failure but words that are no command is a refusal.
+abbrev pub failure_text : BenchFailure → List ℕ
+failure_text (failure.Words e) = order_error_text e
+failure_text (failure.Audit e) = codes "refused " ++ trace_error_text e
+failure_text (failure.Text e) = codes "refused " ++ bench_error_text e
+failure_text (failure.Run e) = codes "refused " ++ outcome_error_text e

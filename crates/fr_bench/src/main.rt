@@ -19,8 +19,8 @@
 //!
 //! # Definitions
 //!
-//! - `Audits`, `Commands`, `Failures`: the bytes that `audit` reads; what each command does; the exit status of each
-//!   failure.
+//! - `Audits`, `Commands`, `Failures`: the bytes that `audit` reads; what each command does; the text and the exit
+//!   status of each failure.
 #![tactic(auto)]
 
 mod audit;
@@ -95,7 +95,7 @@ fn run<R: Env + Files + Input + Print + AllocGlobal + Threads + Wait + Clock + S
     rt: &R,
 ) -> Result<(), BenchFailure> {
     let words = words_given(rt)?;
-    let texts: Vec<&str> = texts_of(rt.alloc(), &words)?;
+    let texts: Vec<&str> = texts_of(rt.alloc(), words.as_slice())?;
     carry_out(rt, &task_of(&order(rt.alloc(), texts.as_slice())?))
 }
 

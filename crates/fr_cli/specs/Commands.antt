@@ -83,3 +83,8 @@ order_error_of _ = refusal.Usage
 abbrev pub status_of_words : OrderError → ℕ
 status_of_words refusal.Usage = 2
 status_of_words refusal.Memory = 1
+
+-- the printed text of the refusal
+abbrev pub order_error_text : OrderError → List ℕ
+order_error_text refusal.Usage = codes "usage"
+order_error_text refusal.Memory = codes "refused Memory"

@@ -6,18 +6,34 @@ ghost use Rattle.fr_cli.specs.declared.error.OrderError.TheVariants as refusal;
 
 use clap::error::ErrorKind;
 use std::alloc::AllocError;
-use thiserror::Error;
+use std::error::Error;
+use std::fmt;
 
 /// Reasons to refuse words (project-defined). Printed, it is the line on standard error.
-#[derive(Clone, Copy, Debug, Drop, PartialEq, Eq, Error)]
+#[derive(Clone, Copy, Debug, Drop, PartialEq, Eq)]
 pub enum OrderError {
     /// The words are no command: a word is unknown, too many, missing, or out of its range.
-    #[error("usage")]
     Usage,
     /// An allocation failed.
-    #[error("refused Memory")]
     Memory,
 }
+
+impl fmt::Display for OrderError {
+    ghost use Rattle.std.specs.Prelude.{Some};
+    ghost use Rattle.fr_cli.specs.Commands.{order_error_text};
+
+    ghost output = { λ error. Some (order_error_text error) };
+
+    /// Writes the line on standard error, without its line feed.
+    fn fmt<W: fmt::Write>(&self, f: &mut fmt::Formatter<W>) -> fmt::Result {
+        match self {
+            OrderError::Usage => write!(f, "usage"),
+            OrderError::Memory => write!(f, "refused Memory"),
+        }
+    }
+}
+
+impl Error for OrderError {}
 
 impl OrderError {
     /// Returns the program's exit status: 2 for words that are no command, 1 if an allocation fails.

@@ -3,7 +3,7 @@
 //!
 //! ```text
 //! let words = words_given(&rt)?;
-//! let texts = texts_of(rt.alloc(), &words)?;
+//! let texts = texts_of(rt.alloc(), words.as_slice())?;
 //! bench::order(alloc, &["plan", "cluster.toml"])?; // command::Order::Plan("cluster.toml")
 //! bench::order(alloc, &["audit", "trace"]); // Err(OrderError::Usage)
 //! view::order(alloc, &["frames", "--until-fault"])?; // ViewOrder::Frames
@@ -16,7 +16,7 @@
 //!
 //! # Definitions
 //!
-//! - `Commands`: the parts of commands that programs share; the exit status of words that are no command.
+//! - `Commands`: the parts of commands that programs share; the printed text and the exit status of a refusal.
 //! - `BenchOrders`, `ViewOrders`, `WorldCommands`, `MonitorCommands`: the words that are an order of `fr_bench`, an
 //!   order of `fr_view`, a command of `fr_world`, a command of `fr_monitor`.
 //!

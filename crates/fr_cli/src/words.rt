@@ -1,4 +1,8 @@
 //! The words after the program's name, from the system.
+ghost use Rattle.std.specs.Prelude.{◌≡◌, IfErr, IfOk, map};
+ghost use Rattle.std.specs.String.{string_bytes};
+ghost use Rattle.fr_cli.specs.declared.error.OrderError.TheVariants as refusal;
+
 use crate::error::OrderError;
 use std::alloc::Global;
 use std::rt::Env;
@@ -15,7 +19,16 @@ pub fn words_given<R: Env + AllocGlobal>(rt: &R) -> Result<Vec<String>, OrderErr
     }
 }
 
-/// Returns the words as texts. Refused with `Memory` alone.
-pub fn texts_of(alloc: Global, words: &Vec<String>) -> Result<Vec<&str>, OrderError> {
-    Ok(words.iter().map(|word| word.as_str()).collect(alloc)?)
+/// Returns the words as texts, in their order. Refused with `Memory` alone.
+pub fn texts_of(alloc: Global, words: &[String]) -> Result<Vec<&str>, OrderError>
+    ensures texts { IfOk result (λ texts. map (λ text. text.now) texts.items ≡ map string_bytes words.now) }
+    ensures refused { IfErr result (λ e. e ≡ refusal.Memory) }
+{
+    let mut texts = Vec::new(alloc);
+    for word in words {
+        if texts.push(word.as_str()).is_err() {
+            return Err(OrderError::Memory);
+        }
+    }
+    Ok(texts)
 }

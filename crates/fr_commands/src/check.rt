@@ -1,6 +1,6 @@
 //! `fr_bench check`.
-ghost use Rattle.std.specs.Prelude.{IfSome};
 ghost use Rattle.fr_commands.specs.Checks.{Checks};
+ghost use Rattle.fr_files.specs.Inputs.{ForText};
 
 use fr_files::cluster_file::cluster_of;
 use fr_files::error::BenchError;
@@ -19,7 +19,7 @@ pub fn check_text<R: Read, W: Write>(
     reader: &mut R,
     writer: &mut W,
 ) -> Result<(), BenchError>
-    ensures { IfSome (R.remaining reader.old)
+    ensures { ForText (R.remaining reader.old)
         (λ text. Checks text (W.contents writer.old) (W.contents writer.new) result) }
 {
     let cluster = cluster_of(alloc, reader)?;

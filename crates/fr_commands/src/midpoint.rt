@@ -1,7 +1,8 @@
 //! `fr_bench midpoint`.
-ghost use Rattle.std.specs.Prelude.{IfSome, OnOk};
+ghost use Rattle.std.specs.Prelude.{OnOk};
 ghost use Rattle.std.specs.Io.KnownBytes.{Appends};
 ghost use Rattle.fr_commands.specs.Midpoints.{Midpoints, midpoint_line};
+ghost use Rattle.fr_files.specs.Inputs.{ForText};
 
 use crate::numbers::numbers_of;
 use fr_files::error::BenchError;
@@ -48,7 +49,7 @@ pub fn midpoint_text<R: Read, W: Write>(
     reader: &mut R,
     writer: &mut W,
 ) -> Result<(), BenchError>
-    ensures { IfSome (R.remaining reader.old)
+    ensures { ForText (R.remaining reader.old)
         (λ text. Midpoints text (W.contents writer.old) (W.contents writer.new) result) }
 {
     let text = read_up_to(alloc, reader, MOST_BYTES)?;

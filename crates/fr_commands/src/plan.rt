@@ -1,5 +1,5 @@
 //! `fr_bench plan`.
-ghost use Rattle.std.specs.Prelude.{◌≡◌, ◌<◌, ◌≤◌, length, true, OnOk, IfSome};
+ghost use Rattle.std.specs.Prelude.{◌≡◌, ◌<◌, ◌≤◌, length, true, OnOk};
 ghost use Rattle.fr_commands.specs.Checks.{Plans};
 ghost use Rattle.std.specs.Io.KnownBytes.{Appends};
 ghost use Rattle.std.specs.List.{flat_map};
@@ -10,6 +10,7 @@ ghost use Rattle.fr_slots.specs.Admission.{letter_of};
 ghost use Rattle.fr_slots.specs.Parameters.{is_static_slot};
 ghost use Rattle.fr_commands.specs.PlanText.{guard_line, IsGuardText, AreCycleTexts, AreGuardTexts, IsPlanText, Adds};
 ghost use Rattle.fr_slots.specs.Numbers.{cycle_count};
+ghost use Rattle.fr_files.specs.Inputs.{ForText};
 ghost use Rattle.fr_schedule.specs.Clusters.{IsCluster};
 
 use crate::line::{LastNumbers, write_line};
@@ -358,7 +359,7 @@ pub fn plan_text<R: Read, W: Write>(
     reader: &mut R,
     writer: &mut W,
 ) -> Result<(), BenchError>
-    ensures { IfSome (R.remaining reader.old)
+    ensures { ForText (R.remaining reader.old)
         (λ text. Plans text (W.contents writer.old) (W.contents writer.new) result) }
 {
     let cluster = cluster_of(alloc, reader)?;

@@ -154,6 +154,7 @@ impl<L: Ledger> Counted<L> {
         ensures accepted { OnOk result
             (self.new.interface ≡ with_entry self.old.interface (fetch_entry self.old.interface window.now)) }
         ensures refused { OnErr result (self.new.interface ≡ self.old.interface) }
+        ensures kept { OnErr result (offer.new ≡ offer.old) }
     {
         self.interface.fetch_into(window, offer)
     }
@@ -330,7 +331,9 @@ impl<L: Ledger> Desk<L> {
         gate: &G,
         window: &Window,
         offer: &mut Offer,
-    ) -> Result<(), SlotError> {
+    ) -> Result<(), SlotError>
+        ensures kept { OnErr result (offer.new ≡ offer.old) }
+    {
         pass(gate, Actor::Controller(self.node), Side::Before);
         let mut counted = self.lock.lock(rt);
         pass(gate, Actor::Controller(self.node), Side::Inside);

@@ -384,7 +384,6 @@ impl Wire {
     /// Makes the bus's seal, once all nodes have put. Returns `Stopped`, or the error of the bus.
     ///
     /// It passes the gate before it waits, and before it returns.
-    /// It passes the gate before it waits, and before it answers.
     pub fn seal<R: Wait + Clock, G: Gate>(&self, rt: &R, gate: &G) -> Result<(), WireError> {
         pass(gate, Actor::Bus, Side::Before);
         let answer = self.seal_all(rt);

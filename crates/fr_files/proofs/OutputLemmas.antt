@@ -1,11 +1,13 @@
 -- The end of a command that reads a cluster file and hands a text to the writer.
-use Rattle.std.proofs.Common.{◌≡◌, ℕ, List, Option, Some, None, Result, Ok, Err, OnOk, IfErr, IfSome, refl, sym, subst}
+use Rattle.std.proofs.Common.{◌≡◌, ℕ, List, Option, Some, None, Result, Ok, Err, OnOk, IfErr, refl, sym, subst}
 use Rattle.std.specs.Prelude.{OnErr}
 use Rattle.std.specs.Io.KnownBytes.{Appends, append_known}
-use Rattle.std.proofs.KnownBytes.{Appends-trans}
+use Rattle.std.proofs.KnownBytes.{Appends-trans, Keeps-refl}
+use Rattle.fr_files.proofs.InputLemmas.{for_text_map}
 use Rattle.fr_files.specs.ClusterFiles.{IsClusterOf, IsDescribed, Tells}
 use Rattle.fr_files.specs.declared.error.BenchError.{BenchError}
 use Rattle.fr_files.specs.declared.error.BenchError.TheVariants as error
+use Rattle.fr_files.specs.Inputs.{ForText}
 use Rattle.fr_files.specs.Outputs.{AppendsFront, FallsShort, IsCut}
 use Rattle.fr_schedule.specs.Descriptions.{Description}
 
@@ -37,13 +39,39 @@ tells_text IsWritten text d old new words (Err e) is right written refused short
 -- the text of a cluster was handed to the writer
 pub tells_written : (IsWritten : Description → Option (List ℕ) → Option (List ℕ) → Type 0) (known : Option (List ℕ))
     (d : Description) (old new : Option (List ℕ)) (words : List ℕ) (r : Result (Unit {0}) BenchError)
-    → IfSome known (λ text. IsClusterOf text (Ok d))
+    → ForText known (λ text. IsClusterOf text (Ok d))
     → ((whole : Option (List ℕ)) → Appends old whole words → IsWritten d old whole) → OnOk r (Appends old new words)
     → IfErr r (λ e. e ≡ error.Write) → OnErr r (FallsShort old new words)
-    → IfSome known (λ text. Tells IsWritten text old new r)
-tells_written IsWritten None d old new words r is right written refused short = tt
-tells_written IsWritten (Some text) d old new words r is right written refused short =
-    tells_text IsWritten text d old new words r is right written refused short
+    → ForText known (λ text. Tells IsWritten text old new r)
+tells_written IsWritten known d old new words r is right written refused short =
+    for_text_map known (λ text. IsClusterOf text (Ok d)) (λ text. Tells IsWritten text old new r)
+    (λ text here. tells_text IsWritten text d old new words r here right written refused short) is
+
+tells_first : (IsWritten : Description → Option (List ℕ) → Option (List ℕ) → Type 0) (old : Option (List ℕ))
+    (text : List ℕ) (e : BenchError) → IsClusterOf text (Err e) → Tells IsWritten text old old (Err e)
+tells_first IsWritten old text error.TooLong is = (is, Keeps-refl old)
+tells_first IsWritten old text (error.Config e) is = (is.0, is.1, Keeps-refl old)
+tells_first IsWritten old text error.Read is = Keeps-refl old
+tells_first IsWritten old text error.Memory is = Keeps-refl old
+tells_first IsWritten old text error.Write is = absurd is
+tells_first IsWritten old text error.BadNumber is = absurd is
+tells_first IsWritten old text (error.Midpoint e) is = absurd is
+
+-- there is no cluster, and nothing was handed to the writer
+pub tells_refused : (IsWritten : Description → Option (List ℕ) → Option (List ℕ) → Type 0) (known old : Option (List ℕ))
+    (e : BenchError) → ForText known (λ text. IsClusterOf text (Err e))
+    → ForText known (λ text. Tells IsWritten text old old (Err e))
+tells_refused IsWritten known old e is =
+    for_text_map known (λ text. IsClusterOf text (Err e)) (λ text. Tells IsWritten text old old (Err e))
+    (λ text here. tells_first IsWritten old text e here) is
+
+-- an allocation failed, and nothing was handed to the writer
+pub tells_memory : (IsWritten : Description → Option (List ℕ) → Option (List ℕ) → Type 0) (known old : Option (List ℕ))
+    (d : Description) → ForText known (λ text. IsClusterOf text (Ok d))
+    → ForText known (λ text. Tells IsWritten text old old (Err error.Memory))
+tells_memory IsWritten known old d is =
+    for_text_map known (λ text. IsClusterOf text (Ok d)) (λ text. Tells IsWritten text old old (Err error.Memory))
+    (λ text here. Keeps-refl old) is
 
 -- a text of which bytes are missing
 pub short_front : (old new : Option (List ℕ)) (text : List ℕ) → FallsShort old new text → AppendsFront old new text

@@ -1,6 +1,6 @@
 //! A cluster file, read as a cluster.
-ghost use Rattle.std.specs.Prelude.{IfSome};
 ghost use Rattle.fr_files.specs.ClusterFiles.{IsClusterIn, IsClusterOf};
+ghost use Rattle.fr_files.specs.Inputs.{ForText};
 
 use crate::error::BenchError;
 use crate::input::read_up_to;
@@ -28,7 +28,7 @@ fn cluster_in(alloc: Global, bytes: &[u8]) -> Result<Cluster, BenchError>
 /// Refused with `TooLong` for more than 1,048,576 bytes, then with the first fault of the file. A file that isn't UTF-8
 /// is refused with `Toml`. `Read` comes if the reader fails, and `Memory` if an allocation fails.
 pub fn cluster_of<R: Read>(alloc: Global, reader: &mut R) -> Result<Cluster, BenchError>
-    ensures { IfSome (R.remaining reader.old) (λ text. IsClusterOf text result) }
+    ensures { ForText (R.remaining reader.old) (λ text. IsClusterOf text result) }
 {
     // The limit is met while reading, so a file that is too long and no TOML is `TooLong`. Without numbers `TooLong`
     // means the file; with two numbers it means the frame of a buffer.

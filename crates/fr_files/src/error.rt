@@ -4,6 +4,7 @@ ghost use Rattle.fr_files.specs.ClusterFiles.{given_of};
 ghost use Rattle.fr_files.specs.declared.error.BenchError.TheVariants as refusal;
 
 use fr_midpoint::ranks::MidpointError;
+use fr_params::error::ParamError;
 use fr_schedule::error::ConfigError;
 use std::error::Error;
 use std::fmt;
@@ -30,9 +31,10 @@ pub enum BenchError {
 }
 
 impl fmt::Display for BenchError {
+    ghost use Rattle.std.specs.Prelude.{Some};
     ghost use Rattle.fr_files.specs.ErrorNames.{bench_error_text};
 
-    ghost output = { bench_error_text };
+    ghost output = { λ error. Some (bench_error_text error) };
 
     /// Writes the error's name, or the error of the crate below.
     fn fmt<W: fmt::Write>(&self, f: &mut fmt::Formatter<W>) -> fmt::Result {
@@ -42,8 +44,60 @@ impl fmt::Display for BenchError {
             BenchError::Write => write!(f, "Write"),
             BenchError::Memory => write!(f, "Memory"),
             BenchError::BadNumber => write!(f, "BadNumber"),
-            BenchError::Config(error) => write!(f, "{error}"),
+            BenchError::Config(error) => write!(f, "{}", ConfigText(*error)),
             BenchError::Midpoint(error) => write!(f, "{error}"),
+        }
+    }
+}
+
+/// The text of a parameter's error.
+#[derive(Clone, Copy)]
+struct ParamText(ParamError);
+
+impl fmt::Display for ParamText {
+    ghost use Rattle.std.specs.Prelude.{Some};
+    ghost use Rattle.fr_files.specs.ErrorNames.{param_error_text};
+
+    ghost output = { λ text. Some (param_error_text text.0) };
+
+    /// Writes the name, and the key at fault if there is one.
+    fn fmt<W: fmt::Write>(&self, f: &mut fmt::Formatter<W>) -> fmt::Result {
+        match self.0 {
+            ParamError::Missing(key) => write!(f, "Missing {key}"),
+            ParamError::NotANumber(key) => write!(f, "NotANumber {key}"),
+            ParamError::OutOfRange(key) => write!(f, "OutOfRange {key}"),
+            ParamError::CycleSum => write!(f, "CycleSum"),
+        }
+    }
+}
+
+// The texts that the crates below derive have no clause.
+/// The text of a cluster file's error.
+#[derive(Clone, Copy)]
+struct ConfigText(ConfigError);
+
+impl fmt::Display for ConfigText {
+    ghost use Rattle.std.specs.Prelude.{Some};
+    ghost use Rattle.fr_files.specs.ErrorNames.{config_error_text};
+
+    ghost output = { λ text. Some (config_error_text text.0) };
+
+    /// Writes the name, and the place of the fault.
+    fn fmt<W: fmt::Write>(&self, f: &mut fmt::Formatter<W>) -> fmt::Result {
+        match self.0 {
+            ConfigError::Toml => write!(f, "Toml"),
+            ConfigError::Params(error) => write!(f, "Params {}", ParamText(error)),
+            ConfigError::BadGuard => write!(f, "BadGuard"),
+            ConfigError::TooManyNodes => write!(f, "TooManyNodes"),
+            ConfigError::BadNode(node) => write!(f, "BadNode {node}"),
+            ConfigError::BadBuffer(node, buffer) => write!(f, "BadBuffer {node} {buffer}"),
+            ConfigError::NotOwned(node, buffer) => write!(f, "NotOwned {node} {buffer}"),
+            ConfigError::DynamicBoth(node, buffer) => write!(f, "DynamicBoth {node} {buffer}"),
+            ConfigError::Overlap(slot, channel, cycle) => {
+                write!(f, "Overlap {slot} {channel} {cycle}")
+            }
+            ConfigError::TooLong(node, buffer) => write!(f, "TooLong {node} {buffer}"),
+            ConfigError::Memory => write!(f, "Memory"),
         }
     }
 }

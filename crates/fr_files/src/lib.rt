@@ -11,7 +11,8 @@
 //!
 //! # Definitions
 //!
-//! - `Inputs`, `Outputs`: the reading of an input; what a failing writer has taken of an output.
+//! - `Inputs`, `Outputs`: the reading of an input, whose bytes may be unknown; what a failing writer has taken of an
+//!   output.
 //! - `ClusterFiles`, `NodeTexts`: the reading of a cluster file, and the end of a command that reads one; the texts of
 //!   nodes, one after another.
 //! - `ErrorNames`: the printed text of an error.

@@ -9,7 +9,8 @@ use std::io::{self, ErrorKind, Write};
 
 /// Hands the whole text to the writer (project-defined).
 ///
-/// An interrupted call is repeated. Fails with the writer's error, or with `WriteZero` if the writer takes no byte.
+/// An interrupted call is repeated. Fails with the writer's error, with `WriteZero` if the writer takes no byte, and
+/// with `TimedOut` after 2^64 - 1 calls.
 ///
 /// It has the task of `Write::write_all`, whose contract doesn't state what a failing writer has taken.
 pub fn write_text<W: Write>(writer: &mut W, text: &[u8]) -> io::Result<()>

@@ -1,7 +1,8 @@
 //! The text of a cluster's latencies.
 
-ghost use Rattle.std.specs.Prelude.{◌≡◌, ◌∷◌, ◌*◌, true, slice_get, Some, IfSome, OnOk};
+ghost use Rattle.std.specs.Prelude.{◌≡◌, ◌∷◌, ◌*◌, true, slice_get, Some, OnOk};
 ghost use Rattle.std.specs.Io.KnownBytes.{Appends};
+ghost use Rattle.fr_files.specs.Inputs.{ForText};
 ghost use Rattle.fr_files.specs.NodeTexts.{of_nodes};
 ghost use Rattle.fr_lines.specs.Parts.{optional_number};
 ghost use Rattle.fr_text.specs.Writing.{Writes};
@@ -198,7 +199,7 @@ pub fn show_latencies<R: Read, W: Write>(
     reader: &mut R,
     writer: &mut W,
 ) -> Result<(), BenchError>
-    ensures { IfSome (R.remaining reader.old)
+    ensures { ForText (R.remaining reader.old)
         (λ text. ShowsLatencies text (W.contents writer.old) (W.contents writer.new) result) }
 {
     let cluster = cluster_of(alloc, reader)?;

@@ -1,11 +1,12 @@
 //! The text of a way to the latest start of a slot.
 
-ghost use Rattle.std.specs.Prelude.{◌≡◌, ◌∷◌, [], ◌++◌, IfErr, IfOk, IfSome};
+ghost use Rattle.std.specs.Prelude.{◌≡◌, ◌∷◌, [], ◌++◌, IfErr, IfOk};
 ghost use Rattle.std.specs.Fmt.{decimal};
 ghost use Rattle.std.specs.List.{flat_map};
 ghost use Rattle.fr_lines.specs.Spelling.{line_text};
 ghost use Rattle.fr_text.specs.Writing.{Writes};
 ghost use Rattle.fr_files.specs.declared.error.BenchError.TheVariants as refusal;
+ghost use Rattle.fr_files.specs.Inputs.{ForText};
 ghost use Rattle.fr_slots.specs.Parameters.{is_static_slot};
 ghost use Rattle.fr_latency.specs.WayText.{IsTextBy, ShowsWay, frame_line};
 
@@ -85,7 +86,7 @@ pub fn show_way<R: Read, W: Write>(
     channel: Channel,
     writer: &mut W,
 ) -> Result<(), BenchError>
-    ensures { IfSome (R.remaining reader.old)
+    ensures { ForText (R.remaining reader.old)
         (λ text. ShowsWay slot channel text (W.contents writer.old) (W.contents writer.new) result) }
 {
     let cluster = cluster_of(alloc, reader)?;

@@ -1,3 +1,4 @@
+pub mod ErrorNames
 pub mod Midpoint
 pub mod Refusals
 pub mod Selection

@@ -13,6 +13,7 @@
 //! # Definitions
 //!
 //! - `Midpoint`, `Refusals`: the midpoint by ranks.
+//! - `ErrorNames`: the printed names of refusals.
 //!
 //! Modules that follow the steps of the code, for private functions, with the module that has the meaning:
 //!

@@ -1,6 +1,7 @@
 //! A midpoint, and the reasons to refuse values.
 
-use thiserror::Error;
+use std::error::Error;
+use std::fmt;
 
 /// The greatest number of values that have a midpoint (project-defined).
 pub const VALUES: usize = 15;
@@ -22,12 +23,27 @@ pub struct Midpoint {
 }
 
 /// Reasons to refuse values.
-#[derive(Clone, Copy, Debug, PartialEq, Eq, Error)]
+#[derive(Clone, Copy, Debug, PartialEq, Eq)]
 pub enum MidpointError {
     /// More than 15 values.
-    #[error("TooMany")]
     TooMany,
     /// A value more than 1,000,000 from 0.
-    #[error("TooLarge")]
     TooLarge,
 }
+
+impl fmt::Display for MidpointError {
+    ghost use Rattle.std.specs.Prelude.{Some};
+    ghost use Rattle.fr_midpoint.specs.ErrorNames.{midpoint_error_name};
+
+    ghost output = { λ error. Some (midpoint_error_name error) };
+
+    /// Writes the name.
+    fn fmt<W: fmt::Write>(&self, f: &mut fmt::Formatter<W>) -> fmt::Result {
+        match self {
+            MidpointError::TooMany => write!(f, "TooMany"),
+            MidpointError::TooLarge => write!(f, "TooLarge"),
+        }
+    }
+}
+
+impl Error for MidpointError {}

@@ -14,7 +14,7 @@
 //!
 //! # Definitions
 //!
-//! - `Failures`: the exit status of each failure of `fr_monitor`.
+//! - `Failures`: the text and the exit status of each failure of `fr_monitor`.
 #![tactic(auto)]
 
 mod failure;
@@ -71,7 +71,7 @@ fn run<R: Env + Files + Input + Print + AllocGlobal + Clock>(
     rt: &R,
 ) -> Result<bool, MonitorFailure> {
     let words = words_given(rt)?;
-    let texts: Vec<&str> = texts_of(rt.alloc(), &words)?;
+    let texts: Vec<&str> = texts_of(rt.alloc(), words.as_slice())?;
     audit(rt, &command_of(rt.alloc(), texts.as_slice())?)
 }
 

@@ -1,3 +1,4 @@
+pub mod ErrorNames
 pub mod LineText
 pub mod Monitoring
 pub mod SummaryText

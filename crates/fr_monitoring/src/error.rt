@@ -30,6 +30,12 @@ pub enum MonitorError {
 }
 
 impl fmt::Display for MonitorError {
+    ghost use Rattle.std.specs.Prelude.{Some};
+    ghost use Rattle.fr_monitoring.specs.ErrorNames.{monitor_error_text};
+
+    ghost output = { λ error. Some (monitor_error_text error) };
+
+    /// Writes the name, and the place at fault if there is one.
     fn fmt<W: fmt::Write>(&self, f: &mut fmt::Formatter<W>) -> fmt::Result {
         match self {
             MonitorError::NoClock(channel, cycle) => write!(f, "NoClock {channel} {cycle}"),

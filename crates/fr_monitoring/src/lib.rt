@@ -12,6 +12,7 @@
 //!
 //! - `LineText`, `SummaryText`: the text of a line, and of a summary.
 //! - `Monitoring`: the text of a whole recording, and the result of a command that reads one.
+//! - `ErrorNames`: the printed text of an error.
 //!
 //! # Inner workings
 //!

@@ -1,7 +1,10 @@
 -- The scenario that is read from a file.
-use Rattle.std.proofs.Common.{◌≡◌, ◌⊎◌, ℕ, List, Option, Some, None, Result, Ok, Err, subst, inl, inr}
-use Rattle.std.specs.Prelude.{IfSome}
+use Rattle.std.proofs.Common.{◌≡◌, ◌⊎◌, ℕ, List, Option, Some, Result, Ok, Err, subst, inl, inr}
 use Rattle.std.specs.Str.{IsUtf8}
+use Rattle.fr_files.proofs.InputLemmas.{for_text_map}
+use Rattle.fr_files.specs.declared.error.BenchError.{BenchError}
+use Rattle.fr_files.specs.declared.error.BenchError.TheVariants as bench
+use Rattle.fr_files.specs.Inputs.{ForText, IsReadUpTo}
 use Rattle.fr_outcome.specs.declared.file_error.FileError.{FileError}
 use Rattle.fr_outcome.specs.declared.file_error.FileError.TheVariants as refusal
 use Rattle.fr_outcome.specs.ScenarioFiles.{IsRefused, IsShort, IsScenarioIn, IsScenarioOf}
@@ -21,7 +24,25 @@ short_in text (Err (refusal.Scenario e)) short is = (short, is)
 short_in text (Err (refusal.Text e)) short is = absurd is
 
 -- the scenario of the bytes that were read is that of the text
-pub read_in : (text : Option (List ℕ)) (bytes : List ℕ) (r : Result Contents FileError)
-    → IfSome text (λ t. (bytes ≡ t) × IsShort t) → IsScenarioIn bytes r → IfSome text (λ t. IsScenarioOf t r)
-read_in None bytes r read is = tt
-read_in (Some t) bytes r read is = short_in t r read.1 (subst (λ (b : List ℕ). IsScenarioIn b r) read.0 is)
+pub read_in : (known : Option (List ℕ)) (bytes : List ℕ) (r : Result Contents FileError)
+    → ForText known (λ text. (bytes ≡ text) × IsShort text) → IsScenarioIn bytes r
+    → ForText known (λ text. IsScenarioOf text r)
+read_in known bytes r read is =
+    for_text_map known (λ text. (bytes ≡ text) × IsShort text) (λ text. IsScenarioOf text r)
+    (λ text here. short_in text r here.1 (subst (λ (b : List ℕ). IsScenarioIn b r) here.0 is)) read
+
+unread : (text : List ℕ) (e : BenchError) → IsReadUpTo 1048576 text (Err e) → IsScenarioOf text (Err (refusal.Text e))
+unread text bench.TooLong is = is
+unread text bench.Read is = tt
+unread text bench.Memory is = tt
+unread text bench.Write is = absurd is
+unread text bench.BadNumber is = absurd is
+unread text (bench.Config e) is = absurd is
+unread text (bench.Midpoint e) is = absurd is
+
+-- a text that wasn't read has no scenario
+pub not_read : (known : Option (List ℕ)) (e : BenchError) → ForText known (λ text. IsReadUpTo 1048576 text (Err e))
+    → ForText known (λ text. IsScenarioOf text (Err (refusal.Text e)))
+not_read known e is =
+    for_text_map known (λ text. IsReadUpTo 1048576 text (Err e)) (λ text. IsScenarioOf text (Err (refusal.Text e)))
+    (λ text here. unread text e here) is

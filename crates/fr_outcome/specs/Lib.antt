@@ -1,2 +1,3 @@
+pub mod ErrorNames
 pub mod OutcomeText
 pub mod ScenarioFiles

@@ -12,6 +12,7 @@
 //!
 //! - `ScenarioFiles`, `OutcomeText`: the reading of a scenario file, and the cluster's acceptance of a run with it; the
 //!   text of an outcome.
+//! - `ErrorNames`: the printed text of an error.
 #![tactic(auto)]
 
 pub mod file_error;

@@ -1,5 +1,5 @@
 //! A scenario file, read as a scenario.
-ghost use Rattle.std.specs.Prelude.{IfSome};
+ghost use Rattle.fr_files.specs.Inputs.{ForText};
 ghost use Rattle.fr_outcome.specs.ScenarioFiles.{IsScenarioIn, IsScenarioOf};
 
 use crate::file_error::FileError;
@@ -34,7 +34,7 @@ fn scenario_in(alloc: Global, bytes: &[u8]) -> Result<Scenario, FileError>
 /// isn't UTF-8 gives `BadMagic`. Returns `Read` if the reader fails, and `Memory` if an allocation fails.
 #[tactic(auto, using(crate::proofs::FileLemmas::read_in))]
 pub fn scenario_of<R: Read>(alloc: Global, reader: &mut R) -> Result<Scenario, FileError>
-    ensures { IfSome (R.remaining reader.old) (λ text. IsScenarioOf text result) }
+    ensures { ForText (R.remaining reader.old) (λ text. IsScenarioOf text result) }
 {
     let bytes = read_up_to(alloc, reader, MOST_BYTES)?;
     scenario_in(alloc, bytes.as_slice())

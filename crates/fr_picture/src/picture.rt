@@ -1,7 +1,8 @@
 //! A picture of a cycle.
 
-ghost use Rattle.std.specs.Prelude.{◌≡◌, IfErr, IfOk, IfSome, OnOk};
+ghost use Rattle.std.specs.Prelude.{◌≡◌, IfErr, IfOk, OnOk};
 ghost use Rattle.fr_files.specs.declared.error.BenchError.TheVariants as refusal;
+ghost use Rattle.fr_files.specs.Inputs.{ForText};
 ghost use Rattle.fr_picture.specs.Owners.{Adds};
 ghost use Rattle.fr_picture.specs.Schedules.{Draws, IsPicture};
 ghost use Rattle.fr_text.specs.Writing.{Writes};
@@ -124,7 +125,7 @@ pub fn show_schedule<R: Read, W: Write>(
     cycle: Cycle,
     writer: &mut W,
 ) -> Result<(), BenchError>
-    ensures { IfSome (R.remaining reader.old)
+    ensures { ForText (R.remaining reader.old)
         (λ text. Draws cycle text (W.contents writer.old) (W.contents writer.new) result) }
 {
     let cluster = cluster_of(alloc, reader)?;

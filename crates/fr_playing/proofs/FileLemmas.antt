@@ -1,6 +1,7 @@
 -- The result of `play_file`, from the results of its parts.
-use Rattle.std.proofs.Common.{ℕ, List, Option, Some, None, Ok, Err, ◌≡◌, subst}
-use Rattle.std.specs.Prelude.{IfSome}
+use Rattle.std.proofs.Common.{ℕ, List, Option, None, Ok, Err, ◌≡◌, subst}
+use Rattle.fr_files.proofs.InputLemmas.{for_text_map}
+use Rattle.fr_files.specs.Inputs.{ForText}
 use Rattle.fr_files.specs.declared.error.BenchError.TheVariants as bench
 use Rattle.fr_core.specs.Scripts.{Scripted}
 use Rattle.fr_outcome.specs.declared.file_error.FileError.{FileError}
@@ -32,10 +33,11 @@ not_read d cycles text (file.Text (bench.Config e)) is = absurd is
 not_read d cycles text (file.Text (bench.Midpoint e)) is = absurd is
 
 pub file_refused : (d : Description) (cycles : ℕ) (text : Option (List ℕ)) (e : FileError)
-    → IfSome text (λ t. IsScenarioOf t (Err e))
-    → IfSome text (λ t. IsPlayOf d cycles t (Err (failure_of_file e)))
-file_refused d cycles None e is = tt
-file_refused d cycles (Some t) e is = not_read d cycles t e is
+    → ForText text (λ t. IsScenarioOf t (Err e))
+    → ForText text (λ t. IsPlayOf d cycles t (Err (failure_of_file e)))
+file_refused d cycles text e is =
+    for_text_map text (λ t. IsScenarioOf t (Err e)) (λ t. IsPlayOf d cycles t (Err (failure_of_file e)))
+    (λ t here. not_read d cycles t e here) is
 
 -- ---- the run
 refused_by : (d : Description) (cycles : ℕ) (text : List ℕ) (e : PlayError) → IsOfRun e
@@ -53,15 +55,12 @@ refused_by d cycles text (refusal.Text bench.BadNumber) is told = absurd is
 refused_by d cycles text (refusal.Text (bench.Config e)) is told = absurd is
 refused_by d cycles text (refusal.Text (bench.Midpoint e)) is told = absurd is
 
--- the reason why there is no run with the scenario that was read
-pub unplayed : (d : Description) (cycles : ℕ) (text : Option (List ℕ)) (contents : Contents) (scripts : List Scripted)
+unplayed_in : (d : Description) (cycles : ℕ) (text : List ℕ) (contents : Contents) (scripts : List Scripted)
     (faults : List FaultLine) (e : PlayError)
-    → scripts ≡ contents.scripts → faults ≡ contents.faults → IfSome text (λ t. IsScenarioOf t (Ok contents))
-    → IsOfRun e
-    → Refuses d scripts faults cycles (refusal_of e) → IfSome text (λ t. IsPlayOf d cycles t (Err e))
-unplayed d cycles None contents scripts faults e same_scripts same_faults read kind refuses = tt
-unplayed d cycles (Some t) contents scripts faults e same_scripts same_faults read kind refuses =
-    refused_by d cycles t e kind (
+    → scripts ≡ contents.scripts → faults ≡ contents.faults → IsScenarioOf text (Ok contents) → IsOfRun e
+    → Refuses d scripts faults cycles (refusal_of e) → IsPlayOf d cycles text (Err e)
+unplayed_in d cycles text contents scripts faults e same_scripts same_faults read kind refuses =
+    refused_by d cycles text e kind (
       read.0,
       (
         contents,
@@ -71,15 +70,23 @@ unplayed d cycles (Some t) contents scripts faults e same_scripts same_faults re
       ),
     )
 
--- the run with the scenario that was read
-pub played_of : (d : Description) (cycles : ℕ) (text : Option (List ℕ)) (contents : Contents) (scripts : List Scripted)
+-- the reason why there is no run with the scenario that was read
+pub unplayed : (d : Description) (cycles : ℕ) (text : Option (List ℕ)) (contents : Contents) (scripts : List Scripted)
+    (faults : List FaultLine) (e : PlayError)
+    → scripts ≡ contents.scripts → faults ≡ contents.faults → ForText text (λ t. IsScenarioOf t (Ok contents))
+    → IsOfRun e
+    → Refuses d scripts faults cycles (refusal_of e) → ForText text (λ t. IsPlayOf d cycles t (Err e))
+unplayed d cycles text contents scripts faults e same_scripts same_faults read kind refuses =
+    for_text_map text (λ t. IsScenarioOf t (Ok contents)) (λ t. IsPlayOf d cycles t (Err e))
+    (λ t here. unplayed_in d cycles t contents scripts faults e same_scripts same_faults here kind refuses) read
+
+played_in : (d : Description) (cycles : ℕ) (text : List ℕ) (contents : Contents) (scripts : List Scripted)
     (faults : List FaultLine) (played : Played)
-    → scripts ≡ contents.scripts → faults ≡ contents.faults → IfSome text (λ t. IsScenarioOf t (Ok contents))
+    → scripts ≡ contents.scripts → faults ≡ contents.faults → IsScenarioOf text (Ok contents)
     → Refuses d scripts faults cycles None
     → IsPlayed d scripts faults cycles played → IsSettled d scripts faults cycles played
-    → IfSome text (λ t. IsPlayOf d cycles t (Ok (record { scenario = contents; played = played })))
-played_of d cycles None contents scripts faults played same_scripts same_faults read refuses is settled = tt
-played_of d cycles (Some t) contents scripts faults played same_scripts same_faults read refuses is settled =
+    → IsPlayOf d cycles text (Ok (record { scenario = contents; played = played }))
+played_in d cycles text contents scripts faults played same_scripts same_faults read refuses is settled =
     let refused : Refuses d contents.scripts contents.faults cycles None =
     subst (λ (ss : List Scripted). Refuses d ss contents.faults cycles None) same_scripts
     (subst (λ (fs : List FaultLine). Refuses d scripts fs cycles None) same_faults refuses) in
@@ -90,3 +97,16 @@ played_of d cycles (Some t) contents scripts faults played same_scripts same_fau
     subst (λ (ss : List Scripted). IsSettled d ss contents.faults cycles played) same_scripts
     (subst (λ (fs : List FaultLine). IsSettled d scripts fs cycles played) same_faults settled) in
     ((read.0, (contents, read.1, refused)), (read.1, run, compared))
+
+-- the run with the scenario that was read
+pub played_of : (d : Description) (cycles : ℕ) (text : Option (List ℕ)) (contents : Contents) (scripts : List Scripted)
+    (faults : List FaultLine) (played : Played)
+    → scripts ≡ contents.scripts → faults ≡ contents.faults → ForText text (λ t. IsScenarioOf t (Ok contents))
+    → Refuses d scripts faults cycles None
+    → IsPlayed d scripts faults cycles played → IsSettled d scripts faults cycles played
+    → ForText text (λ t. IsPlayOf d cycles t (Ok (record { scenario = contents; played = played })))
+played_of d cycles text contents scripts faults played same_scripts same_faults read refuses is settled =
+    for_text_map text (λ t. IsScenarioOf t (Ok contents))
+    (λ t. IsPlayOf d cycles t (Ok (record { scenario = contents; played = played })))
+    (λ t here. played_in d cycles t contents scripts faults played same_scripts same_faults here refuses is settled)
+    read

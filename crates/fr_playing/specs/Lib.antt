@@ -7,3 +7,4 @@ pub mod Settled
 pub mod Playing
 pub mod Refusals
 pub mod Windows
+pub mod ErrorNames

@@ -1,5 +1,5 @@
 //! The run of a scenario file.
-ghost use Rattle.std.specs.Prelude.{IfSome};
+ghost use Rattle.fr_files.specs.Inputs.{ForText};
 ghost use Rattle.fr_playing.specs.Files.{IsPlayOf};
 
 use crate::error::PlayError;
@@ -29,7 +29,7 @@ pub fn play_file<R: Read>(
     reader: &mut R,
     cycles: u16,
 ) -> Result<PlayedFile, PlayError>
-    ensures { IfSome (R.remaining reader.old) (λ text. IsPlayOf cluster.now cycles text result) }
+    ensures { ForText (R.remaining reader.old) (λ text. IsPlayOf cluster.now cycles text result) }
 {
     let scenario = scenario_of(alloc, reader)?;
     let played = play(

@@ -17,7 +17,7 @@
 //!   whole run.
 //! - `Settled`: the properties of a lockstep run in threads, which `played_is_settled` (`laws`) proves of every
 //!   single-threaded run.
-//! - `Files`, `Refusals`: the run of a scenario file, and the reasons why there is none.
+//! - `Files`, `Refusals`, `ErrorNames`: the run of a scenario file, the reasons why there is none, and their texts.
 //! - `Laws`: worlds that are led by events.
 //!
 //! # Inner workings

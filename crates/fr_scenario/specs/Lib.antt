@@ -11,3 +11,4 @@ pub mod Gathering
 pub mod GatheredFields
 pub mod ScenarioFields
 pub mod LeftFields
+pub mod ErrorNames

@@ -4,29 +4,45 @@ ghost use Rattle.std.specs.Prelude.{◌≡◌};
 ghost use Rattle.fr_scenario.specs.declared.error.ScenarioError.TheVariants as error;
 
 use std::alloc::AllocError;
-use thiserror::Error;
+use std::error::Error;
+use std::fmt;
 
 /// Reasons to reject a text as a scenario. A number is that of the line at fault, counted from 1.
-#[derive(Clone, Copy, Debug, PartialEq, Eq, Error)]
+#[derive(Clone, Copy, Debug, PartialEq, Eq)]
 pub enum ScenarioError {
     /// The first line isn't `frscenario 1` or `frscenario 2` with its line feed.
-    #[error("BadMagic")]
     BadMagic,
     /// The line has no form of the version, a number out of its range, or too many bytes.
     ///
     /// It may have 1200 bytes before its line feed. A line after the line `end` also gives this error.
-    #[error("BadLine {0}")]
     BadLine(u32),
     /// Line 4097 begins, and no line before it is `end`.
-    #[error("TooManyLines")]
     TooManyLines,
     /// The text ends before the line feed of `end`.
-    #[error("Truncated")]
     Truncated,
     /// An allocation failed.
-    #[error("Memory")]
     Memory,
 }
+
+impl fmt::Display for ScenarioError {
+    ghost use Rattle.std.specs.Prelude.{Some};
+    ghost use Rattle.fr_scenario.specs.ErrorNames.{scenario_error_text};
+
+    ghost output = { λ error. Some (scenario_error_text error) };
+
+    /// Writes the name, and the number of the line at fault if there is one.
+    fn fmt<W: fmt::Write>(&self, f: &mut fmt::Formatter<W>) -> fmt::Result {
+        match self {
+            ScenarioError::BadMagic => write!(f, "BadMagic"),
+            ScenarioError::BadLine(line) => write!(f, "BadLine {line}"),
+            ScenarioError::TooManyLines => write!(f, "TooManyLines"),
+            ScenarioError::Truncated => write!(f, "Truncated"),
+            ScenarioError::Memory => write!(f, "Memory"),
+        }
+    }
+}
+
+impl Error for ScenarioError {}
 
 impl From<AllocError> for ScenarioError {
     ghost from_gives = { λ refused given. given ≡ error.Memory };

@@ -13,8 +13,9 @@
 //!
 //! # Definitions
 //!
-//! - `Contents`, `ScenarioText`, `Spelling`, `Parts`, `Spelled`, `LineReading`, `CallReading`, `PartReading`, `Reading`:
-//!   the contents of a scenario, with the number of each fault line; its text, lines and first fault.
+//! - `Contents`, `ScenarioText`, `Spelling`, `Parts`, `Spelled`, `LineReading`, `CallReading`, `PartReading`,
+//!   `Reading`: the contents of a scenario, with the number of each fault line; its text, lines and first fault.
+//! - `ErrorNames`: the printed text of an error.
 //!
 //! Modules that follow the steps of the code, for private functions, with the module that has the meaning:
 //!

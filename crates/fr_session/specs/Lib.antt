@@ -9,3 +9,4 @@ pub mod Cuts
 pub mod TermsFields
 pub mod Laws
 pub mod Marks
+pub mod ErrorNames

@@ -22,7 +22,8 @@ pub trait BlockWriter: Write {
 
 /// Hands the text to the writer. If the writer fails, it has got a front of the text.
 ///
-/// An interrupted write is repeated. Fails with `WriteZero` if the writer takes nothing.
+/// An interrupted write is repeated. Fails with the writer's error, with `WriteZero` if the writer takes nothing, and
+/// with `TimedOut` after 2^64 - 1 writes.
 pub fn hand_on<W: Write>(writer: &mut W, text: &[u8]) -> io::Result<()>
     ensures { Hands W.contents writer.old writer.new result text.now }
 {
@@ -39,7 +40,7 @@ pub fn hand_on<W: Write>(writer: &mut W, text: &[u8]) -> io::Result<()>
             Err(error) => return Err(error),
         }
     }
-    Err(ErrorKind::Other.into())
+    Err(ErrorKind::TimedOut.into())
 }
 
 /// A reply in memory: its first line, and the lines of a block after it. In contracts, this is the list of its bytes.

@@ -1,8 +1,9 @@
 -- The result of a command that shows a run, from the results of its parts.
 use Rattle.std.proofs.Common.{◌≡◌, ◌⊎◌, ℕ, List, Option, Some, None, Ok, Err, sym, subst, inl, inr}
-use Rattle.std.specs.Prelude.{IfSome}
 use Rattle.std.specs.Io.KnownBytes.{Appends}
 use Rattle.fr_files.specs.declared.error.BenchError.TheVariants as bench
+use Rattle.fr_files.proofs.InputLemmas.{for_text_map}
+use Rattle.fr_files.specs.Inputs.{ForText}
 use Rattle.fr_files.specs.Outputs.{FallsShort}
 use Rattle.fr_outcome.specs.ScenarioFiles.{RunIsRefused}
 use Rattle.fr_playing.specs.declared.error.PlayError.{PlayError}
@@ -31,10 +32,11 @@ unshown d cycles shown text (refusal.Text (bench.Config e)) is = is
 unshown d cycles shown text (refusal.Text (bench.Midpoint e)) is = is
 
 pub unshown_of : (d : Description) (cycles : ℕ) (shown : Shown) (text : Option (List ℕ)) (e : PlayError)
-    → IfSome text (λ t. IsPlayOf d cycles t (Err e))
-    → IfSome text (λ t. Tells d cycles shown t (Err e))
-unshown_of d cycles shown None e is = tt
-unshown_of d cycles shown (Some t) e is = unshown d cycles shown t e is
+    → ForText text (λ t. IsPlayOf d cycles t (Err e))
+    → ForText text (λ t. Tells d cycles shown t (Err e))
+unshown_of d cycles shown text e is =
+    for_text_map text (λ t. IsPlayOf d cycles t (Err e)) (λ t. Tells d cycles shown t (Err e))
+    (λ t here. unshown d cycles shown t e here) is
 
 -- the errors that leave the writer unchanged
 abbrev IsNotWrite : PlayError → Type 0
@@ -73,19 +75,9 @@ not_write d cycles text (refusal.Text (bench.Midpoint e)) is = tt
 
 -- a run that wasn't executed
 pub unwritten_file : (d : Description) (cycles : ℕ) (shown : Shown) (text old new : Option (List ℕ)) (e : PlayError)
-    → IfSome text (λ t. IsPlayOf d cycles t (Err e)) → new ≡ old → Prints d cycles shown text old new (Err e)
-unwritten_file d cycles shown None old new (refusal.Text bench.Write) is same = tt
-unwritten_file d cycles shown None old new (refusal.Run e) is same = same
-unwritten_file d cycles shown None old new (refusal.Step e) is same = same
-unwritten_file d cycles shown None old new refusal.Unfinished is same = same
-unwritten_file d cycles shown None old new refusal.UnknownNode is same = same
-unwritten_file d cycles shown None old new (refusal.Scenario e) is same = same
-unwritten_file d cycles shown None old new (refusal.Text bench.Memory) is same = same
-unwritten_file d cycles shown None old new (refusal.Text bench.TooLong) is same = same
-unwritten_file d cycles shown None old new (refusal.Text bench.Read) is same = same
-unwritten_file d cycles shown None old new (refusal.Text bench.BadNumber) is same = same
-unwritten_file d cycles shown None old new (refusal.Text (bench.Config e)) is same = same
-unwritten_file d cycles shown None old new (refusal.Text (bench.Midpoint e)) is same = same
+    → ForText text (λ t. IsPlayOf d cycles t (Err e)) → new ≡ old → Prints d cycles shown text old new (Err e)
+unwritten_file d cycles shown None old new e (t, is) same =
+    unwritten d cycles shown None old new e (not_write d cycles t e is) same
 unwritten_file d cycles shown (Some t) old new e is same =
     unwritten d cycles shown (Some t) old new e (not_write d cycles t e is) same
 
@@ -98,38 +90,46 @@ unwritten_view d cycles shown text old new file e (inl memory) same =
 unwritten_view d cycles shown text old new file e (inr (unknown, none)) same =
     subst (λ (x : PlayError). Prints d cycles shown text old new (Err x)) (sym unknown) same
 
+missing_in : (d : Description) (cycles : ℕ) (shown : Shown) (text : List ℕ) (file : PlayedFile) (e : PlayError)
+    → IsPlayOf d cycles text (Ok file)
+    → (e ≡ refusal.Text bench.Memory) ⊎ ((e ≡ refusal.UnknownNode) × LacksNode shown file)
+    → Tells d cycles shown text (Err e)
+missing_in d cycles shown text file e is (inl memory) =
+    subst (λ (x : PlayError). Tells d cycles shown text (Err x)) (sym memory) tt
+missing_in d cycles shown text file e is (inr (unknown, none)) =
+    subst (λ (x : PlayError). Tells d cycles shown text (Err x)) (sym unknown) (file, is.1, none)
+
 -- a node that the cluster doesn't have, or a failed allocation
 pub node_missing : (d : Description) (cycles : ℕ) (shown : Shown) (text : Option (List ℕ)) (file : PlayedFile)
-    (e : PlayError) → IfSome text (λ t. IsPlayOf d cycles t (Ok file))
+    (e : PlayError) → ForText text (λ t. IsPlayOf d cycles t (Ok file))
     → (e ≡ refusal.Text bench.Memory) ⊎ ((e ≡ refusal.UnknownNode) × LacksNode shown file)
-    → IfSome text (λ t. Tells d cycles shown t (Err e))
-node_missing d cycles shown None file e is why = tt
-node_missing d cycles shown (Some t) file e is (inl memory) =
-    subst (λ (x : PlayError). Tells d cycles shown t (Err x)) (sym memory) tt
-node_missing d cycles shown (Some t) file e is (inr (unknown, none)) =
-    subst (λ (x : PlayError). Tells d cycles shown t (Err x)) (sym unknown) (file, is.1, none)
+    → ForText text (λ t. Tells d cycles shown t (Err e))
+node_missing d cycles shown text file e is why =
+    for_text_map text (λ t. IsPlayOf d cycles t (Ok file)) (λ t. Tells d cycles shown t (Err e))
+    (λ t here. missing_in d cycles shown t file e here why) is
 
 -- the text of the run was written
 pub shown_of : (d : Description) (cycles : ℕ) (shown : Shown) (text old new : Option (List ℕ)) (file : PlayedFile)
     (written idle : List ℕ)
-    → IfSome text (λ t. IsPlayOf d cycles t (Ok file)) → IsShown shown file written → Appends old new written
+    → ForText text (λ t. IsPlayOf d cycles t (Ok file)) → IsShown shown file written → Appends old new written
     → idle ≡ idle_lines file
-    → IfSome text (Adds d cycles shown old new idle)
-shown_of d cycles shown None old new file written idle is of_run added told = tt
-shown_of d cycles shown (Some t) old new file written idle is of_run added told =
-    (file, written, is.1, of_run, added, told)
+    → ForText text (Adds d cycles shown old new idle)
+shown_of d cycles shown text old new file written idle is of_run added told =
+    for_text_map text (λ t. IsPlayOf d cycles t (Ok file)) (Adds d cycles shown old new idle)
+    (λ t here. (file, written, here.1, of_run, added, told)) is
 
 -- a front of the text of the run was written
 pub shown_part : (d : Description) (cycles : ℕ) (shown : Shown) (text old new : Option (List ℕ)) (file : PlayedFile)
     (written : List ℕ)
-    → IfSome text (λ t. IsPlayOf d cycles t (Ok file)) → IsShown shown file written → FallsShort old new written
-    → IfSome text (AddsFront d cycles shown old new)
-shown_part d cycles shown None old new file written is of_run short = tt
-shown_part d cycles shown (Some t) old new file written is of_run short = (file, written, is.1, of_run, short)
+    → ForText text (λ t. IsPlayOf d cycles t (Ok file)) → IsShown shown file written → FallsShort old new written
+    → ForText text (AddsFront d cycles shown old new)
+shown_part d cycles shown text old new file written is of_run short =
+    for_text_map text (λ t. IsPlayOf d cycles t (Ok file)) (AddsFront d cycles shown old new)
+    (λ t here. (file, written, here.1, of_run, short)) is
 
 -- the cluster accepts the run
 pub can_be_had : (d : Description) (cycles : ℕ) (text : Option (List ℕ)) (file : PlayedFile)
-    → IfSome text (λ t. IsPlayOf d cycles t (Ok file))
-    → IfSome text (λ t. RunIsRefused d cycles t None)
-can_be_had d cycles None file is = tt
-can_be_had d cycles (Some t) file is = is.0
+    → ForText text (λ t. IsPlayOf d cycles t (Ok file))
+    → ForText text (λ t. RunIsRefused d cycles t None)
+can_be_had d cycles text file is =
+    for_text_map text (λ t. IsPlayOf d cycles t (Ok file)) (λ t. RunIsRefused d cycles t None) (λ t here. here.0) is

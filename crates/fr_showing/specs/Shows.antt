@@ -1,10 +1,11 @@
 -- The views of a run (project-defined).
-use Rattle.std.specs.Prelude.{⊤, ◌≡◌, ℕ, List, length, slice_get, Option, Some, None, option_map, IfSome, IsSome}
+use Rattle.std.specs.Prelude.{⊤, ◌≡◌, ℕ, List, length, slice_get, Option, Some, None, option_map, IsSome}
 use Rattle.std.specs.Prelude.{Result, Ok, Err}
 use Rattle.std.specs.Global.{Vec}
 use Rattle.std.specs.Io.KnownBytes.{Appends}
 use Rattle.std.specs.List.{flat_map}
 use Rattle.fr_files.specs.declared.error.BenchError.TheVariants as bench
+use Rattle.fr_files.specs.Inputs.{ForText}
 use Rattle.fr_files.specs.Outputs.{FallsShort}
 use Rattle.fr_core.specs.Worlds.{WorldState}
 use Rattle.fr_lines.specs.declared.versions.Version.TheVariants.{Three}
@@ -75,13 +76,13 @@ AddsFront d cycles shown old new text =
     (file : PlayedFile) × (written : List ℕ) × IsPlayIn d cycles text file × IsShown shown file written
     × FallsShort old new written
 
--- If the text of the scenario is known, the view of a run with it was written, and the lines without effect are
--- returned. After `Write` a front of such a view was written. Every other refusal leaves the writer unchanged.
+-- The view of a run with the text of the scenario was written, and the lines without effect are returned. After `Write`
+-- a front of such a view was written. Every other refusal leaves the writer unchanged.
 abbrev pub Prints : Description → ℕ → Shown → Option (List ℕ) → Option (List ℕ) → Option (List ℕ)
     → Result (Vec ℕ) PlayError
     → Type 0
-Prints d cycles shown text old new (Ok idle) = IfSome text (Adds d cycles shown old new idle.items)
-Prints d cycles shown text old new (Err (refusal.Text bench.Write)) = IfSome text (AddsFront d cycles shown old new)
+Prints d cycles shown text old new (Ok idle) = ForText text (Adds d cycles shown old new idle.items)
+Prints d cycles shown text old new (Err (refusal.Text bench.Write)) = ForText text (AddsFront d cycles shown old new)
 Prints d cycles shown text old new (Err e) = new ≡ old
 
 -- ---- the reason why no view was written

@@ -116,14 +116,14 @@ pub(crate) fn sent_in(sealed: &Sealed) -> &[Sent]
 /// Returns the end of the node's offer on the channel in the window of this number, if there was one.
 pub(crate) fn offer_end(
     params: &Params,
-    record: &[Sealed],
+    windows: &[Sealed],
     window: u32,
     channel: Channel,
     node: usize,
 ) -> Option<End>
-    ensures { result ≡ offer_end params.now (slice_get record.now window) channel node }
+    ensures { result ≡ offer_end params.now (slice_get windows.now window) channel node }
 {
-    let sealed = sealed_at(record, window as usize)?;
+    let sealed = sealed_at(windows, window as usize)?;
     let sent = offer_of(channel, node, sent_in(sealed))?;
     Some(end_of(params, sealed, sent))
 }

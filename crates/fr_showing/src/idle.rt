@@ -47,11 +47,11 @@ fn has_struck_in(params: &Params, line: &FaultLine, cycle: usize, sealed: &Seale
 }
 
 /// Returns whether the line had an effect in a window of the record.
-fn has_struck(params: &Params, record: &[Sealed], line: &FaultLine) -> bool
-    ensures { result ≡ has_struck params.now record.now line.now }
+fn has_struck(params: &Params, windows: &[Sealed], line: &FaultLine) -> bool
+    ensures { result ≡ has_struck params.now windows.now line.now }
 {
     let mut begun = 0;
-    for sealed in record {
+    for sealed in windows {
         begun = begun_with(begun, sealed);
         if has_struck_in(params, line, begun.saturating_sub(1), sealed) {
             return true;
@@ -64,15 +64,15 @@ fn has_struck(params: &Params, record: &[Sealed], line: &FaultLine) -> bool
 fn idle_numbers(
     alloc: Global,
     params: &Params,
-    record: &[Sealed],
+    windows: &[Sealed],
     lines: &[FaultLine],
     numbers: &[u32],
 ) -> Result<Vec<u32>, AllocError>
-    ensures { IfOk result (λ idle. idle.items ≡ idle_numbers params.now record.now lines.now numbers.now) }
+    ensures { IfOk result (λ idle. idle.items ≡ idle_numbers params.now windows.now lines.now numbers.now) }
 {
     let mut idle = Vec::new(alloc);
     for (line, number) in lines.iter().zip(numbers) {
-        if !has_struck(params, record, line) {
+        if !has_struck(params, windows, line) {
             idle.push(*number)?;
         }
     }
@@ -92,6 +92,6 @@ pub fn idle_lines(alloc: Global, file: &PlayedFile) -> Result<Vec<u32>, AllocErr
 {
     let (world, scenario) = (&file.played.world, &file.scenario);
     let (lines, numbers) = (scenario.faults(), scenario.fault_numbers());
-    let record = world.bus().record();
-    idle_numbers(alloc, params_of(world), record, lines, numbers)
+    let windows = world.bus().record();
+    idle_numbers(alloc, params_of(world), windows, lines, numbers)
 }

@@ -1,6 +1,7 @@
 //! The commands that show a run.
-ghost use Rattle.std.specs.Prelude.{◌≡◌, IfErr, IfOk, IfSome};
+ghost use Rattle.std.specs.Prelude.{◌≡◌, IfErr, IfOk};
 ghost use Rattle.fr_files.specs.declared.error.BenchError.TheVariants as bench;
+ghost use Rattle.fr_files.specs.Inputs.{ForText};
 ghost use Rattle.fr_playing.specs.declared.error.PlayError.TheVariants as refusal;
 ghost use Rattle.fr_showing.specs.Idle.{idle_lines};
 ghost use Rattle.fr_showing.specs.Shows.{Prints, Tells};
@@ -35,7 +36,6 @@ fn idle_in(alloc: Global, file: &PlayedFile) -> Result<Vec<u32>, PlayError>
 ///
 /// Returns the error of `play_file`, then that of `text_of`, then `Write` if the writer fails. Nothing is written on an
 /// error other than `Write`, after which a front of the view may have been written.
-#[tactic(auto, using(crate::proofs::ShowLemmas::unshown_of, crate::proofs::ShowLemmas::unwritten_view, crate::proofs::ShowLemmas::node_missing, crate::proofs::ShowLemmas::shown_of, crate::proofs::ShowLemmas::can_be_had))]
 pub fn show_run<R: Read, W: Write>(
     alloc: Global,
     cluster: &Cluster,
@@ -52,7 +52,7 @@ pub fn show_run<R: Read, W: Write>(
         (W.contents writer.old)
         (W.contents writer.new)
         result }
-    ensures refused { IfSome (R.remaining reader.old) (λ text. Tells cluster.now cycles shown text result) }
+    ensures refused { ForText (R.remaining reader.old) (λ text. Tells cluster.now cycles shown text result) }
 {
     let file = play_file(alloc, cluster, reader, cycles)?;
     let text = text_of(alloc, shown, &file)?;

@@ -2,3 +2,4 @@ pub mod Outcomes
 pub mod Running
 pub mod Failures
 pub mod Pacing
+pub mod ErrorNames

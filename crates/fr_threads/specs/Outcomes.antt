@@ -1,7 +1,9 @@
 -- The effect of `run` on the text of a scenario (project-defined).
-use Rattle.std.specs.Prelude.{⊤, ◌≡◌, ◌<◌, ℕ, Bool, not, List, length, Option, None, IfSome, Result, Ok, Err}
+use Rattle.std.specs.Prelude.{⊤, ◌≡◌, ◌<◌, ℕ, Bool, not, List, length, Option, None, Result, Ok, Err}
 use Rattle.std.specs.Io.KnownBytes.{Appends}
 use Rattle.fr_files.specs.ClusterFiles.{IsClusterOf}
+use Rattle.fr_files.specs.Inputs.{ForText}
+use Rattle.fr_files.specs.Outputs.{FallsShort}
 use Rattle.fr_files.specs.declared.error.BenchError.{BenchError}
 use Rattle.fr_files.specs.declared.error.BenchError.TheVariants as bench
 use Rattle.fr_outcome.specs.declared.file_error.FileError.{FileError}
@@ -38,13 +40,18 @@ pub record IsOutcome (d : Description) (cycles : ℕ) (free : Bool) (text outcom
 abbrev pub Adds : Description → ℕ → Bool → Option (List ℕ) → Option (List ℕ) → List ℕ → Type 0
 Adds d cycles free old new text = (outcome : List ℕ) × IsOutcome d cycles free text outcome × Appends old new outcome
 
--- If the text of the scenario is known, the outcome of a run with it was written. A refusal other than `Write` leaves
--- the writer unchanged.
+-- a front of such an outcome was written, and at least one byte of it is missing
+abbrev pub AddsFront : Description → ℕ → Bool → Option (List ℕ) → Option (List ℕ) → List ℕ → Type 0
+AddsFront d cycles free old new text =
+    (outcome : List ℕ) × IsOutcome d cycles free text outcome × FallsShort old new outcome
+
+-- The outcome of a run with the text of the scenario was written. After `Write` a front of such an outcome was written.
+-- Every other refusal leaves the writer unchanged.
 abbrev pub Prints : Description → ℕ → Bool → Option (List ℕ) → Option (List ℕ) → Option (List ℕ)
     → Result (Unit {0}) OutcomeError
     → Type 0
-Prints d cycles free text old new (Ok done) = IfSome text (Adds d cycles free old new)
-Prints d cycles free text old new (Err (refusal.Text bench.Write)) = ⊤
+Prints d cycles free text old new (Ok done) = ForText text (Adds d cycles free old new)
+Prints d cycles free text old new (Err (refusal.Text bench.Write)) = ForText text (AddsFront d cycles free old new)
 Prints d cycles free text old new (Err e) = new ≡ old
 
 -- ---- the reason why no outcome was written
@@ -67,7 +74,7 @@ Answers d cycles text (Err e) = ⊥
 pub record IsFileRefused (file text rest old new : Option (List ℕ))
     (answer : Result (Unit {0}) OutcomeError) : Type 0 where
   pub error : BenchError
-  pub refused : IfSome file (λ bytes. IsClusterOf bytes (Err error))
+  pub refused : ForText file (λ bytes. IsClusterOf bytes (Err error))
   pub answer_is : answer ≡ Err (refusal.Text error)
   pub unread : rest ≡ text
   pub unwritten : new ≡ old
@@ -77,6 +84,6 @@ pub record IsFileRun (file : Option (List ℕ)) (cycles : ℕ) (free : Bool) (te
     (answer : Result (Unit {0}) OutcomeError)
     : Type 0 where
   pub cluster : Description
-  pub described : IfSome file (λ bytes. IsClusterOf bytes (Ok cluster))
+  pub described : ForText file (λ bytes. IsClusterOf bytes (Ok cluster))
   pub printed : Prints cluster cycles free text old new answer
-  pub answered : IfSome text (λ bytes. Answers cluster cycles bytes answer)
+  pub answered : ForText text (λ bytes. Answers cluster cycles bytes answer)

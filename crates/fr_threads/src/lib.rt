@@ -16,6 +16,7 @@
 //!
 //! - `Running`, `Failures`, `Pacing`, `Outcomes`: a run that completes; the reported failure; the cycle barrier of a
 //!   lockstep run; the effect of `run` on the text of a scenario.
+//! - `ErrorNames`: the printed texts of errors.
 //!
 //! # Inner workings
 //!

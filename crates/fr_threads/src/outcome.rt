@@ -1,5 +1,6 @@
 //! `fr_bench run`.
-ghost use Rattle.std.specs.Prelude.{IfSome, ◌⊎◌};
+ghost use Rattle.std.specs.Prelude.{◌⊎◌};
+ghost use Rattle.fr_files.specs.Inputs.{ForText};
 ghost use Rattle.fr_threads.specs.Outcomes.{Prints, Answers, IsFileRefused, IsFileRun};
 
 use crate::outcome_error::OutcomeError;
@@ -34,7 +35,8 @@ pub struct RunOptions {
 /// The outcome is each node's report, the number of windows and `settled`. In a free-running run a task's lines are
 /// executed at any moment, in a lockstep run each in its cycle.
 ///
-/// Returns the error of the scenario's file, then that of the run. Nothing is written on an error other than `Write`.
+/// Returns the error of the scenario's file, then that of the run. Nothing is written on an error other than `Write`,
+/// after which a front of the outcome may have been written.
 #[tactic(auto, using(crate::proofs::OutcomeLemmas::not_read_of, crate::proofs::OutcomeLemmas::unwritten))]
 pub fn run_cluster<T: Threads + Wait + Clock + Sync, R: Read, W: Write>(
     rt: &T,
@@ -52,7 +54,7 @@ pub fn run_cluster<T: Threads + Wait + Clock + Sync, R: Read, W: Write>(
         (W.contents writer.old)
         (W.contents writer.new)
         result }
-    ensures refused { IfSome (R.remaining reader.old) (λ text. Answers cluster.now options.cycles text result) }
+    ensures refused { ForText (R.remaining reader.old) (λ text. Answers cluster.now options.cycles text result) }
 {
     let scenario = scenario_of(alloc, reader)?;
     let workload = Workload {

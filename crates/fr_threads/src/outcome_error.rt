@@ -8,24 +8,40 @@ use crate::error::RunError;
 use fr_files::error::BenchError;
 use fr_outcome::file_error::FileError;
 use fr_scenario::error::ScenarioError;
-use thiserror::Error;
+use std::error::Error;
+use std::fmt;
 
 // `BenchError` would have to depend on the threads to hold these errors.
 /// Reasons why `run` didn't print the outcome of a run (project-defined).
 ///
-/// An error prints as its name. An error of a crate below prints as the names and values of that error.
-#[derive(Clone, Copy, Debug, Drop, PartialEq, Eq, Error)]
+/// An error prints as the names and values of the error within it.
+#[derive(Clone, Copy, Debug, Drop, PartialEq, Eq)]
 pub enum OutcomeError {
     /// The cluster file is rejected, a stream failed, an input is too long, or an allocation failed.
-    #[error("{0}")]
     Text(BenchError),
     /// The scenario file is rejected.
-    #[error("{0}")]
     Scenario(ScenarioError),
     /// The run is refused, or failed.
-    #[error("{0}")]
     Run(RunError),
 }
+
+impl fmt::Display for OutcomeError {
+    ghost use Rattle.std.specs.Prelude.{Some};
+    ghost use Rattle.fr_threads.specs.ErrorNames.{outcome_error_text};
+
+    ghost output = { λ error. Some (outcome_error_text error) };
+
+    /// Writes the error of the file or of the run.
+    fn fmt<W: fmt::Write>(&self, f: &mut fmt::Formatter<W>) -> fmt::Result {
+        match self {
+            OutcomeError::Text(error) => write!(f, "{error}"),
+            OutcomeError::Scenario(error) => write!(f, "{error}"),
+            OutcomeError::Run(error) => write!(f, "{error}"),
+        }
+    }
+}
+
+impl Error for OutcomeError {}
 
 impl From<BenchError> for OutcomeError {
     ghost from_gives = { λ error given. given ≡ refusal.Text error };

@@ -26,7 +26,7 @@
 //!
 //! # Definitions
 //!
-//! - `Failures`, `Tasks`: the exit status of each failure of `fr_view`; what each of its commands does.
+//! - `Failures`, `Tasks`: the text and the exit status of each failure of `fr_view`; what each of its commands does.
 #![tactic(auto)]
 
 mod failure;
@@ -218,7 +218,7 @@ fn run<R: Env + Files + Input + Print + Eprint + AllocGlobal + Clock>(
     rt: &R,
 ) -> Result<ExitCode, ViewFailure> {
     let words = words_given(rt)?;
-    let texts: Vec<&str> = texts_of(rt.alloc(), &words)?;
+    let texts: Vec<&str> = texts_of(rt.alloc(), words.as_slice())?;
     match task_of(order(rt.alloc(), texts.as_slice())?) {
         Some(task) => carry_out(rt, &task),
         None => Err(ViewFailure::Words(OrderError::Usage)),

@@ -151,8 +151,8 @@ fn explained(alloc: Global, text: &[u8]) -> Result<(Verdict, Vec<u8>), TraceErro
 /// it breaks off.
 ///
 /// Returns `Read` if the reader fails and `Memory` if an allocation fails; nothing is written then. Returns `Write` if
-/// the writer fails; a front of the explanation may then have been written. Of a text of more than 98,548,055 bytes, which is longer than any accepted text, only these bytes
-/// are read, and the text is rejected for them.
+/// the writer fails; a front of the explanation may then have been written. Of a text of more than 98,548,055 bytes,
+/// which is longer than any accepted text, only these bytes are read, and the text is rejected for them.
 pub fn explain_trace<R: Read, W: Write>(
     alloc: Global,
     reader: &mut R,

@@ -40,8 +40,8 @@ fn show_before<W: Write>(
 /// complete the plan, nothing is written.
 ///
 /// Returns `Read` if the reader fails and `Memory` if an allocation fails; nothing is written then. Returns `Write` if
-/// the writer fails; a front of the output may then have been written. Of a text of more than 98,548,055 bytes, which is
-/// longer than any accepted text, only these bytes are read, and the text is rejected for them.
+/// the writer fails; a front of the output may then have been written. Of a text of more than 98,548,055 bytes, which
+/// is longer than any accepted text, only these bytes are read, and the text is rejected for them.
 pub fn show_until_fault<R: Read, W: Write>(
     alloc: Global,
     form: Form,

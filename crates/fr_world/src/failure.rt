@@ -1,33 +1,50 @@
 //! The ends of a program that hasn't executed its command.
 ghost use Rattle.std.specs.Prelude.{◌≡◌};
+ghost use Rattle.fr_world.specs.declared.failure.WorldFailure.TheVariants as failure;
 ghost use Rattle.fr_world.specs.Failures.{status_of};
 
 use fr_bus::error::BusError;
 use fr_cli::error::OrderError;
 use fr_files::error::BenchError;
 use fr_session::error::SessionError;
-use thiserror::Error;
+use std::error::Error;
+use std::fmt;
 
 /// The reason for which the program hasn't executed its command (project-defined). Printed, it is the line on standard
 /// error.
-#[derive(Clone, Copy, Debug, Drop, PartialEq, Eq, Error)]
+#[derive(Clone, Copy, Debug, Drop, PartialEq, Eq)]
 pub enum WorldFailure {
     /// The words were no command, or an allocation failed while they were read.
-    #[error("{0}")]
-    Words(#[from] OrderError),
+    Words(OrderError),
     /// The allocation of a buffer for reading or writing failed.
-    #[error("refused Memory")]
     Memory,
     /// The cluster file was refused, or couldn't be read.
-    #[error("refused {0}")]
-    Text(#[from] BenchError),
+    Text(BenchError),
     /// The world couldn't be made.
-    #[error("refused {0}")]
-    World(#[from] BusError),
+    World(BusError),
     /// The session ended before its input did.
-    #[error("refused {0}")]
-    Session(#[from] SessionError),
+    Session(SessionError),
 }
+
+impl fmt::Display for WorldFailure {
+    ghost use Rattle.std.specs.Prelude.{Some};
+    ghost use Rattle.fr_world.specs.Failures.{failure_text};
+
+    ghost output = { λ failure. Some (failure_text failure) };
+
+    /// Writes the line on standard error, without its line feed.
+    fn fmt<W: fmt::Write>(&self, f: &mut fmt::Formatter<W>) -> fmt::Result {
+        match self {
+            WorldFailure::Words(error) => write!(f, "{error}"),
+            WorldFailure::Memory => write!(f, "refused Memory"),
+            WorldFailure::Text(error) => write!(f, "refused {error}"),
+            WorldFailure::World(error) => write!(f, "refused {error}"),
+            WorldFailure::Session(error) => write!(f, "refused {error}"),
+        }
+    }
+}
+
+impl Error for WorldFailure {}
 
 impl WorldFailure {
     /// Returns the program's exit status: 2 for words that are no command, 1 for everything else.
@@ -41,5 +58,37 @@ impl WorldFailure {
             | WorldFailure::World(_)
             | WorldFailure::Session(_) => 1,
         }
+    }
+}
+
+impl From<OrderError> for WorldFailure {
+    ghost from_gives = { λ error given. given ≡ failure.Words error };
+
+    fn from(error: OrderError) -> WorldFailure {
+        WorldFailure::Words(error)
+    }
+}
+
+impl From<BenchError> for WorldFailure {
+    ghost from_gives = { λ error given. given ≡ failure.Text error };
+
+    fn from(error: BenchError) -> WorldFailure {
+        WorldFailure::Text(error)
+    }
+}
+
+impl From<BusError> for WorldFailure {
+    ghost from_gives = { λ error given. given ≡ failure.World error };
+
+    fn from(error: BusError) -> WorldFailure {
+        WorldFailure::World(error)
+    }
+}
+
+impl From<SessionError> for WorldFailure {
+    ghost from_gives = { λ error given. given ≡ failure.Session error };
+
+    fn from(error: SessionError) -> WorldFailure {
+        WorldFailure::Session(error)
     }
 }

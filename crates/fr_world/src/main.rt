@@ -14,7 +14,7 @@
 //!
 //! # Definitions
 //!
-//! - `Failures`: the exit status of each failure of `fr_world`.
+//! - `Failures`: the text and the exit status of each failure of `fr_world`.
 //! - `Serving`: the session of a run, with the world that it opens.
 //!
 //! # Inner workings
@@ -73,7 +73,7 @@ fn serve_world<R: Files + Input + Print + AllocGlobal + Clock>(
 /// Executes the command of the words.
 fn run<R: Env + Files + Input + Print + AllocGlobal + Clock>(rt: &R) -> Result<(), WorldFailure> {
     let words = words_given(rt)?;
-    let texts: Vec<&str> = texts_of(rt.alloc(), &words)?;
+    let texts: Vec<&str> = texts_of(rt.alloc(), words.as_slice())?;
     serve_world(rt, command_of(rt.alloc(), texts.as_slice())?)
 }
 

@@ -1,7 +1,9 @@
-use Rattle.std.proofs.Common.{◌≡◌, ◌≤◌, ◌∙◌, ℕ, ℤ, List, length, Some, IfSome, ap, rules, subst, sym}
+use Rattle.std.proofs.Common.{◌≡◌, ◌≤◌, ◌∙◌, ℕ, ℤ, List, length, Some, ap, rules, subst, sym}
 use Rattle.fr_commands.proofs.MidpointLemmas.{answer_is, midpoint_told}
 use Rattle.fr_commands.specs.Midpoints.{midpoint_line}
 use Rattle.fr_commands.specs.Numbers.{numbers_in, words_in}
+use Rattle.fr_files.proofs.InputLemmas.{for_text}
+use Rattle.fr_files.specs.Inputs.{ForText}
 use Rattle.fr_commands.proofs.midpoint.midpoint_text.Goals as goal
 
 pub returns-in-Ok : goal.returns-in-Ok
@@ -10,8 +12,9 @@ returns-in-Ok g c =
     let bytes = c.as_slice.result.now in
     let numbers = c.as_slice-2.result.now in
     let answer = c.in_ok-answer.answer in
-    let read = subst (λ (b : List ℕ). IfSome known (λ text. (b ≡ text) × (length text ≤ 4096)))
-    (sym c.as_slice.ensures.value) c.in_ok-text.ensures.known in
+    let read = subst (λ (b : List ℕ). ForText known (λ text. (b ≡ text) × (length text ≤ 4096)))
+    (sym c.as_slice.ensures.value) (for_text known (λ text. (c.in_ok-text.text.items ≡ text) × (length text ≤ 4096))
+    c.in_ok-text.ensures.known c.in_ok-text.ensures.some) in
     let spelled : numbers_in (words_in bytes) ≡ Some numbers =
     c.in_ok-numbers.ensures.found ∙ ap (λ (ns : List ℤ). Some ns) (sym c.as_slice-2.ensures.value) in
     let line_is : c.as_slice-in-Ok.result.now ≡ midpoint_line answer = search rules in

@@ -1,5 +1,5 @@
 use Rattle.std.proofs.Common.{◌≡◌, Result, Err, rules, subst, sym}
-use Rattle.std.specs.Prelude.{IfSome}
+use Rattle.fr_files.specs.Inputs.{ForText}
 use Rattle.fr_playing.proofs.FileLemmas.{played_of, unplayed}
 use Rattle.fr_playing.specs.declared.error.PlayError.{PlayError}
 use Rattle.fr_playing.specs.declared.file.PlayedFile.{PlayedFile}
@@ -11,7 +11,7 @@ returns-in_err-played g c =
     let remaining = g.R.Read.remaining c.args.reader.now in
     let e = c.in_err-played.field-0.0 in
     let gone : c.from_residual-in_err-played.result ≡ Err e = search rules in
-    subst (λ (r : Result PlayedFile PlayError). IfSome remaining
+    subst (λ (r : Result PlayedFile PlayError). ForText remaining
     (λ text. IsPlayOf c.args.cluster.now c.args.cycles text r)) (sym gone)
     (unplayed c.args.cluster.now c.args.cycles remaining c.in_ok-scenario.scenario c.scripts.result.now
     c.faults.result.now e c.scripts.ensures.value

@@ -15,7 +15,7 @@ digit false = omega arith
 
 pub loop-sealed-preserved : goal.loop-sealed-preserved
 loop-sealed-preserved c =
-    let rs = c.args.record.now in
+    let rs = c.args.windows.now in
     let n : ℕ = c.loop-sealed.sealed-index in
     let r = c.sealed-item.result in
     let p = c.args.params.now in
@@ -37,7 +37,7 @@ loop-sealed-preserved c =
 
 pub returns-then-has_struck_in : goal.returns-then-has_struck_in
 returns-then-has_struck_in c =
-    let rs = c.args.record.now in
+    let rs = c.args.windows.now in
     let n : ℕ = c.loop-sealed.sealed-index in
     let r = c.sealed-item.result in
     let p = c.args.params.now in
@@ -55,7 +55,7 @@ returns-then-has_struck_in c =
 
 pub returns : goal.returns
 returns c =
-    let rs = c.args.record.now in
+    let rs = c.args.windows.now in
     let n : ℕ = c.loop-sealed.sealed-index in
     let all : length rs ≤ n = omega (arith, c.loop-sealed-test.false) in
     sym (struck_in_none c.args.params.now c.args.line.now rs n all) ∙ c.loop-sealed.invariant.left

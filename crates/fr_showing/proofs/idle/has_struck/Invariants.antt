@@ -6,8 +6,8 @@ use Rattle.fr_showing.proofs.idle.has_struck.Given as goal
 -- the windows that are left decide whether the line had an effect
 abbrev pub invariant-loop-sealed : goal.invariant-loop-sealed
 invariant-loop-sealed l = record {
-  begun : l.begun ≡ cycles_begun (take l.sealed-index l.record);
+  begun : l.begun ≡ cycles_begun (take l.sealed-index l.windows);
   few : l.begun ≤ l.sealed-index;
-  left : has_struck_after l.params l.line (take l.sealed-index l.record) (drop l.sealed-index l.record)
-      ≡ has_struck l.params l.record l.line;
+  left : has_struck_after l.params l.line (take l.sealed-index l.windows) (drop l.sealed-index l.windows)
+      ≡ has_struck l.params l.windows l.line;
 }

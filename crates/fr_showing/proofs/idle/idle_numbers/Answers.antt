@@ -10,7 +10,7 @@ use Rattle.fr_showing.proofs.idle.idle_numbers.Goals as goal
 pub loop-line-preserved-in-Continue-1 : goal.loop-line-preserved-in-Continue-1
 loop-line-preserved-in-Continue-1 c =
     let p = c.args.params.now in
-    let rs = c.args.record.now in
+    let rs = c.args.windows.now in
     let line = c.in-Some.line.now in
     let number : ℕ = c.in-Some.number.now in
     let idle = c.loop-line.idle.items in
@@ -33,7 +33,7 @@ loop-line-preserved-in-Continue-1 c =
 pub loop-line-preserved : goal.loop-line-preserved
 loop-line-preserved c =
     let p = c.args.params.now in
-    let rs = c.args.record.now in
+    let rs = c.args.windows.now in
     let line = c.in-Some.line.now in
     let number : ℕ = c.in-Some.number.now in
     let idle = c.loop-line.idle.items in
@@ -54,7 +54,7 @@ loop-line-preserved c =
 pub returns : goal.returns
 returns c =
     let before = c.loop-line.line-iterator in
-    no_line_left c.args.params.now c.args.record.now (iter_rest (zip_first before))
+    no_line_left c.args.params.now c.args.windows.now (iter_rest (zip_first before))
     (iter_rest (zip_second before)) c.loop-line.idle.items
-    (idle_numbers c.args.params.now c.args.record.now c.args.lines.now c.args.numbers.now)
+    (idle_numbers c.args.params.now c.args.windows.now c.args.lines.now c.args.numbers.now)
     (either_empty_from_Zip before c.next.new.self c.next.result c.in-None.is c.next.ensures.steps) c.loop-line.invariant

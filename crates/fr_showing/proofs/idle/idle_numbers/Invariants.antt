@@ -7,6 +7,6 @@ use Rattle.fr_showing.proofs.idle.idle_numbers.Given as goal
 -- those found so far, and those among the lines that are left
 abbrev pub invariant-loop-line : goal.invariant-loop-line
 invariant-loop-line l =
-    l.idle.items ++ idle_numbers l.params l.record (iter_rest (zip_first l.line-iterator))
+    l.idle.items ++ idle_numbers l.params l.windows (iter_rest (zip_first l.line-iterator))
     (iter_rest (zip_second l.line-iterator))
-    ≡ idle_numbers l.params l.record l.lines l.numbers
+    ≡ idle_numbers l.params l.windows l.lines l.numbers

@@ -1,10 +1,11 @@
 use Rattle.std.proofs.Common.{◌≡◌, ◌∙◌, ℕ, List, Result, Err, ap, inl, refl, rules, subst, sym}
-use Rattle.std.specs.Prelude.{IfSome}
 use Rattle.std.specs.Global.{Vec}
 use Rattle.std.specs.Io.KnownBytes.{Appends}
 use Rattle.fr_files.specs.declared.error.BenchError.{BenchError}
+use Rattle.fr_files.specs.Inputs.{ForText}
 use Rattle.fr_files.specs.Outputs.{FallsShort}
-use Rattle.fr_showing.proofs.ShowLemmas.{node_missing, shown_of, shown_part, unwritten_file, unwritten_view}
+use Rattle.fr_showing.proofs.ShowLemmas.{can_be_had, node_missing, shown_of, shown_part, unshown_of}
+use Rattle.fr_showing.proofs.ShowLemmas.{unwritten_file, unwritten_view}
 use Rattle.fr_playing.specs.declared.error.PlayError.{PlayError}
 use Rattle.fr_playing.specs.declared.error.PlayError.TheVariants as refusal
 use Rattle.fr_showing.specs.Shows.{Prints, Tells}
@@ -35,7 +36,7 @@ returns-in_err-text-clause-refused g c =
     let remaining = g.R.Read.remaining c.args.reader.now in
     let e = c.in_err-text.field-0.0 in
     let gone : c.from_residual-in_err-text.result ≡ Err e = search rules in
-    subst (λ (r : Result (Vec ℕ) PlayError). IfSome remaining
+    subst (λ (r : Result (Vec ℕ) PlayError). ForText remaining
     (λ text. Tells c.args.cluster.now c.args.cycles c.args.shown text r)) (sym gone)
     (node_missing c.args.cluster.now c.args.cycles c.args.shown remaining c.in_ok-file.file e c.in_ok-file.ensures
     c.in_err-text.ensures.refused)
@@ -55,7 +56,7 @@ returns-in_err-idle-clause-refused g c =
     let remaining = g.R.Read.remaining c.args.reader.now in
     let e = c.in_err-idle.field-0.0 in
     let gone : c.from_residual-in_err-idle.result ≡ Err e = search rules in
-    subst (λ (r : Result (Vec ℕ) PlayError). IfSome remaining
+    subst (λ (r : Result (Vec ℕ) PlayError). ForText remaining
     (λ text. Tells c.args.cluster.now c.args.cycles c.args.shown text r)) (sym gone)
     (node_missing c.args.cluster.now c.args.cycles c.args.shown remaining c.in_ok-file.file e c.in_ok-file.ensures
     (inl c.in_err-idle.ensures.refused))
@@ -84,3 +85,27 @@ returns-clause-written g c =
     c.in_ok-text.ensures.text
     (subst (λ (xs : List ℕ). Appends old new xs) c.as_slice.ensures.value c.in_ok-write_whole.ensures.written)
     c.in_ok-idle.ensures.numbers
+
+pub returns-in_err-file-clause-refused : goal.returns-in_err-file-clause-refused
+returns-in_err-file-clause-refused g c =
+    let remaining = g.R.Read.remaining c.args.reader.now in
+    let e = c.in_err-file.field-0.0 in
+    let gone : c.from_residual.result ≡ Err e = search rules in
+    subst (λ (r : Result (Vec ℕ) PlayError). ForText remaining
+    (λ text. Tells c.args.cluster.now c.args.cycles c.args.shown text r)) (sym gone)
+    (unshown_of c.args.cluster.now c.args.cycles c.args.shown remaining e c.in_err-file.ensures)
+
+pub returns-in_err-write_whole-clause-refused : goal.returns-in_err-write_whole-clause-refused
+returns-in_err-write_whole-clause-refused g c =
+    let remaining = g.R.Read.remaining c.args.reader.now in
+    let e = c.in_err-write_whole.field-0.0 in
+    let gone : c.from_residual-in_err-write_whole.result ≡ Err (refusal.Text e) = search rules in
+    let named = gone ∙ ap (λ (x : BenchError). Err (refusal.Text x)) c.in_err-write_whole.ensures.refused in
+    subst (λ (r : Result (Vec ℕ) PlayError). ForText remaining
+    (λ text. Tells c.args.cluster.now c.args.cycles c.args.shown text r)) (sym named)
+    (can_be_had c.args.cluster.now c.args.cycles remaining c.in_ok-file.file c.in_ok-file.ensures)
+
+pub returns-clause-refused : goal.returns-clause-refused
+returns-clause-refused g c =
+    can_be_had c.args.cluster.now c.args.cycles (g.R.Read.remaining c.args.reader.now) c.in_ok-file.file
+    c.in_ok-file.ensures

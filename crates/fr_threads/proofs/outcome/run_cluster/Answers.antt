@@ -1,8 +1,43 @@
-use Rattle.std.proofs.Common.{rules, None}
+use Rattle.std.proofs.Common.{◌≡◌, ◌∙◌, ℕ, List, Result, Err, None, ap, rules, subst, sym}
 use Rattle.std.specs.Io.KnownBytes.{Appends}
-use Rattle.fr_threads.proofs.OutcomeLemmas.{printed, run_refused}
+use Rattle.fr_files.specs.declared.error.BenchError.{BenchError}
+use Rattle.fr_files.specs.Inputs.{ForText}
+use Rattle.fr_files.specs.Outputs.{FallsShort}
+use Rattle.fr_threads.proofs.OutcomeLemmas.{not_read_of, printed, printed_part, refused_same, run_refused}
+use Rattle.fr_threads.specs.declared.outcome_error.OutcomeError.{OutcomeError}
+use Rattle.fr_threads.specs.declared.outcome_error.OutcomeError.TheVariants as error
+use Rattle.fr_threads.specs.Outcomes.{Answers, Prints, file_failure}
+use Rattle.fr_threads.specs.Running.{refusal_of}
 use Rattle.fr_outcome.specs.OutcomeText.{outcome_text}
 use Rattle.fr_threads.proofs.outcome.run_cluster.Goals as goal
+
+pub returns-in_err-scenario-clause-refused : goal.returns-in_err-scenario-clause-refused
+returns-in_err-scenario-clause-refused g c =
+    let remaining = g.R.Read.remaining c.args.reader.now in
+    let e = c.in_err-scenario.field-0.0 in
+    let gone : c.from_residual.result ≡ Err (file_failure e) = search rules in
+    subst (λ (r : Result (Unit {0}) OutcomeError). ForText remaining
+    (λ text. Answers c.args.cluster.now c.args.options.cycles text r)) (sym gone)
+    (not_read_of c.args.cluster.now c.args.options.cycles remaining e c.in_err-scenario.ensures)
+
+pub returns-in_err-run-clause-refused : goal.returns-in_err-run-clause-refused
+returns-in_err-run-clause-refused g c =
+    let remaining = g.R.Read.remaining c.args.reader.now in
+    let e = c.in_err-run.field-0.0 in
+    let gone : c.from_residual-in_err-run.result ≡ Err (error.Run e) = search rules in
+    let refused_is = c.in_err-run.ensures.refused in
+    let scripts_are = c.scripts.ensures in
+    let faults_are = c.faults.ensures in
+    subst (λ (r : Result (Unit {0}) OutcomeError). ForText remaining
+    (λ text. Answers c.args.cluster.now c.args.options.cycles text r)) (sym gone)
+    (run_refused c.args.cluster.now c.args.options.cycles remaining
+    (record {
+      scripts = c.in_ok-scenario.scenario.scripts;
+      faults = c.in_ok-scenario.scenario.faults;
+      numbers =
+          c.in_ok-scenario.scenario.numbers;
+    }) (refusal_of e)
+    c.in_ok-scenario.ensures (search rules))
 
 pub returns-in-Ok-clause-written : goal.returns-in-Ok-clause-written
 returns-in-Ok-clause-written g c =
@@ -22,9 +57,6 @@ returns-in-Ok-clause-written g c =
 
 pub returns-in-Ok-clause-refused : goal.returns-in-Ok-clause-refused
 returns-in-Ok-clause-refused g c =
-    let refusal = c.in_ok-run.ensures.refused in
-    let scripts_are = c.scripts.ensures in
-    let faults_are = c.faults.ensures in
     run_refused c.args.cluster.now c.args.options.cycles (g.R.Read.remaining c.args.reader.now)
     (record {
       scripts = c.in_ok-scenario.scenario.scripts;
@@ -32,4 +64,49 @@ returns-in-Ok-clause-refused g c =
       numbers =
           c.in_ok-scenario.scenario.numbers;
     }) None
+    c.in_ok-scenario.ensures
+    (refused_same c.args.cluster.now c.scripts.result.now c.in_ok-scenario.scenario.scripts c.faults.result.now
+    c.in_ok-scenario.scenario.faults c.args.options.cycles None c.scripts.ensures.value c.faults.ensures
+    c.in_ok-run.ensures.refused)
+
+pub returns-in_err-write_whole-in-Ok-clause-written : goal.returns-in_err-write_whole-in-Ok-clause-written
+returns-in_err-write_whole-in-Ok-clause-written g c =
+    let remaining = g.R.Read.remaining c.args.reader.now in
+    let old = g.W.Write.contents c.args.writer.now in
+    let new = g.W.Write.contents c.write_whole.new.writer in
+    let run = c.in_ok-run.run' in
+    let e = c.in_err-write_whole-in-Ok.field-0.0 in
+    let gone : c.from_residual-in_err-write_whole-in-Ok.result ≡ Err (error.Text e) = search rules in
+    let named = gone ∙ ap (λ (x : BenchError). Err (error.Text x)) c.in_err-write_whole-in-Ok.ensures.refused in
+    let text_is : c.as_slice-in-Ok.result.now ≡ outcome_text run.interfaces.items run.settled.windows = search rules in
+    subst (λ (r : Result (Unit {0}) OutcomeError). Prints c.args.cluster.now c.args.options.cycles c.args.options.free
+    remaining old new r) (sym named)
+    (printed_part c.args.cluster.now c.args.options.cycles c.args.options.free remaining old new
+    (record {
+      scripts = c.in_ok-scenario.scenario.scripts;
+      faults = c.in_ok-scenario.scenario.faults;
+      numbers =
+          c.in_ok-scenario.scenario.numbers;
+    }) run
     c.in_ok-scenario.ensures (search rules)
+    (subst (λ (xs : List ℕ). FallsShort old new xs) text_is c.in_err-write_whole-in-Ok.ensures.cut))
+
+pub returns-in_err-write_whole-in-Ok-clause-refused : goal.returns-in_err-write_whole-in-Ok-clause-refused
+returns-in_err-write_whole-in-Ok-clause-refused g c =
+    let remaining = g.R.Read.remaining c.args.reader.now in
+    let e = c.in_err-write_whole-in-Ok.field-0.0 in
+    let gone : c.from_residual-in_err-write_whole-in-Ok.result ≡ Err (error.Text e) = search rules in
+    let named = gone ∙ ap (λ (x : BenchError). Err (error.Text x)) c.in_err-write_whole-in-Ok.ensures.refused in
+    subst (λ (r : Result (Unit {0}) OutcomeError). ForText remaining
+    (λ text. Answers c.args.cluster.now c.args.options.cycles text r)) (sym named)
+    (run_refused c.args.cluster.now c.args.options.cycles remaining
+    (record {
+      scripts = c.in_ok-scenario.scenario.scripts;
+      faults = c.in_ok-scenario.scenario.faults;
+      numbers =
+          c.in_ok-scenario.scenario.numbers;
+    }) None
+    c.in_ok-scenario.ensures
+    (refused_same c.args.cluster.now c.scripts.result.now c.in_ok-scenario.scenario.scripts c.faults.result.now
+    c.in_ok-scenario.scenario.faults c.args.options.cycles None c.scripts.ensures.value c.faults.ensures
+    c.in_ok-run.ensures.refused))
