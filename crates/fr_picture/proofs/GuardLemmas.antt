@@ -8,6 +8,7 @@ use Rattle.fr_picture.specs.Dynamics.{IsDynamicText}
 use Rattle.fr_picture.specs.Frames.{front_text}
 use Rattle.fr_picture.specs.Guards.{AreGuardRows, IsGuardRow}
 use Rattle.fr_picture.specs.Owners.{Adds, AreOwnerTexts}
+use Rattle.fr_picture.specs.Ranges.{AreRanges}
 use Rattle.fr_picture.specs.Schedules.{IsPicture}
 use Rattle.fr_schedule.specs.Descriptions.{Description}
 use Rattle.fr_slots.specs.declared.channel.Channel.TheVariants.{A, B}
@@ -32,7 +33,8 @@ one_guard d cycle node old mid first new before on_a on_b =
 
 -- all parts have been written, and then the end
 pub picture_done : {X E : Type 0} (r : Result X E) (d guarded : Description) (cycle nodes : ℕ)
-    (ranges : List ℕ) (w0 w1 w2 w3 w4 w5 w6 w7 : Option (List ℕ)) → guarded ≡ d → nodes ≡ length d.plans
+    (ranges : List ℕ) (w0 w1 w2 w3 w4 w5 w6 w7 : Option (List ℕ)) → AreRanges d cycle ranges → guarded ≡ d
+    → nodes ≡ length d.plans
     → Appends w0 w1 (front_text d cycle)
     → Adds (AreOwnerTexts d cycle d.params.static_slots) w1 w2
     → Adds (IsDynamicText d cycle A) w2 w3 → Adds (IsDynamicText d cycle B) w3 w4
@@ -40,10 +42,10 @@ pub picture_done : {X E : Type 0} (r : Result X E) (d guarded : Description) (cy
     → Adds (AreGuardRows guarded cycle nodes) w5 w6
     → OnOk r (Appends w6 w7 picture_end)
     → OnOk r (Adds (IsPicture d cycle) w0 w7)
-picture_done (Err e) d guarded cycle nodes ranges w0 w1 w2 w3 w4 w5 w6 w7 same count front owners on_a on_b between
-    guards last = tt
-picture_done (Ok x) d guarded cycle nodes ranges w0 w1 w2 w3 w4 w5 w6 w7 same count front owners on_a on_b between
-    guards last =
+picture_done (Err e) d guarded cycle nodes ranges w0 w1 w2 w3 w4 w5 w6 w7 ranges_are same count front owners on_a on_b
+    between guards last = tt
+picture_done (Ok x) d guarded cycle nodes ranges w0 w1 w2 w3 w4 w5 w6 w7 ranges_are same count front owners on_a on_b
+    between guards last =
     let (slots, slots_are, with_slots) = owners in
     let (a, a_is, with_a) = on_a in
     let (b, b_is, with_b) = on_b in
@@ -61,6 +63,7 @@ picture_done (Ok x) d guarded cycle nodes ranges w0 w1 w2 w3 w4 w5 w6 w7 same co
         owners_are = slots_are;
         dynamic_on_a = a_is;
         dynamic_on_b = b_is;
+        ranges_are = ranges_are;
         guards_are = here;
         text_is = refl;
       },

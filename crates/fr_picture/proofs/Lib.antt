@@ -1,4 +1,5 @@
 pub mod OwnerLemmas
 pub mod TickLemmas
 pub mod DynamicLemmas
+pub mod RangeLemmas
 pub mod GuardLemmas

@@ -2,5 +2,6 @@ pub mod Places
 pub mod Owners
 pub mod Frames
 pub mod Dynamics
+pub mod Ranges
 pub mod Guards
 pub mod Schedules

@@ -27,7 +27,7 @@ use std::io::Write;
 const SLOT_LENGTH: u64 = 300;
 
 /// Returns the node that sends in the dynamic slot of this number in the cycle.
-pub(crate) fn sender_in(
+fn sender_in(
     cluster: &Cluster,
     cycle: Cycle,
     number: u16,
@@ -338,7 +338,13 @@ fn length_of(start: u64, end: u64) -> u64
 }
 
 /// Returns the index of the share after that of a slot. A slot without a sender has none.
-fn index_after(cluster: &Cluster, cycle: Cycle, channel: Channel, number: u16, index: u64) -> u64 {
+pub(crate) fn index_after(
+    cluster: &Cluster,
+    cycle: Cycle,
+    channel: Channel,
+    number: u16,
+    index: u64,
+) -> u64 {
     if sender_in(cluster, cycle, number, channel).is_some() {
         index.saturating_add(1)
     } else {

@@ -13,16 +13,16 @@
 //! # Definitions
 //!
 //! - `Places`, `Frames`: places in a picture; its front, with the style, the heading, the segments and the names.
-//! - `Owners`, `Dynamics`, `Guards`: the elements of the static slots, those of the dynamic slots, and the rows of the
-//!   guardians.
+//! - `Owners`, `Dynamics`, `Ranges`, `Guards`: the elements of the static slots, those of the dynamic slots, the
+//!   minislots at which these open, and the rows of the guardians.
 //! - `Schedules`: the picture.
 //!
 //! # Inner workings
 //!
 //! A picture is written part by part: the front (`frame`), the static slots by the sender table (`owners`), the dynamic
 //! segments (`dynamics`) with the ranges of their slots (`ranges`), and the guardians' intervals (`guards`). The clause
-//! gives the text of each part but the ranges', which are gathered before, and leaves free where the box of a dynamic
-//! slot lies.
+//! gives the text of each part. It leaves free where the box of a dynamic slot lies, and at which height the line of a
+//! range. The ranges are gathered before, since they need the openings of all slots.
 #![tactic(auto)]
 
 mod dynamics;

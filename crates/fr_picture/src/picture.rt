@@ -3,7 +3,9 @@
 ghost use Rattle.std.specs.Prelude.{◌≡◌, IfErr, IfOk, OnOk};
 ghost use Rattle.fr_files.specs.declared.error.BenchError.TheVariants as refusal;
 ghost use Rattle.fr_files.specs.Inputs.{ForText};
+ghost use Rattle.fr_latency.specs.Tables.{AreOpenings};
 ghost use Rattle.fr_picture.specs.Owners.{Adds};
+ghost use Rattle.fr_picture.specs.Ranges.{AreRanges};
 ghost use Rattle.fr_picture.specs.Schedules.{Draws, IsPicture};
 ghost use Rattle.fr_text.specs.Writing.{Writes};
 
@@ -16,7 +18,7 @@ use fr_files::cluster_file::cluster_of;
 use fr_files::error::BenchError;
 use fr_files::output::write_whole;
 use fr_guardian::guardian::Guardian;
-use fr_latency::openings::openings_of;
+use fr_latency::openings::{Openings, openings_of};
 use fr_schedule::cluster::Cluster;
 use fr_slots::channel::Channel;
 use fr_slots::numbers::Cycle;
@@ -26,27 +28,30 @@ use std::io;
 use std::io::{Read, Write};
 
 /// Writes the ranges of the dynamic slots of both channels.
-fn write_all_ranges(
-    alloc: Global,
-    text: &mut Vec<u8>,
+fn write_all_ranges<W: Write>(
+    writer: &mut W,
     cluster: &Cluster,
+    openings: &Openings,
     cycle: Cycle,
-) -> io::Result<()> {
-    match openings_of(alloc, cluster) {
-        Ok(openings) => {
-            write_ranges(text, cluster, &openings, cycle, Channel::A)?;
-            write_ranges(text, cluster, &openings, cycle, Channel::B)
-        }
-        Err(error) => Err(io::Error::from(error)),
-    }
+) -> io::Result<()>
+    requires { AreOpenings cluster.now openings.now }
+    ensures { OnOk result
+        (Adds (AreRanges cluster.now cycle) (W.contents writer.old) (W.contents writer.new)) }
+{
+    write_ranges(writer, cluster, openings, cycle, Channel::A)?;
+    write_ranges(writer, cluster, openings, cycle, Channel::B)
 }
 
 /// Returns the ranges of the dynamic slots of both channels.
 fn ranges_of(alloc: Global, cluster: &Cluster, cycle: Cycle) -> Result<Vec<u8>, BenchError>
+    ensures ranges { IfOk result (λ text. AreRanges cluster.now cycle text.items) }
     ensures refused { IfErr result (λ e. e ≡ refusal.Memory) }
 {
+    let Ok(openings) = openings_of(alloc, cluster) else {
+        return Err(BenchError::Memory);
+    };
     let mut text = Vec::new(alloc);
-    match write_all_ranges(alloc, &mut text, cluster, cycle) {
+    match write_all_ranges(&mut text, cluster, &openings, cycle) {
         Ok(()) => Ok(text),
         // A list of bytes takes no more only if an allocation fails.
         Err(_) => Err(BenchError::Memory),
@@ -79,7 +84,8 @@ fn write_picture<W: Write>(
     ranges: &[u8],
     guardian: &Guardian,
 ) -> io::Result<()>
-    requires { guardian.now ≡ cluster.now }
+    requires ranges { AreRanges cluster.now cycle ranges.now }
+    requires guardian { guardian.now ≡ cluster.now }
     ensures { OnOk result
         (Adds (IsPicture cluster.now cycle) (W.contents writer.old) (W.contents writer.new)) }
 {

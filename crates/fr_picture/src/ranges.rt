@@ -1,8 +1,21 @@
 //! The minislots at which dynamic slots can open.
 
-use crate::dynamics::{count_senders, sender_in};
+ghost use Rattle.std.specs.Prelude.{◌≡◌, ◌+◌, ◌<◌, ◌≤◌, false, true, OnOk};
+ghost use Rattle.fr_latency.specs.Openings.{is_used, last_opening, slots_before};
+ghost use Rattle.fr_latency.specs.Rows.{AreRows};
+ghost use Rattle.fr_latency.specs.Tables.{AreOpenings};
+ghost use Rattle.fr_picture.specs.Owners.{Adds};
+ghost use Rattle.fr_picture.specs.Ranges.{AreRangeTexts, IsRangeText, latest_of, minislot_start, range_front, range_text};
+ghost use Rattle.fr_schedule.specs.Clusters.{IsCluster};
+ghost use Rattle.fr_schedule.specs.Descriptions.{Description};
+ghost use Rattle.fr_schedule.specs.SenderTable.{IsSender};
+ghost use Rattle.fr_slots.specs.Numbers.{last_slot};
+ghost use Rattle.fr_slots.specs.Parameters.{is_static_slot};
+ghost use Rattle.fr_text.specs.Writing.{Writes};
+
+use crate::dynamics::{count_senders, index_after};
 use crate::scale::{CHANNEL_HEIGHT, across, extent, row_of};
-use fr_latency::openings::Openings;
+use fr_latency::openings::{Openings, Row};
 use fr_schedule::cluster::Cluster;
 use fr_slots::channel::Channel;
 use fr_slots::numbers::{Cycle, LAST_SLOT, NodeId, SlotId};
@@ -15,69 +28,176 @@ use std::io::Write;
 /// The height of the strip under the dynamic slots of a channel.
 const STRIP: u64 = 70;
 
-/// The first and the last minislot at which a dynamic slot can open in a cycle without faults.
+/// The place of the line of a range in its strip: its distance from the top, and its height.
 #[derive(Clone, Copy)]
-struct Range {
-    first: u16,
-    last: u16,
-}
-
-/// The line of a range: the slot, its sender, and the place of the line in its strip.
-#[derive(Clone, Copy)]
-struct RangeLine {
-    slot: SlotId,
-    node: NodeId,
-    range: Range,
+struct Strip {
     top: u64,
     height: u64,
 }
 
-/// Returns the range of the dynamic slot of this number. None if the slot never opens in the cycle.
-fn range_of(
+/// Returns the rows of the channel.
+fn rows_of(openings: &Openings, channel: Channel) -> &[Row]
+    ensures { (d : Description) → AreOpenings d openings.now → AreRows d channel result.now }
+{
+    match channel {
+        Channel::A => openings.a.as_slice(),
+        Channel::B => openings.b.as_slice(),
+    }
+}
+
+/// Returns the number of dynamic slots before a slot.
+fn slots_before(params: &Params, slot: SlotId) -> u16
+    ensures value { result ≡ slots_before params.now slot }
+    ensures few { result ≤ 2047 }
+    ensures within { is_static_slot params.now slot ≡ false → params.now.static_slots + result < last_slot }
+{
+    slot.number().saturating_sub(params.static_slots + 1)
+}
+
+/// Returns the last minislot at which a dynamic slot can open in the cycle, or 0 if it never opens.
+fn latest_of(
     cluster: &Cluster,
     openings: &Openings,
     cycle: Cycle,
     channel: Channel,
-    number: u16,
-) -> Option<Range> {
-    // Each dynamic slot before takes one minislot at least.
-    let first = number.checked_sub(cluster.params().static_slots)?;
-    let place = usize::from(first.checked_sub(1)?);
-    let row = match channel {
-        Channel::A => openings.a.get(place)?,
-        Channel::B => openings.b.get(place)?,
-    };
-    let last = row.opening[usize::from(cycle.number())];
-    if last == 0 {
-        None
-    } else {
-        Some(Range { first, last })
-    }
+    slot: SlotId,
+) -> u16
+    requires openings { AreOpenings cluster.now openings.now }
+    requires dynamic { is_static_slot cluster.now.params slot ≡ false }
+    requires used { is_used cluster.now.plans slot channel ≡ true }
+    ensures { result ≡ latest_of cluster.now cycle channel slot }
+{
+    let rows = rows_of(openings, channel);
+    let row = &rows[usize::from(slots_before(cluster.params(), slot))];
+    row.opening[usize::from(cycle.number())]
 }
 
 /// Returns the macrotick at which a minislot of the cycle begins. Minislots are counted from 1.
-fn start_of(params: &Params, minislot: u16) -> u32 {
-    let before = u32::from(minislot.saturating_sub(1));
-    let length = before.saturating_mul(u32::from(params.minislot_mt));
-    segments_of(params).dynamic.saturating_add(length)
+fn start_of(params: &Params, minislot: u32) -> u32
+    requires first { 1 ≤ minislot }
+    requires few { minislot ≤ 65536 }
+    ensures { result ≡ minislot_start params.now minislot }
+{
+    segments_of(params).dynamic + (minislot - 1) * u32::from(params.minislot_mt)
+}
+
+/// Writes the front of the line of a range.
+#[tactic(auto, unfolding(crate::specs::Ranges::range_front))]
+fn write_range_front<W: Write>(
+    writer: &mut W,
+    slot: u16,
+    channel: Channel,
+    node: u8,
+    first: u16,
+    last: u16,
+) -> io::Result<()>
+    ensures { Writes W.contents writer.old writer.new result (range_front slot channel node first last) }
+{
+    write!(
+        writer,
+        "<g class='range n{node}'><title>dynamic slot {slot} on {channel} opens at minislots {first} to {last}</title>"
+    )
 }
 
 /// Writes the line of a range. It begins where the first minislot begins, and ends where the last one ends.
+#[tactic(auto, unfolding(crate::specs::Ranges::range_text))]
 fn write_range<W: Write>(
     writer: &mut W,
     params: &Params,
     channel: Channel,
-    line: RangeLine,
-) -> io::Result<()> {
-    let Range { first, last } = line.range;
-    let start = start_of(params, first);
-    let end = start_of(params, last.saturating_add(1));
-    write!(writer, "<g class='range n{}'><title>", line.node)?;
-    write!(writer, "dynamic slot {} on {channel} ", line.slot)?;
-    write!(writer, "opens at minislots {first} to {last}</title>")?;
-    let (left, length) = (across(params, start), extent(params, start, end));
-    write_rect(writer, left, line.top, length, line.height)?;
+    slot: SlotId,
+    node: NodeId,
+    first: u16,
+    last: u16,
+    strip: Strip,
+) -> io::Result<()>
+    requires { 1 ≤ first }
+    ensures { Writes W.contents writer.old writer.new result
+        (range_text params.now channel slot node first last strip.top strip.height) }
+{
+    let start = start_of(params, u32::from(first));
+    let end = start_of(params, u32::from(last) + 1);
+    write_range_front(writer, slot.number(), channel, node.number(), first, last)?;
+    write_rect(
+        writer,
+        across(params, start),
+        strip.top,
+        extent(params, start, end),
+        strip.height,
+    )?;
     close_group(writer)
+}
+
+/// Writes the line of a dynamic slot in which the node sends, if the slot can open in the cycle.
+fn write_sent_range<W: Write>(
+    writer: &mut W,
+    cluster: &Cluster,
+    openings: &Openings,
+    cycle: Cycle,
+    channel: Channel,
+    slot: SlotId,
+    node: NodeId,
+    strip: Strip,
+) -> io::Result<()>
+    requires openings { AreOpenings cluster.now openings.now }
+    requires dynamic { is_static_slot cluster.now.params slot ≡ false }
+    requires sender { IsSender cluster.now cycle slot channel node }
+    ensures { OnOk result
+        (Adds (IsRangeText cluster.now cycle channel slot) (W.contents writer.old) (W.contents writer.new)) }
+{
+    let last = latest_of(cluster, openings, cycle, channel, slot);
+    if last == 0 {
+        return Ok(());
+    }
+    // Each dynamic slot before takes one minislot at least.
+    let first = slots_before(cluster.params(), slot) + 1;
+    write_range(
+        writer,
+        cluster.params(),
+        channel,
+        slot,
+        node,
+        first,
+        last,
+        strip,
+    )
+}
+
+/// Writes the line of a slot, if it is a dynamic one that has a sender in the cycle and can open there.
+fn write_slot_range<W: Write>(
+    writer: &mut W,
+    cluster: &Cluster,
+    openings: &Openings,
+    cycle: Cycle,
+    channel: Channel,
+    slot: SlotId,
+    strip: Strip,
+) -> io::Result<()>
+    requires { AreOpenings cluster.now openings.now }
+    ensures { OnOk result
+        (Adds (IsRangeText cluster.now cycle channel slot) (W.contents writer.old) (W.contents writer.new)) }
+{
+    let fixed = cluster.params().is_static(slot);
+    if fixed {
+        return Ok(());
+    }
+    match cluster.sender(cycle, slot, channel) {
+        Some(node) => write_sent_range(
+            writer, cluster, openings, cycle, channel, slot, node, strip,
+        ),
+        None => Ok(()),
+    }
+}
+
+/// Returns the place of the line of this index. The lines of a channel share its strip.
+fn strip_of(channel: Channel, count: u64, index: u64) -> Strip
+    requires { 1 ≤ count }
+{
+    let below = row_of(channel).saturating_add(CHANNEL_HEIGHT - STRIP);
+    Strip {
+        top: below.saturating_add(index.saturating_mul(STRIP) / count),
+        height: (STRIP / count).max(4).min(14),
+    }
 }
 
 /// Writes a line for each dynamic slot of the channel that has a sender in the cycle and can open there.
@@ -87,23 +207,18 @@ pub(crate) fn write_ranges<W: Write>(
     openings: &Openings,
     cycle: Cycle,
     channel: Channel,
-) -> io::Result<()> {
+) -> io::Result<()>
+    requires { AreOpenings cluster.now openings.now }
+    ensures { OnOk result
+        (Adds (AreRangeTexts cluster.now cycle channel 2047) (W.contents writer.old) (W.contents writer.new)) }
+{
     let count = count_senders(cluster, cycle, channel).max(1);
-    let strip = row_of(channel).saturating_add(CHANNEL_HEIGHT - STRIP);
     let mut index: u64 = 0;
-    for number in 1..=LAST_SLOT {
-        if let Some((slot, node)) = sender_in(cluster, cycle, number, channel) {
-            if let Some(range) = range_of(cluster, openings, cycle, channel, number) {
-                let line = RangeLine {
-                    slot,
-                    node,
-                    range,
-                    top: strip.saturating_add(index.saturating_mul(STRIP) / count),
-                    height: (STRIP / count).max(4).min(14),
-                };
-                write_range(writer, cluster.params(), channel, line)?;
-            }
-            index = index.saturating_add(1);
+    for earlier in 0..LAST_SLOT {
+        let strip = strip_of(channel, count, index);
+        index = index_after(cluster, cycle, channel, earlier + 1, index);
+        if let Some(slot) = SlotId::new(earlier + 1) {
+            write_slot_range(writer, cluster, openings, cycle, channel, slot, strip)?;
         }
     }
     Ok(())

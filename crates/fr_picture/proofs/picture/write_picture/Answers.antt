@@ -8,6 +8,6 @@ returns g c =
     (g.W.Write.contents c.write_owners.new.writer) (g.W.Write.contents c.write_dynamic.new.writer)
     (g.W.Write.contents c.write_dynamic-2.new.writer) (g.W.Write.contents c.write_bytes.new.writer)
     (g.W.Write.contents c.write_guards.new.writer) (g.W.Write.contents c.close_picture.new.writer)
-    c.requires c.nodes.ensures.value c.in_ok-write_front.ensures c.in_ok-write_owners.ensures
+    c.requires.ranges c.requires.guardian c.nodes.ensures.value c.in_ok-write_front.ensures c.in_ok-write_owners.ensures
     c.in_ok-write_dynamic.ensures c.in_ok-write_dynamic-2.ensures c.in_ok-write_bytes.ensures
     c.in_ok-write_guards.ensures c.close_picture.ensures
