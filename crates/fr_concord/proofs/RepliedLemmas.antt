@@ -267,13 +267,19 @@ status_one_line c s =
     let k = counts_of s.params c s.entries in
     one_line (codes "status" ∷ channel_words c k) (
       refl,
-      letter_line c,
-      number_line k.valid,
-      number_line k.syntax_errors,
-      number_line k.content_errors,
-      number_line k.boundary_violations,
-      number_line k.conflicts,
-      tt,
+      (
+        letter_line c,
+        (
+          number_line k.valid,
+          (
+            number_line k.syntax_errors,
+            (
+              number_line k.content_errors,
+              (number_line k.boundary_violations, (number_line k.conflicts, tt)),
+            ),
+          ),
+        ),
+      ),
     ) refl
 
 -- a line of a node, if the cluster has it
