@@ -244,8 +244,8 @@ def request(random, nodes):
     return random.choice((
         f"commit {node} {task} {buffer} {payload}", f"withdraw {node} {task} {buffer}", f"read {node} {task} {buffer}",
         f"pop {node} {task}", f"look {node}", f"fetch {node}", f"put {node}", f"take {node}", f"observe {node}", "seal",
-        "advance", "window", "window", "cycle", f"run {random.randrange(3)}", "now", f"report {node}", f"trace {node}",
-        f"record {random.randrange(12)}",
+        "advance", "window", "window", "cycle", f"run {random.randrange(3)}", "now", "at", f"report {node}",
+        f"status {node} {channel}", f"trace {node}", f"record {random.randrange(12)}",
         f"babble {node} {channel} x{random.randbytes(random.choice((0, 9, 40))).hex()}",
         f"mute {node} {channel}", f"corrupt {channel} {random.randrange(90)}", "forget",
         fault_line(random, node, channel)))

@@ -25,7 +25,7 @@ from musmyrtle.world.refusals import (
     WrongWindow,
 )
 from musmyrtle.world.replies import (
-    Channel, Counters, Frame, Queue, ReceiveBuffer, Record, Report, Sent, TransmitBuffer, Window,
+    Channel, Counters, Frame, Moment, Queue, ReceiveBuffer, Record, Report, Sent, TransmitBuffer, Window,
 )
 from musmyrtle.world.waits import at_slot, every, on_frame
 from musmyrtle.world.world import World
@@ -33,10 +33,10 @@ from musmyrtle.world.world import World
 __all__ = [
     "AlreadyPut", "AlreadyTaken", "Babble", "BadCycles", "BadFault", "BadLine", "BadName", "BadWindow", "Buffer",
     "BusMemory", "BusRefused", "BusUnknownNode", "Channel", "ClusterRefused", "Corrupt", "Counters", "Fault", "Frame",
-    "HostFull", "HostRefused", "Memory", "Mute", "Names", "Node", "NoHistory", "NoQueue", "NotAllPut", "NotAllTaken",
-    "NotCollecting", "NotFetched", "NotInAScenario", "NotObserved", "NotReceive", "NotSealed", "NotStarted",
-    "NotTransmit", "NoWindow", "Queue", "ReceiveBuffer", "Record", "Refused", "Report", "Scenario", "ScenarioText",
-    "Sent", "SessionOver", "SlotFull", "SlotRefused", "TimedOut", "TooManyFaults", "TransmitBuffer", "UnknownBuffer",
-    "UnknownName", "UnknownNode", "UnknownTask", "Window", "WindowOrder", "World", "WrongLength", "WrongTurn",
-    "WrongWindow", "at_slot", "every", "on_frame",
+    "HostFull", "HostRefused", "Memory", "Moment", "Mute", "Names", "Node", "NoHistory", "NoQueue", "NotAllPut",
+    "NotAllTaken", "NotCollecting", "NotFetched", "NotInAScenario", "NotObserved", "NotReceive", "NotSealed",
+    "NotStarted", "NotTransmit", "NoWindow", "Queue", "ReceiveBuffer", "Record", "Refused", "Report", "Scenario",
+    "ScenarioText", "Sent", "SessionOver", "SlotFull", "SlotRefused", "TimedOut", "TooManyFaults", "TransmitBuffer",
+    "UnknownBuffer", "UnknownName", "UnknownNode", "UnknownTask", "Window", "WindowOrder", "World", "WrongLength",
+    "WrongTurn", "WrongWindow", "at_slot", "every", "on_frame",
 ]

@@ -5,7 +5,7 @@ from pathlib import Path
 from tempfile import TemporaryDirectory
 
 from musmyrtle import (
-    BadCycles, Mute, NoHistory, NotReceive, NoWindow, UnknownNode, World, at_slot, every, on_frame,
+    BadCycles, Moment, Mute, NoHistory, NotReceive, NoWindow, UnknownNode, World, at_slot, every, on_frame,
 )
 
 TOP = Path(__file__).resolve().parents[2]
@@ -29,6 +29,13 @@ class TestEndless(unittest.TestCase):
         window = self.world.cycle()
         self.assertEqual(window.cycle, 3_001 % 64)
         self.assertEqual(self.receiver.read(1).payload, words(7))
+
+    def test_the_time_and_the_counters_of_a_long_run(self):
+        self.world.run(70_000)
+        self.world.window()
+        self.assertEqual(self.world.at(), Moment(70_000, 20, 490_001))
+        self.assertEqual(self.receiver.status("A"), self.receiver.report().a)
+        self.assertEqual(self.receiver.status("A").valid, 70_001)
 
     def test_a_read_has_its_channel_and_a_pop_has_none(self):
         """Slot 1 is sent on both channels, and slot 4 goes to the receive FIFO of node 0."""

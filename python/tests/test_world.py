@@ -11,9 +11,9 @@ from tempfile import TemporaryDirectory
 
 import musmyrtle
 from musmyrtle import (
-    Babble, BadFault, BadLine, BadName, BusRefused, Corrupt, HostRefused, Mute, Names, NotAllPut, NotCollecting,
-    NotInAScenario, NotReceive, NotSealed, NoWindow, Refused, Scenario, SessionOver, TooManyFaults, UnknownBuffer,
-    UnknownName, UnknownNode, UnknownTask, Window, World, WrongLength, WrongTurn,
+    Babble, BadFault, BadLine, BadName, BusRefused, Corrupt, HostRefused, Moment, Mute, Names, NotAllPut,
+    NotCollecting, NotInAScenario, NotReceive, NotSealed, NoWindow, Refused, Scenario, SessionOver, TooManyFaults,
+    UnknownBuffer, UnknownName, UnknownNode, UnknownTask, Window, World, WrongLength, WrongTurn,
 )
 from musmyrtle.world.node import Buffer, Node
 from musmyrtle.world.world_program import usual_world
@@ -49,6 +49,38 @@ class TestWorld(unittest.TestCase):
         self.receiver.fetch()
         self.receiver.put()
         self.assertEqual(self.world.window().number, 1)
+
+    def test_the_time_of_the_run(self):
+        """A cycle has 3 static slots of 20 macroticks, and from there 4 minislots of 5, to macrotick 80 of 90."""
+        times = [self.world.at()]
+        while times[-1].cycle < 2:
+            self.world.window()
+            times.append(self.world.at())
+        starts = [0, 20, 40, 60, 65, 70, 75]
+        self.assertEqual(times, [Moment(cycle, start, 7 * cycle + place) for cycle in range(2)
+                                 for place, start in enumerate(starts)] + [Moment(2, 0, 14)])
+        for node in range(3):
+            for step in ("look", "fetch", "put"):
+                self.world.ask(f"{step} {node}")
+        self.world.seal()
+        self.assertEqual(self.world.at(), Moment(2, 0, 15))
+        self.assertIsNone(self.world.run(6))
+        self.assertEqual(self.world.at(), Moment(8, 0, 56))
+
+    def test_the_status_counters(self):
+        self.sender.commit(0, words(7))
+        self.world.inject(Corrupt("A", 60))
+        self.world.cycle()
+        report = self.receiver.report()
+        for channel, counters in (("A", report.a), ("B", report.b)):
+            self.assertEqual(self.receiver.status(channel), counters)
+            self.assertEqual(self.world.status(1, channel), counters)
+        self.assertEqual((report.a.valid, report.a.syntax, report.b.valid), (0, 1, 1))
+        with self.assertRaises(UnknownNode):
+            self.world.status(3, "A")
+        for node, channel in ((16, "A"), (-1, "A"), (0, "C"), (0, "AB")):
+            with self.assertRaises(ValueError):
+                self.world.status(node, channel)
 
     def test_refusals_have_names_and_change_nothing(self):
         before = self.sender.report()

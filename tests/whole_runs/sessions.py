@@ -20,7 +20,7 @@ DATA_A, DATA_B = "x200203c1400a0ba32217", "x200203c1400a0b85a2c6"
 SMALL = f"""{STATIC_ALONE}
 [[node]]
 host_entries = 2
-slot_entries = 6
+slot_entries = 8
 own = [{{slot = 2, channels = "AB"}}]
 buffer = [{{kind = "event", slot = 2, channels = "AB"}}]
 
@@ -28,7 +28,7 @@ buffer = [{{kind = "event", slot = 2, channels = "AB"}}]
 tasks = 2
 buffer = [{{kind = "receive", slot = 2, channels = "A"}}]
 """
-"""Two static slots and no minislot. The journal of node 0 has room for three windows and two calls of its task."""
+"""Two static slots and no minislot. The journal of node 0 has room for two cycles and two calls of its task."""
 
 A_WINDOW = [
     ("look 0", "window 0 0 0 1 1"), ("look 1", "window 0 0 0 1 1"), ("fetch 0", "done"), ("fetch 1", "done"),
@@ -46,10 +46,20 @@ TWO_CYCLES = [
     ("babble 1 B x00", "done"), ("window", "open 2 1 0 1 1"), ("read 1 0 0", "frame 0 2 ---- x0c0d"),
     ("origin 1", "origin 4:A"), ("origin 0", "origin -"),
     ("record 0", "lines 1\nwindow 0 0 0 1 1"), ("record 2", "refused NoWindow"),
-    ("report 0", "lines 3\ntx 0 2 1 1 0 0\nA 0 0 0 0 0\nB 0 0 0 0 0"), ("cycle", "refused Slot SlotFull"),
-    ("now", "open 3 1 0 2 2"),
+    ("report 0", "lines 3\ntx 0 2 1 1 0 0\nA 0 0 0 0 0\nB 0 0 0 0 0"), ("cycle", "over"),
 ]
-"""A run by whole windows, in which the journal of node 0 is full before the last one."""
+"""A run by whole windows, after which the journal of node 0 is full."""
+
+TIMES = [
+    ("at", "at 0 0 0"), ("status 0 B", "status B 0 0 0 0 0"), ("commit 0 0 0 x0a0b", "committed 0"),
+    ("look 0", "window 0 0 0 1 1"), ("at", "at 0 0 0"), ("fetch 0", "done"), ("look 1", "window 0 0 0 1 1"),
+    ("fetch 1", "done"), ("put 0", "done"), ("put 1", "done"), ("seal", "done"), ("at", "at 0 0 1"),
+    ("window", "open 1 0 0 2 2"), ("at", "at 0 20 1"), ("corrupt B 30", "done"), ("cycle", "open 2 1 0 1 1"),
+    ("at", "at 1 0 2"), ("status 1 A", "status A 1 0 0 0 0"), ("status 1 B", "status B 0 1 0 0 0"),
+    ("status 2 A", "refused UnknownNode"), ("window", "open 3 1 0 2 2"), ("at", "at 1 20 3"), ("window", "over"),
+    ("at", "at 2 0 4"), ("status 1 A", "status A 2 0 0 0 0"), ("status 1 B", "status B 1 1 0 0 0"),
+]
+"""The time of each window, open and sealed, and the counters of a node, to which a flipped bit is a syntax error."""
 
 REFUSALS = [
     ("commit 3 0 0 x0000", "refused UnknownNode"), ("look 15", "refused UnknownNode"),
@@ -117,6 +127,7 @@ NO_REQUESTS = [
     "mute 0 A * s01", "mute 0 A ** s*", "mute 0 A * s* 1", "mute 0 A  * s*", "corrupt A * s*", "corrupt A * s* 65536",
     "corrupt 0 A * s* 1", "commit 0 0 0 0 x0a0b", "read 0 0 0 1 ", "mute 0 A * m8001", "end", "frscenario 2", "record",
     "record 4294967296", "report", "report 16", "trace", "trace 0 0", "origin", "origin 16", "origin 0 0",
+    "at 0", "At", "status", "status 0", "status 0 C", "status 16 A", "status A 0", "status 0 A 0",
     "quit", "frworld 1", "now\r", "now\t", "now\0",
     "commit 0 0 0 x" + "00" * 255, "babble 0 A x" + "00" * 263, "x" * 1200, "x" * 1201, "now " * 300,
     "now" + " " * 1198, "now" + " " * 5_000_000, "x" * 4095, "x" * 4096, "x" * 8191, "x" * 8192, "x" * 8193,
@@ -207,12 +218,13 @@ class Sessions:
     def worked(self):
         self.check("a window by its events", self.small, 2, A_WINDOW)
         self.check("two cycles by windows", self.small, 2, TWO_CYCLES)
+        self.check("times and counters", self.small, 2, TIMES)
         self.check("each refusal", THREE_NODES, 4, REFUSALS)
         self.check("fault lines", self.small, 2, FAULT_LINES)
         self.check("a fault by hand before one of a line", self.small, 2, A_FAULT_BY_HAND)
         self.check("a fault line too late for a window", self.small, 2, A_LINE_TOO_LATE)
         roomy = self.folder / "roomy.toml"
-        roomy.write_text(SMALL.replace("slot_entries = 6\n", ""))
+        roomy.write_text(SMALL.replace("slot_entries = 8\n", ""))
         self.check("a fault line of a late cycle", roomy, 66, LATE_CYCLES)
         self.check("no requests at all", THREE_NODES, 1, [])
         late = "refused Bus NotCollecting"
@@ -225,7 +237,7 @@ class Sessions:
         """Checks that a session without history gives the replies of one with it, as far as these need no history."""
         last = [(ask, reply) for ask, reply in FAULT_LINES if not ask.startswith("record")]
         for name, asked in (("a window by its events", A_WINDOW), ("fault lines", last),
-                            ("a fault by hand", A_FAULT_BY_HAND)):
+                            ("a fault by hand", A_FAULT_BY_HAND), ("times and counters", TIMES)):
             self.check_endless(name, self.small, ("--cycles", "2"), asked)
         self.check_endless("what isn't kept", THREE_NODES, (), [
             ("record 0", "refused NoWindow"), ("cycle", "open 7 1 0 1 1"), ("record 6", "lines 1\nwindow 6 0 4 7 7"),
@@ -236,8 +248,9 @@ class Sessions:
             ("corrupt A 1 s1 7", "done"), ("cycle", "open 2 1 0 1 1"), ("window", "open 3 1 0 2 2"),
             ("record 2", "lines 2\nwindow 2 1 0 1 1\ncorrupt A 7"), ("window", "open 4 2 0 1 1"),
             ("run 1022", "open 2048 0 0 1 1"), *[("run 1024", f"open {2048 * n} 0 0 1 1") for n in range(2, 65)],
-            ("cycle", "open 131074 1 0 1 1"), ("window", "open 131075 1 0 2 2"),
-            ("record 131074", "lines 1\nwindow 131074 1 0 1 1"), ("corrupt A 1024 s1 7", "refused BadLine 73")])
+            ("cycle", "open 131074 1 0 1 1"), ("at", "at 65537 0 131074"), ("window", "open 131075 1 0 2 2"),
+            ("at", "at 65537 20 131075"),
+            ("record 131074", "lines 1\nwindow 131074 1 0 1 1"), ("corrupt A 1024 s1 7", "refused BadLine 75")])
         self.equal_endings()
         self.constant_memory()
 
@@ -278,12 +291,14 @@ class Sessions:
     def many_fault_lines(self):
         """Checks that each fault line costs the same time, however many are kept, and is still compared with all of
         them."""
-        seconds = {}
+        seconds, cluster = {}, self.folder / "many.toml"
+        text = (EXAMPLES / THREE_NODES).read_text()
+        cluster.write_text(text.replace("[[node]]\n", "[[node]]\nslot_entries = 14336\n"))
         for count in (4_000, 64_000):
             lines = list(some_fault_lines(count))
             asked = [*lines, lines[0], "mute 0 A * s1", "mute 0 A 7 s*", "corrupt A 7 s* 3", "corrupt A * s2 3"]
             replies = ["done"] * count + [f"refused BadFault {count}"] * 3 + ["done", f"refused BadFault {count + 1}"]
-            words = [self.runs.program, THREE_NODES, "--cycles", "1024"]
+            words = [self.runs.program, cluster, "--cycles", "1024"]
             before = resource.getrusage(resource.RUSAGE_CHILDREN)
             output, errors, status = run(words, text_of(asked).encode())
             after = resource.getrusage(resource.RUSAGE_CHILDREN)

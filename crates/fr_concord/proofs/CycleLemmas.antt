@@ -62,6 +62,8 @@ window_cycles before r after =
       of_faults = refl;
       of_row = sym whole;
       of_strikes = moved (opens_cycle r.window) (cycles_begun before) ∙ back;
+      of_time = moved (opens_cycle r.window) (cycles_begun before) ∙ back;
+      of_sealed_time = sym whole;
       of_delays = λ w same.
           ap (λ (l : List Recorded). cycles_begun l - cond (opens_cycle r.window) 0 1) same
           ∙ delayed (opens_cycle r.window) (cycles_begun before) ∙ back;

@@ -17,6 +17,8 @@ use Rattle.fr_bus.specs.declared.outcome.Sent.{Sent}
 use Rattle.fr_bus.specs.ErrorNames.{bus_error_name}
 use Rattle.fr_bus.specs.Record.{Recorded}
 use Rattle.fr_bus.specs.States.{BusState}
+use Rattle.fr_bus.specs.Windows.{cycles_begun}
+use Rattle.fr_capture.specs.Moments.{start_of}
 use Rattle.fr_core.specs.declared.error.StepError.{StepError}
 use Rattle.fr_core.specs.declared.error.StepError.TheVariants as step
 use Rattle.fr_core.specs.declared.event.Reply.TheVariants as reply
@@ -42,7 +44,7 @@ use Rattle.fr_session.specs.Keeping.{KeepsIf}
 use Rattle.fr_session.specs.Lines.{with_feed, IsLine, AreLines}
 use Rattle.fr_session.specs.Queries.{now_words, moved_text, memory_text, IsBlock, IsBlockIf}
 use Rattle.fr_session.specs.Queries.{last_origin, origin_text, sent_line, corrupt_lines, sealed_text}
-use Rattle.fr_session.specs.Queries.{IsRecordOf, phase_word}
+use Rattle.fr_session.specs.Queries.{IsRecordOf, phase_word, at_words, cycle_at, moment_words, status_text}
 use Rattle.fr_session.specs.Reading.{asked_in}
 use Rattle.fr_session.specs.Replies.{refusal_words, bad_line_words, bad_fault_words, done_words, frame_words}
 use Rattle.fr_session.specs.Replies.{frame_reply, window_words, withdrawn_words, reply_words, answer_text}
@@ -51,6 +53,7 @@ use Rattle.fr_session.specs.RecordWords.{kind_word, fate_word}
 use Rattle.fr_slots.specs.Admission.{letter_of}
 use Rattle.fr_slots.specs.declared.channel.Channel.{Channel}
 use Rattle.fr_slots.specs.declared.channel.Channel.TheVariants as channel
+use Rattle.fr_slots.specs.Parameters.{Parameters}
 use Rattle.fr_slots.specs.Windows.{Opportunity}
 use Rattle.fr_text.proofs.PlainLemmas.{IsPlain-hex_text, has_no_feed-plain, has_no_feed-append}
 use Rattle.fr_text.specs.Plain.{is_feed, has_no_feed}
@@ -245,10 +248,45 @@ origin_line : (s : State) → IsOneLine (origin_text s)
 origin_line s = one_line (codes "origin" ∷ from_word (last_origin s.entries) ∷ [])
     (refl, (from_line (last_origin s.entries), tt)) refl
 
-origin_of : (known : Bool) (s : State)
-    → IsOneLine (cond known (origin_text s) (line_text (refusal_words step.UnknownNode)))
-origin_of true s = origin_line s
-origin_of false s = refusal_line step.UnknownNode
+moment_line : (cycle macrotick windows : ℕ) → IsOneLine (line_text (moment_words cycle macrotick windows))
+moment_line cycle macrotick windows =
+    one_line (moment_words cycle macrotick windows)
+    (refl, (number_line cycle, (number_line macrotick, (number_line windows, tt)))) refl
+
+at_line : (p : Parameters) (phase : Phase) (begun windows : ℕ) (opened : Option Opportunity)
+    → IsOneLine (line_text (at_words p phase begun windows opened))
+at_line p phase begun windows None = moment_line begun 0 windows
+at_line p phase begun windows (Some w) = moment_line (cycle_at phase begun w) (start_of p w) windows
+
+letter_line : (c : Channel) → IsLine (letter_of c)
+letter_line channel.A = refl
+letter_line channel.B = refl
+
+status_one_line : (c : Channel) (s : State) → IsOneLine (status_text c s)
+status_one_line c s =
+    let k = counts_of s.params c s.entries in
+    one_line (codes "status" ∷ channel_words c k) (
+      refl,
+      (
+        letter_line c,
+        (
+          number_line k.valid,
+          (
+            number_line k.syntax_errors,
+            (
+              number_line k.content_errors,
+              (number_line k.boundary_violations, (number_line k.conflicts, tt)),
+            ),
+          ),
+        ),
+      ),
+    ) refl
+
+-- a line of a node, if the cluster has it
+node_line : (known : Bool) (text : List ℕ) → IsOneLine text
+    → IsOneLine (cond known text (line_text (refusal_words step.UnknownNode)))
+node_line true text is = is
+node_line false text is = refusal_line step.UnknownNode
 
 -- ---- texts of whole lines
 
@@ -425,14 +463,22 @@ request_line terms old (request.Run cycles) text new does =
     subst IsOneLine (sym does.2) (moved_line does.0 new.world.bus)
 request_line terms old request.Now text new does =
     subst IsOneLine (sym does.1) (now_line old.world.bus.opened old.world.bus.phase)
+request_line terms old request.At text new does =
+    let b = old.world.bus in
+    subst IsOneLine (sym does.1)
+    (at_line terms.cluster.params b.phase (cycles_begun b.sealed) (length b.sealed) b.opened)
 request_line terms old (request.Report node) text new does =
     block_of (has_node old.world node) (report_text (interface_at old.world node)) text
     (report_ends (interface_at old.world node)) does.1
+request_line terms old (request.Status node channel) text new does =
+    subst IsOneLine (sym does.1) (node_line (has_node old.world node) (status_text channel (interface_at old.world node))
+    (status_one_line channel (interface_at old.world node)))
 request_line terms old (request.Trace node) text new does =
     block_of (has_node old.world node) (trace_text Three (interface_at old.world node)) text
     (trace_ends Three (interface_at old.world node)) does.1
 request_line terms old (request.Origin node) text new does =
-    subst IsOneLine (sym does.1) (origin_of (has_node old.world node) (interface_at old.world node))
+    subst IsOneLine (sym does.1) (node_line (has_node old.world node) (origin_text (interface_at old.world node))
+    (origin_line (interface_at old.world node)))
 request_line terms old (request.Record window) text new does =
     record_of (slice_get old.world.bus.sealed window) text does.1
 

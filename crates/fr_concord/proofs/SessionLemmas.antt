@@ -166,9 +166,13 @@ module _ (d : Description) (cycles : ℕ) where
       (same.0, by_parts x y same.1 (kept ∙ sym kept'))
   request_same old request.Now a b x y first second memory memory' free free' =
       unchanged old x y a b first.0 second.0 (first.1 ∙ sym second.1)
+  request_same old request.At a b x y first second memory memory' free free' =
+      unchanged old x y a b first.0 second.0 (first.1 ∙ sym second.1)
   request_same old (request.Report node) a b x y first second memory memory' free free' =
       unchanged old x y a b first.0 second.0 (block_if_same (has_node old.world node)
       (report_text (interface_at old.world node)) a b first.1 second.1 memory.of_session memory'.of_session)
+  request_same old (request.Status node channel) a b x y first second memory memory' free free' =
+      unchanged old x y a b first.0 second.0 (first.1 ∙ sym second.1)
   request_same old (request.Trace node) a b x y first second memory memory' free free' =
       unchanged old x y a b first.0 second.0 (block_if_same (has_node old.world node)
       (trace_text Three (interface_at old.world node)) a b first.1 second.1 memory.of_session memory'.of_session)

@@ -27,8 +27,9 @@ use Rattle.fr_session.specs.declared.request.Request.{Request}
 use Rattle.fr_session.specs.declared.request.Request.TheVariants as request
 use Rattle.fr_session.specs.Lines.{longest_line}
 use Rattle.fr_session.specs.Reading.{host_request, node_in, step_of, step_request, babble_in, mute_in, corrupt_in}
-use Rattle.fr_session.specs.Reading.{fault_of, fault_request, run_in, record_in, report_in, trace_in, origin_in}
-use Rattle.fr_session.specs.Reading.{other_request, event_request, request_in, request_or_fault, with_fault}
+use Rattle.fr_session.specs.Reading.{fault_of, fault_request, run_in, record_in, report_in, status_in, trace_in}
+use Rattle.fr_session.specs.Reading.{origin_in, query_request, other_request, event_request, request_in}
+use Rattle.fr_session.specs.Reading.{request_or_fault, with_fault}
 use Rattle.fr_text.proofs.HexTextLemmas.{bytes_again, length-hex_text}
 use Rattle.fr_text.proofs.LineLemmas.{words_of-line_of, has_no_feed-line_of, length-line_of-le}
 use Rattle.fr_text.proofs.NumberLemmas.{number_again}
@@ -101,7 +102,7 @@ fault_again line fits cut =
 
 request_again : (r : Request) → IsSpelledRequest r → words_of (spelled r) ≡ request_words r
     → request_or_fault (request_in (request_words r)) (request_words r) ≡ Some r
-unfolding request_in other_request run_in record_in report_in trace_in origin_in
+unfolding request_in other_request query_request run_in record_in report_in status_in trace_in origin_in
 request_again (request.Event e) fits cut = rw (event_again e fits) refl
 request_again (request.Fault line) fits cut =
     rw (fault_no_event (cycles_word line.cycles) (place_word line.place) line.fault)
@@ -110,7 +111,9 @@ request_again request.Forget fits cut = refl
 request_again request.Window fits cut = refl
 request_again (request.Run n) fits cut = rw (number_again 1025 n (omega arith) (omega arith)) refl
 request_again request.Now fits cut = refl
+request_again request.At fits cut = refl
 request_again (request.Report n) fits cut = rw (node_again n fits) refl
+request_again (request.Status n c) fits cut = rw (number_again 16 n fits (omega arith), channel_again c) refl
 request_again (request.Trace n) fits cut = rw (node_again n fits) refl
 request_again (request.Origin n) fits cut = rw (node_again n fits) refl
 request_again (request.Record n) fits cut = rw (number_again 4294967296 n (omega arith) (omega arith)) refl
@@ -257,8 +260,15 @@ request_so (request.Run n) fits =
     numbered_so (codes "run") 4 n (refl, tt) (omega arith) (number_word 4 n (omega arith) (omega arith) (omega arith))
     (omega arith)
 request_so request.Now fits = alone_so (codes "now") (refl, tt) (omega arith)
+request_so request.At fits = alone_so (codes "at") (refl, tt) (omega arith)
 request_so (request.Report n) fits =
     numbered_so (codes "report") 2 n (refl, tt) (omega arith) (node_word n fits) (omega arith)
+request_so (request.Status n c) fits =
+    let first = node_word n fits in
+    let second = channel_plain c in
+    let all = length-line_of-le (request_words (request.Status n c)) in
+    line_so (codes "status") (decimal n ∷ channel_word c ∷ [])
+    (refl, (first.plain, (second.plain, tt))) (omega (arith, first.short, second.short))
 request_so (request.Trace n) fits =
     numbered_so (codes "trace") 2 n (refl, tt) (omega arith) (node_word n fits) (omega arith)
 request_so (request.Origin n) fits =

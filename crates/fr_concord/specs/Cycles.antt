@@ -2,7 +2,9 @@
 -- of them name the same cycle (project-defined).
 use Rattle.std.specs.Prelude.{◌≡◌, ℕ, ◌%◌, List, [], ◌∷◌, ◌++◌, length, count_by, ◌≤◌, take}
 use Rattle.std.specs.Prelude.{Some, slice_get}
+use Rattle.fr_bus.specs.declared.error.Phase.TheVariants.{Collect, Sealed}
 use Rattle.fr_bus.specs.Record.{Recorded}
+use Rattle.fr_bus.specs.Windows.{cycles_begun}
 use Rattle.fr_core.specs.Accounts.{recorded_cycle, run_cycle}
 use Rattle.fr_core.specs.declared.script.Line.{Line}
 use Rattle.fr_core.specs.Scripts.{Scripted}
@@ -23,6 +25,7 @@ use Rattle.fr_runs.specs.declared.fault_line.FaultLine.{FaultLine}
 use Rattle.fr_runs.specs.Faulted.{cycle_at}
 use Rattle.fr_runs.specs.Stepping.{is_fetch, task_of, is_by, lines_given, IsInStep}
 use Rattle.fr_schedule.specs.Descriptions.{Description}
+use Rattle.fr_session.specs.Queries.{cycle_at as cycle_of_time}
 use Rattle.fr_showing.specs.Fates.{cycles_of}
 use Rattle.fr_slots.specs.Windows.{Opportunity}
 
@@ -37,6 +40,9 @@ pub record IsOneCycle (before : List Recorded) (r : Recorded) (after : List Reco
   pub of_row : cycle_of_row before r ≡ cycle
   -- for the fault lines that take effect, when the window is open
   pub of_strikes : run_cycle_after before r.window ≡ cycle
+  -- for the time of a session, while the window is open, and once it is sealed
+  pub of_time : cycle_of_time Collect (cycles_begun before) r.window ≡ cycle
+  pub of_sealed_time : cycle_of_time Sealed (cycles_begun (before ++ r ∷ [])) r.window ≡ cycle
   -- for latencies
   pub of_delays : (w : WorldState) → w.bus.sealed ≡ before → cycle_of_delay w r.window ≡ cycle
   -- for the cycle counter, of which 64 values follow one another

@@ -57,7 +57,9 @@ MovesFreely terms old new (Some request.Window) reply = IsUnhindered reply ⊎ I
 MovesFreely terms old new (Some (request.Run cycles)) reply =
     IsUnhindered reply × HasShortCycles old.faults terms.due old.world
 MovesFreely terms old new (Some request.Now) reply = Unit {0}
+MovesFreely terms old new (Some request.At) reply = Unit {0}
 MovesFreely terms old new (Some (request.Report node)) reply = Unit {0}
+MovesFreely terms old new (Some (request.Status node channel)) reply = Unit {0}
 MovesFreely terms old new (Some (request.Trace node)) reply = Unit {0}
 MovesFreely terms old new (Some (request.Origin node)) reply = Unit {0}
 MovesFreely terms old new (Some (request.Record window)) reply = Unit {0}

@@ -1,15 +1,15 @@
 -- A reply by the kept data is that of each world with its history.
 use Rattle.std.proofs.Common.{◌≡◌, ℕ, List, [], Option, None, Result}
-use Rattle.std.proofs.Common.{refl, sym, ap, subst, ◌∙◌}
+use Rattle.std.proofs.Common.{refl, sym, ap, ap₂, subst, ◌∙◌}
 use Rattle.fr_bus.specs.Record.{Recorded}
 use Rattle.fr_bus.specs.Standing.{LiveStanding, bare}
 use Rattle.fr_bus.specs.States.{last_recorded}
 use Rattle.fr_core.specs.declared.error.StepError.{StepError}
 use Rattle.fr_core.specs.declared.event.Event.{Event}
 use Rattle.fr_core.specs.Runs.{Answer}
-use Rattle.fr_endless.proofs.AlikeLemmas.{now_same, moved_same, last_same}
+use Rattle.fr_endless.proofs.AlikeLemmas.{now_same, moved_same, last_same, time_same}
 use Rattle.fr_endless.specs.Alike.{Alike}
-use Rattle.fr_endless.specs.Answers.{if_numbered, no_history_text, IsReportOf}
+use Rattle.fr_endless.specs.Answers.{if_numbered, kept_time, no_history_text, IsReportOf, IsStatusOf}
 use Rattle.fr_endless.specs.Serving.{DoesAlike, DoesAlikeIf}
 use Rattle.fr_lines.specs.Spelling.{line_text}
 use Rattle.fr_live.specs.LiveSteps.{StepsAlike}
@@ -22,6 +22,8 @@ use Rattle.fr_session.specs.Keeping.{KeepsLine}
 use Rattle.fr_session.specs.Queries.{now_text, moved_text, IsRecordOf, Replies}
 use Rattle.fr_session.specs.Replies.{answer_text, bad_line_words, done_words}
 use Rattle.fr_session.specs.Sessions.{Terms, state_of}
+use Rattle.fr_slots.specs.declared.channel.Channel.{Channel}
+use Rattle.fr_slots.specs.Parameters.{Parameters}
 use Rattle.fr_text.specs.Writing.{Writes}
 
 module _ {W A E : Type 0} (contents : W → Option (List ℕ)) (old new : W) (result : Result A E) where
@@ -101,6 +103,15 @@ module _ (terms : Terms) (l : LiveState) (kept : List FaultLine) where
       → DoesAlike terms l kept request.Now (now_text (bare bus.bus)) l kept
   now_so bus bus_is w is =
       (w, (refl, ap (λ (b : LiveStanding). now_text (bare b.bus)) bus_is ∙ now_same l w is), is)
+
+  pub at_so : (bus : LiveStanding) (p : Parameters) → bus ≡ l.bus → p ≡ terms.cluster.params
+      → DoesAlike terms l kept request.At (kept_time p bus) l kept
+  at_so bus p bus_is p_is w is =
+      (w, (refl, ap₂ kept_time p_is bus_is ∙ time_same l w is terms.cluster.params), is)
+
+  pub status_so : (node : ℕ) (channel : Channel) (reply : List ℕ) → IsStatusOf l node channel reply
+      → DoesAlike terms l kept (request.Status node channel) reply l kept
+  status_so node channel reply counts w is = (w, (refl, counts w is), is)
 
   pub report_so : (node : ℕ) (reply : List ℕ) → IsReportOf l node reply
       → DoesAlike terms l kept (request.Report node) reply l kept

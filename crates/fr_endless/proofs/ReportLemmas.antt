@@ -1,6 +1,6 @@
 -- The report by the kept data of an interface is that of each history that leads to them.
 use Rattle.std.proofs.Common.{◌≡◌, ℕ, zero, suc, ◌+◌, ◌<◌, ◌≤◌, Bool, true, false, List, [], ◌∷◌, ◌++◌, length, take}
-use Rattle.std.proofs.Common.{get_or, map, Option, Some, None, refl, sym, ap, ap₂, subst, ◌∙◌, arith, option_map}
+use Rattle.std.proofs.Common.{cond, get_or, map, Option, Some, None, refl, sym, ap, ap₂, subst, ◌∙◌, arith, option_map}
 use Rattle.std.proofs.lemmas.List.{take_all}
 use Rattle.std.proofs.lemmas.Bool.{lt-ltb, le-ltb}
 use Rattle.std.specs.Prelude.{slice_get, slice_index_or}
@@ -13,6 +13,7 @@ use Rattle.fr_core.specs.declared.error.StepError.TheVariants.{UnknownNode}
 use Rattle.fr_core.specs.Worlds.{WorldState, has_node, interface_at, no_interface, without_entries, new_interface}
 use Rattle.fr_endless.specs.Alike.{buffers_in, buffers_each}
 use Rattle.fr_endless.specs.Answers.{buffer_line, buffer_lines, queue_line, channel_lines, kept_report, IsReportOf}
+use Rattle.fr_endless.specs.Answers.{kept_status, IsStatusOf}
 use Rattle.fr_interface.proofs.StandingLemmas.{answer-tally, answer-received, answer-length, answer-counters}
 use Rattle.fr_interface.specs.Known.{waiting_of}
 use Rattle.fr_interface.specs.Standing.{Standing, IsHistory}
@@ -23,13 +24,16 @@ use Rattle.fr_lines.specs.Spelling.{line_text}
 use Rattle.fr_live.proofs.LeadLemmas.{as_many}
 use Rattle.fr_live.specs.LiveWorlds.{LiveState, AreHistories, IsWorldHistory}
 use Rattle.fr_schedule.specs.Descriptions.{Description}
-use Rattle.fr_session.specs.Queries.{IsBlock, IsBlockIf}
+use Rattle.fr_session.proofs.QueryLemmas.{counts_same}
+use Rattle.fr_session.specs.Queries.{IsBlock, IsBlockIf, counters_on, status_line, status_text}
 use Rattle.fr_session.specs.Replies.{refusal_words}
+use Rattle.fr_slots.specs.declared.channel.Channel.{Channel}
 use Rattle.fr_slots.specs.declared.plan.Queue.{Queue}
 use Rattle.fr_slots.specs.Parameters.{Parameters}
 use Rattle.fr_slots.specs.Plans.{Plan, with_limits}
 use Rattle.fr_trace.proofs.ReportLemmas.{report-more, report-none}
-use Rattle.fr_trace.specs.ReportText.{answer_words, channels_report, queue_report, report_text, reports_from}
+use Rattle.fr_status.specs.declared.counters.Counters.{Counters}
+use Rattle.fr_trace.specs.ReportText.{answer_words, channels_report, counts_in, queue_report, report_text, reports_from}
 
 -- ---- one interface
 
@@ -139,6 +143,26 @@ module _ (l : LiveState) (n : ℕ) where
       → slice_get buffers n ≡ None → (w : WorldState) → IsWorldHistory l w → length w.interfaces ≤ n
   unknown_count buffers each none w is =
       count_none w.interfaces n (ap (λ (bs : List ℕ). slice_get bs n) (sym (each w is)) ∙ none)
+
+-- ---- the status counters of a node
+
+module _ (l : LiveState) (n : ℕ) (channel : Channel) where
+  pub status_same : (h : Standing) → n < length l.interfaces → h ≡ get_or l.interfaces n h
+      → IsStatusOf l n channel (kept_status channel h)
+  status_same h lt at w is =
+      let history = history_got l.interfaces w.interfaces n h is.leads.interfaces_are lt at in
+      let s = interface_at w n in
+      let many = as_many l.interfaces w.interfaces is.leads.interfaces_are in
+      let has : has_node w n ≡ true = lt-ltb n (length w.interfaces) (omega (arith, lt, many)) in
+      let counts = ap (λ (k : Counters). status_line channel (counts_in (counters_on channel k)))
+      (answer-counters h s history) ∙ ap (status_line channel) (counts_same channel s) in
+      counts ∙ sym (ap (λ (b : Bool). cond b (status_text channel s) (line_text (refusal_words UnknownNode))) has)
+
+  pub no_status : length l.interfaces ≤ n → IsStatusOf l n channel (line_text (refusal_words UnknownNode))
+  no_status beyond w is =
+      let has : has_node w n ≡ false = le-ltb n (length w.interfaces) (unknown_place l n beyond w is) in
+      sym (ap (λ (b : Bool). cond b (status_text channel (interface_at w n)) (line_text (refusal_words UnknownNode)))
+      has)
 
 -- ---- the buffers of a cluster's nodes
 

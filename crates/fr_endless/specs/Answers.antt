@@ -1,14 +1,16 @@
 -- Replies by the data that a world without history keeps (project-defined).
-use Rattle.std.specs.Prelude.{ℕ, zero, suc, ◌==◌, List, [], ◌∷◌, ◌++◌, codes, length, Option, Some, None, option_map}
-use Rattle.std.specs.Prelude.{if◌then◌else◌}
+use Rattle.std.specs.Prelude.{◌≡◌, ℕ, zero, suc, ◌+◌, ◌==◌, List, [], ◌∷◌, ◌++◌, codes, length, Option, Some, None}
+use Rattle.std.specs.Prelude.{if◌then◌else◌, option_map}
 use Rattle.fr_bus.specs.Record.{Recorded}
+use Rattle.fr_bus.specs.Standing.{LiveStanding}
 use Rattle.fr_interface.specs.Standing.{Standing, tally_at, received_at}
 use Rattle.fr_journal.specs.Counts.{StatusCounts}
 use Rattle.fr_lines.specs.Spelling.{line_text}
 use Rattle.fr_live.specs.LiveWorlds.{LiveState, ForEachWorld}
-use Rattle.fr_session.specs.Queries.{IsBlockOf}
+use Rattle.fr_session.specs.Queries.{IsBlockOf, at_words, counters_on, node_text, status_line, status_text}
 use Rattle.fr_slots.specs.declared.channel.Channel.{Channel}
 use Rattle.fr_slots.specs.declared.channel.Channel.TheVariants.{A, B}
+use Rattle.fr_slots.specs.Parameters.{Parameters}
 use Rattle.fr_status.specs.declared.counters.Counters.{Counters}
 use Rattle.fr_trace.specs.ReportText.{answer_words, channel_words, counts_in, queue_report_words, report_text}
 
@@ -44,6 +46,23 @@ kept_report h count =
 -- the block of the report of a node, in each world with its history
 abbrev pub IsReportOf : LiveState → ℕ → List ℕ → Type 0
 IsReportOf l n reply = ForEachWorld l (λ w. IsBlockOf report_text w n reply)
+
+-- ---- single lines, by the kept data
+
+-- the number of sealed windows, by the last of them
+abbrev pub windows_by : Option Recorded → ℕ
+windows_by None = 0
+windows_by (Some r) = r.window.number + 1
+
+abbrev pub kept_time : Parameters → LiveStanding → List ℕ
+kept_time p h = line_text (at_words p h.bus.phase h.bus.course.begun (windows_by h.last) h.bus.opened)
+
+abbrev pub kept_status : Channel → Standing → List ℕ
+kept_status channel h = status_line channel (counts_in (counters_on channel h.counters))
+
+-- the status counters of a node, in each world with its history
+abbrev pub IsStatusOf : LiveState → ℕ → Channel → List ℕ → Type 0
+IsStatusOf l n channel reply = ForEachWorld l (λ w. reply ≡ node_text (status_text channel) w n)
 
 -- ---- what is missing without history
 

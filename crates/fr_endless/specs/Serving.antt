@@ -32,7 +32,10 @@ DoesEndless terms old request.Forget reply new = DoesRequest terms old request.F
 DoesEndless terms old request.Window reply new = DoesRequest terms old request.Window reply new
 DoesEndless terms old (request.Run cycles) reply new = DoesRequest terms old (request.Run cycles) reply new
 DoesEndless terms old request.Now reply new = DoesRequest terms old request.Now reply new
+DoesEndless terms old request.At reply new = DoesRequest terms old request.At reply new
 DoesEndless terms old (request.Report node) reply new = DoesRequest terms old (request.Report node) reply new
+DoesEndless terms old (request.Status node channel) reply new =
+    DoesRequest terms old (request.Status node channel) reply new
 DoesEndless terms old (request.Trace node) reply new = (new ≡ old) × (reply ≡ no_history_text)
 DoesEndless terms old (request.Origin node) reply new = (new ≡ old) × (reply ≡ no_history_text)
 DoesEndless terms old (request.Record window) reply new =

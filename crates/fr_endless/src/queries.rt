@@ -2,7 +2,8 @@
 ghost use Rattle.std.specs.Prelude.{◌≡◌, slice_get};
 ghost use Rattle.fr_bus.specs.Standing.{bare};
 ghost use Rattle.fr_endless.specs.Alike.{Alike};
-ghost use Rattle.fr_endless.specs.Answers.{kept_report, if_numbered, no_history_text, IsReportOf};
+ghost use Rattle.fr_endless.specs.Answers.{kept_report, kept_status, kept_time, if_numbered, no_history_text};
+ghost use Rattle.fr_endless.specs.Answers.{windows_by, IsReportOf, IsStatusOf};
 ghost use Rattle.fr_session.specs.Queries.{now_text, moved_text, IsBlock, IsRecordOf, Replies};
 ghost use Rattle.fr_text.specs.Writing.{Writes};
 
@@ -15,7 +16,11 @@ use fr_interface::state::InterfaceState;
 use fr_session::prepared::BlockWriter;
 use fr_session::queries::{write_block, write_memory, write_sealed_block, write_unknown};
 use fr_session::replies::{write_refusal, write_window};
+use fr_session::status::{counts_on, write_status};
+use fr_session::time::write_time;
+use fr_slots::channel::Channel;
 use fr_slots::numbers::NodeId;
+use fr_slots::params::Params;
 use std::alloc::Global;
 use std::io;
 use std::io::Write;
@@ -45,6 +50,24 @@ pub(crate) fn write_moved<W: Write>(
         Some(error) => write_refusal(writer, error),
         None => write_now(writer, bus),
     }
+}
+
+/// Returns the number of sealed windows, by the last of them.
+fn windows_of(bus: &LiveBus) -> u64
+    ensures { result ≡ windows_by bus.now.last }
+{
+    match bus.last() {
+        Some(sealed) => u64::from(sealed.window.number) + 1,
+        None => 0,
+    }
+}
+
+/// Writes the time of the open window.
+pub(crate) fn write_at<W: Write>(writer: &mut W, params: &Params, bus: &LiveBus) -> io::Result<()>
+    ensures { Writes W.contents writer.old writer.new result (kept_time params.now bus.now) }
+{
+    let (begun, windows) = (bus.cycles_begun(), windows_of(bus));
+    write_time(writer, params, bus.window(), bus.phase(), begun, windows)
 }
 
 /// Writes that there is no history.
@@ -93,6 +116,35 @@ pub(crate) fn write_node_report<W: BlockWriter>(
             Some(count) => write_report_block(alloc, writer, &interfaces[place], count),
             None => write_unknown(writer),
         }
+    } else {
+        write_unknown(writer)
+    }
+}
+
+/// Writes the status counters of an interface on the channel.
+fn write_kept_status<W: Write>(
+    writer: &mut W,
+    interface: &InterfaceState,
+    channel: Channel,
+) -> io::Result<()>
+    ensures { Writes W.contents writer.old writer.new result (kept_status channel interface.now) }
+{
+    write_status(writer, channel, counts_on(&interface.counters(), channel))
+}
+
+/// Writes the status counters of the node on the channel.
+pub(crate) fn write_node_status<W: Write>(
+    writer: &mut W,
+    world: &EndlessWorld,
+    node: NodeId,
+    channel: Channel,
+) -> io::Result<()>
+    ensures { Replies W.contents writer.old writer.new result (IsStatusOf world.now node channel) }
+{
+    let place = usize::from(node.number());
+    let interfaces = world.interfaces();
+    if place < interfaces.len() {
+        write_kept_status(writer, &interfaces[place], channel)
     } else {
         write_unknown(writer)
     }

@@ -10,7 +10,10 @@ ghost use Rattle.fr_session.specs.Sessions.{terms_of};
 ghost use Rattle.fr_session.specs.TermsFields.{terms_in};
 
 use crate::moving::{finish_cycles, finish_window};
-use crate::queries::{write_last, write_moved, write_no_history, write_node_report, write_now};
+use crate::queries::{
+    write_at, write_last, write_moved, write_no_history, write_node_report, write_node_status,
+    write_now,
+};
 use crate::world::EndlessWorld;
 use fr_playing::moving::window_events;
 use fr_schedule::cluster::Cluster;
@@ -68,7 +71,9 @@ fn do_request<W: BlockWriter>(
             write_moved(writer, world.bus(), hindered)
         }
         Request::Now => write_now(writer, world.bus()),
+        Request::At => write_at(writer, terms.cluster.params(), world.bus()),
         Request::Report(node) => write_node_report(terms.alloc, writer, world, node),
+        Request::Status(node, channel) => write_node_status(writer, world, node, channel),
         Request::Trace(_) => write_no_history(writer),
         Request::Origin(_) => write_no_history(writer),
         Request::Record(window) => write_last(terms.alloc, writer, world.bus(), window),

@@ -45,7 +45,9 @@ led_request terms old request.Window reply new does = led_window old.faults term
 led_request terms old (request.Run cycles) reply new does = led_runs old.faults terms.due cycles old.world does.0
     new.world does.1
 led_request terms old request.Now reply new does = led_state old new does.0
+led_request terms old request.At reply new does = led_state old new does.0
 led_request terms old (request.Report node) reply new does = led_state old new does.0
+led_request terms old (request.Status node channel) reply new does = led_state old new does.0
 led_request terms old (request.Trace node) reply new does = led_state old new does.0
 led_request terms old (request.Origin node) reply new does = led_state old new does.0
 led_request terms old (request.Record window) reply new does = led_state old new does.0
@@ -92,7 +94,9 @@ module _ (terms : Terms) where
   suit_request old request.Window reply new all does = suit_same old.faults new.faults all does.3
   suit_request old (request.Run cycles) reply new all does = suit_same old.faults new.faults all does.3
   suit_request old request.Now reply new all does = suit_state old new all does.0
+  suit_request old request.At reply new all does = suit_state old new all does.0
   suit_request old (request.Report node) reply new all does = suit_state old new all does.0
+  suit_request old (request.Status node channel) reply new all does = suit_state old new all does.0
   suit_request old (request.Trace node) reply new all does = suit_state old new all does.0
   suit_request old (request.Origin node) reply new all does = suit_state old new all does.0
   suit_request old (request.Record window) reply new all does = suit_state old new all does.0

@@ -5,8 +5,13 @@ use Rattle.std.proofs.lemmas.Bool.{lt-ltb}
 use Rattle.std.proofs.lemmas.List.{get_or_default}
 use Rattle.fr_core.specs.Worlds.{WorldState, has_node, interface_at, no_interface}
 use Rattle.fr_interface.specs.State.{State}
-use Rattle.fr_session.specs.Queries.{block_text, memory_text, IsBlock, IsBlockIf, IsBlockOf, Replies, origin_text, node_origin_text}
+use Rattle.fr_session.specs.Queries.{block_text, memory_text, IsBlock, IsBlockIf, IsBlockOf, Replies, node_text}
+use Rattle.fr_journal.specs.Counts.{counters_of, counts_of}
+use Rattle.fr_session.specs.Queries.{counters_on}
+use Rattle.fr_slots.specs.declared.channel.Channel.{Channel}
+use Rattle.fr_slots.specs.declared.channel.Channel.TheVariants.{A, B}
 use Rattle.fr_text.specs.Writing.{Writes}
+use Rattle.fr_trace.specs.ReportText.{counts_in}
 
 -- a block of these lines
 pub block_told : {W A E : Type 0} (contents : W → Option (List ℕ)) (old new : W) (result : Result A E)
@@ -36,11 +41,23 @@ node_told contents old new result text w n s within is told =
     subst (λ b. Replies contents old new result (IsBlockIf b (text (interface_at w n)))) (sym has)
     (subst (λ (t : State). Replies contents old new result (IsBlock (text t))) at told)
 
--- the origin of a frame, for a node that the cluster has
-pub origin_told : {W A E : Type 0} (contents : W → Option (List ℕ)) (old new : W) (result : Result A E)
-    (w : WorldState) (n : ℕ) (s : State) → n < length w.interfaces → s ≡ get_or w.interfaces n s
-    → Writes contents old new result (origin_text s) → Writes contents old new result (node_origin_text w n)
-origin_told contents old new result w n s within is told =
+-- the same text, told in another way
+pub writes_so : {W A E : Type 0} (contents : W → Option (List ℕ)) (old new : W) (result : Result A E)
+    (text other : List ℕ) → text ≡ other → Writes contents old new result text → Writes contents old new result other
+writes_so contents old new result text other same told =
+    subst (λ (t : List ℕ). Writes contents old new result t) same told
+
+-- the counters of an interface are the counts of its journal
+pub counts_same : (channel : Channel) (s : State)
+    → counts_in (counters_on channel (counters_of s.params s.entries)) ≡ counts_of s.params channel s.entries
+counts_same A s = refl
+counts_same B s = refl
+
+-- the line of a node that the cluster has
+pub line_told : {W A E : Type 0} (contents : W → Option (List ℕ)) (old new : W) (result : Result A E)
+    (text : State → List ℕ) (w : WorldState) (n : ℕ) (s : State) → n < length w.interfaces → s ≡ get_or w.interfaces n s
+    → Writes contents old new result (text s) → Writes contents old new result (node_text text w n)
+line_told contents old new result text w n s within is told =
     let has : has_node w n ≡ true = lt-ltb n (length w.interfaces) within in
     let at : s ≡ interface_at w n = is ∙ get_or_default w.interfaces n s no_interface within in
-    rw has (subst (λ (t : State). Writes contents old new result (origin_text t)) at told)
+    rw has (subst (λ (t : State). Writes contents old new result (text t)) at told)

@@ -102,6 +102,13 @@ report_in words = do
   n ← node_in words
   Some (request.Report n)
 
+unfoldable pub status_in : List (List ℕ) → Option Request
+status_in (node ∷ channel ∷ []) = do
+  n ← number_in 16 node
+  c ← channel_in channel
+  Some (request.Status n c)
+status_in words = None
+
 unfoldable pub trace_in : List (List ℕ) → Option Request
 trace_in words = do
   n ← node_in words
@@ -116,6 +123,17 @@ abbrev pub alone : List (List ℕ) → Request → Option Request
 alone [] request = Some request
 alone (word ∷ words) request = None
 
+unfoldable pub query_request : List ℕ → List (List ℕ) → Option Request
+query_request kind words =
+    if bytes_eq kind (codes "now") then alone words request.Now
+    else if bytes_eq kind (codes "at") then alone words request.At
+    else if bytes_eq kind (codes "report") then report_in words
+    else if bytes_eq kind (codes "status") then status_in words
+    else if bytes_eq kind (codes "trace") then trace_in words
+    else if bytes_eq kind (codes "origin") then origin_in words
+    else if bytes_eq kind (codes "record") then record_in words
+    else None
+
 unfoldable pub other_request : List ℕ → List (List ℕ) → Option Request
 other_request kind words =
     if bytes_eq kind (codes "seal") then alone words (request.Event event.Seal)
@@ -123,13 +141,8 @@ other_request kind words =
     else if bytes_eq kind (codes "window") then alone words request.Window
     else if bytes_eq kind (codes "cycle") then alone words (request.Run 1)
     else if bytes_eq kind (codes "forget") then alone words request.Forget
-    else if bytes_eq kind (codes "now") then alone words request.Now
     else if bytes_eq kind (codes "run") then run_in words
-    else if bytes_eq kind (codes "record") then record_in words
-    else if bytes_eq kind (codes "report") then report_in words
-    else if bytes_eq kind (codes "trace") then trace_in words
-    else if bytes_eq kind (codes "origin") then origin_in words
-    else None
+    else query_request kind words
 
 -- ---- a line, by its first word
 

@@ -18,7 +18,8 @@ use Rattle.fr_session.specs.declared.request.Request.TheVariants as request
 use Rattle.fr_session.specs.Keeping.{KeepsLine}
 use Rattle.fr_session.specs.Lines.{IsCut, Comes}
 use Rattle.fr_playing.specs.Moving.{window_events, MovesOn, RunsCycles}
-use Rattle.fr_session.specs.Queries.{now_text, moved_text, IsBlockOf, IsRecordOf, node_origin_text}
+use Rattle.fr_session.specs.Queries.{now_text, moved_text, at_text, status_text, node_text, node_origin_text}
+use Rattle.fr_session.specs.Queries.{IsBlockOf, IsRecordOf}
 use Rattle.fr_session.specs.Reading.{asked_in}
 use Rattle.fr_session.specs.Replies.{answer_text, bad_line_words, done_words, greeting}
 use Rattle.fr_trace.specs.ReportText.{report_text}
@@ -74,7 +75,10 @@ DoesRequest terms old (request.Run cycles) reply new =
     (hinders : Option StepError) × RunsCycles old.faults terms.due cycles old.world hinders new.world
     × (reply ≡ moved_text hinders new.world.bus) × (new.faults ≡ old.faults)
 DoesRequest terms old request.Now reply new = (new ≡ old) × (reply ≡ now_text old.world.bus)
+DoesRequest terms old request.At reply new = (new ≡ old) × (reply ≡ at_text terms.cluster.params old.world.bus)
 DoesRequest terms old (request.Report node) reply new = (new ≡ old) × IsBlockOf report_text old.world node reply
+DoesRequest terms old (request.Status node channel) reply new =
+    (new ≡ old) × (reply ≡ node_text (status_text channel) old.world node)
 DoesRequest terms old (request.Trace node) reply new = (new ≡ old) × IsBlockOf (trace_text Three) old.world node reply
 DoesRequest terms old (request.Origin node) reply new = (new ≡ old) × (reply ≡ node_origin_text old.world node)
 DoesRequest terms old (request.Record window) reply new =

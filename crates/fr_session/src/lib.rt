@@ -55,4 +55,6 @@ pub mod reading;
 pub mod replies;
 pub mod request;
 pub mod session;
+pub mod status;
+pub mod time;
 pub mod words;

@@ -1,7 +1,8 @@
 //! Lines, read as requests.
 ghost use Rattle.std.specs.Prelude.{◌≡◌};
 ghost use Rattle.fr_session.specs.Reading.{babble_in, mute_in, corrupt_in, node_in, alone, run_in, record_in};
-ghost use Rattle.fr_session.specs.Reading.{report_in, trace_in, origin_in, host_request, step_of, step_request};
+ghost use Rattle.fr_session.specs.Reading.{report_in, status_in, trace_in, origin_in, query_request};
+ghost use Rattle.fr_session.specs.Reading.{host_request, step_of, step_request};
 ghost use Rattle.fr_session.specs.Reading.{fault_of, fault_request, event_request, begins_event, is_fault_word};
 ghost use Rattle.fr_session.specs.Reading.{is_step_word, is_host_word, other_request, request_in, with_fault};
 ghost use Rattle.fr_session.specs.Reading.{request_or_fault, asked_in};
@@ -216,6 +217,17 @@ fn report_of(words: &mut Words<'_>) -> Option<Request>
     Some(Request::Report(node))
 }
 
+/// Returns the status counters that the words ask for.
+#[tactic(auto, unfolding(crate::specs::Reading::status_in))]
+fn status_of(words: &mut Words<'_>) -> Option<Request>
+    ensures { result ≡ status_in words.old }
+{
+    let (node, channel) = words.two()?;
+    let node = node_of(node)?;
+    let channel = channel_of(channel)?;
+    Some(Request::Status(node, channel))
+}
+
 /// Returns the trace that the words ask for.
 #[tactic(auto, unfolding(crate::specs::Reading::trace_in))]
 fn trace_of(words: &mut Words<'_>) -> Option<Request>
@@ -242,6 +254,35 @@ fn alone(words: &Words<'_>, request: Request) -> Option<Request>
     Some(request)
 }
 
+/// Returns the query that this first word begins.
+#[tactic(auto, unfolding(crate::specs::Reading::query_request))]
+fn query_request(kind: &[u8], words: &mut Words<'_>) -> Option<Request>
+    ensures { result ≡ query_request kind.now words.old }
+{
+    if kind == b"now".as_slice() {
+        return alone(words, Request::Now);
+    }
+    if kind == b"at".as_slice() {
+        return alone(words, Request::At);
+    }
+    if kind == b"report".as_slice() {
+        return report_of(words);
+    }
+    if kind == b"status".as_slice() {
+        return status_of(words);
+    }
+    if kind == b"trace".as_slice() {
+        return trace_of(words);
+    }
+    if kind == b"origin".as_slice() {
+        return origin_of(words);
+    }
+    if kind == b"record".as_slice() {
+        return record_of(words);
+    }
+    None
+}
+
 /// Returns the other request that this first word begins.
 #[tactic(auto, unfolding(crate::specs::Reading::other_request))]
 fn other_request(kind: &[u8], words: &mut Words<'_>) -> Option<Request>
@@ -262,25 +303,10 @@ fn other_request(kind: &[u8], words: &mut Words<'_>) -> Option<Request>
     if kind == b"forget".as_slice() {
         return alone(words, Request::Forget);
     }
-    if kind == b"now".as_slice() {
-        return alone(words, Request::Now);
-    }
     if kind == b"run".as_slice() {
         return run_of(words);
     }
-    if kind == b"record".as_slice() {
-        return record_of(words);
-    }
-    if kind == b"report".as_slice() {
-        return report_of(words);
-    }
-    if kind == b"trace".as_slice() {
-        return trace_of(words);
-    }
-    if kind == b"origin".as_slice() {
-        return origin_of(words);
-    }
-    None
+    query_request(kind, words)
 }
 
 /// Returns whether the word begins an event that has further words.

@@ -2,6 +2,7 @@
 
 use fr_core::event::Event;
 use fr_runs::fault_line::FaultLine;
+use fr_slots::channel::Channel;
 use fr_slots::numbers::NodeId;
 
 /// A request (project-defined).
@@ -19,8 +20,12 @@ pub enum Request {
     Run(u16),
     /// The state of the bus.
     Now,
+    /// The time of the open window in the run.
+    At,
     /// The report of the node's interface.
     Report(NodeId),
+    /// The status counters of the node on the channel.
+    Status(NodeId, Channel),
     /// The trace of the node's interface.
     Trace(NodeId),
     /// The origin of the frame of the node's last entry, if it is a read or a pop.

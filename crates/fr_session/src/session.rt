@@ -14,7 +14,8 @@ use crate::kept::KeptLines;
 use crate::lines::{Line, next_line};
 use crate::prepared::{BlockWriter, Prepared};
 use crate::queries::{
-    write_moved, write_node_origin, write_node_report, write_node_trace, write_now, write_recorded,
+    write_at, write_moved, write_node_origin, write_node_report, write_node_status,
+    write_node_trace, write_now, write_recorded,
 };
 use crate::reading::request_of;
 use crate::replies::{write_answer, write_bad_line, write_done, write_greeting};
@@ -78,7 +79,9 @@ fn do_request<W: BlockWriter>(
             write_moved(writer, world.bus(), hindered)
         }
         Request::Now => write_now(writer, world.bus()),
+        Request::At => write_at(writer, terms.cluster.params(), world.bus()),
         Request::Report(node) => write_node_report(terms.alloc, writer, world, node),
+        Request::Status(node, channel) => write_node_status(writer, world, node, channel),
         Request::Trace(node) => write_node_trace(terms.alloc, writer, world, node),
         Request::Origin(node) => write_node_origin(writer, world, node),
         Request::Record(window) => write_recorded(terms.alloc, writer, world.bus(), window),

@@ -1,10 +1,11 @@
 """The nodes of a world and their message buffers, as host programs and controllers call them."""
 from typing import TYPE_CHECKING
 
-from musmyrtle.world.bounds import buffer_number, node_number, payload_hex, task_number
+from musmyrtle.world.bounds import buffer_number, channel_name, node_number, payload_hex, task_number
 from musmyrtle.world.refusals import UnknownNode, refusal
 from musmyrtle.world.replies import (
-    Frame, ReceiveBuffer, Report, Window, frame_of, number_or_none, origin_channel, report_of, window_of,
+    Channel, Counters, Frame, ReceiveBuffer, Report, Window, frame_of, number_or_none, origin_channel, report_of,
+    window_of,
 )
 
 if TYPE_CHECKING:
@@ -98,6 +99,11 @@ class Node:
     def report(self) -> Report:
         """Returns the node's report. It makes no entry in the journal. Raises `Memory`."""
         return report_of("".join(f"{line}\n" for line in self.world.block(f"report {self.number}")))
+
+    def status(self, channel: Channel) -> Counters:
+        """Returns the node's status counters on a channel, `A` or `B`, which the report has too."""
+        words = self._ask(f"status {self.number} {channel_name(channel)}").split(" ")
+        return Counters(*map(int, words[1:]))
 
     def trace(self) -> str:
         """Returns the node's trace, which `fr_bench audit` reads. Raises `Memory`, and `NoHistory` without history."""

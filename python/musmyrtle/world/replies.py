@@ -113,6 +113,15 @@ class Counters:
 
 
 @dataclass(frozen=True, slots=True)
+class Moment:
+    """A time of a run: the cycle of the run and the macrotick in it, both from 0, and the number of sealed windows."""
+
+    cycle: int
+    macrotick: int
+    windows: int
+
+
+@dataclass(frozen=True, slots=True)
 class Report:
     """The buffers of a node by number, its receive FIFO if it has one, and its counters on A and B.
 

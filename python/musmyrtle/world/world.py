@@ -20,7 +20,7 @@ from musmyrtle.world.faults import Fault, fault_line
 from musmyrtle.world.node import Buffer, Node
 from musmyrtle.world.playing import Host, Play
 from musmyrtle.world.refusals import BadCycles, BadName, TooManyFaults, UnknownNode, WrongLength, refusal
-from musmyrtle.world.replies import Record, Window, record_of, window_of
+from musmyrtle.world.replies import Channel, Counters, Moment, Record, Window, record_of, window_of
 from musmyrtle.world.session import CLOSE_SECONDS, FileName, Session
 from musmyrtle.world.stepping import requests_of
 from musmyrtle.world.world_program import usual_world
@@ -181,6 +181,14 @@ class World:
     def now(self) -> Window | None:
         """Returns the window that is open or sealed, or None once the run is over."""
         return moved(self.ask("now"))
+
+    def at(self) -> Moment:
+        """Returns the time at which the open window starts, or that of the end of the run."""
+        return Moment(*map(int, self.ask("at").split(" ")[1:]))
+
+    def status(self, node: int, channel: Channel) -> Counters:
+        """Returns the status counters of a node, 0 to 15, on a channel. Raises `UnknownNode`, and `ValueError`."""
+        return self.node(node).status(channel)
 
     def inject(self, fault: Fault) -> None:
         """Brings the fault into the open window.

@@ -1,6 +1,6 @@
 use Rattle.fr_endless.proofs.ReplyLemmas.{replied, replied_so, asked_so, event_so}
 use Rattle.fr_endless.proofs.ReplyLemmas.{line_so, forget_so, window_so, run_so}
-use Rattle.fr_endless.proofs.ReplyLemmas.{now_so, report_so, trace_so, origin_so, record_so}
+use Rattle.fr_endless.proofs.ReplyLemmas.{now_so, at_so, report_so, status_so, trace_so, origin_so, record_so}
 use Rattle.fr_session.specs.TermsFields.{terms_in}
 use Rattle.fr_endless.proofs.session.do_request.Goals as goal
 
@@ -72,6 +72,17 @@ returns-in-Now g c =
     (replied g.W.Write.contents c.args.writer.now c.write_now.new.writer c.write_now.result _ _
     (now_so t l kept c.bus-in-Now.result.now c.bus-in-Now.ensures) c.write_now.ensures)
 
+pub returns-in-At : goal.returns-in-At
+returns-in-At g c =
+    let t = terms_in c.args.terms.now in
+    let l = c.args.world.now in
+    let kept = c.args.faults.now in
+    asked_so g.W.Write.contents c.args.writer.now c.write_at.new.writer c.write_at.result t l l kept
+    kept c.args.request _ c.in-At.is
+    (replied g.W.Write.contents c.args.writer.now c.write_at.new.writer c.write_at.result _ _
+    (at_so t l kept c.bus-in-At.result.now c.params.result.now c.bus-in-At.ensures c.params.ensures.value)
+    c.write_at.ensures)
+
 pub returns-in-Report : goal.returns-in-Report
 returns-in-Report g c =
     let t = terms_in c.args.terms.now in
@@ -81,6 +92,16 @@ returns-in-Report g c =
     kept c.args.request _ c.in-Report.is
     (replied_so g.W.Write.contents c.args.writer.now c.write_node_report.new.writer c.write_node_report.result _ _
     (report_so t l kept c.in-Report.node) c.write_node_report.ensures)
+
+pub returns-in-Status : goal.returns-in-Status
+returns-in-Status g c =
+    let t = terms_in c.args.terms.now in
+    let l = c.args.world.now in
+    let kept = c.args.faults.now in
+    asked_so g.W.Write.contents c.args.writer.now c.write_node_status.new.writer c.write_node_status.result t l l kept
+    kept c.args.request _ c.in-Status.is
+    (replied_so g.W.Write.contents c.args.writer.now c.write_node_status.new.writer c.write_node_status.result _ _
+    (status_so t l kept c.in-Status.node c.in-Status.channel) c.write_node_status.ensures)
 
 pub returns-in-Trace : goal.returns-in-Trace
 returns-in-Trace g c =
