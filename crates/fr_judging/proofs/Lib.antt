@@ -1,4 +1,5 @@
 mod ClockLemmas
+pub mod DueLemmas
 mod FreshLemmas
 mod LoopLemmas
 mod PlainLemmas

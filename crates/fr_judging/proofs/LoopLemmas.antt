@@ -1,13 +1,18 @@
 -- The loops of a judge.
 use Rattle.std.proofs.Common.{◌≡◌, ℕ, suc, ◌+◌, ◌-◌, ◌≤◌, ◌%◌, Bool, sym, ap, ◌∙◌, arith, Option}
 use Rattle.std.specs.Prelude.{not, ◌&&◌}
-use Rattle.fr_judging.specs.Judging.{State, skipped, miss, quiet}
+use Rattle.fr_judging.specs.Judging.{State, skipped, skip_to, miss, quiet}
 use Rattle.fr_judging.specs.Rules.{is_sent}
 use Rattle.fr_judging.specs.declared.line.At.{At}
 
 pub skip_none : (s : State) (at : Option At) (cycle from n : ℕ) → n ≡ 0 → s ≡ skipped s at cycle from n
 unfolding skipped
 skip_none s at cycle from n is = ap (skipped s at cycle from) (sym is)
+
+-- no slot from one on lies before the other
+pub skip_nothing : (s : State) (at : Option At) (cycle from end : ℕ) → end ≤ from → skip_to s at cycle from end ≡ s
+unfolding skip_to
+skip_nothing s at cycle from end le = sym (skip_none s at cycle from (end - from) (omega (arith, le)))
 
 pub skip_more : (s t u : State) (at : Option At) (cycle from slot : ℕ) → from ≤ slot
     → t ≡ skipped s at cycle from (slot - from) → u ≡ miss t at cycle slot

@@ -1,7 +1,7 @@
 -- A frame without a finding, and the counts of a slot that stay in their place.
-use Rattle.std.proofs.Common.{◌≡◌, ℕ, Bool, true, false, cond, refl, sym, ap, ◌∙◌}
+use Rattle.std.proofs.Common.{◌≡◌, Bool, true, false, cond, refl, sym, ap, ◌∙◌}
 use Rattle.std.proofs.lemmas.Bool.{cond-true, cond-false, and_parts}
-use Rattle.std.specs.Prelude.{Option, Some, None, min, ◌-◌, ◌&&◌}
+use Rattle.std.specs.Prelude.{Option, Some, None, ◌&&◌, nat_le}
 use Rattle.std.specs.Option.{is_none, option_or}
 use Rattle.fr_frame.specs.Fields.{Fields}
 use Rattle.fr_logged.specs.Rules.{static_rules, static_finding}
@@ -10,12 +10,14 @@ use Rattle.fr_logged.specs.declared.finding.Finding.{Finding}
 use Rattle.fr_judging.specs.Distances.{time_finding}
 use Rattle.fr_judging.specs.Judging.{State, is_fine, plain_came, both_finding, channels_finding, static_came}
 use Rattle.fr_judging.specs.Judging.{static_found, static_with}
-use Rattle.fr_judging.specs.Judging.{back, show, fix, keep_plain, keep_frame, find_some}
-use Rattle.fr_judging.specs.Judging.{with_time, with_frame, span_since, quiet}
+use Rattle.fr_judging.specs.Judging.{add_back, add_line, keep_frame, find_some}
+use Rattle.fr_judging.specs.Counting.{follows, time_of, timed}
+use Rattle.fr_judging.specs.Judging.{with_time, with_frame, span_since}
 use Rattle.fr_recording.specs.Numbers.{counted}
 use Rattle.fr_judging.specs.Tallies.{span_between}
 use Rattle.fr_judging.specs.Rules.{is_sent}
 use Rattle.fr_judging.specs.declared.line.At.{At}
+use Rattle.fr_judging.specs.declared.line.Line.{Line}
 use Rattle.fr_judging.specs.declared.tally.Came.{Came}
 use Rattle.fr_judging.specs.declared.tally.SlotTally.{SlotTally}
 use Rattle.fr_judging.specs.declared.tally.Span.{Span}
@@ -52,14 +54,6 @@ plain_is s f at (Some d) is =
 
 -- ---- counts in their place
 
-kept_span : (f : Fields) (t : SlotTally) → (with_frame f t).span ≡ t.span
-kept_span f t = by f.has_data
-  where
-    by : (b : Bool) → (cond b (record t { data_frames = counted t.data_frames 1 })
-        (record t { null_frames = counted t.null_frames 1 })).span ≡ t.span
-    by true = refl
-    by false = refl
-
 kept_latest : (f : Fields) (t : SlotTally) → (with_frame f t).latest ≡ t.latest
 kept_latest f t = by f.has_data
   where
@@ -68,35 +62,25 @@ kept_latest f t = by f.has_data
     by true = refl
     by false = refl
 
-same_span : (s : State) (f : Fields) (at : At) (t : SlotTally)
-    → span_since s f at t t.latest ≡ span_since s f at (with_frame f t) (with_frame f t).latest
-unfolding span_since
-same_span s f at t =
-    by t.latest ∙ ap (λ (o : Option Came). span_since s f at (with_frame f t) o) (sym (kept_latest f t))
-  where
-    by : (o : Option Came) → span_since s f at t o ≡ span_since s f at (with_frame f t) o
-    by None = sym (kept_span f t)
-    by (Some c) = ap (λ (x : Option Span).
-        cond (quiet s f.id c.cycle (min (s.mine.number - c.number) 65 - 1)) (span_between x c.time at.time) x)
-        (sym (kept_span f t))
-
-pub timed_is : (s : State) (f : Fields) (at : At) (t : SlotTally) (span : Option Span)
-    → is_sent s.rules f.id s.channel f.cycle ≡ true → span ≡ span_since s f at t t.latest
-    → (record (with_frame f t) {
-      latest = Some (record { number = s.mine.number; cycle = f.cycle; time = at.time });
-      span = span;
-    })
+-- the counts as they change in their place
+pub timed_is : (s : State) (f : Fields) (at : At) (t : SlotTally) (following : Bool)
+    → is_sent s.rules f.id s.channel f.cycle ≡ true → following ≡ follows s f t.latest
+    → timed (with_frame f t) following (record { number = s.mine.number; cycle = f.cycle; time = at.time })
     ≡ with_time s f at (with_frame f t)
-unfolding with_time
-timed_is s f at t span sent is =
-    ap (λ (o : Option Span). record (with_frame f t) {
-      latest = Some (record { number = s.mine.number; cycle = f.cycle; time = at.time });
-      span = o;
-    }) (is ∙ same_span s f at t)
-    ∙ sym (cond-true (is_sent s.rules f.id s.channel f.cycle) (record (with_frame f t) {
-      latest = Some (record { number = s.mine.number; cycle = f.cycle; time = at.time });
-      span = span_since s f at (with_frame f t) (with_frame f t).latest;
-    }) (with_frame f t) sent)
+unfolding with_time span_since
+timed_is s f at t following sent is =
+    let u = with_frame f t in
+    let came : Came = record { number = s.mine.number; cycle = f.cycle; time = at.time } in
+    let of_latest : following ≡ follows s f u.latest = is ∙ ap (follows s f) (sym (kept_latest f t)) in
+    ap (λ (b : Bool). timed u b came) of_latest
+    ∙ ap (λ (o : Option Span). record u { latest = Some came; span = o }) (by u u.latest)
+    ∙ sym (cond-true (is_sent s.rules f.id s.channel f.cycle)
+    (record u { latest = Some came; span = span_since s f at u u.latest }) u sent)
+  where
+    by : (u : SlotTally) (o : Option Came)
+        → cond (follows s f o) (span_between u.span (time_of o) at.time) u.span ≡ span_since s f at u o
+    by u None = refl
+    by u (Some c) = refl
 
 pub untimed_is : (s : State) (f : Fields) (at : At) (t : SlotTally) → is_sent s.rules f.id s.channel f.cycle ≡ false
     → with_frame f t ≡ with_time s f at (with_frame f t)
@@ -106,3 +90,23 @@ untimed_is s f at t silent =
       latest = Some (record { number = s.mine.number; cycle = f.cycle; time = at.time });
       span = span_since s f at (with_frame f t) (with_frame f t).latest;
     }) (with_frame f t) silent)
+
+-- ---- a slot that comes back changes neither the rules nor the channel
+
+pub back_rules : (s : State) (l : Line) → (add_back s l).rules ≡ s.rules
+unfolding add_back add_line
+back_rules s l = by (nat_le (counted s.backs 1) s.rules.most)
+  where
+    by : (b : Bool) → (cond b (add_line (record s { backs = counted s.backs 1 }) l)
+        (record s { backs = counted s.backs 1 })).rules ≡ s.rules
+    by true = refl
+    by false = refl
+
+pub back_channel : (s : State) (l : Line) → (add_back s l).channel ≡ s.channel
+unfolding add_back add_line
+back_channel s l = by (nat_le (counted s.backs 1) s.rules.most)
+  where
+    by : (b : Bool) → (cond b (add_line (record s { backs = counted s.backs 1 }) l)
+        (record s { backs = counted s.backs 1 })).channel ≡ s.channel
+    by true = refl
+    by false = refl

@@ -1,4 +1,6 @@
+pub mod Counting
 pub mod Distances
+pub mod DueTable
 pub mod Fields
 pub mod Judging
 pub mod Lanes

@@ -1,11 +1,16 @@
 //! The frame of a slot.
 
-ghost use Rattle.std.specs.Prelude.{◌≡◌, ◌<◌, ◌≤◌, ◌+◌, ◌%◌, None, Some};
+ghost use Rattle.std.specs.Prelude.{◌≡◌, ◌<◌, ◌≤◌, ◌+◌, ◌%◌, None, Some, true};
 ghost use Rattle.fr_judging.specs.Judging.{back_line, add_back, back_of, back, shown_in, is_beside, beside, differ};
-ghost use Rattle.fr_judging.specs.Judging.{channels_finding, both_finding, show_frame, show, quiet, span_since};
+ghost use Rattle.fr_judging.specs.Judging.{channels_finding, both_finding, show_frame, show, quiet};
 ghost use Rattle.fr_judging.specs.Judging.{with_frame, is_fine, plain_came, keep_plain, count_frame, keep_frame, fix};
 ghost use Rattle.fr_judging.specs.Judging.{static_with, static_found, static_came};
 ghost use Rattle.fr_judging.specs.Judging.{is_placed, placed_finding, dynamic_came, came_with, came, are_equal};
+ghost use Rattle.fr_judging.specs.Judging.{with_away};
+ghost use Rattle.fr_judging.specs.Counting.{follows};
+ghost use Rattle.fr_judging.specs.Rules.{is_sent, due_at};
+ghost use Rattle.fr_judging.specs.declared.line.Line.TheVariants.{Back};
+ghost use Rattle.fr_logged.specs.Logged.{place_of as frame_place};
 ghost use Rattle.std.specs.Option.{option_or, is_none};
 ghost use Rattle.fr_judging.specs.Lanes.{same_open, opens_at, after_dynamic};
 
@@ -13,7 +18,7 @@ use crate::distance::{fixed_after, is_timely, time_finding};
 use crate::judge::{Judge, Shown, other_channel, place_of as place_of_slot, static_place};
 use crate::lane::Lane;
 use crate::line::{At, Line};
-use crate::tally::{Came, SlotTally, Span, span_between};
+use crate::tally::{Came, SlotTally, time_frame};
 use fr_frame::lent::LentFrame;
 use fr_logged::due::Due;
 use fr_logged::finding::{Finding, Name};
@@ -119,16 +124,27 @@ impl Judge {
     /// Tells a slot that came back for its owner.
     #[tactic(auto, unfolding(crate::specs::Judging::back))]
     fn back(&mut self, frame: &LentFrame<'_>, at: &At, due: Option<Due>)
-        ensures { self.new ≡ back self.old frame.now at.now due }
+        ensures state { self.new ≡ back self.old frame.now at.now due }
+        ensures rules { self.new.rules ≡ self.old.rules }
+        ensures channel { self.new.channel ≡ self.old.channel }
     {
         if let Some(due) = due {
             let times = self.away_at(u32::from(frame.id), due.node);
             if times != 0 {
-                self.with_away(u32::from(frame.id), due.node, 0);
-                let place = place_of(self.channel, frame);
-                self.add_back(&Line::Back(*at, place, due.node, times));
+                self.come_back(frame, at, due.node, times);
             }
         }
+    }
+
+    /// Tells a slot that was missing so often for its owner, and came back.
+    #[inline(never)]
+    fn come_back(&mut self, frame: &LentFrame<'_>, at: &At, node: u8, times: u64)
+        ensures { self.new ≡ add_back (with_away self.old frame.now.id node 0)
+            (Back at.now (frame_place self.old.channel frame.now) node times) }
+    {
+        self.with_away(u32::from(frame.id), node, 0);
+        let place = place_of(self.channel, frame);
+        self.add_back(&Line::Back(*at, place, node, times));
     }
 
     /// Returns whether the other channel has the cycle of the frame open.
@@ -159,7 +175,9 @@ impl Judge {
     /// Keeps the frame of a buffer for both channels.
     #[tactic(auto, unfolding(crate::specs::Judging::show))]
     fn show(&mut self, frame: &LentFrame<'_>, due: Option<Due>)
-        ensures { self.new ≡ show self.old frame.now due }
+        ensures state { self.new ≡ show self.old frame.now due }
+        ensures rules { self.new.rules ≡ self.old.rules }
+        ensures channel { self.new.channel ≡ self.old.channel }
     {
         match due {
             Some(due) if due.both => {
@@ -187,33 +205,26 @@ impl Judge {
         quiet
     }
 
-    /// Returns the span of a slot's times, with the time since its frame in the due cycle before.
-    #[tactic(auto, unfolding(crate::specs::Judging::span_since))]
-    fn span_since(&self, frame: &LentFrame<'_>, at: &At, tally: &SlotTally) -> Option<Span>
-        ensures { result ≡ span_since self.now frame.now at.now tally.now tally.now.latest }
+    /// Returns whether the frame that came last in the slot was of the due cycle before.
+    fn follows(&self, frame: &LentFrame<'_>, latest: &Option<Came>) -> bool
+        ensures { result ≡ follows self.now frame.now latest.now }
     {
-        let Some(came) = tally.latest else {
-            return tally.span;
+        let Some(came) = latest else {
+            return false;
         };
         let cycles = self.mine.number.saturating_sub(came.number).min(65);
-        if self.quiet(frame.id, came.cycle, (cycles as u8).saturating_sub(1)) {
-            span_between(tally.span, came.time, at.time)
-        } else {
-            tally.span
-        }
+        self.quiet(frame.id, came.cycle, (cycles as u8).saturating_sub(1))
     }
 
-    /// Counts the frame of a slot.
-    #[tactic(auto, unfolding(crate::specs::Judging::count_frame), using(crate::proofs::PlainLemmas::timed_is, crate::proofs::PlainLemmas::untimed_is))]
-    fn count_frame(&mut self, frame: &LentFrame<'_>, at: &At)
+    /// Counts the frame of a slot that has a sender.
+    #[tactic(auto, unfolding(crate::specs::Judging::count_frame), using(crate::proofs::PlainLemmas::timed_is))]
+    #[inline(always)]
+    fn count_timed(&mut self, frame: &LentFrame<'_>, at: &At)
+        requires { is_sent self.old.rules frame.now.id self.old.channel frame.now.cycle ≡ true }
         ensures { self.new ≡ count_frame self.old frame.now at.now }
     {
         let place = place_of_slot(u32::from(frame.id), self.channel);
-        if !self.rules.is_sent(frame.id, self.channel, frame.cycle) {
-            count_kind(frame, &mut self.slots[place]);
-            return;
-        }
-        let span = self.span_since(frame, at, &self.slots[place]);
+        let follows = self.follows(frame, &self.slots[place].latest);
         let came = Came {
             number: self.mine.number,
             cycle: frame.cycle,
@@ -222,8 +233,20 @@ impl Judge {
         // The counts stay in their place, since they are longer than all else that is moved for a frame.
         let tally = &mut self.slots[place];
         count_kind(frame, tally);
-        tally.span = span;
-        tally.latest = Some(came);
+        time_frame(tally, follows, &came);
+    }
+
+    /// Counts the frame of a slot.
+    #[tactic(auto, unfolding(crate::specs::Judging::count_frame), using(crate::proofs::PlainLemmas::untimed_is))]
+    fn count_frame(&mut self, frame: &LentFrame<'_>, at: &At)
+        ensures { self.new ≡ count_frame self.old frame.now at.now }
+    {
+        if self.rules.is_sent(frame.id, self.channel, frame.cycle) {
+            self.count_timed(frame, at);
+        } else {
+            let place = place_of_slot(u32::from(frame.id), self.channel);
+            count_kind(frame, &mut self.slots[place]);
+        }
     }
 
     /// Keeps the frame of a slot.
@@ -233,6 +256,27 @@ impl Judge {
         self.mine.last = frame.id;
         self.mine.ill = 0;
         self.count_frame(frame, at);
+    }
+
+    /// Keeps the frame of a slot that has a sender.
+    fn keep_timed(&mut self, frame: &LentFrame<'_>, at: &At)
+        requires { is_sent self.old.rules frame.now.id self.old.channel frame.now.cycle ≡ true }
+        ensures { self.new ≡ keep_plain self.old frame.now at.now }
+    {
+        self.mine.last = frame.id;
+        self.mine.ill = 0;
+        self.count_timed(frame, at);
+    }
+
+    /// Makes the frame of a static slot without a finding the reference for the next one.
+    fn fix_plain(&mut self, frame: &LentFrame<'_>, at: &At)
+        ensures { self.new ≡ fix self.old frame.now at.now None }
+    {
+        // Without times nothing is stored, since the copy of a reference takes as long as the rest.
+        if self.rules.macrotick != 0 {
+            let fixed = fixed_after(&self.rules, &self.mine, frame.id, at.time, None);
+            self.mine.fixed = fixed;
+        }
     }
 
     /// Keeps the frame of a slot, and tells its finding.
@@ -274,20 +318,21 @@ impl Judge {
         }
     }
 
-    /// Takes the frame of a static slot that has no finding.
+    /// Takes the frame of a static slot that has an owner and no finding.
     #[tactic(auto, unfolding(crate::specs::Judging::plain_came))]
     fn plain_came(&mut self, frame: &LentFrame<'_>, at: &At, due: Option<Due>)
+        requires { is_sent self.old.rules frame.now.id self.old.channel frame.now.cycle ≡ true }
         ensures { self.new ≡ plain_came self.old frame.now at.now due }
     {
         self.back(frame, at, due);
         self.show(frame, due);
-        let fixed = fixed_after(&self.rules, &self.mine, frame.id, at.time, None);
-        self.mine.fixed = fixed;
-        self.keep_plain(frame, at);
+        self.fix_plain(frame, at);
+        self.keep_timed(frame, at);
     }
 
     /// Takes the frame of a static slot.
     #[tactic(auto, unfolding(crate::specs::Judging::static_came))]
+    #[inline(never)]
     fn told_came(&mut self, frame: &LentFrame<'_>, at: &At, due: Option<Due>)
         ensures { self.new ≡ static_came self.old frame.now at.now due }
     {
@@ -304,8 +349,9 @@ impl Judge {
     }
 
     /// Takes the frame of a static slot.
-    #[tactic(auto, using(crate::proofs::PlainLemmas::plain_is))]
+    #[tactic(auto, using(crate::proofs::PlainLemmas::plain_is, crate::proofs::SenderLemmas::fine_sent))]
     fn static_came(&mut self, frame: &LentFrame<'_>, at: &At, due: Option<Due>)
+        requires { due ≡ due_at self.old.rules.cluster frame.now.id self.old.channel frame.now.cycle }
         ensures { self.new ≡ static_came self.old frame.now at.now due }
     {
         if self.is_fine(frame, at, &due) {
@@ -330,6 +376,7 @@ impl Judge {
 
     /// Takes the frame of a dynamic slot.
     #[tactic(auto, unfolding(crate::specs::Judging::dynamic_came))]
+    #[inline(never)]
     fn dynamic_came(&mut self, frame: &LentFrame<'_>, at: &At, due: Option<Due>)
         ensures { self.new ≡ dynamic_came self.old frame.now at.now due }
     {
@@ -347,9 +394,7 @@ impl Judge {
     pub(crate) fn came(&mut self, frame: &LentFrame<'_>, at: &At)
         ensures { self.new ≡ came self.old frame.now at.now }
     {
-        let due = self
-            .rules
-            .due(u32::from(frame.id), self.channel, frame.cycle);
+        let due = self.due(u32::from(frame.id), frame.cycle);
         if frame.id <= self.rules.cluster.params().static_slots {
             self.static_came(frame, at, due);
         } else {

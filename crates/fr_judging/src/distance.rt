@@ -197,12 +197,12 @@ fn is_long(cycle_ns: u64, time: i128) -> bool
 pub(crate) fn is_anew(rules: &Rules, lane: &Lane, time: Option<Moment>) -> bool
     ensures { result ≡ is_anew rules.now lane.now time }
 {
-    let (Some(from), Some(to)) = (lane.began, time) else {
-        return false;
-    };
     if rules.macrotick == 0 {
         return false;
     }
+    let (Some(from), Some(to)) = (lane.began, time) else {
+        return false;
+    };
     is_long(rules.cycle_time(), since(from, to))
 }
 

@@ -6,6 +6,7 @@ ghost use Rattle.fr_judging.specs.Judging.{tally_at, found_of, has_finding};
 ghost use Rattle.fr_judging.specs.Judging.{says_nothing, tell_nothing, tell_end, finish_channel, finish_on, finish};
 
 use crate::came::SILENCE;
+use crate::dues::all_dues;
 use crate::judge::{AWAY_PLACES, Judge, MOST_LINES, STATIC_PLACES, Shown};
 use crate::lane::Lane;
 use crate::line::Line;
@@ -71,8 +72,10 @@ impl Judge {
     pub fn new(alloc: Global, rules: Rules) -> Result<Judge, AllocError>
         ensures { IfOk result (λ judge. judge ≡ fresh rules) }
     {
+        let dues = all_dues(alloc, &rules)?;
         Ok(Judge {
             rules,
+            dues,
             mine: Box::new(alloc, Lane::new())?,
             other: Box::new(alloc, Lane::new())?,
             channel: Channel::A,

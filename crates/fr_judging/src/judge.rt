@@ -10,6 +10,7 @@ use crate::names::NAMES;
 use crate::rules::Rules;
 use crate::tally::SlotTally;
 use fr_frame::frame::Frame;
+use fr_logged::due::Due;
 use fr_slots::channel::Channel;
 use std::alloc::{AllocError, Global};
 use std::marker::Model;
@@ -42,6 +43,8 @@ pub struct Judge {
     pub(crate) mine: Box<Lane>,
     pub(crate) other: Box<Lane>,
     pub(crate) channel: Channel,
+    /// What is due in static slots.
+    pub(crate) dues: Vec<Option<Due>>,
     pub(crate) slots: Vec<SlotTally>,
     pub(crate) away: Vec<u64>,
     pub(crate) shown: Vec<Shown>,
@@ -66,7 +69,7 @@ impl Model for Judge {
 }
 
 /// Returns the number of a channel among the places.
-fn channel_number(channel: Channel) -> usize
+pub(crate) fn channel_number(channel: Channel) -> usize
     ensures value { result ≡ channel_number channel }
     ensures fits { result < 2 }
 {

@@ -19,16 +19,20 @@
 //! Modules that follow the steps of the code, for private functions, with the module that has the meaning:
 //!
 //! - `Fields`: the private fields of a judge. Meaning: the record of `Judging` that is the model of the type.
+//! - `DueTable`, `Counting`: the table of what is due in static slots; the counts of a slot that stay in their place.
+//!   Meaning: `due_at` of `Rules`; `count_frame` of `Judging`.
 //!
 //! # Inner workings
 //!
 //! The channel of a record is moved to the front, so that each step speaks of this channel and the other one. A good
 //! frame whose count isn't that of the open cycle waits for the next good frame of its channel. Everything else is
-//! decided at once. All memory is taken by `Judge::new`.
+//! decided at once. All memory is taken by `Judge::new`. `dues` has what is due in each static slot and cycle. Most frames
+//! have no finding: what they need is done in place, and the rest of the work is in functions that aren't inlined.
 #![tactic(auto)]
 
 mod came;
 mod distance;
+mod dues;
 mod ends;
 mod find;
 pub mod judge;

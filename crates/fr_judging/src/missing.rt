@@ -1,6 +1,6 @@
 //! Static slots without a frame.
 
-ghost use Rattle.std.specs.Prelude.{◌≡◌, ◌+◌, ◌≤◌, min};
+ghost use Rattle.std.specs.Prelude.{◌≡◌, ◌+◌, ◌≤◌, min, Some};
 ghost use Rattle.fr_judging.specs.Judging.{slot_place, count_missing, away_at, with_away, tell_missing, miss_of};
 ghost use Rattle.fr_judging.specs.Judging.{miss_due, miss, skip_to, static_end, skip_before, end_in, end_cycle};
 
@@ -84,12 +84,13 @@ impl Judge {
     fn miss(&mut self, at: &Option<At>, cycle: Cycle, slot: u32)
         ensures { self.new ≡ miss self.old at.now cycle slot }
     {
-        let due = self.rules.due(slot, self.channel, cycle);
+        let due = self.due(slot, cycle);
         self.miss_due(at, cycle, slot, due);
     }
 
     /// Counts and tells the static slots without a frame from one on, and before another.
     #[tactic(auto, unfolding(crate::specs::Judging::skip_to))]
+    #[inline(never)]
     fn skip_to(&mut self, at: &Option<At>, cycle: Cycle, from: u32, end: u32)
         ensures { self.new ≡ skip_to self.old at.now cycle from end }
     {
@@ -106,12 +107,23 @@ impl Judge {
     }
 
     /// Counts and tells the static slots without a frame before this one.
-    #[tactic(auto, unfolding(crate::specs::Judging::skip_before))]
+    #[tactic(auto, unfolding(crate::specs::Judging::skip_before), using(crate::proofs::LoopLemmas::skip_nothing))]
     pub(crate) fn skip_before(&mut self, frame: &LentFrame<'_>, at: &At)
         ensures { self.new ≡ skip_before self.old frame.now at.now }
     {
-        let end = u32::from(frame.id).min(self.static_end());
         let from = u32::from(self.mine.last) + 1;
+        if from != u32::from(frame.id) {
+            self.skip_some(frame, at, from);
+        }
+    }
+
+    /// Counts and tells the static slots without a frame before this one, from one on.
+    #[inline(never)]
+    fn skip_some(&mut self, frame: &LentFrame<'_>, at: &At, from: u32)
+        ensures { self.new ≡ skip_to self.old (Some at.now) frame.now.cycle from
+            (min frame.now.id (static_end self.old)) }
+    {
+        let end = u32::from(frame.id).min(self.static_end());
         self.skip_to(&Some(*at), frame.cycle, from, end);
     }
 

@@ -149,6 +149,7 @@ impl Judge {
 
     /// Opens a cycle, which closes the one before.
     #[tactic(auto, unfolding(crate::specs::Judging::open_cycle))]
+    #[inline(never)]
     pub(crate) fn open_cycle(&mut self, frame: &LentFrame<'_>, at: &At)
         ensures { self.new ≡ open_cycle self.old frame.now at.now }
     {

@@ -5,7 +5,11 @@ ghost use Rattle.fr_logged.specs.Logged.{spelled};
 ghost use Rattle.fr_judging.specs.Judging.{disturb, mark_odd, member, add_ill, wrong_count, next_of, decide, settle};
 ghost use Rattle.fr_judging.specs.Judging.{settle_with, hold, place_frame, speak, good, ill, is_lawless, spelled_frame};
 ghost use Rattle.fr_judging.specs.Judging.{take_frame, frame_on, symbol_place, symbol_on, take_kind, next_record};
-ghost use Rattle.fr_judging.specs.Judging.{judge};
+ghost use Rattle.fr_judging.specs.Judging.{judge, find};
+ghost use Rattle.fr_logged.specs.Findings.{with_numbers, number_word};
+ghost use Rattle.fr_logged.specs.Logged.{place_of as frame_place};
+ghost use Rattle.fr_logged.specs.declared.finding.Name.TheVariants.{Order, Slot};
+ghost use Rattle.fr_logged.specs.declared.finding.Word.TheVariants.{Absent};
 
 use crate::came::same_open;
 use crate::distance::is_anew;
@@ -66,6 +70,15 @@ impl Judge {
             self.came(frame, at);
             return;
         }
+        self.disorder(frame, at, last);
+    }
+
+    /// Tells a frame whose slot isn't above that of the frame before.
+    #[inline(never)]
+    fn disorder(&mut self, frame: &LentFrame<'_>, at: &At, last: u16)
+        ensures { self.new ≡ find (mark_odd (disturb self.old) frame.now.id) (Some at.now)
+            (frame_place self.old.channel frame.now) (with_numbers Order last frame.now.id) }
+    {
         self.mine.disturb();
         self.mark_odd(frame.id);
         let finding = Finding::with_numbers(Name::Order, u64::from(last), u64::from(frame.id));
@@ -74,6 +87,7 @@ impl Judge {
 
     /// Tells a frame with a wrong cycle count.
     #[tactic(auto, unfolding(crate::specs::Judging::wrong_count))]
+    #[inline(never)]
     fn wrong_count(&mut self, frame: &LentFrame<'_>, at: &At)
         ensures { self.new ≡ wrong_count self.old frame.now at.now }
     {
@@ -106,9 +120,17 @@ impl Judge {
         ensures { self.new ≡ settle self.old next }
     {
         // A frame waits at the start of a cycle alone, and to take one moves its bytes.
-        if self.mine.held.is_none() {
-            return;
+        if self.mine.held.is_some() {
+            self.settle_held(next);
         }
+    }
+
+    /// Decides the frame that waits, by the next good one.
+    #[tactic(auto, unfolding(crate::specs::Judging::settle))]
+    #[inline(never)]
+    fn settle_held(&mut self, next: Option<Next>)
+        ensures { self.new ≡ settle self.old next }
+    {
         if let Some(held) = self.mine.held.take() {
             let since = self.mine.ill_held;
             self.mine.ill_held = 0;
@@ -119,6 +141,7 @@ impl Judge {
 
     /// Lets a good frame wait.
     #[tactic(auto, unfolding(crate::specs::Judging::hold))]
+    #[inline(never)]
     fn hold(&mut self, frame: &LentFrame<'_>, at: &At)
         ensures { self.new ≡ hold self.old frame.now at.now }
     {
@@ -147,15 +170,17 @@ impl Judge {
     fn good(&mut self, frame: &LentFrame<'_>, at: &At)
         ensures { self.new ≡ good self.old frame.now at.now }
     {
-        self.mine.heard = true;
-        self.mine.spoke = at.number;
-        self.mine.alone = 0;
+        let lane = &mut self.mine;
+        lane.heard = true;
+        lane.spoke = at.number;
+        lane.alone = 0;
         self.settle(Some(next_of(frame)));
         self.place_frame(frame, at);
     }
 
     /// Tells a record that changes nothing.
     #[tactic(auto, unfolding(crate::specs::Judging::ill))]
+    #[inline(never)]
     fn ill(&mut self, at: &At, place: &Place, finding: Finding)
         ensures { self.new ≡ ill self.old at.now place.now finding }
     {
@@ -176,10 +201,22 @@ impl Judge {
     fn spelled_frame(&mut self, at: &At, frame: &LentFrame<'_>)
         ensures { self.new ≡ spelled_frame self.old at.now frame.now }
     {
-        if !self.is_lawless(frame.id) {
+        if self.is_lawless(frame.id) {
+            self.lawless(at, frame);
+        } else {
             self.good(frame, at);
-            return;
         }
+    }
+
+    /// Tells a frame with an ID that no slot of the cluster has.
+    #[inline(never)]
+    fn lawless(&mut self, at: &At, frame: &LentFrame<'_>)
+        ensures { self.new ≡ ill self.old at.now (frame_place self.old.channel frame.now) (record {
+          name = Slot;
+          expected = Absent;
+          found = number_word frame.now.id;
+        }) }
+    {
         let finding = Finding {
             name: Name::Slot,
             expected: Word::Absent,

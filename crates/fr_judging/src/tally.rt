@@ -1,6 +1,7 @@
 //! Counts of a slot, and spans of time.
 
-ghost use Rattle.std.specs.Prelude.{◌≡◌, IfOk, length};
+ghost use Rattle.std.specs.Prelude.{◌≡◌, IfOk, Some, length};
+ghost use Rattle.fr_judging.specs.Counting.{time_of, timed};
 ghost use Rattle.fr_judging.specs.Judging.{no_counts};
 ghost use Rattle.fr_judging.specs.Tallies.{with_span, span_between, fresh_tally};
 
@@ -83,6 +84,48 @@ fn with_span(span: Option<Span>, time: i128) -> Span
     }
 }
 
+/// Adds a time to a span, which stays in its place.
+fn lengthen(span: &mut Option<Span>, time: i128)
+    ensures { span.new ≡ Some (with_span span.old time) }
+{
+    match span {
+        None => {
+            *span = Some(Span {
+                shortest: time,
+                longest: time,
+            });
+        }
+        Some(span) => {
+            if time < span.shortest {
+                span.shortest = time;
+            }
+            if span.longest < time {
+                span.longest = time;
+            }
+        }
+    }
+}
+
+/// Adds the time between these two to a span, if both are known.
+fn lengthen_between(span: &mut Option<Span>, from: Option<Moment>, to: Option<Moment>)
+    ensures { span.new ≡ span_between span.old from to }
+{
+    if let (Some(from), Some(to)) = (from, to) {
+        lengthen(span, since(from, to));
+    }
+}
+
+/// Keeps the frame that came last in a slot. If it follows the one before, the time between them is added to the span.
+pub(crate) fn time_frame(tally: &mut SlotTally, follows: bool, came: &Came)
+    ensures { tally.new ≡ timed tally.old follows came.now }
+{
+    if follows {
+        let from = latest_time(tally);
+        lengthen_between(&mut tally.span, from, came.time);
+    }
+    tally.latest = Some(*came);
+}
+
 /// Returns a span that has the time between these two, if both are known.
 pub(crate) fn span_between(
     span: Option<Span>,
@@ -98,7 +141,9 @@ pub(crate) fn span_between(
 }
 
 /// Returns the time of the frame that came last.
-fn latest_time(tally: &SlotTally) -> Option<Moment> {
+fn latest_time(tally: &SlotTally) -> Option<Moment>
+    ensures { result ≡ time_of tally.now.latest }
+{
     match tally.latest {
         Some(came) => came.time,
         None => None,

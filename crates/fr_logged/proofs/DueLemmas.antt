@@ -1,14 +1,14 @@
 -- What is due in a static slot is what its one owner sends.
-use Rattle.std.proofs.Common.{◌≡◌, ℕ, zero, suc, ◌+◌, ◌<◌, ◌≤◌, Bool, true, false, cond, List, [], ◌∷◌, refl, sym}
-use Rattle.std.proofs.Common.{ap, subst, ◌∙◌, arith, Option, Some, None, slice_get}
+use Rattle.std.proofs.Common.{◌≡◌, ℕ, zero, suc, ◌+◌, ◌<◌, true, false, List, [], ◌∷◌, refl}
+use Rattle.std.proofs.Common.{ap, ◌∙◌, arith, Option, Some, None, slice_get}
 use Rattle.std.proofs.lemmas.Bool.{cond-true, cond-false, false_from_ne_true}
-use Rattle.std.specs.List.{find, list_any}
+use Rattle.std.specs.List.{list_any}
 use Rattle.fr_logged.proofs.FirstLemmas.{none_found_in, any_found_in}
 use Rattle.fr_logged.specs.Dues.{line_in, buffer_in, static_due, dynamic_due, owner_or, owner_from}
 use Rattle.fr_logged.specs.Dues.{sender_or, sender_from, due_of}
 use Rattle.fr_logged.specs.declared.due.Due.{Due}
 use Rattle.fr_schedule.specs.Descriptions.{Description}
-use Rattle.fr_schedule.specs.SenderTable.{may_send, IsSender, HasOneSender}
+use Rattle.fr_schedule.specs.SenderTable.{IsSender, HasOneSender}
 use Rattle.fr_slots.specs.declared.channel.Channel.{Channel}
 use Rattle.fr_slots.specs.declared.plan.Buffer.{Buffer}
 use Rattle.fr_slots.specs.declared.plan.Own.{Own}

@@ -1,4 +1,5 @@
 pub mod DueLemmas
 pub mod FirstLemmas
 mod HeaderLemmas
-mod SenderLemmas
+pub mod SenderLemmas
+pub mod ZeroLemmas

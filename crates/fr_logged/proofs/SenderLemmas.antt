@@ -1,13 +1,12 @@
 -- What is due in a slot is what the node in the table of senders may send there.
-use Rattle.std.proofs.Common.{◌≡◌, ℕ, zero, suc, ◌+◌, ◌<◌, Bool, true, false, cond, List, [], ◌∷◌, refl, sym}
-use Rattle.std.proofs.Common.{ap, subst, ◌∙◌, Option, Some, None, slice_get}
+use Rattle.std.proofs.Common.{◌≡◌, ℕ, suc, ◌+◌, ◌<◌, Bool, true, false, List, [], ◌∷◌, refl, sym}
+use Rattle.std.proofs.Common.{ap, ◌∙◌, Option, Some, None, slice_get}
 use Rattle.std.proofs.lemmas.Bool.{cond-true, cond-false, false_from_ne_true}
 use Rattle.std.specs.List.{list_any}
 use Rattle.fr_logged.proofs.DueLemmas.{due_is_owners, due_is_senders, static_sender, dynamic_sender}
 use Rattle.fr_logged.proofs.FirstLemmas.{none_found_in, some_found_in, Found}
-use Rattle.fr_logged.specs.Dues.{line_in, buffer_in, static_due, dynamic_due, owner_or, owner_from}
+use Rattle.fr_logged.specs.Dues.{line_in, buffer_in, owner_or, owner_from}
 use Rattle.fr_logged.specs.Dues.{sender_or, sender_from, due_from, due_of}
-use Rattle.fr_logged.specs.declared.due.Due.{Due}
 use Rattle.fr_schedule.specs.Clusters.{IsCluster}
 use Rattle.fr_schedule.specs.Descriptions.{Description}
 use Rattle.fr_schedule.specs.SenderTable.{IsSender}

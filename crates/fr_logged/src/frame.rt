@@ -8,8 +8,8 @@ ghost use Rattle.fr_logged.specs.Logged.{frame_by, fields_by, length_finding, he
 ghost use Rattle.fr_logged.specs.Logged.{trailer_finding, right_trailer, trailer_of};
 
 use crate::finding::{Finding, Name, Word};
-use fr_frame::crc::{crc24, header_crc};
-use fr_frame::frame::Frame;
+use crate::header_crc::header_crc;
+use fr_frame::crc::crc24;
 use fr_frame::lent::LentFrame;
 use fr_slots::channel::Channel;
 use fr_slots::numbers::Cycle;
@@ -89,7 +89,7 @@ fn right_crc(header: &Header, bytes: &[u8]) -> u16
     requires whole { 5 + 2 * header.now.words ≤ length bytes.now }
     ensures { result ≡ right_crc bytes.now }
 {
-    header_crc(&Frame::from_lent(&lent_from(header, bytes)))
+    header_crc(&lent_from(header, bytes))
 }
 
 /// Returns the finding of a record with so many bytes, by its header.

@@ -13,12 +13,14 @@
 //! # Inner workings
 //!
 //! A record of link type 210 has a byte with channel and kind, a byte of flags, and then the bytes of a frame without
-//! trailer, or with it (`record`). `frame` reads the header as one number. The header CRC is computed over a frame with
-//! a payload of its own, since `fr_frame` computes no other. `due` goes along the lines of the plans.
+//! trailer, or with it (`record`). `frame` reads the header as one number, and `header_crc` takes its CRC from `tables`,
+//! without a copy of the payload. `due` goes along the lines of the plans.
 #![tactic(auto)]
 
 pub mod due;
 pub mod finding;
 pub mod frame;
+mod header_crc;
 pub mod record;
 pub mod rules;
+mod tables;

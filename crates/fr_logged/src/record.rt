@@ -45,10 +45,13 @@ pub fn kind_of(link: u16, bytes: &[u8]) -> Kind
 }
 
 /// Returns the first flag that the logger set.
+#[tactic(auto, using(crate::proofs::ZeroLemmas::none_logged))]
 fn logged_by(flags: u8) -> Option<Name>
     ensures { result ≡ logged_by flags }
 {
-    if flags / 2 % 2 == 1 {
+    if flags % 32 == 0 {
+        None
+    } else if flags / 2 % 2 == 1 {
         Some(Name::LoggedCoding)
     } else if flags % 2 == 1 {
         Some(Name::LoggedStart)

@@ -65,8 +65,31 @@ fn preamble_finding(preamble: bool, frame: &LentFrame<'_>) -> Option<Finding>
     Some(unlike(Name::Preamble, expected, found))
 }
 
+/// Returns whether eight bytes are zero, which is one comparison.
+fn is_zero_word(word: &[u8; 8]) -> bool
+    ensures { result ≡ list_all is_zero word.now }
+{
+    *word == [0; 8]
+}
+
 /// Returns whether all bytes are zero.
+#[tactic(auto, using(crate::proofs::ZeroLemmas::all_chunks))]
 fn are_zeros(bytes: &[u8]) -> bool
+    ensures { result ≡ list_all is_zero bytes.now }
+{
+    let (words, rest) = bytes.as_chunks::<8>();
+    are_zero_words(words) && are_zero_bytes(rest)
+}
+
+/// Returns whether all bytes in groups of eight are zero.
+fn are_zero_words(words: &[[u8; 8]]) -> bool
+    ensures { result ≡ list_all (list_all is_zero) words.now }
+{
+    words.iter().all(|word| is_zero_word(word))
+}
+
+/// Returns whether bytes, which are few, are zero.
+fn are_zero_bytes(bytes: &[u8]) -> bool
     ensures { result ≡ list_all is_zero bytes.now }
 {
     bytes.iter().all(|byte| *byte == 0)

@@ -1,22 +1,22 @@
 -- Several bytes at once give the same as one after another.
 use Rattle.std.proofs.Common.{◌≡◌, ◌≢◌, ℕ, suc, ◌+◌, ◌-◌, ◌<◌, ◌≤◌, ◌==◌, true, false, List, [], ◌∷◌, ◌++◌, max}
-use Rattle.std.proofs.Common.{length, take, drop, refl, sym, ap, ◌∙◌, arith, append_assoc, length-append, subst}
+use Rattle.std.proofs.Common.{length, take, drop, refl, sym, ap, ◌∙◌, arith, append_assoc, length-append, length-drop, subst}
 use Rattle.std.specs.Prelude.{Option, None, option_to_list}
-use Rattle.std.proofs.lemmas.Bool.{lt-ltb, le-ltb, eqb-true, eq-eqb}
+use Rattle.std.proofs.lemmas.Bool.{lt-ltb, le-ltb, eqb-true, eq-eqb, cond-false}
 use Rattle.std.proofs.lemmas.Bool.Decides.{nat_tests}
 use Rattle.std.proofs.Math.Seq.{take-add}
 use Rattle.std.proofs.lemmas.List.Sums.{fold-append}
 use Rattle.std.proofs.lemmas.List.{append-nil, length-take-le, take_all}
 use Rattle.fr_recording.specs.Numbers.{counted}
 use Rattle.fr_recording.specs.Records.{Record}
-use Rattle.fr_recording.specs.Steps.{Steps}
+use Rattle.fr_recording.specs.Steps.{Steps, IsWholeHead, TakesRecord}
 use Rattle.fr_recording.specs.Stream.{State, Progress, read_on, take_in, take_byte, take_bytes, records_from, told_of}
 use Rattle.fr_recording.specs.Stream.{needed}
-use Rattle.fr_recording.specs.Stream.{after_part, skip, less, go}
+use Rattle.fr_recording.specs.Stream.{after_part, after_record_head, skip, less, go, tell}
 use Rattle.fr_recording.specs.declared.phase.Block.{Block}
 use Rattle.fr_recording.specs.declared.phase.Head.{Head}
 use Rattle.fr_recording.specs.declared.phase.Phase.{Phase}
-use Rattle.fr_recording.specs.declared.phase.Phase.TheVariants.{Skipped, Refused}
+use Rattle.fr_recording.specs.declared.phase.Phase.TheVariants.{RecordHeader, RecordBytes, Skipped, Refused}
 use Rattle.fr_recording.specs.declared.phase.Refusal.{Refusal}
 
 -- ---- counts
@@ -318,3 +318,68 @@ refused_piece old s read held piece refusal is phase_is few some read_is =
     ≡ record { state = read; held = held } = ap (λ (r : State). record { state = r; held = held }) (sym read_is) in
     subst (λ (t : List ℕ). Steps old t (record { state = read; held = held })) (sym all)
     (steps_from _ old piece _ is (steps_to _ piece _ _ to (refused_part s held piece refusal phase_is few some)))
+
+-- ---- a record of a classic file whose head and captured bytes are there
+
+counted_twice : (a m n : ℕ) → counted (counted a m) n ≡ counted a (m + n)
+counted_twice a m n = omega arith
+
+record_parts : (s : State) (scale link : ℕ) (head : Head) (bytes : List ℕ) → s.phase ≡ RecordHeader scale link
+    → IsWholeHead s.order scale link bytes head
+    → Steps (record { state = s; held = [] }) (take (16 + head.captured) bytes) (record {
+      state = tell (read_on s (16 + head.captured)) scale link head (take head.captured (drop 16 bytes));
+      held = [];
+    })
+record_parts s scale link head bytes phase_is is_whole =
+    let front = take 16 bytes in
+    let part = take head.captured (drop 16 bytes) in
+    let mid = go (read_on s 16) (RecordBytes scale link head) in
+    let done = tell (read_on s (16 + head.captured)) scale link head part in
+    let front_len : length front ≡ 16 = length-take-le 16 bytes (omega (arith, is_whole.whole)) in
+    let part_len : length part ≡ head.captured =
+    length-take-le head.captured (drop 16 bytes) (omega (arith, length-drop 16 bytes, is_whole.whole)) in
+    let need : needed s.phase ≡ 16 = ap needed phase_is in
+    let more : (head.captured == 0) ≡ false = grind (arith, nat_tests, is_whole.some) in
+    let mid_is : after_part s.phase (read_on s (length front)) front ≡ mid =
+    ap (λ (k : Phase). after_part k (read_on s (length front)) front) phase_is
+    ∙ ap (λ (o : Option Head). after_record_head (read_on s (length front)) scale link o) is_whole.is_head
+    ∙ cond-false (head.captured == 0) (tell (read_on s (length front)) scale link head [])
+    (go (read_on s (length front)) (RecordBytes scale link head)) more
+    ∙ ap (λ (n : ℕ). go (read_on s n) (RecordBytes scale link head)) front_len in
+    let first : Steps (record { state = s; held = [] }) front (record { state = mid; held = [] }) =
+    steps_to _ front _ _ (ap (λ (t : State). record { state = t; held = [] }) mid_is)
+    (part_over s [] front (omega (arith, front_len)) (omega (arith, front_len, need))) in
+    let done_is : after_part mid.phase (read_on mid (length part)) part ≡ done =
+    ap (λ (t : List ℕ). tell (read_on mid (length part)) scale link head t)
+    (take_all head.captured part (omega (arith, part_len)))
+    ∙ ap (λ (n : ℕ). tell (read_on mid n) scale link head part) part_len
+    ∙ ap (λ (n : ℕ). tell (record (read_on s (16 + head.captured)) { at = n }) scale link head part)
+    (counted_twice s.at 16 head.captured) in
+    let second : Steps (record { state = mid; held = [] }) part (record { state = done; held = [] }) =
+    steps_to _ part _ _ (ap (λ (t : State). record { state = t; held = [] }) done_is)
+    (part_over mid [] part (omega (arith, part_len, is_whole.some)) (omega (arith, part_len, is_whole.some))) in
+    next_part (record { state = s; held = [] }) (record { state = mid; held = [] }) (record { state = done; held = [] })
+    bytes part 16 head.captured first.0 first.1 refl second
+
+pub record_here : (old : Progress) (s done : State) (held piece : List ℕ) (count : ℕ)
+    → record { state = s; held = held } ≡ old → (length held == 0) ≡ true → TakesRecord s piece count done
+    → Steps old (take count piece) (record { state = done; held = held })
+record_here old s done held piece count is empty takes =
+    let none : held ≡ [] = empty_held held empty in
+    let from : (let p : Progress = record { state = s; held = [] } in p) ≡ old =
+    ap (λ (h : List ℕ). record { state = s; held = h }) (sym none) ∙ is in
+    let to : (let p : Progress = record {
+      state = tell (read_on s (16 + takes.head.captured)) takes.scale takes.link takes.head
+          (take takes.head.captured (drop 16 piece));
+      held = [];
+    } in p) ≡ record { state = done; held = held } =
+    ap (λ (n : ℕ). record {
+      state = tell (read_on s n) takes.scale takes.link takes.head (take takes.head.captured (drop 16 piece));
+      held = [];
+    }) (sym takes.ends)
+    ∙ ap (λ (t : State). record { state = t; held = [] }) (sym takes.state)
+    ∙ ap (λ (h : List ℕ). record { state = done; held = h }) (sym none) in
+    subst (λ (n : ℕ). Steps old (take n piece) (record { state = done; held = held })) (sym takes.ends)
+    (steps_from _ old (take (16 + takes.head.captured) piece) _ from
+    (steps_to _ (take (16 + takes.head.captured) piece) _ _ to
+    (record_parts s takes.scale takes.link takes.head piece takes.classic takes.is_whole)))

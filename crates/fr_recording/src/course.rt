@@ -1,6 +1,6 @@
 //! The course of a capture file: the part that comes next, and the effect of each whole part.
 
-ghost use Rattle.std.specs.Prelude.{◌≡◌, ◌-◌, ◌≤◌, ◌<◌, length, max, min, None, Some, IfOk, IsTrue};
+ghost use Rattle.std.specs.Prelude.{◌≡◌, ◌-◌, ◌≤◌, ◌<◌, length, take, max, min, None, Some, IfOk, IfSome, IsTrue};
 ghost use Rattle.fr_recording.specs.Captures.{magic_in, order_in, record_head};
 ghost use Rattle.fr_recording.specs.Numbers.{most_captured};
 ghost use Rattle.fr_recording.specs.Stream.{needed, less, fresh, read_on, go, bad, start, with_captured, after_magic};
@@ -8,6 +8,7 @@ ghost use Rattle.fr_recording.specs.Stream.{tell, after_record_head, skip, after
 ghost use Rattle.fr_recording.specs.Stream.{next_option, after_option_header, after_option, after_head, after_packet};
 ghost use Rattle.fr_recording.specs.Stream.{after_simple, after_bytes, after_trailer, enter, after_block_header};
 ghost use Rattle.fr_recording.specs.Stream.{after_part, end_in};
+ghost use Rattle.fr_recording.specs.Steps.{IsWholeHead, TakesRecord};
 
 use crate::heads::{
     Magic, SECTION, is_bad_front, is_length_of, link_of, magic_of, order_of, packet_head,
@@ -70,6 +71,21 @@ pub(crate) fn needed(phase: &Phase) -> u32
         Phase::PacketBytes(_, head) => padded(head.captured.number()) as u32,
         Phase::Skipped(_, _) | Phase::Refused(_) => 1,
     }
+}
+
+/// Returns the head at the front of these bytes, if the record has captured bytes and is whole there.
+fn whole_head(order: Order, scale: u32, link: u16, bytes: &[u8]) -> Option<Head>
+    ensures { IfSome result (λ head. IsWholeHead order scale link bytes.now head) }
+{
+    if bytes.len() < 16 {
+        return None;
+    }
+    let head = record_head(order, scale, link, &bytes[..16])?;
+    let count = head.captured.number() as usize;
+    if count == 0 || bytes.len() < 16 + count {
+        return None;
+    }
+    Some(head)
 }
 
 impl Course {
@@ -148,10 +164,16 @@ impl Course {
     }
 
     /// Keeps the captured bytes of a record.
+    #[inline(never)]
     fn keep(&mut self, bytes: &[u8])
         requires { length bytes.now ≤ most_captured }
         ensures { self.new ≡ with_captured self.old bytes.now }
     {
+        // Records of one length are the rule, and their bytes are copied in place.
+        if self.captured.len() == bytes.len() {
+            self.captured.copy_from_slice(bytes);
+            return;
+        }
         self.captured.clear();
         let _ = self.captured.extend_from_slice(bytes);
     }
@@ -175,8 +197,9 @@ impl Course {
         requires { length bytes.now ≤ most_captured }
         ensures { self.new ≡ tell self.old scale link head bytes.now }
     {
-        self.keep(bytes);
+        // The head is stored first: it is read again soon, and the copy of the bytes gives the store time.
         self.told = Some(head);
+        self.keep(bytes);
         self.start(Phase::RecordHeader(scale, link));
     }
 
@@ -189,6 +212,25 @@ impl Course {
             Some(head) if head.captured.number() == 0 => self.tell(scale, link, head, &[]),
             Some(head) => self.go(Phase::RecordBytes(scale, link, head)),
         }
+    }
+
+    /// Takes the record of a classic file whose head and captured bytes are at the front of these bytes, and returns
+    /// their number. If no such record is whole there, or it has no captured bytes, nothing is taken.
+    pub(crate) fn take_record(&mut self, bytes: &[u8]) -> usize
+        ensures within { result ≤ length bytes.now }
+        ensures none { result ≡ 0 → self.new ≡ self.old }
+        ensures record { 0 < result → TakesRecord self.old bytes.now result self.new }
+    {
+        let Phase::RecordHeader(scale, link) = self.phase else {
+            return 0;
+        };
+        let Some(head) = whole_head(self.order, scale, link, bytes) else {
+            return 0;
+        };
+        let whole = 16 + head.captured.number() as usize;
+        self.read_on(whole as u64);
+        self.tell(scale, link, head, &bytes[16..whole]);
+        whole
     }
 
     /// Goes to the end of a block, without a look at the bytes before it.

@@ -91,6 +91,21 @@ impl Reader {
         }
     }
 
+    /// Takes the record of a classic file whose head and captured bytes are at the front of these bytes, and returns
+    /// their number. If no such record is whole there, or it has no captured bytes, nothing is taken.
+    fn whole_record(&mut self, bytes: &[u8]) -> usize
+        ensures within { result ≤ length bytes.now }
+        ensures none { result ≡ 0 → self.new ≡ self.old }
+        ensures told { 0 < result → IsSome (told_of self.new) }
+        ensures steps { 0 < result → Steps self.old (take result bytes.now) self.new }
+    {
+        if self.held.is_empty() {
+            self.course.take_record(bytes)
+        } else {
+            0
+        }
+    }
+
     /// Takes bytes of the file up to the end of the first record in them, and returns their number.
     ///
     /// If they complete no record, all of them are taken.
@@ -102,6 +117,10 @@ impl Reader {
             ≡ (if result == 0 then [] else option_to_list (told_of self.new)) }
         ensures all { (result ≡ length bytes.now) ⊎ ((0 < result) × IsSome (told_of self.new)) }
     {
+        let count = self.whole_record(bytes);
+        if count != 0 {
+            return count;
+        }
         let mut taken = 0;
         while taken < bytes.len() {
             taken += self.step(&bytes[taken..]);

@@ -14,7 +14,7 @@ returns c =
     let bytes = c.args.bytes.now in
     let words : c.args.header.now.words ≡ number_at 16 7 bytes = ap (λ (h : Header). h.words) c.requires.header in
     let long : 5 + 2 * number_at 16 7 bytes ≤ length bytes = omega (arith, c.requires.whole, words) in
-    c.header_crc.ensures.value
-    ∙ ap (λ (f : Fields). number_of (header_check (covered f))) (c.from_lent.ensures ∙ c.lent_from.ensures)
+    c.header_crc.ensures
+    ∙ ap (λ (f : Fields). number_of (header_check (covered f))) c.lent_from.ensures
     ∙ ap (λ (h : Header). number_of (header_check (covered (fields_by h bytes)))) c.requires.header
     ∙ ap (λ (t : List Bool). number_of (header_check t)) (covered_by bytes long)

@@ -1,7 +1,7 @@
 use Rattle.std.proofs.Common.{take}
 use Rattle.std.specs.Io.KnownBytes.{Appends}
 use Rattle.fr_monitoring.specs.LineText.{lines_text}
-use Rattle.fr_monitoring.proofs.line.write_lines.Given as goal
+use Rattle.fr_monitoring.proofs.line.write_each.Given as goal
 
 -- the lines so far
 abbrev pub invariant-loop-line : goal.invariant-loop-line
