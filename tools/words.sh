@@ -44,8 +44,8 @@ find_command() {
     fr_view-latency) places=FILE options='--slot --channel' ;;
     fr_view-capture) flags='--own --until-fault' input=TRACE ;;
     fr_view-frames) flags='--all --until-fault' input=TRACE ;;
-    fr_view-outcome | fr_view-answers | fr_view-commits | fr_view-record | fr_view-bus)
-        places='FILE SCENARIO' options=--cycles ;;
+    fr_view-outcome | fr_view-answers | fr_view-commits) places='FILE SCENARIO' options=--cycles ;;
+    fr_view-record | fr_view-bus) places='FILE SCENARIO' options=--cycles flags=--endless ;;
     fr_view-matrix) places='FILE SCENARIO' options='--cycles --channel --node --from' ;;
     fr_view-trace) places='NODE FILE SCENARIO' options=--cycles ;;
     *) return 1 ;;
@@ -84,6 +84,9 @@ is_in_range() {
 # to the words to choose from. For right words it sets `file` and `scenario` to the files that they name.
 read_words() {
     forget_words
+    case " $* " in
+    *' --endless '*) most_cycles=4000000 ;;
+    esac
     if ! is_ascii "$*" && ! is_utf8 "$*"; then
         slip="a word isn't UTF-8"
         ! find_command "${1-}" || command=$1
@@ -92,9 +95,6 @@ read_words() {
         options=--cycles
         flags=--endless
         input=requests
-        case " $* " in
-        *' --endless '*) most_cycles=4000000 ;;
-        esac
         read_arguments "$@"
     elif [ "$name" = fr_monitor ]; then
         places=FILE

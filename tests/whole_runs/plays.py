@@ -283,12 +283,37 @@ class Plays:
         for node in ("3", "15"):
             self.runs.check(f"matrix of node {node}", ["matrix", *THREE_NODES, "--node", node], refused("UnknownNode"))
 
+    def streams(self):
+        """Checks that runs without history print the same bytes, and have more than 1,024 cycles."""
+        for outcome in sorted(EXAMPLES.glob("*/outcome-of-*-cycles")):
+            words = [outcome.with_name("cluster.toml"), outcome.with_name("scenario"), "--cycles",
+                     outcome.name.split("-")[2]]
+            for command in ("record", "bus"):
+                kept = run([self.runs.program, command, *words])[0]
+                self.runs.compare(f"{command} of {outcome.parent.name}, endless",
+                                  run([self.runs.program, command, *words, "--endless"]), (kept, b"", 0))
+        words = self.given((EXAMPLES / "three-nodes/cluster.toml").read_text(), TURNED)[:2]
+        told, errors, status = run([self.runs.program, "record", *words, "--endless", "--cycles", "66000"])
+        cycles = [int(line.split(b" ")[1]) for line in told.splitlines()]
+        self.runs.compare("cycles of an endless record", (sorted(set(cycles)), cycles == sorted(cycles)),
+                          (list(range(66_000)), True))
+        self.runs.compare("bits of an endless record", told.count(b"corrupt"), 3)
+        for command in ("record", "bus"):
+            self.runs.check(f"{command}, endless, for 4000000 cycles",
+                            [command, "a", "b", "--endless", "--cycles=4000000"], refused("Read"))
+            for number in ("0", "4000001", "04", ""):
+                self.runs.check(f"{command}, endless, for {number!r} cycles",
+                                [command, "a", "b", "--endless", "--cycles", number], USAGE)
+        for command in (["outcome"], ["answers"], ["commits"], ["matrix"], ["trace", "0"]):
+            self.runs.check(f"{command}, endless", [*command, *THREE_NODES, "--endless"], USAGE)
+
     def refusals(self):
         scenes = Scenes(self.runs, self.folder)
         for command in COMMANDS:
             for line, error in REFUSALS.items():
                 words = self.given(scenes.cluster, scenes.with_line(line))
-                self.runs.check(f"{command} with {line}", [*command, *words], refused(error))
+                for more in ([], ["--endless"]) if command in (["record"], ["bus"]) else ([],):
+                    self.runs.check(f"{command} with {line} {more}", [*command, *words, *more], refused(error))
             for name, error in {"missing": "Read", ".": "Read", "three-nodes/cluster.toml": "BadMagic"}.items():
                 self.runs.check(f"{command} with {name!r}",
                                 [*command, "three-nodes/cluster.toml", name, "--cycles", "1"], refused(error))
@@ -315,7 +340,7 @@ class Plays:
             self.runs.check(f"{command} for 1024 cycles", [*command, "a", "b", "--cycles=1024"], refused("Read"))
 
     def outputs(self):
-        for command in COMMANDS:
+        for command in [*COMMANDS, ["record", "--endless"], ["bus", "--endless"]]:
             words = [*command, *THREE_NODES]
             with open("/dev/full", "wb") as full:
                 self.runs.check(f"{words} to a full device", words, refused("Write"), output=full)

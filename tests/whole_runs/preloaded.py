@@ -102,6 +102,8 @@ def views():
         "bus": (["bus", *run], b""),
         "matrix": (["matrix", *run], b""),
         "trace": (["trace", "0", *run], b""),
+        "record, endless": (["record", *run, "--endless"], b""),
+        "bus, endless": (["bus", *run, "--endless"], b""),
     }
 
 

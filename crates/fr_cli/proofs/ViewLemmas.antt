@@ -1,6 +1,6 @@
 -- The answer to words follows from a parse, since the commands are of the kind for which `clap` reports all faults.
 use Rattle.std.proofs.Common.{◌≡◌, [], ◌∷◌, List, Option, Some, None, Err, refl, ap, ap₂, sym, subst, ◌∙◌, arith, inl}
-use Rattle.std.proofs.Common.{inr, true, false, ◌&&◌, ◌||◌, codes, is_some, option_map}
+use Rattle.std.proofs.Common.{inr, Bool, true, false, ◌&&◌, ◌||◌, codes, is_some, option_map}
 use Rattle.std.specs.Prelude.{IfSome, IfNone, option_and_then, if◌then◌else◌}
 use Rattle.std.specs.Str.{bytes_eq}
 use Rattle.std.specs.Option.{ok_or}
@@ -18,8 +18,9 @@ use Rattle.fr_cli.specs.declared.view.Asked.TheVariants.{Outcome, Answers, Commi
 use Rattle.fr_cli.specs.ViewOrders.{IsAnswerTo, IsOrder, IsScheduleBy, IsShowBy, asked_by, asks, channel_asked}
 use Rattle.fr_cli.specs.ViewOrders.{cycle_asked, drawn_by, from_asked, has_schedule_by, has_show_by, matrix_of}
 use Rattle.fr_cli.specs.ViewOrders.{IsLatencyBy, has_latency_by, node_asked, the_commands, viewer_asked, way_asked}
-use Rattle.fr_cli.proofs.CommandLemmas.{has_run_alike}
-use Rattle.fr_cli.specs.Commands.{IsNamed, cycles_in, order_error_of, word_in}
+use Rattle.fr_cli.specs.ViewOrders.{IsKeptBy, IsShowIf, IsStreamBy, has_kept_by, has_stream_by, is_endless, streamed_by}
+use Rattle.fr_cli.proofs.CommandLemmas.{has_long_run_alike, has_run_alike}
+use Rattle.fr_cli.specs.Commands.{IsNamed, cycles_in, is_true, most_in, order_error_of, word_in}
 
 pub are_simple : is_simple the_commands ≡ true
 unfolding clap_on_literals
@@ -63,6 +64,7 @@ schedule_alike f g same the_order.Why is = is
 schedule_alike f g same the_order.Help is = is
 schedule_alike f g same (the_order.Latency file way) is = is
 schedule_alike f g same (the_order.Show asked cluster scenario cycles) is = is
+schedule_alike f g same (the_order.Stream asked cluster scenario cycles) is = is
 schedule_alike f g same (the_order.Schedule file cycle) is =
     (sym (same (codes "FILE")) ∙ is.0, ap cycle_asked (sym (same (codes "cycle"))) ∙ is.1)
 
@@ -79,14 +81,22 @@ schedule_told entered look (Some o) named same told = by o (schedule_alike look 
     by the_order.Help is = absurd is
     by (the_order.Latency file way) is = absurd is
     by (the_order.Show asked cluster scenario cycles) is = absurd is
+    by (the_order.Stream asked cluster scenario cycles) is = absurd is
     by (the_order.Schedule file cycle) is = (named, is)
+
+-- a command of another name shows no run, with its history or without
+picks_none : (b : Bool) → (if b then false else false) ≡ false
+picks_none true = refl
+picks_none false = refl
 
 asks_nothing : (entered : Option (Text × List Row)) → IsNamed (codes "schedule") entered
     → has_schedule_by (word_in entered) ≡ false → asks entered ≡ false
 asks_nothing None named lacks = cc named
 asks_nothing (Some (name, rows)) named lacks =
     let is : name ≡ codes "schedule" = cc named in
-    subst (λ (n : Text). asks (Some (n, rows)) ≡ false) (sym is) (ap (λ b. b || false) lacks)
+    subst (λ (n : Text). asks (Some (n, rows)) ≡ false) (sym is)
+    (ap₂ (λ shows asked. (shows || false || false || false || asked) || false)
+    (picks_none (is_endless (λ id. first_of id rows))) lacks)
 
 pub schedule_lacks : (entered : Option (Text × List Row)) (look : Text → Option Text) (found : Option ViewOrder)
     → IsNamed (codes "schedule") entered
@@ -112,6 +122,7 @@ latency_alike f g same the_order.Why is = is
 latency_alike f g same the_order.Help is = is
 latency_alike f g same (the_order.Schedule file cycle) is = is
 latency_alike f g same (the_order.Show asked cluster scenario cycles) is = is
+latency_alike f g same (the_order.Stream asked cluster scenario cycles) is = is
 latency_alike f g same (the_order.Latency file way) is = (
   sym (same (codes "FILE")) ∙ is.0,
   ap₂ (λ s c. way_asked s c) (sym (same (codes "slot"))) (sym (same (codes "channel"))) ∙ is.1,
@@ -130,6 +141,7 @@ latency_told entered look (Some o) named same told = by o (latency_alike look (w
     by the_order.Help is = absurd is
     by (the_order.Schedule file cycle) is = absurd is
     by (the_order.Show asked cluster scenario cycles) is = absurd is
+    by (the_order.Stream asked cluster scenario cycles) is = absurd is
     by (the_order.Latency file way) is = (named, is)
 
 asks_no_latency : (entered : Option (Text × List Row)) → IsNamed (codes "latency") entered
@@ -137,7 +149,9 @@ asks_no_latency : (entered : Option (Text × List Row)) → IsNamed (codes "late
 asks_no_latency None named lacks = cc named
 asks_no_latency (Some (name, rows)) named lacks =
     let is : name ≡ codes "latency" = cc named in
-    subst (λ (n : Text). asks (Some (n, rows)) ≡ false) (sym is) lacks
+    subst (λ (n : Text). asks (Some (n, rows)) ≡ false) (sym is)
+    (ap₂ (λ shows asked. (shows || false || false || false || false) || asked)
+    (picks_none (is_endless (λ id. first_of id rows))) lacks)
 
 pub latency_lacks : (entered : Option (Text × List Row)) (look : Text → Option Text) (found : Option ViewOrder)
     → IsNamed (codes "latency") entered
@@ -170,20 +184,73 @@ asked_with name node drawn =
 asked_alike : (name : Text) (f g : Text → Option Text) → ((id : Text) → f id ≡ g id) → asked_by name f ≡ asked_by name g
 asked_alike name f g same = ap₂ (λ w d. asked_with name w d) (same (codes "NODE")) (drawn_alike f g same)
 
-show_alike : (name : Text) (f g : Text → Option Text) → ((id : Text) → f id ≡ g id) → (o : ViewOrder)
-    → IsShowBy name f o → IsShowBy name g o
-show_alike name f g same (the_order.Capture until_fault own) is = is
-show_alike name f g same (the_order.Frames until_fault all) is = is
-show_alike name f g same the_order.Why is = is
-show_alike name f g same the_order.Help is = is
-show_alike name f g same (the_order.Latency file way) is = is
-show_alike name f g same (the_order.Schedule file cycle) is = is
-show_alike name f g same (the_order.Show asked cluster scenario cycles) is = (
+kept_alike : (name : Text) (f g : Text → Option Text) → ((id : Text) → f id ≡ g id) → (o : ViewOrder)
+    → IsKeptBy name f o → IsKeptBy name g o
+kept_alike name f g same (the_order.Capture until_fault own) is = is
+kept_alike name f g same (the_order.Frames until_fault all) is = is
+kept_alike name f g same the_order.Why is = is
+kept_alike name f g same the_order.Help is = is
+kept_alike name f g same (the_order.Latency file way) is = is
+kept_alike name f g same (the_order.Schedule file cycle) is = is
+kept_alike name f g same (the_order.Stream asked cluster scenario cycles) is = is
+kept_alike name f g same (the_order.Show asked cluster scenario cycles) is = (
   sym (asked_alike name f g same) ∙ is.0,
   sym (same (codes "FILE")) ∙ is.1,
   sym (same (codes "SCENARIO")) ∙ is.2,
   ap (λ w. option_and_then cycles_in w) (sym (same (codes "cycles"))) ∙ is.3,
 )
+
+stream_alike : (name : Text) (f g : Text → Option Text) → ((id : Text) → f id ≡ g id) → (o : ViewOrder)
+    → IsStreamBy name f o → IsStreamBy name g o
+stream_alike name f g same (the_order.Capture until_fault own) is = is
+stream_alike name f g same (the_order.Frames until_fault all) is = is
+stream_alike name f g same the_order.Why is = is
+stream_alike name f g same the_order.Help is = is
+stream_alike name f g same (the_order.Latency file way) is = is
+stream_alike name f g same (the_order.Schedule file cycle) is = is
+stream_alike name f g same (the_order.Show asked cluster scenario cycles) is = is
+stream_alike name f g same (the_order.Stream asked cluster scenario cycles) is = (
+  is.0,
+  sym (same (codes "FILE")) ∙ is.1,
+  sym (same (codes "SCENARIO")) ∙ is.2,
+  ap (λ w. option_and_then most_in w) (sym (same (codes "cycles"))) ∙ is.3,
+)
+
+show_if_alike : (endless : Bool) (name : Text) (f g : Text → Option Text) → ((id : Text) → f id ≡ g id)
+    → (o : ViewOrder) → IsShowIf endless name f o → IsShowIf endless name g o
+show_if_alike true name f g same o is = stream_alike name f g same o is
+show_if_alike false name f g same o is = kept_alike name f g same o is
+
+show_alike : (name : Text) (f g : Text → Option Text) → ((id : Text) → f id ≡ g id) → (o : ViewOrder)
+    → IsShowBy name f o → IsShowBy name g o
+show_alike name f g same o is =
+    subst (λ (endless : Bool). IsShowIf endless name g o) (ap is_true (same (codes "endless")))
+    (show_if_alike (is_endless f) name f g same o is)
+
+-- only the two orders of a run show one
+show_is_order : (endless : Bool) (entered : Text) (rows : List Row) (o : ViewOrder)
+    → endless ≡ is_endless (λ id. first_of id rows) → IsShowIf endless entered (λ id. first_of id rows) o
+    → IsOrder (Some (entered, rows)) o
+show_is_order true entered rows (the_order.Capture until_fault own) flag is = absurd is
+show_is_order true entered rows (the_order.Frames until_fault all) flag is = absurd is
+show_is_order true entered rows the_order.Why flag is = absurd is
+show_is_order true entered rows the_order.Help flag is = absurd is
+show_is_order true entered rows (the_order.Latency file way) flag is = absurd is
+show_is_order true entered rows (the_order.Schedule file cycle) flag is = absurd is
+show_is_order true entered rows (the_order.Show asked cluster scenario cycles) flag is = absurd is
+show_is_order true entered rows (the_order.Stream asked cluster scenario cycles) flag is =
+    subst (λ (endless : Bool). IsShowIf endless entered (λ id. first_of id rows)
+    (the_order.Stream asked cluster scenario cycles)) flag is
+show_is_order false entered rows (the_order.Capture until_fault own) flag is = absurd is
+show_is_order false entered rows (the_order.Frames until_fault all) flag is = absurd is
+show_is_order false entered rows the_order.Why flag is = absurd is
+show_is_order false entered rows the_order.Help flag is = absurd is
+show_is_order false entered rows (the_order.Latency file way) flag is = absurd is
+show_is_order false entered rows (the_order.Schedule file cycle) flag is = absurd is
+show_is_order false entered rows (the_order.Stream asked cluster scenario cycles) flag is = absurd is
+show_is_order false entered rows (the_order.Show asked cluster scenario cycles) flag is =
+    subst (λ (endless : Bool). IsShowIf endless entered (λ id. first_of id rows)
+    (the_order.Show asked cluster scenario cycles)) flag is
 
 pub show_told : (entered : Option (Text × List Row)) (name : Text) (look : Text → Option Text)
     (found : Option ViewOrder) → IsNamed name entered
@@ -191,20 +258,20 @@ pub show_told : (entered : Option (Text × List Row)) (name : Text) (look : Text
 show_told entered name look None named same told = tt
 show_told None name look (Some o) named same told = cc named
 show_told (Some (entered, rows)) name look (Some o) named same told =
-    by o (show_alike entered look (λ id. first_of id rows) same o
-    (subst (λ (n : Text). IsShowBy n look o) (sym is) told))
-  where
-    is : entered ≡ name
-    is = cc named
+    let is : entered ≡ name = cc named in
+    show_is_order (is_endless (λ id. first_of id rows)) entered rows o refl
+    (show_alike entered look (λ id. first_of id rows) same o (subst (λ (n : Text). IsShowBy n look o) (sym is) told))
 
-    by : (o : ViewOrder) → IsShowBy entered (λ id. first_of id rows) o → IsOrder (Some (entered, rows)) o
-    by (the_order.Capture until_fault own) is = absurd is
-    by (the_order.Frames until_fault all) is = absurd is
-    by the_order.Why is = absurd is
-    by the_order.Help is = absurd is
-    by (the_order.Latency file way) is = absurd is
-    by (the_order.Schedule file cycle) is = absurd is
-    by (the_order.Show asked cluster scenario cycles) is = is
+-- two ways to the same words name a run alike, with its history or without
+has_show_alike : (name : Text) (f g : Text → Option Text) → ((id : Text) → f id ≡ g id)
+    → has_show_by name f ≡ has_show_by name g
+has_show_alike name f g same =
+    let kept : has_kept_by name f ≡ has_kept_by name g =
+    ap₂ (λ a b. is_some a && b) (asked_alike name f g same) (has_run_alike f g same) in
+    let long : has_stream_by name f ≡ has_stream_by name g =
+    ap (λ b. is_some (streamed_by name) && b) (has_long_run_alike f g same) in
+    ap (λ w. if is_true w then has_stream_by name f else has_kept_by name f) (same (codes "endless"))
+    ∙ ap₂ (λ a b. if is_endless g then a else b) long kept
 
 pub show_lacks : (entered : Option (Text × List Row)) (name : Text) (look : Text → Option Text)
     (found : Option ViewOrder) → IsNamed name entered
@@ -218,8 +285,7 @@ show_lacks None name look None named capture frames why schedule latency same la
 show_lacks (Some (entered, rows)) name look None named capture frames why schedule latency same lacks =
     let is : entered ≡ name = cc named in
     let words = λ (id : Text). first_of id rows in
-    let alike : has_show_by name look ≡ has_show_by name words =
-    ap₂ (λ a b. is_some a && b) (asked_alike name look words same) (has_run_alike look words same) in
+    let alike : has_show_by name look ≡ has_show_by name words = has_show_alike name look words same in
     subst (λ (n : Text). asks (Some (n, rows)) ≡ false) (sym is)
     (ap₂ (λ a b. a || b) (ap₂ (λ a b. a || b)
     (ap₂ (λ a b. a || b) (ap₂ (λ a b. a || b) (ap₂ (λ a b. a || b) (sym alike ∙ lacks) capture) frames) why)

@@ -61,11 +61,21 @@ word_in entered id = option_and_then (λ e. first_of id e.1) entered
 abbrev pub cycles_in : Text → Option ℕ
 cycles_in word = option_and_then (λ n. if n == 0 then None else Some n) (number_in 1025 word)
 
+-- the number of cycles without history that a word spells: 1 to 4,000,000, without a leading zero
+abbrev pub most_in : Text → Option ℕ
+most_in word = option_and_then (λ n. if n == 0 then None else Some n) (number_in 4000001 word)
+
 -- the first words of these arguments name a run: two files, and a number of cycles
 abbrev pub has_run_by : (Text → Option Text) → Bool
 has_run_by first_word =
     is_some (first_word (codes "FILE")) && is_some (first_word (codes "SCENARIO"))
     && is_some (option_and_then cycles_in (first_word (codes "cycles")))
+
+-- the same for a run without history
+abbrev pub has_long_run_by : (Text → Option Text) → Bool
+has_long_run_by first_word =
+    is_some (first_word (codes "FILE")) && is_some (first_word (codes "SCENARIO"))
+    && is_some (option_and_then most_in (first_word (codes "cycles")))
 
 -- the word is that of a flag that is set
 abbrev pub is_true : Option Text → Bool

@@ -11,12 +11,14 @@ use Rattle.fr_slots.specs.declared.channel.Channel.{Channel}
 use Rattle.fr_slots.specs.declared.channel.Channel.TheVariants.{A, B}
 use Rattle.clap.specs.declared.builder.action.ArgAction.TheVariants.{SetTrue}
 use Rattle.fr_cli.specs.declared.view.SlotAsked.{SlotAsked}
+use Rattle.fr_cli.specs.declared.view.StreamAsked.{StreamAsked}
+use Rattle.fr_cli.specs.declared.view.StreamAsked.TheVariants as streamed
 use Rattle.fr_cli.specs.declared.view.ViewOrder.{ViewOrder}
 use Rattle.fr_cli.specs.declared.view.ViewOrder.TheVariants as the_order
 use Rattle.fr_cli.specs.declared.error.OrderError.{OrderError}
 use Rattle.fr_cli.specs.declared.error.OrderError.TheVariants as refusal
-use Rattle.fr_cli.specs.Commands.{IsNamed, bare, cycles_in, has_run_by, is_true, named, the_cycles, the_file}
-use Rattle.fr_cli.specs.Commands.{the_scenario, with_file, word_in}
+use Rattle.fr_cli.specs.Commands.{IsNamed, bare, cycles_in, has_long_run_by, has_run_by, is_true, most_in, named}
+use Rattle.fr_cli.specs.Commands.{the_cycles, the_file, the_scenario, with_file, word_in}
 
 -- a command that reads a trace, with the flag `--until-fault`, and a flag by which it shows more
 abbrev pub flag_named : Text → Rule
@@ -64,6 +66,10 @@ with_run command = with_rule (with_rule (with_rule command the_file) the_scenari
 abbrev pub of_run : Text → App
 of_run name = with_run (new_app name)
 
+-- the same for a run that can be one without history, with the flag `--endless`
+abbrev pub of_long_run : Text → App
+of_long_run name = with_rule (of_run name) (flag_named (codes "endless"))
+
 abbrev pub the_node : Rule
 the_node = record (new_rule (codes "NODE")) { required = true }
 
@@ -90,11 +96,11 @@ abbrev pub with_commits : App
 with_commits = with_subcommand with_answers (of_run (codes "commits")).top
 
 abbrev pub line_commands : App
-line_commands = with_subcommand with_commits (of_run (codes "record")).top
+line_commands = with_subcommand with_commits (of_long_run (codes "record")).top
 
 -- and with those that show it in another form
 abbrev pub with_bus : App
-with_bus = with_subcommand line_commands (of_run (codes "bus")).top
+with_bus = with_subcommand line_commands (of_long_run (codes "bus")).top
 
 abbrev pub with_matrix : App
 with_matrix = with_subcommand with_bus matrix_command.top
@@ -126,6 +132,7 @@ IsScheduleBy first_word the_order.Why = ⊥
 IsScheduleBy first_word the_order.Help = ⊥
 IsScheduleBy first_word (the_order.Latency file way) = ⊥
 IsScheduleBy first_word (the_order.Show asked cluster scenario cycles) = ⊥
+IsScheduleBy first_word (the_order.Stream asked cluster scenario cycles) = ⊥
 IsScheduleBy first_word (the_order.Schedule file cycle) =
     (first_word (codes "FILE") ≡ Some file.now) × (cycle_asked (first_word (codes "cycle")) ≡ Some cycle)
 
@@ -175,23 +182,65 @@ asked_by name first_word =
     else if bytes_eq name (codes "matrix") then drawn_by first_word
     else None
 
--- a command of this name shows a run, and its arguments name one
-abbrev pub has_show_by : Text → (Text → Option Text) → Bool
-has_show_by name first_word = is_some (asked_by name first_word) && has_run_by first_word
+-- a command of this name shows a run, and its arguments name one with its history
+abbrev pub has_kept_by : Text → (Text → Option Text) → Bool
+has_kept_by name first_word = is_some (asked_by name first_word) && has_run_by first_word
 
 -- the order has the view of the command of this name, and the run of its arguments
-abbrev pub IsShowBy : Text → (Text → Option Text) → ViewOrder → Type 0
-IsShowBy name first_word (the_order.Capture until_fault own) = ⊥
-IsShowBy name first_word (the_order.Frames until_fault all) = ⊥
-IsShowBy name first_word the_order.Why = ⊥
-IsShowBy name first_word the_order.Help = ⊥
-IsShowBy name first_word (the_order.Latency file way) = ⊥
-IsShowBy name first_word (the_order.Schedule file cycle) = ⊥
-IsShowBy name first_word (the_order.Show asked cluster scenario cycles) =
+abbrev pub IsKeptBy : Text → (Text → Option Text) → ViewOrder → Type 0
+IsKeptBy name first_word (the_order.Capture until_fault own) = ⊥
+IsKeptBy name first_word (the_order.Frames until_fault all) = ⊥
+IsKeptBy name first_word the_order.Why = ⊥
+IsKeptBy name first_word the_order.Help = ⊥
+IsKeptBy name first_word (the_order.Latency file way) = ⊥
+IsKeptBy name first_word (the_order.Schedule file cycle) = ⊥
+IsKeptBy name first_word (the_order.Stream asked cluster scenario cycles) = ⊥
+IsKeptBy name first_word (the_order.Show asked cluster scenario cycles) =
     (asked_by name first_word ≡ Some asked)
     × (first_word (codes "FILE") ≡ Some cluster.now)
     × (first_word (codes "SCENARIO") ≡ Some scenario.now)
     × (option_and_then cycles_in (first_word (codes "cycles")) ≡ Some cycles)
+
+-- the view of the command of this name, if it can be written as the run goes
+abbrev pub streamed_by : Text → Option StreamAsked
+streamed_by name =
+    if bytes_eq name (codes "record") then Some streamed.Record
+    else if bytes_eq name (codes "bus") then Some streamed.Heard
+    else None
+
+-- a command of this name shows a run as it goes, and its arguments name one without history
+abbrev pub has_stream_by : Text → (Text → Option Text) → Bool
+has_stream_by name first_word = is_some (streamed_by name) && has_long_run_by first_word
+
+-- the order has that view, and the run of its arguments
+abbrev pub IsStreamBy : Text → (Text → Option Text) → ViewOrder → Type 0
+IsStreamBy name first_word (the_order.Capture until_fault own) = ⊥
+IsStreamBy name first_word (the_order.Frames until_fault all) = ⊥
+IsStreamBy name first_word the_order.Why = ⊥
+IsStreamBy name first_word the_order.Help = ⊥
+IsStreamBy name first_word (the_order.Latency file way) = ⊥
+IsStreamBy name first_word (the_order.Schedule file cycle) = ⊥
+IsStreamBy name first_word (the_order.Show asked cluster scenario cycles) = ⊥
+IsStreamBy name first_word (the_order.Stream asked cluster scenario cycles) =
+    (streamed_by name ≡ Some asked)
+    × (first_word (codes "FILE") ≡ Some cluster.now)
+    × (first_word (codes "SCENARIO") ≡ Some scenario.now)
+    × (option_and_then most_in (first_word (codes "cycles")) ≡ Some cycles)
+
+-- the flag `--endless` decides between the two
+abbrev pub is_endless : (Text → Option Text) → Bool
+is_endless first_word = is_true (first_word (codes "endless"))
+
+abbrev pub has_show_by : Text → (Text → Option Text) → Bool
+has_show_by name first_word =
+    if is_endless first_word then has_stream_by name first_word else has_kept_by name first_word
+
+abbrev pub IsShowIf : Bool → Text → (Text → Option Text) → ViewOrder → Type 0
+IsShowIf true name first_word order = IsStreamBy name first_word order
+IsShowIf false name first_word order = IsKeptBy name first_word order
+
+abbrev pub IsShowBy : Text → (Text → Option Text) → ViewOrder → Type 0
+IsShowBy name first_word order = IsShowIf (is_endless first_word) name first_word order
 
 -- the same for the entered command
 abbrev pub has_show : Option (Text × List Row) → Bool
@@ -233,6 +282,7 @@ IsLatencyBy first_word the_order.Why = ⊥
 IsLatencyBy first_word the_order.Help = ⊥
 IsLatencyBy first_word (the_order.Schedule file cycle) = ⊥
 IsLatencyBy first_word (the_order.Show asked cluster scenario cycles) = ⊥
+IsLatencyBy first_word (the_order.Stream asked cluster scenario cycles) = ⊥
 IsLatencyBy first_word (the_order.Latency file way) =
     (first_word (codes "FILE") ≡ Some file.now)
     × (way_asked (first_word (codes "slot")) (first_word (codes "channel")) ≡ Some way)
@@ -270,6 +320,8 @@ IsOrder entered (the_order.Latency file way) =
     IsNamed (codes "latency") entered × IsLatencyBy (word_in entered) (the_order.Latency file way)
 IsOrder entered (the_order.Show asked cluster scenario cycles) =
     IsShow entered (the_order.Show asked cluster scenario cycles)
+IsOrder entered (the_order.Stream asked cluster scenario cycles) =
+    IsShow entered (the_order.Stream asked cluster scenario cycles)
 
 -- ---- the answer
 

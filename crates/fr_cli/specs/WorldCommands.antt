@@ -1,15 +1,14 @@
 -- The words that are a command of `fr_world`, by the rules of `clap` (project-defined).
-use Rattle.std.specs.Prelude.{◌≡◌, ◌⊎◌, ◌<◌, ◌==◌, ℕ, List, [], length, codes, Bool, true, false, Option, Some, None}
-use Rattle.std.specs.Prelude.{Result, Ok, Err, option_and_then, option_map, if◌then◌else◌}
+use Rattle.std.specs.Prelude.{◌≡◌, ◌⊎◌, ◌<◌, ℕ, List, [], length, codes, Bool, true, false, Option, Some, None}
+use Rattle.std.specs.Prelude.{Result, Ok, Err, option_map}
 use Rattle.clap.specs.Words.{App, Rule, Text, fault_of, first_of, matches_of, new_rule, with_rule}
 use Rattle.clap.specs.declared.builder.action.ArgAction.TheVariants.{SetTrue}
-use Rattle.fr_cli.specs.Commands.{cycles_in, is_true, named, the_file}
+use Rattle.fr_cli.specs.Commands.{cycles_in, is_true, most_in, named, the_file}
 use Rattle.fr_cli.specs.declared.error.OrderError.{OrderError}
 use Rattle.fr_cli.specs.declared.error.OrderError.TheVariants as refusal
 use Rattle.fr_cli.specs.declared.world.WorldCommand.{WorldCommand}
 use Rattle.fr_cli.specs.declared.world.WorldRun.{WorldRun}
 use Rattle.fr_cli.specs.declared.world.WorldRun.TheVariants.{Kept, Endless}
-use Rattle.fr_text.specs.Reading.{number_in}
 
 -- the program without arguments: the words begin with the first of them, and `clap` has no help
 abbrev pub bare_command : App
@@ -33,10 +32,6 @@ abbrev pub the_command : App
 the_command = with_options (with_rule bare_command the_file)
 
 -- ---- what the words enter
-
--- the number of cycles without history that a word spells: 1 to 4,000,000, without a leading zero
-abbrev pub most_in : Text → Option ℕ
-most_in word = option_and_then (λ n. if n == 0 then None else Some n) (number_in 4000001 word)
 
 -- A run with its history needs a word for cycles. A run without history needs none.
 abbrev pub run_in : Bool → Option Text → Option WorldRun

@@ -2,7 +2,7 @@
 ghost use Rattle.std.specs.Prelude.{◌≡◌, IfOk, false};
 ghost use Rattle.clap.specs.Words.{app_of};
 ghost use Rattle.clap.specs.declared.builder.command.Command.TheViews.{out-Command};
-ghost use Rattle.fr_cli.specs.Commands.{bare, cycles_in, with_file};
+ghost use Rattle.fr_cli.specs.Commands.{bare, cycles_in, most_in, with_file};
 
 use clap::{Arg, Command};
 use fr_text::numbers::number_of;
@@ -35,5 +35,15 @@ pub(crate) fn cycles_of(word: &str) -> Option<u16>
     match number_of(word.as_bytes(), 1025) {
         Some(0) | None => None,
         Some(cycles) => Some(cycles as u16),
+    }
+}
+
+/// Returns the number of cycles without history that a word spells: 1 to 4,000,000, without a leading zero.
+pub(crate) fn most_of(word: &str) -> Option<u32>
+    ensures { result ≡ most_in word.now }
+{
+    match number_of(word.as_bytes(), 4_000_001) {
+        Some(0) | None => None,
+        Some(cycles) => Some(cycles as u32),
     }
 }

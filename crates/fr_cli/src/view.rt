@@ -10,8 +10,9 @@ ghost use Rattle.fr_cli.specs.ViewOrders.{drawn_by, file_commands, flag_named, f
 ghost use Rattle.fr_cli.specs.ViewOrders.{IsLatencyBy, has_latency_by, latency_command, slot_in, way_asked};
 ghost use Rattle.fr_cli.specs.ViewOrders.{has_show_by, is_help, line_commands, matrix_command, of_trace};
 ghost use Rattle.fr_cli.specs.ViewOrders.{schedule_command, the_commands, trace_command, viewer_asked, with_run};
+ghost use Rattle.fr_cli.specs.ViewOrders.{IsKeptBy, IsStreamBy, has_kept_by, has_stream_by, of_long_run, streamed_by};
 
-use crate::commands::{cycles_of, of_file, program};
+use crate::commands::{cycles_of, most_of, of_file, program};
 use crate::error::OrderError;
 use clap::{Arg, ArgAction, ArgMatches, Command};
 use fr_slots::channel::Channel;
@@ -42,6 +43,15 @@ pub enum Asked {
         /// The cycle of the run that is drawn first, 0 to 1023.
         from: u16,
     },
+}
+
+/// A view that is written as the run goes (project-defined).
+#[derive(Clone, Copy, PartialEq, Eq)]
+pub enum StreamAsked {
+    /// A line for each transmission and each flipped bit.
+    Record,
+    /// A capture of the bus, as a passive listener receives it.
+    Heard,
 }
 
 /// A slot on a channel (project-defined).
@@ -97,6 +107,17 @@ pub enum ViewOrder<'a> {
         /// The number of cycles, 1 to 1024.
         cycles: u16,
     },
+    /// Run the cluster with a scenario in one thread without history, and print a view as the run goes.
+    Stream {
+        /// The view.
+        asked: StreamAsked,
+        /// The name of the cluster file.
+        cluster: &'a str,
+        /// The name of the scenario file.
+        scenario: &'a str,
+        /// The number of cycles, 1 to 4,000,000.
+        cycles: u32,
+    },
     /// Print the commands of the program.
     Help,
 }
@@ -137,6 +158,15 @@ fn flag<'a>(alloc: Global, name: &'a str) -> Arg<'a>
     ensures local { result.global ≡ false }
 {
     Arg::new(alloc, name).long(name).action(ArgAction::SetTrue)
+}
+
+/// Returns the command of a run that can be one without history, with its flag.
+fn of_long_run<'a>(alloc: Global, name: &'a str) -> Result<Command<'a>, AllocError>
+    ensures app { IfOk result (λ c. app_of c ≡ of_long_run name.now) }
+    ensures local { IfOk result (λ c. (out-Command c).has_globals ≡ false) }
+{
+    let endless = flag(alloc, "endless");
+    of_run(alloc, Command::new(alloc, name))?.arg(endless)
 }
 
 /// Returns a command that reads a trace, with `--until-fault`, and a flag by which it shows more.
@@ -192,7 +222,7 @@ fn line_commands<'a>(alloc: Global, files: Command<'a>) -> Result<Command<'a>, A
     let outcome = of_run(alloc, Command::new(alloc, "outcome"))?;
     let answers = of_run(alloc, Command::new(alloc, "answers"))?;
     let commits = of_run(alloc, Command::new(alloc, "commits"))?;
-    let recorded = of_run(alloc, Command::new(alloc, "record"))?;
+    let recorded = of_long_run(alloc, "record")?;
     let first = files.subcommand(outcome)?;
     let second = first.subcommand(answers)?;
     let third = second.subcommand(commits)?;
@@ -204,7 +234,7 @@ fn commands<'a>(alloc: Global) -> Result<Command<'a>, AllocError>
     ensures { IfOk result (λ c. app_of c ≡ the_commands) }
 {
     let lines = line_commands(alloc, file_commands(alloc)?)?;
-    let heard = lines.subcommand(of_run(alloc, Command::new(alloc, "bus"))?)?;
+    let heard = lines.subcommand(of_long_run(alloc, "bus")?)?;
     let drawn = heard.subcommand(matrix_command(alloc)?)?;
     drawn.subcommand(trace_command(alloc)?)
 }
@@ -347,10 +377,10 @@ fn asked_in(name: &str, arguments: &ArgMatches<'_>) -> Option<Asked>
     }
 }
 
-/// Returns the order of a command that shows a run.
-fn show_in<'a>(name: &str, arguments: &ArgMatches<'a>) -> Option<ViewOrder<'a>>
-    ensures told { IfSome result (IsShowBy name.now (first_value (found_of arguments.now))) }
-    ensures nothing { IfNone result (has_show_by name.now (first_value (found_of arguments.now)) ≡ false) }
+/// Returns the order of a command that shows a run with its history.
+fn kept_in<'a>(name: &str, arguments: &ArgMatches<'a>) -> Option<ViewOrder<'a>>
+    ensures told { IfSome result (IsKeptBy name.now (first_value (found_of arguments.now))) }
+    ensures nothing { IfNone result (has_kept_by name.now (first_value (found_of arguments.now)) ≡ false) }
 {
     let asked = asked_in(name, arguments)?;
     Some(ViewOrder::Show {
@@ -359,6 +389,43 @@ fn show_in<'a>(name: &str, arguments: &ArgMatches<'a>) -> Option<ViewOrder<'a>>
         scenario: arguments.get_str("SCENARIO")?,
         cycles: cycles_of(arguments.get_str("cycles")?)?,
     })
+}
+
+/// Returns the view of the command of this name, if it can be written as the run goes.
+fn streamed_in(name: &str) -> Option<StreamAsked>
+    ensures { result ≡ streamed_by name.now }
+{
+    match name {
+        "record" => Some(StreamAsked::Record),
+        "bus" => Some(StreamAsked::Heard),
+        _ => None,
+    }
+}
+
+/// Returns the order of a command that shows a run without history.
+fn stream_in<'a>(name: &str, arguments: &ArgMatches<'a>) -> Option<ViewOrder<'a>>
+    ensures told { IfSome result (IsStreamBy name.now (first_value (found_of arguments.now))) }
+    ensures nothing { IfNone result (has_stream_by name.now (first_value (found_of arguments.now)) ≡ false) }
+{
+    let asked = streamed_in(name)?;
+    Some(ViewOrder::Stream {
+        asked,
+        cluster: arguments.get_str("FILE")?,
+        scenario: arguments.get_str("SCENARIO")?,
+        cycles: most_of(arguments.get_str("cycles")?)?,
+    })
+}
+
+/// Returns the order of a command that shows a run.
+fn show_in<'a>(name: &str, arguments: &ArgMatches<'a>) -> Option<ViewOrder<'a>>
+    ensures told { IfSome result (IsShowBy name.now (first_value (found_of arguments.now))) }
+    ensures nothing { IfNone result (has_show_by name.now (first_value (found_of arguments.now)) ≡ false) }
+{
+    if has_flag(arguments, "endless") {
+        stream_in(name, arguments)
+    } else {
+        kept_in(name, arguments)
+    }
 }
 
 /// Returns whether the flag of this name is set.
@@ -415,7 +482,7 @@ fn is_help(words: &[&str]) -> bool
 ///
 /// Refused with `Memory` if an allocation fails, otherwise with `Usage` for all words that are no command. A call for
 /// help is the word `--help` alone. A cycle of a picture is 0 to 63, the first one of a matrix 0 to 1023, a node 0 to
-/// 15 and a number of cycles 1 to 1024, without a leading zero.
+/// 15 and a number of cycles 1 to 1024, and with `--endless` 1 to 4,000,000, without a leading zero.
 pub fn order<'a>(alloc: Global, words: &'a [&'a str]) -> Result<ViewOrder<'a>, OrderError>
     ensures { IsAnswer (map (λ word. word.now) words.now) result }
 {

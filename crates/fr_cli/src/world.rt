@@ -4,12 +4,11 @@ ghost use Rattle.clap.specs.Words.{app_of, first_value, found_of, rule_of, with_
 ghost use Rattle.clap.specs.declared.builder.command.Command.TheViews.{out-Command};
 ghost use Rattle.fr_cli.specs.Commands.{is_true, the_file};
 ghost use Rattle.fr_cli.specs.WorldCommands.{IsAnswer, bare_command, cycles_option, endless_flag, given_in};
-ghost use Rattle.fr_cli.specs.WorldCommands.{most_in, run_in, the_command, with_options};
+ghost use Rattle.fr_cli.specs.WorldCommands.{run_in, the_command, with_options};
 
-use crate::commands::cycles_of;
+use crate::commands::{cycles_of, most_of};
 use crate::error::OrderError;
 use clap::{Arg, ArgAction, ArgMatches, Command};
-use fr_text::numbers::number_of;
 use std::alloc::{AllocError, Global};
 
 /// The run of a session (project-defined).
@@ -83,16 +82,6 @@ fn the_command<'a>(alloc: Global) -> Result<Command<'a>, AllocError>
 {
     let command = with_file(alloc)?;
     with_options(alloc, command)
-}
-
-/// Returns the number of cycles without history that a word spells: 1 to 4,000,000, without a leading zero.
-fn most_of(word: &str) -> Option<u32>
-    ensures { result ≡ most_in word.now }
-{
-    match number_of(word.as_bytes(), 4_000_001) {
-        Some(0) | None => None,
-        Some(cycles) => Some(cycles as u32),
-    }
 }
 
 /// Returns the run of the flag and of the word for cycles, if they spell one.

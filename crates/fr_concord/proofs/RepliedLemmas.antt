@@ -471,7 +471,8 @@ request_line terms old (request.Report node) text new does =
     block_of (has_node old.world node) (report_text (interface_at old.world node)) text
     (report_ends (interface_at old.world node)) does.1
 request_line terms old (request.Status node channel) text new does =
-    subst IsOneLine (sym does.1) (node_line (has_node old.world node) (status_text channel (interface_at old.world node))
+    subst IsOneLine (sym does.1)
+    (node_line (has_node old.world node) (status_text channel (interface_at old.world node))
     (status_one_line channel (interface_at old.world node)))
 request_line terms old (request.Trace node) text new does =
     block_of (has_node old.world node) (trace_text Three (interface_at old.world node)) text

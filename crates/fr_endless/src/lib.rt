@@ -30,5 +30,5 @@ mod moving;
 mod queries;
 mod report;
 pub mod session;
-mod striking;
+pub mod striking;
 pub mod world;

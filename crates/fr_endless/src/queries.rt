@@ -1,5 +1,5 @@
 //! Queries to a world without history, which change nothing.
-ghost use Rattle.std.specs.Prelude.{◌≡◌, slice_get};
+ghost use Rattle.std.specs.Prelude.{◌≡◌, option_map, slice_get};
 ghost use Rattle.fr_bus.specs.Standing.{bare};
 ghost use Rattle.fr_endless.specs.Alike.{Alike};
 ghost use Rattle.fr_endless.specs.Answers.{kept_report, kept_status, kept_time, if_numbered, no_history_text};
@@ -11,6 +11,7 @@ use crate::report::write_kept_report;
 use crate::world::EndlessWorld;
 use fr_bus::error::Phase;
 use fr_bus::live::LiveBus;
+use fr_bus::outcome::Sealed;
 use fr_core::error::StepError;
 use fr_interface::state::InterfaceState;
 use fr_session::prepared::BlockWriter;
@@ -53,10 +54,10 @@ pub(crate) fn write_moved<W: Write>(
 }
 
 /// Returns the number of sealed windows, by the last of them.
-fn windows_of(bus: &LiveBus) -> u64
-    ensures { result ≡ windows_by bus.now.last }
+fn windows_by(last: Option<&Sealed>) -> u64
+    ensures { result ≡ windows_by (option_map (λ s. s.now) last.entry) }
 {
-    match bus.last() {
+    match last {
         Some(sealed) => u64::from(sealed.window.number) + 1,
         None => 0,
     }
@@ -66,8 +67,15 @@ fn windows_of(bus: &LiveBus) -> u64
 pub(crate) fn write_at<W: Write>(writer: &mut W, params: &Params, bus: &LiveBus) -> io::Result<()>
     ensures { Writes W.contents writer.old writer.new result (kept_time params.now bus.now) }
 {
-    let (begun, windows) = (bus.cycles_begun(), windows_of(bus));
-    write_time(writer, params, bus.window(), bus.phase(), begun, windows)
+    let windows = windows_by(bus.last());
+    write_time(
+        writer,
+        params,
+        bus.window(),
+        bus.phase(),
+        bus.cycles_begun(),
+        windows,
+    )
 }
 
 /// Writes that there is no history.

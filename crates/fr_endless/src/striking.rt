@@ -13,8 +13,9 @@ use fr_core::event::Event;
 use fr_runs::fault_line::{FaultCycles, FaultLine};
 use fr_slots::window::Window;
 
-/// Returns whether the fault occurs in this window of this cycle of the run, whose number may have more than 16 bits.
-fn strikes(line: &FaultLine, cycle: u32, window: &Window) -> bool
+/// Returns whether the fault occurs in this window of this cycle of the run, whose number may have more than 16 bits
+/// (project-defined).
+pub fn strikes(line: &FaultLine, cycle: u32, window: &Window) -> bool
     ensures { result ≡ strikes line.now cycle window.now }
 {
     // A line of each cycle occurs in the window as it does in cycle 0.

@@ -392,6 +392,37 @@ all_of_slot cycle lines nodes window =
     all_append is_of_slot (flat_map (strike_events cycle window) lines ++ whole_window nodes) (Advance ∷ [])
     (front_of_slot cycle lines nodes window) refl
 
+-- A window is recorded, whatever it holds.
+pub window_adds : (lines : List FaultLine) (cycle nodes : ℕ) (window : Opportunity) (old new : WorldState)
+    → old.bus.opened ≡ Some window → Passes old (played_events cycle lines (whole_window nodes) window) new
+    → (made : Recorded) × (new.bus.sealed ≡ old.bus.sealed ++ made ∷ [])
+window_adds lines cycle nodes window old new opened passes =
+    let strikes_due = flat_map (strike_events cycle window) lines in
+    let ending : IsSplit old (strikes_due ++ whole_window nodes) (Advance ∷ []) new =
+    passes_split old (strikes_due ++ whole_window nodes) (Advance ∷ []) new passes in
+    let striking : IsSplit old strikes_due (whole_window nodes) ending.mid =
+    passes_split old strikes_due (whole_window nodes) ending.mid ending.first in
+    let offering_done : IsSplit striking.mid (for_nodes offer_events nodes) (Seal ∷ for_nodes see_events nodes)
+    ending.mid =
+    passes_split striking.mid (for_nodes offer_events nodes) (Seal ∷ for_nodes see_events nodes) ending.mid
+    striking.second in
+    let sealing : IsSplit offering_done.mid (Seal ∷ []) (for_nodes see_events nodes) ending.mid =
+    passes_split offering_done.mid (Seal ∷ []) (for_nodes see_events nodes) ending.mid offering_done.second in
+    let struck = lines_struck cycle window lines old striking.mid striking.first in
+    let kept = offers_keep striking.mid offering_done.mid nodes offering_done.first in
+    let seal : IsDone offering_done.mid Seal sealing.mid =
+    passes_event offering_done.mid Seal sealing.mid sealing.first in
+    let advance : IsDone ending.mid Advance new = passes_event ending.mid Advance new ending.second in
+    let bus = offering_done.mid.bus in
+    let still_open : bus.opened ≡ Some window = kept.same_window ∙ struck.same_window ∙ opened in (
+      outcome_of bus window,
+      ap (λ (w : WorldState). w.bus.sealed) advance.done
+          ∙ sees_keep sealing.mid ending.mid nodes sealing.second
+          ∙ ap (λ (w : WorldState). w.bus.sealed) seal.done
+          ∙ ap (λ (o : Option Opportunity). (sealed_with bus o).sealed) still_open
+          ∙ ap (λ (rs : List Recorded). rs ++ outcome_of bus window ∷ []) (kept.same_record ∙ struck.same_record),
+    )
+
 module _ (d : Description) (lines : List FaultLine) (cycle : ℕ) (window : Opportunity) (old new : WorldState)
     (opened : old.bus.opened ≡ Some window) (sound : IsSound d old) (fresh : IsFresh old)
     (passes : Passes old (played_events cycle lines (whole_window (length d.plans)) window) new) where

@@ -17,7 +17,7 @@ use std::io;
 use std::io::Write;
 
 /// Returns the time at which a window of this cycle of the run begins, in microseconds.
-fn begins_at(params: &Params, cycle: u16, window: &Window) -> u64
+fn begins_at(params: &Params, cycle: u32, window: &Window) -> u64
     ensures value { result ≡ begins_at params.now cycle window.now }
     ensures few { result < 2 ^ 32 * 1000000 }
 {
@@ -28,7 +28,7 @@ fn begins_at(params: &Params, cycle: u16, window: &Window) -> u64
 fn write_heard<W: Write>(
     writer: &mut W,
     params: &Params,
-    cycle: u16,
+    cycle: u32,
     sealed: &Sealed,
     channel: Channel,
 ) -> io::Result<()>
@@ -42,11 +42,13 @@ fn write_heard<W: Write>(
     write_record(writer, time, channel, bytes.as_slice())
 }
 
-/// Writes the records of the window.
-fn write_window<W: Write>(
+/// Writes the records of a window of this cycle of the run, as `write_capture` does (project-defined).
+///
+/// Fails if the writer fails, which may have written a part of the records by then.
+pub fn write_window<W: Write>(
     writer: &mut W,
     params: &Params,
-    cycle: u16,
+    cycle: u32,
     sealed: &Sealed,
 ) -> io::Result<()>
     ensures { Writes W.contents writer.old writer.new result (window_records params.now cycle sealed.now) }
@@ -74,7 +76,7 @@ fn write_windows<W: Write>(writer: &mut W, params: &Params, bus: &Bus) -> io::Re
     let mut begun = 0;
     for sealed in bus.record() {
         begun = begun_with(begun, all, sealed);
-        write_window(writer, params, begun.saturating_sub(1), sealed)?;
+        write_window(writer, params, u32::from(begun.saturating_sub(1)), sealed)?;
     }
     Ok(())
 }

@@ -179,8 +179,10 @@ fn write_bit<W: Write>(
     }
 }
 
-/// Writes the lines of the window.
-fn write_window<W: Write>(
+/// Writes the lines of a window of this cycle of the run, as `write_record` does (project-defined).
+///
+/// Fails if the writer fails. Then a part of the lines may have gone out.
+pub fn write_window<W: Write>(
     writer: &mut W,
     scenario: &Scenario,
     params: &Params,

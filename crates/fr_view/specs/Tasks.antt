@@ -3,6 +3,8 @@ use Rattle.std.specs.Prelude.{ℕ, Option, Some, None, option_map}
 use Rattle.fr_capture.specs.declared.form.Form.TheVariants.{Capture, Table}
 use Rattle.fr_cli.specs.declared.view.Asked.{Asked}
 use Rattle.fr_cli.specs.declared.view.Asked.TheVariants as asked
+use Rattle.fr_cli.specs.declared.view.StreamAsked.{StreamAsked}
+use Rattle.fr_cli.specs.declared.view.StreamAsked.TheVariants as asked_stream
 use Rattle.fr_cli.specs.declared.view.ViewOrder.{ViewOrder}
 use Rattle.fr_cli.specs.declared.view.ViewOrder.TheVariants as order
 use Rattle.fr_matrix.specs.declared.view.View.{View}
@@ -10,6 +12,8 @@ use Rattle.fr_showing.specs.declared.shown.Shown.{Shown}
 use Rattle.fr_showing.specs.declared.shown.Shown.TheVariants as shown
 use Rattle.fr_slots.specs.declared.channel.Channel.{Channel}
 use Rattle.fr_slots.specs.Numbers.{number_within, last_cycle, last_node, last_slot}
+use Rattle.fr_streaming.specs.declared.telling.Streamed.{Streamed}
+use Rattle.fr_streaming.specs.declared.telling.Streamed.TheVariants as streamed
 use Rattle.fr_view.specs.declared.task.Task.{Task}
 use Rattle.fr_view.specs.declared.task.Task.TheVariants as task
 use Rattle.fr_why.specs.declared.verdict.Verdict.{Verdict}
@@ -32,6 +36,11 @@ shown_of (asked.Matrix channel None from) = Some (drawn channel None from)
 shown_of (asked.Matrix channel (Some node) from) =
     option_map (λ n. drawn channel (Some n) from) (number_within 0 last_node node)
 
+-- a view that is written as the run goes
+abbrev pub streamed_of : StreamAsked → Streamed
+streamed_of asked_stream.Record = streamed.Record
+streamed_of asked_stream.Heard = streamed.Heard
+
 -- ---- all commands
 
 -- none if a number is out of its range
@@ -45,6 +54,8 @@ task_of (order.Frames until_fault all) = Some (task.Seen (Table all) until_fault
 task_of order.Why = Some task.Why
 task_of (order.Show asked cluster scenario cycles) =
     option_map (λ s. task.Run s cluster scenario cycles) (shown_of asked)
+task_of (order.Stream asked cluster scenario cycles) =
+    Some (task.Stream (streamed_of asked) cluster scenario cycles)
 task_of order.Help = Some task.Help
 
 -- ---- the exit status of `why`

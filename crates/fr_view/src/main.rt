@@ -48,6 +48,7 @@ use fr_showing::show::show_run;
 use fr_showing::shown::Shown;
 use fr_slots::channel::Channel;
 use fr_slots::numbers::{Cycle, SlotId};
+use fr_streaming::stream::{Streamed, stream_run};
 use fr_why::explain::explain_trace;
 use fr_why::until_fault::show_until_fault;
 use std::io;
@@ -74,10 +75,11 @@ fr_view answers FILE SCENARIO --cycles N
     a line for each line of a task, with its answer
 fr_view commits FILE SCENARIO --cycles N
     a line for each commit, with what became of it
-fr_view record FILE SCENARIO --cycles N
+fr_view record FILE SCENARIO --cycles N [--endless]
     a line for each transmission and each bit to be turned, window by window
-fr_view bus FILE SCENARIO --cycles N > CAPTURE
+fr_view bus FILE SCENARIO --cycles N [--endless] > CAPTURE
     what a listener on the bus hears, as a capture that Wireshark opens
+    --endless, of both: a run of up to 4,000,000 cycles, written as it goes
 fr_view matrix FILE SCENARIO --cycles N [--channel A|B] [--node N] [--from CYCLE] > SVG
     what channel A or B carried, or a node saw there, as a picture of up to 64 cycles
 fr_view trace NODE FILE SCENARIO --cycles N
@@ -110,6 +112,21 @@ fn show_files<R: Files + Print + Eprint + AllocGlobal + Clock>(
     let idle = show_run(alloc, &cluster, &mut file, cycles, shown, &mut output)?;
     tell_idle(rt, idle.as_slice());
     Ok(())
+}
+
+/// Runs the cluster of one file with the scenario of the other without history, and writes the view as the run goes.
+fn stream_files<R: Files + Print + AllocGlobal + Clock>(
+    rt: &R,
+    streamed: Streamed,
+    cluster: &str,
+    scenario: &str,
+    cycles: u32,
+) -> Result<(), ViewFailure> {
+    let alloc = rt.alloc();
+    let cluster = cluster_of(alloc, &mut file_named(rt, cluster)?)?;
+    let mut file = file_named(rt, scenario)?;
+    let mut output = WaitingWriter::new(rt, io::writer(rt));
+    Ok(stream_run(alloc, &cluster, &mut file, cycles, streamed, &mut output)?)
 }
 
 /// Writes the observations of a controller, from its trace on standard input.
@@ -208,6 +225,12 @@ fn carry_out<R: Files + Input + Print + Eprint + AllocGlobal + Clock>(
             scenario,
             cycles,
         } => show_files(rt, *shown, cluster, scenario, *cycles)?,
+        Task::Stream {
+            streamed,
+            cluster,
+            scenario,
+            cycles,
+        } => stream_files(rt, *streamed, cluster, scenario, *cycles)?,
         Task::Help => show_help(rt)?,
     }
     Ok(ExitCode::SUCCESS)

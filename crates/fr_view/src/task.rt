@@ -1,14 +1,15 @@
 //! What each command does. All choices of the program are made here.
 
 ghost use Rattle.std.specs.Prelude.{◌≡◌};
-ghost use Rattle.fr_view.specs.Tasks.{shown_of, status_told, task_of};
+ghost use Rattle.fr_view.specs.Tasks.{shown_of, status_told, streamed_of, task_of};
 
 use fr_capture::form::Form;
-use fr_cli::view::{Asked, ViewOrder};
+use fr_cli::view::{Asked, StreamAsked, ViewOrder};
 use fr_matrix::view::View;
 use fr_showing::shown::Shown;
 use fr_slots::channel::Channel;
 use fr_slots::numbers::{Cycle, NodeId, SlotId};
+use fr_streaming::stream::Streamed;
 use fr_why::verdict::Verdict;
 
 /// What a command does (project-defined).
@@ -55,6 +56,17 @@ pub enum Task<'a> {
         /// The number of cycles.
         cycles: u16,
     },
+    /// Run a cluster with a scenario without history, and print a view as the run goes.
+    Stream {
+        /// The view.
+        streamed: Streamed,
+        /// The name of the cluster file.
+        cluster: &'a str,
+        /// The name of the scenario file.
+        scenario: &'a str,
+        /// The number of cycles.
+        cycles: u32,
+    },
     /// Print the commands of the program.
     Help,
 }
@@ -88,6 +100,16 @@ fn shown_of(asked: Asked) -> Option<Shown>
             node: Some(NodeId::new(node)?),
             from,
         })),
+    }
+}
+
+/// Returns the view that a command writes as the run goes.
+fn streamed_of(asked: StreamAsked) -> Streamed
+    ensures { result ≡ streamed_of asked }
+{
+    match asked {
+        StreamAsked::Record => Streamed::Record,
+        StreamAsked::Heard => Streamed::Heard,
     }
 }
 
@@ -125,6 +147,17 @@ pub fn task_of(order: ViewOrder<'_>) -> Option<Task<'_>>
             cycles,
         } => Some(Task::Run {
             shown: shown_of(asked)?,
+            cluster,
+            scenario,
+            cycles,
+        }),
+        ViewOrder::Stream {
+            asked,
+            cluster,
+            scenario,
+            cycles,
+        } => Some(Task::Stream {
+            streamed: streamed_of(asked),
             cluster,
             scenario,
             cycles,

@@ -1,14 +1,13 @@
 use Rattle.std.proofs.Common.{rules, ap, ap₂, codes, ◌≡◌, ◌∙◌}
 use Rattle.std.proofs.lemmas.Result.{IfOk-weaker}
 use Rattle.clap.specs.Words.{App, app_of, with_subcommand}
-use Rattle.fr_cli.specs.ViewOrders.{matrix_command, of_run, trace_command, with_bus, with_matrix, with_run}
+use Rattle.fr_cli.specs.ViewOrders.{matrix_command, of_long_run, trace_command, with_bus, with_matrix}
 use Rattle.fr_cli.proofs.view.commands.Goals as goal
 
 pub returns : goal.returns
 returns c =
     let top = λ (a : App). a.top in
-    let bus_is : app_of c.in_ok-of_run.field-0 ≡ of_run (codes "bus") =
-    c.in_ok-of_run.ensures.app ∙ ap with_run c.new.ensures.app in
+    let bus_is : app_of c.in_ok-of_long_run.field-0 ≡ of_long_run (codes "bus") = c.in_ok-of_long_run.ensures.app in
     let matrix_is : app_of c.in_ok-matrix_command.field-0 ≡ matrix_command = c.in_ok-matrix_command.ensures.app in
     let trace_is : app_of c.in_ok-trace_command.field-0 ≡ trace_command = c.in_ok-trace_command.ensures.app in
     let heard : app_of c.in_ok-heard.heard ≡ with_bus =

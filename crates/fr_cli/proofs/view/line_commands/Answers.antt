@@ -1,7 +1,7 @@
 use Rattle.std.proofs.Common.{rules, ap, ap₂, codes, ◌≡◌, ◌∙◌}
 use Rattle.std.proofs.lemmas.Result.{IfOk-weaker}
 use Rattle.clap.specs.Words.{App, app_of, with_subcommand}
-use Rattle.fr_cli.specs.ViewOrders.{of_run, with_answers, with_commits, with_outcome, with_run}
+use Rattle.fr_cli.specs.ViewOrders.{of_long_run, of_run, with_answers, with_commits, with_outcome, with_run}
 use Rattle.fr_cli.proofs.view.line_commands.Goals as goal
 
 pub returns : goal.returns
@@ -13,8 +13,7 @@ returns c =
     c.in_ok-answers.ensures.app ∙ ap with_run c.new-2.ensures.app in
     let commits_is : app_of c.in_ok-commits.commits ≡ of_run (codes "commits") =
     c.in_ok-commits.ensures.app ∙ ap with_run c.new-3.ensures.app in
-    let record_is : app_of c.in_ok-recorded.recorded ≡ of_run (codes "record") =
-    c.in_ok-recorded.ensures.app ∙ ap with_run c.new-4.ensures.app in
+    let record_is : app_of c.in_ok-recorded.recorded ≡ of_long_run (codes "record") = c.in_ok-recorded.ensures.app in
     let first : app_of c.in_ok-first.first ≡ with_outcome =
     c.in_ok-first.ensures.shape (search rules) ∙ ap₂ with_subcommand c.requires (ap top outcome_is) in
     let second : app_of c.in_ok-second.second ≡ with_answers =

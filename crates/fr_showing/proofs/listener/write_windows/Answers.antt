@@ -31,5 +31,5 @@ loop-sealed-preserved g c =
           c.loop-sealed.invariant.written
           (subst (λ (k : ℕ). Appends (g.W.Write.contents c.loop-sealed.writer)
           (g.W.Write.contents c.write_window.new.writer) (window_records c.args.params.now k r))
-          c.saturating_sub.ensures c.in_ok-write_window.ensures);
+          (c.from.ensures ∙ c.saturating_sub.ensures) c.in_ok-write_window.ensures);
     }

@@ -1,0 +1,27 @@
+use Rattle.fr_streaming.proofs.LedLemmas.{breaks_after, cycles_led, on_err}
+use Rattle.fr_streaming.proofs.TellLemmas.{cycles_next, cycles_start}
+use Rattle.fr_streaming.specs.Streams.{MakesCycles}
+use Rattle.fr_streaming.specs.RunFields.{due_of, faults_of, scripts_of, tells}
+use Rattle.fr_streaming.proofs.windows.show_cycles.Goals as goal
+
+pub loop-cycle-init : goal.loop-cycle-init
+loop-cycle-init g c =
+    cycles_start (tells c.args.run.now) (scripts_of c.args.run.now) (faults_of c.args.run.now)
+    (due_of c.args.run.now) c.args.world.now (g.W.Write.contents c.args.writer.now)
+
+pub loop-cycle-preserved : goal.loop-cycle-preserved
+loop-cycle-preserved g c =
+    cycles_next (tells c.args.run.now) (scripts_of c.args.run.now) (faults_of c.args.run.now)
+    (due_of c.args.run.now) c.args.world.now c.loop-cycle.world c.show_cycle.new.world
+    (g.W.Write.contents c.args.writer.now) (g.W.Write.contents c.loop-cycle.writer)
+    (g.W.Write.contents c.show_cycle.new.writer) c.loop-cycle.cycle c.loop-cycle.invariant
+    c.in_ok-show_cycle.ensures.goes
+
+pub returns-in_err-show_cycle-clause-early : goal.returns-in_err-show_cycle-clause-early
+returns-in_err-show_cycle-clause-early g c =
+    let run = c.args.run.now in
+    on_err _ _ (breaks_after (tells run)
+    (MakesCycles (scripts_of run) (faults_of run) (due_of run) c.loop-cycle.cycle) c.args.world.now
+    c.loop-cycle.world (g.W.Write.contents c.args.writer.now) (g.W.Write.contents c.loop-cycle.writer)
+    (g.W.Write.contents c.show_cycle.new.writer) c.loop-cycle.invariant
+    (cycles_led (scripts_of run) (faults_of run) (due_of run) c.loop-cycle.cycle) c.in_err-show_cycle.ensures.early)

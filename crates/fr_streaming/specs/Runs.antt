@@ -1,0 +1,177 @@
+-- The run of a scenario in a world without history, and the reasons why there is none (project-defined).
+use Rattle.std.specs.Prelude.{⊤, ◌≡◌, ◌⊎◌, ℕ, ◌<◌, ◌++◌, true, false, List, length, min, Option, Some, None, Result}
+use Rattle.std.specs.Prelude.{Ok, Err}
+use Rattle.std.specs.Io.KnownBytes.{Appends, Keeps}
+use Rattle.fr_bus.specs.declared.error.BusError.TheVariants as bus
+use Rattle.fr_bus.specs.Live.{cycles_suit}
+use Rattle.fr_core.specs.declared.error.StepError.{StepError}
+use Rattle.fr_core.specs.declared.error.StepError.TheVariants as step
+use Rattle.fr_core.specs.declared.event.Event.{Event}
+use Rattle.fr_core.specs.Headline.{Headline}
+use Rattle.fr_core.specs.Settling.{IsFirst}
+use Rattle.fr_core.specs.Worlds.{WorldState, opening_world}
+use Rattle.fr_files.specs.declared.error.BenchError.TheVariants as bench
+use Rattle.fr_bus.specs.States.{cycles_fit}
+use Rattle.fr_files.specs.Inputs.{ForText}
+use Rattle.fr_live.specs.LiveWorlds.{Entries, LiveState, IsWorldHistory, with_room}
+use Rattle.fr_outcome.specs.ScenarioFiles.{IsShort, IsRefused}
+use Rattle.fr_playing.specs.declared.error.PlayError.{PlayError}
+use Rattle.fr_playing.specs.declared.error.PlayError.TheVariants as refusal
+use Rattle.fr_playing.specs.Moving.{whole_window}
+use Rattle.fr_playing.specs.Striking.{Passes}
+use Rattle.fr_runs.specs.declared.check.RunRefusal.{RunRefusal}
+use Rattle.fr_runs.specs.declared.check.RunRefusal.TheVariants.{BadCycles, BadScript, BadFault, NoRoom}
+use Rattle.fr_runs.specs.Refusing.{EachFaultSuits, EachScriptSuits}
+use Rattle.fr_runs.specs.Suiting.{FaultSuits, ScriptSuits}
+use Rattle.fr_scenario.specs.Contents.{Contents}
+use Rattle.fr_scenario.specs.ScenarioText.{IsScenarioText}
+use Rattle.fr_schedule.specs.Descriptions.{Description}
+use Rattle.fr_slots.specs.Numbers.{last_host_limit, last_slot_limit}
+use Rattle.fr_streaming.specs.declared.hindrance.Hindrance.{Hindrance}
+use Rattle.fr_streaming.specs.declared.hindrance.Hindrance.TheVariants as hindrance
+use Rattle.fr_streaming.specs.declared.telling.Streamed.{Streamed}
+use Rattle.fr_streaming.specs.Streams.{told, MakesCycles}
+
+-- ---- refusals
+
+-- the end of a run in which the world refuses an event
+abbrev pub hindrance_of : StepError → Hindrance
+hindrance_of (step.Bus bus.Memory) = hindrance.Memory
+hindrance_of e = hindrance.Step e
+
+abbrev pub error_of : Hindrance → PlayError
+error_of (hindrance.Step e) = refusal.Step e
+error_of hindrance.Unfinished = refusal.Unfinished
+error_of hindrance.Memory = refusal.Text bench.Memory
+error_of hindrance.Write = refusal.Text bench.Write
+
+-- want of room in a journal is no reason to refuse a run without history
+abbrev pub kept_refusal : Result (Unit {0}) RunRefusal → Result (Unit {0}) PlayError
+kept_refusal (Ok done) = Ok tt
+kept_refusal (Err (NoRoom n)) = Ok tt
+kept_refusal (Err e) = Err (refusal.Run e)
+
+-- the number of the run's cycles that a scenario can name, since it names cycles 0 to 1023
+abbrev pub cycles_named : ℕ → ℕ
+cycles_named cycles = min cycles 1024
+
+-- The number of cycles, then the scripts, then the faults. The first that doesn't fit is named. The room of journals
+-- isn't asked for.
+abbrev pub RefusesStream : Description → Contents → ℕ → Option RunRefusal → Type 0
+RefusesStream d s cycles None =
+    (cycles_suit d.params cycles ≡ true) × EachScriptSuits d (cycles_named cycles) s.scripts
+    × EachFaultSuits d (cycles_named cycles) s.faults
+RefusesStream d s cycles (Some BadCycles) = cycles_suit d.params cycles ≡ false
+RefusesStream d s cycles (Some (BadScript i)) =
+    (cycles_suit d.params cycles ≡ true) × IsFirst (ScriptSuits d (cycles_named cycles) s.scripts) i
+RefusesStream d s cycles (Some (BadFault i)) =
+    (cycles_suit d.params cycles ≡ true) × EachScriptSuits d (cycles_named cycles) s.scripts
+    × IsFirst (FaultSuits d (cycles_named cycles) s.faults) i
+RefusesStream d s cycles (Some (NoRoom n)) = ⊥
+
+abbrev pub StreamIsRefused : Description → ℕ → List ℕ → Option RunRefusal → Type 0
+StreamIsRefused d cycles text refused =
+    IsShort text × ((s : Contents) × IsScenarioText text s × RefusesStream d s cycles refused)
+
+-- the scenario suits a run of this many cycles, at most 1,024, but for the room of journals, or it doesn't
+abbrev pub ChecksStream : Description → Contents → ℕ → Result (Unit {0}) PlayError → Type 0
+ChecksStream d s named (Ok done) =
+    (cycles_fit named ≡ true) × EachScriptSuits d named s.scripts × EachFaultSuits d named s.faults
+ChecksStream d s named (Err (refusal.Run BadCycles)) = cycles_fit named ≡ false
+ChecksStream d s named (Err (refusal.Run (BadScript i))) = IsFirst (ScriptSuits d named s.scripts) i
+ChecksStream d s named (Err (refusal.Run (BadFault i))) =
+    EachScriptSuits d named s.scripts × IsFirst (FaultSuits d named s.faults) i
+ChecksStream d s named (Err e) = ⊥
+
+-- ---- the run
+
+-- the most calls of host and controller that entry numbers allow
+abbrev pub most_entries : Entries
+most_entries = record { host = last_host_limit; slot = last_slot_limit }
+
+-- the opening world of the cluster, whose journals have the greatest room
+abbrev pub opening : Description → ℕ → WorldState
+opening d cycles = opening_world (with_room most_entries d) cycles
+
+-- the world without history that the opening world leads to, or none
+abbrev pub OpensStream : Description → ℕ → Result LiveState PlayError → Type 0
+OpensStream d cycles (Ok l) = (cycles_suit d.params cycles ≡ true) × IsWorldHistory l (opening d cycles)
+OpensStream d cycles (Err (refusal.Run BadCycles)) = cycles_suit d.params cycles ≡ false
+OpensStream d cycles (Err (refusal.Text bench.Memory)) = ⊤
+OpensStream d cycles (Err e) = ⊥
+
+-- The events of a run of the cluster with the scenario lead to this world, and the run is over. They are the events of
+-- `IsPlayed`, from the opening world with the greatest room.
+pub record IsStreamed (d : Description) (s : Contents) (cycles : ℕ) (w : WorldState) : Type 0 where
+  pub cycles_are : MakesCycles s.scripts s.faults (whole_window (length d.plans)) cycles (opening d cycles) w
+  pub over : w.bus.opened ≡ None
+  -- the headline promise, of the world with its whole history
+  pub headline : Headline w
+
+-- the view of a run with the scenario was written, and nothing else
+abbrev pub AddsStream : Description → ℕ → Streamed → Contents → Option (List ℕ) → Option (List ℕ) → Type 0
+AddsStream d cycles streamed s before after =
+    (w : WorldState) × IsStreamed d s cycles w × Appends before after (told streamed s d.params w.bus.sealed)
+
+-- the same with the scenario that the text spells
+abbrev pub Streams : Description → ℕ → Streamed → Option (List ℕ) → Option (List ℕ) → List ℕ → Type 0
+Streams d cycles streamed before after text =
+    (s : Contents) × IsScenarioText text s × AddsStream d cycles streamed s before after
+
+-- ---- the reason why there is none
+
+-- the error of a run that isn't refused, or of a refused one
+abbrev pub TellsStream : Description → ℕ → List ℕ → Result (Unit {0}) PlayError → Type 0
+TellsStream d cycles text (Ok done) = StreamIsRefused d cycles text None
+TellsStream d cycles text (Err (refusal.Run e)) = StreamIsRefused d cycles text (Some e)
+TellsStream d cycles text (Err (refusal.Step e)) = StreamIsRefused d cycles text None
+TellsStream d cycles text (Err refusal.Unfinished) = StreamIsRefused d cycles text None
+TellsStream d cycles text (Err refusal.UnknownNode) = ⊥
+TellsStream d cycles text (Err (refusal.Scenario e)) = IsShort text × IsRefused text e
+TellsStream d cycles text (Err (refusal.Text bench.TooLong)) = 1048576 < length text
+TellsStream d cycles text (Err (refusal.Text bench.Write)) = StreamIsRefused d cycles text None
+TellsStream d cycles text (Err (refusal.Text bench.Read)) = ⊤
+TellsStream d cycles text (Err (refusal.Text bench.Memory)) = ⊤
+TellsStream d cycles text (Err (refusal.Text e)) = ⊥
+
+-- the same for a run whose scenario was read
+abbrev pub TellsRun : Description → Contents → ℕ → Result (Unit {0}) PlayError → Type 0
+TellsRun d s cycles (Ok done) = RefusesStream d s cycles None
+TellsRun d s cycles (Err (refusal.Run e)) = RefusesStream d s cycles (Some e)
+TellsRun d s cycles (Err (refusal.Step e)) = RefusesStream d s cycles None
+TellsRun d s cycles (Err refusal.Unfinished) = RefusesStream d s cycles None
+TellsRun d s cycles (Err (refusal.Text bench.Write)) = RefusesStream d s cycles None
+TellsRun d s cycles (Err (refusal.Text bench.Memory)) = ⊤
+TellsRun d s cycles (Err e) = ⊥
+
+-- ---- what was written before an error
+
+-- accepted events lead from the opening world to one of whose view a front was written, and nothing else
+abbrev pub Cuts : Description → Contents → ℕ → Streamed → Option (List ℕ) → Option (List ℕ) → Type 0
+Cuts d s cycles streamed before after =
+    (w : WorldState) × (events : List Event) × (front : List ℕ) × (rest : List ℕ)
+    × Passes (opening d cycles) events w × (told streamed s d.params w.bus.sealed ≡ front ++ rest)
+    × Appends before after front
+
+abbrev pub CutsRun : Description → Contents → ℕ → Streamed → Option (List ℕ) → Option (List ℕ) → PlayError → Type 0
+CutsRun d s cycles streamed before after (refusal.Step e) = Cuts d s cycles streamed before after
+CutsRun d s cycles streamed before after refusal.Unfinished = Cuts d s cycles streamed before after
+CutsRun d s cycles streamed before after (refusal.Text bench.Write) = Cuts d s cycles streamed before after
+CutsRun d s cycles streamed before after (refusal.Text bench.Memory) =
+    Keeps before after ⊎ Cuts d s cycles streamed before after
+CutsRun d s cycles streamed before after e = Keeps before after
+
+-- the same with the scenario that the text spells
+abbrev pub CutsText : Description → ℕ → Streamed → Option (List ℕ) → Option (List ℕ) → PlayError → List ℕ → Type 0
+CutsText d cycles streamed before after e text =
+    (s : Contents) × IsScenarioText text s × CutsRun d s cycles streamed before after e
+
+-- An error of the file leaves the output unchanged.
+abbrev pub CutsStream : Description → ℕ → Streamed → Option (List ℕ) → Option (List ℕ) → Option (List ℕ) → PlayError
+    → Type 0
+CutsStream d cycles streamed text before after (refusal.Scenario e) = Keeps before after
+CutsStream d cycles streamed text before after (refusal.Text bench.Read) = Keeps before after
+CutsStream d cycles streamed text before after (refusal.Text bench.TooLong) = Keeps before after
+CutsStream d cycles streamed text before after (refusal.Text bench.Memory) =
+    Keeps before after ⊎ ForText text (CutsText d cycles streamed before after (refusal.Text bench.Memory))
+CutsStream d cycles streamed text before after e = ForText text (CutsText d cycles streamed before after e)

@@ -1,0 +1,28 @@
+//! Runs of a scenario without history: a view of the run is written as it goes, so that a run of hours needs the memory
+//! of one cycle.
+//!
+//! ```text
+//! stream_run(alloc, &cluster, &mut scenario_file, cycles, Streamed::Record, &mut output)?;
+//! ```
+//!
+//! *(project-defined)* marks a rule of this project, and makes no claim about the standard.
+//!
+//! # Definitions
+//!
+//! - `Streams`: the text of a view after some windows, and what a run in a world without history has written.
+//! - `Runs`: the run of a scenario, and the reasons why there is none.
+//!
+//! # Inner workings
+//!
+//! `stream_run` (`stream`) reads the scenario, checks it, and opens an `EndlessWorld` (`fr_endless`). In each cycle
+//! `do_lines` (`calling`) executes the lines of the scripts. `show_windows` (`windows`) executes window after window
+//! by `play_window` (`playing`), and writes what the view has of the sealed one. The events are those of
+//! `fr_playing::play`, and each clause speaks of the world with its whole history that these events lead to.
+#![tactic(auto)]
+
+mod calling;
+mod hindrance;
+mod playing;
+pub mod stream;
+mod telling;
+mod windows;

@@ -1,0 +1,126 @@
+//! The run of a scenario file, shown as it goes.
+ghost use Rattle.std.specs.Prelude.{◌≡◌, IfErr, OnOk};
+ghost use Rattle.fr_files.specs.Inputs.{ForText};
+ghost use Rattle.fr_streaming.specs.Runs.{kept_refusal, AddsStream, ChecksStream, OpensStream, Streams, TellsRun};
+ghost use Rattle.fr_streaming.specs.Runs.{CutsRun, CutsStream, TellsStream};
+
+use crate::hindrance::error_of;
+pub use crate::telling::Streamed;
+use crate::telling::opening_in;
+use crate::windows::{Run, show_cycles};
+use fr_bus::error::BusError;
+use fr_endless::world::EndlessWorld;
+use fr_files::error::BenchError;
+use fr_files::output::write_whole;
+use fr_live::room::Room;
+use fr_outcome::scenario_file::scenario_of;
+use fr_playing::error::PlayError;
+use fr_playing::moving::whole_window;
+use fr_runs::check::{RunRefusal, check_run};
+use fr_scenario::scenario::Scenario;
+use fr_schedule::cluster::Cluster;
+use std::alloc::Global;
+use std::io::{Read, Write};
+
+/// The cycles that a scenario can name are 0 to 1023.
+const NAMED_CYCLES: u32 = 1_024;
+
+/// Opens the world of a run of so many cycles.
+fn open_world(alloc: Global, cluster: &Cluster, cycles: u32) -> Result<EndlessWorld, PlayError>
+    ensures { OpensStream cluster.now cycles result }
+{
+    match EndlessWorld::new(alloc, cluster, cycles, &Room::greatest()) {
+        Ok(world) => Ok(world),
+        Err(BusError::BadCycles) => Err(PlayError::Run(RunRefusal::BadCycles)),
+        Err(_) => Err(PlayError::Text(BenchError::Memory)),
+    }
+}
+
+/// Returns the refusal of a run as its error, unless it is the want of room in a journal.
+fn kept_refusal(checked: Result<(), RunRefusal>) -> Result<(), PlayError>
+    ensures { result ≡ kept_refusal checked }
+{
+    match checked {
+        Ok(()) | Err(RunRefusal::NoRoom(_)) => Ok(()),
+        Err(refusal) => Err(PlayError::Run(refusal)),
+    }
+}
+
+/// Checks that the scenario suits a run of so many cycles, at most 1,024. The room of journals doesn't matter.
+fn check_named(cluster: &Cluster, scenario: &Scenario, cycles: u16) -> Result<(), PlayError>
+    ensures { ChecksStream cluster.now scenario.now cycles result }
+{
+    kept_refusal(check_run(cluster, scenario.scripts(), scenario.faults(), cycles))
+}
+
+/// Executes a run with the scenario, and writes the view of it as it goes.
+fn stream_scenario<W: Write>(
+    alloc: Global,
+    cluster: &Cluster,
+    scenario: &Scenario,
+    cycles: u32,
+    streamed: Streamed,
+    writer: &mut W,
+) -> Result<(), PlayError>
+    ensures written { OnOk result (AddsStream cluster.now cycles streamed scenario.now (W.contents writer.old)
+        (W.contents writer.new)) }
+    ensures refused { TellsRun cluster.now scenario.now cycles result }
+    ensures early { IfErr result (CutsRun cluster.now scenario.now cycles streamed (W.contents writer.old)
+        (W.contents writer.new)) }
+{
+    let mut world = open_world(alloc, cluster, cycles)?;
+    check_named(cluster, scenario, cycles.min(NAMED_CYCLES) as u16)?;
+    let Ok(due) = whole_window(alloc, cluster.nodes()) else {
+        return Err(PlayError::Text(BenchError::Memory));
+    };
+    let run = Run {
+        alloc,
+        streamed,
+        scenario,
+        cluster,
+        due: due.as_slice(),
+    };
+    let Ok(text) = opening_in(alloc, streamed) else {
+        return Err(PlayError::Text(BenchError::Memory));
+    };
+    write_whole(writer, text.as_slice())?;
+    if let Err(hindrance) = show_cycles(&mut world, &run, cycles, writer) {
+        return Err(error_of(hindrance));
+    }
+    if world.bus().window().is_some() {
+        return Err(PlayError::Unfinished);
+    }
+    // For the prover: the clause of this call.
+    world.known();
+    Ok(())
+}
+
+/// Runs the cluster with the scenario of a file, and writes a view of the run as it goes (project-defined).
+///
+/// A run has 1 to 4,000,000 cycles, and the number of cycles, multiplied by the static slots and minislots of a cycle,
+/// fits in 32 bits. It needs the memory of one cycle. The events are those of `fr_playing::play::play`, and the text is
+/// that of `fr_showing::show::show_run`. The file is read to its end first. It names cycles 0 to 1023 at most.
+///
+/// Returns the error of `scenario_of`. Then comes `Run` with `BadCycles`, or with the `BadScript` or `BadFault` of a
+/// run of at most 1,024 cycles; journals keep nothing, so there is no `NoRoom`. Returns `Write` if the writer fails,
+/// and `Memory` if an allocation fails. The errors `Step` and `Unfinished` mean that the world refused an event, or
+/// that the run wasn't over after its cycles; tests show that neither occurs. After `Write`, `Step`, `Unfinished` and
+/// `Memory` a front of the view may have been written, and after every other error nothing.
+pub fn stream_run<R: Read, W: Write>(
+    alloc: Global,
+    cluster: &Cluster,
+    reader: &mut R,
+    cycles: u32,
+    streamed: Streamed,
+    writer: &mut W,
+) -> Result<(), PlayError>
+    ensures written { OnOk result (ForText (R.remaining reader.old) (Streams cluster.now cycles streamed
+        (W.contents writer.old) (W.contents writer.new))) }
+    ensures refused { ForText (R.remaining reader.old) (λ text. TellsStream cluster.now cycles text result) }
+    // After an error of the run itself a front of the view of some accepted events is written, and otherwise nothing.
+    ensures early { IfErr result (CutsStream cluster.now cycles streamed (R.remaining reader.old)
+        (W.contents writer.old) (W.contents writer.new)) }
+{
+    let scenario = scenario_of(alloc, reader)?;
+    stream_scenario(alloc, cluster, &scenario, cycles, streamed, writer)
+}

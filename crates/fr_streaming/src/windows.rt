@@ -1,0 +1,124 @@
+//! The windows and the cycles of a run, each written as it is over.
+ghost use Rattle.std.specs.Prelude.{◌≡◌, length, OnErr, OnOk};
+ghost use Rattle.fr_playing.specs.Moving.{is_at_cycle, whole_window};
+ghost use Rattle.fr_playing.specs.Windows.{PlaysWindow, PlaysWindows};
+ghost use Rattle.fr_streaming.specs.RunFields.{due_of, faults_of, scripts_of, tells};
+ghost use Rattle.fr_streaming.specs.Streams.{Breaks, Goes, MakesCycle, MakesCycles};
+
+use crate::calling::do_lines;
+use crate::hindrance::Hindrance;
+use crate::playing::play_window;
+use crate::telling::{Streamed, last_in};
+use fr_bus::live::LiveBus;
+use fr_bus::windows::opens_cycle;
+use fr_core::event::Event;
+use fr_endless::world::EndlessWorld;
+use fr_files::output::write_text;
+use fr_scenario::scenario::Scenario;
+use fr_schedule::cluster::Cluster;
+use std::alloc::Global;
+use std::io::Write;
+
+/// The greatest number of windows of a cycle: one for each of 1,023 static slots and 8,000 minislots.
+const MOST_WINDOWS: u32 = 9_023;
+
+/// The terms of a run.
+#[derive(Clone, Copy)]
+pub(crate) struct Run<'a> {
+    /// The memory that the text of a window takes.
+    pub(crate) alloc: Global,
+    /// The view.
+    pub(crate) streamed: Streamed,
+    /// The scenario.
+    pub(crate) scenario: &'a Scenario,
+    /// The cluster.
+    pub(crate) cluster: &'a Cluster,
+    /// The events that are due in a window.
+    pub(crate) due: &'a [Event],
+}
+
+/// Returns whether the open window is the first of its cycle, or the run is over.
+fn is_at_cycle(bus: &LiveBus) -> bool
+    ensures { result ≡ is_at_cycle bus.now.bus.opened }
+{
+    match bus.window() {
+        Some(window) => opens_cycle(&window),
+        None => true,
+    }
+}
+
+/// Executes the open window, and writes what the view has of it.
+fn show_window<W: Write>(
+    world: &mut EndlessWorld,
+    run: &Run<'_>,
+    cycle: u32,
+    writer: &mut W,
+) -> Result<(), Hindrance>
+    requires { due_of run.now ≡ whole_window (length run.now.cluster.now.plans) }
+    ensures goes { OnOk result (Goes (tells run.now) (PlaysWindow cycle (faults_of run.now) (due_of run.now))
+        world.old (W.contents writer.old) (W.contents writer.new) world.new) }
+    ensures early { OnErr result (Breaks (tells run.now) world.old (W.contents writer.old) (W.contents writer.new)) }
+{
+    play_window(world, cycle, run.scenario.faults(), run.due)?;
+    let params = run.cluster.params();
+    let text = last_in(run.alloc, run.streamed, run.scenario, params, world.bus())?;
+    match write_text(writer, text.as_slice()) {
+        Ok(()) => Ok(()),
+        Err(_) => Err(Hindrance::Write),
+    }
+}
+
+/// Executes windows until the first one of a cycle is open, or the run is over.
+fn show_windows<W: Write>(
+    world: &mut EndlessWorld,
+    run: &Run<'_>,
+    cycle: u32,
+    writer: &mut W,
+) -> Result<(), Hindrance>
+    requires { due_of run.now ≡ whole_window (length run.now.cluster.now.plans) }
+    ensures goes { OnOk result (Goes (tells run.now) (PlaysWindows cycle (faults_of run.now) (due_of run.now))
+        world.old (W.contents writer.old) (W.contents writer.new) world.new) }
+    ensures early { OnErr result (Breaks (tells run.now) world.old (W.contents writer.old) (W.contents writer.new)) }
+{
+    for count in 0..MOST_WINDOWS {
+        show_window(world, run, cycle, writer)?;
+        if is_at_cycle(world.bus()) {
+            return Ok(());
+        }
+    }
+    Err(Hindrance::Unfinished)
+}
+
+/// Executes a cycle: its lines, and then its windows.
+fn show_cycle<W: Write>(
+    world: &mut EndlessWorld,
+    run: &Run<'_>,
+    cycle: u32,
+    writer: &mut W,
+) -> Result<(), Hindrance>
+    requires { due_of run.now ≡ whole_window (length run.now.cluster.now.plans) }
+    ensures goes { OnOk result (Goes (tells run.now) (MakesCycle cycle (scripts_of run.now) (faults_of run.now)
+        (due_of run.now)) world.old (W.contents writer.old) (W.contents writer.new) world.new) }
+    ensures early { OnErr result (Breaks (tells run.now) world.old (W.contents writer.old) (W.contents writer.new)) }
+{
+    do_lines(world, cycle, run.scenario.scripts())?;
+    show_windows(world, run, cycle, writer)
+}
+
+/// Executes this number of cycles.
+pub(crate) fn show_cycles<W: Write>(
+    world: &mut EndlessWorld,
+    run: &Run<'_>,
+    cycles: u32,
+    writer: &mut W,
+) -> Result<(), Hindrance>
+    requires { due_of run.now ≡ whole_window (length run.now.cluster.now.plans) }
+    ensures goes { OnOk result (Goes (tells run.now) (MakesCycles (scripts_of run.now) (faults_of run.now)
+        (due_of run.now) cycles) world.old (W.contents writer.old) (W.contents writer.new) world.new) }
+    ensures early { OnErr result (Breaks (tells run.now) world.old (W.contents writer.old) (W.contents writer.new)) }
+{
+    for cycle in 0..cycles {
+        show_cycle(world, run, cycle, writer)?;
+    }
+    Ok(())
+}
