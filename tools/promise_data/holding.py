@@ -3,7 +3,7 @@ import re
 from pathlib import Path
 
 from .reading import Clause, Promise, Section, split_name
-from .sources import Crate
+from .sources import Crate, called_in
 
 NAME = re.compile(r"`([^`]+)`")
 # Programs of others.
@@ -15,7 +15,7 @@ class Names:
     """The names that were looked up: the number of those that exist, and of those that don't."""
 
     def __init__(self, top: Path, crates: dict[str, Crate]) -> None:
-        self.top, self.crates = top, crates
+        self.top, self.crates, self.called = top, crates, called_in(top)
         self.passed = self.failed = 0
         self.mutants: set[tuple[str, str, str]] = set()
         self.libraries = (top / "crates.txt").read_text(encoding="utf-8")
@@ -95,11 +95,10 @@ class Names:
         return in_crates or re.search(rf"[ :]{name}\b", self.libraries) is not None
 
     def is_test(self, name: str) -> bool:
-        """Returns whether it is a file, a crate that has tests, or `crate/test`."""
+        """Returns whether it is a file, or `called/TEST` for a test of `tests/calls`."""
         home, _, test = name.partition("/")
-        if home in self.crates:
-            tests = self.crates[home].tests
-            return test in tests if test else bool(tests)
+        if home == "called":
+            return test in self.called
         return (self.top / name.split()[0]).is_file()
 
     def every_mutant(self) -> None:

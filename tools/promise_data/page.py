@@ -58,12 +58,12 @@ def row_of(promise: Promise, crate: str) -> str:
 
 
 def tests_text(names: list[str]) -> str:
-    """Returns the names of tests, those of one crate behind its name."""
-    crates: dict[str, list[str]] = {}
+    """Returns the names of tests, those of single calls behind their script."""
+    scripts: dict[str, list[str]] = {}
     for name in names:
-        home, _, test = name.partition("/") if name.startswith("fr_") else (name, "", "")
-        crates.setdefault(home, []).extend([test] if test else [])
-    return ", ".join(f"`{home}`" + (f" ({code(tests)})" if tests else "") for home, tests in crates.items())
+        home, test = ("tests/called", name.removeprefix("called/")) if name.startswith("called/") else (name, "")
+        scripts.setdefault(home, []).extend([test] if test else [])
+    return ", ".join(f"`{home}`" + (f" ({code(tests)})" if tests else "") for home, tests in scripts.items())
 
 
 def tested_text(section: Section) -> list[str]:

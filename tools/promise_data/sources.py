@@ -1,4 +1,4 @@
-"""The names in the sources of a crate: functions with their clauses, types, modules, words, mutants and tests."""
+"""The names in the sources of a crate: functions with their clauses, types, modules, words and mutants; and tests of single calls."""
 import re
 from pathlib import Path
 
@@ -16,7 +16,6 @@ class Crate:
         self.name = name
         self.types: set[str] = set()
         self.words: set[str] = {name}
-        self.tests: set[str] = set()
         self.contracts: set[str] = set()
         self.clauses: dict[str, set[str]] = {}
         folder = top / "crates" / name
@@ -34,7 +33,6 @@ class Crate:
         self.modules.add(path.stem)
         if path.suffix != ".rt":
             return
-        self.tests.update(TEST.findall(text))
         # A function's contract is between its name and the name of the next one.
         _, *parts = FUNCTION.split(text)
         for function, rest in zip(parts[::2], parts[1::2]):
@@ -52,3 +50,9 @@ def crates_in(top: Path) -> dict[str, Crate]:
     lines = (top / "crates.txt").read_text(encoding="utf-8").splitlines()
     names = [re.split(r"[ :]", line)[0] for line in lines if line and not line.startswith("#")]
     return {name: Crate(top, name) for name in names}
+
+
+def called_in(top: Path) -> set[str]:
+    """Returns the names of the tests of single calls."""
+    texts = (path.read_text(encoding="utf-8") for path in (top / "tests" / "calls").glob("*.rattle"))
+    return {name for text in texts for name in TEST.findall(text)}
