@@ -114,6 +114,11 @@ def sessions():
     return {"session": ([CLUSTER, "--cycles", "4"], "".join(f"{line}\n" for line in asked).encode())}
 
 
+def recordings():
+    """Returns the same for fr_monitor: a recording with findings."""
+    return {"recording": ([CLUSTER, "--whole"], (EXAMPLES / "recordings" / "disturbed.pcap").read_bytes())}
+
+
 def replies(output):
     """Returns the replies of a session, each with the lines of its block.
 
