@@ -4,6 +4,7 @@ pub mod ExplainLemmas
 pub mod FeedLaws
 pub mod FindingLemmas
 pub mod HeadLemmas
+pub mod KeptLaws
 pub mod LineLemmas
 pub mod NumberLemmas
 pub mod ReasonLemmas
