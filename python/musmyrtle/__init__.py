@@ -19,7 +19,7 @@ from musmyrtle.world.faults import Babble, Corrupt, Fault, Mute
 from musmyrtle.world.node import Buffer, Node
 from musmyrtle.world.refusals import (
     AlreadyPut, AlreadyTaken, BadCycles, BadFault, BadLine, BadName, BadWindow, BusMemory, BusRefused, BusUnknownNode,
-    ClusterRefused, HostFull, HostRefused, Memory, NoHistory, NoQueue, NotAllPut, NotAllTaken, NotCollecting,
+    ClusterRefused, HostFull, HostRefused, Memory, NoHistory, NoQueue, NoRoom, NotAllPut, NotAllTaken, NotCollecting,
     NotFetched, NotObserved, NotReceive, NotSealed, NotStarted, NotTransmit, NoWindow, Refused, SessionOver, SlotFull,
     SlotRefused, TimedOut, TooManyFaults, UnknownBuffer, UnknownNode, UnknownTask, WindowOrder, WrongLength, WrongTurn,
     WrongWindow,
@@ -33,9 +33,9 @@ from musmyrtle.world.world import World
 __all__ = [
     "AlreadyPut", "AlreadyTaken", "Babble", "BadCycles", "BadFault", "BadLine", "BadName", "BadWindow", "Buffer",
     "BusMemory", "BusRefused", "BusUnknownNode", "Channel", "ClusterRefused", "Corrupt", "Counters", "Fault", "Frame",
-    "HostFull", "HostRefused", "Memory", "Moment", "Mute", "Names", "Node", "NoHistory", "NoQueue", "NotAllPut",
-    "NotAllTaken", "NotCollecting", "NotFetched", "NotInAScenario", "NotObserved", "NotReceive", "NotSealed",
-    "NotStarted", "NotTransmit", "NoWindow", "Queue", "ReceiveBuffer", "Record", "Refused", "Report", "Scenario",
+    "HostFull", "HostRefused", "Memory", "Moment", "Mute", "Names", "Node", "NoHistory", "NoQueue", "NoRoom",
+    "NotAllPut", "NotAllTaken", "NotCollecting", "NotFetched", "NotInAScenario", "NotObserved", "NotReceive",
+    "NotSealed", "NotStarted", "NotTransmit", "NoWindow", "Queue", "ReceiveBuffer", "Record", "Refused", "Report", "Scenario",
     "ScenarioText", "Sent", "SessionOver", "SlotFull", "SlotRefused", "TimedOut", "TooManyFaults", "TransmitBuffer",
     "UnknownBuffer", "UnknownName", "UnknownNode", "UnknownTask", "Window", "WindowOrder", "World", "WrongLength",
     "WrongTurn", "WrongWindow", "at_slot", "every", "on_frame",

@@ -12,7 +12,7 @@ from pathlib import Path
 from tempfile import TemporaryDirectory
 from unittest.mock import patch
 
-from musmyrtle import BadCycles, ClusterRefused, NotStarted, Scenario, SessionOver, World, WrongLength
+from musmyrtle import BadCycles, ClusterRefused, NoRoom, NotStarted, Scenario, SessionOver, World, WrongLength
 from musmyrtle.faults import command
 from musmyrtle.world import world_program
 from tests import fakes
@@ -185,6 +185,19 @@ class TestRefusedCluster(Folders):
             self.assertIsInstance(raised.exception, SessionOver)
             self.assertIsInstance(raised.exception, ValueError)
 
+    def test_no_room_for_the_cycles(self) -> None:
+        with World(THREE_NODES, 292):
+            pass
+        with self.assertRaises(NoRoom) as raised:
+            World(THREE_NODES, 293)
+        self.assertEqual((raised.exception.node, str(raised.exception)), (
+            0, "the journal of node 0 has no room for so many cycles. Expected fewer cycles, more `slot_entries` of the "
+               "node, or a world without history"))
+        self.assertIsInstance(raised.exception, SessionOver)
+        self.assertIsInstance(raised.exception, ValueError)
+        with World(THREE_NODES, 293, endless=True):
+            pass
+
 
 class TestLengths(Folders):
     """Buffer 0 of node 0 sends one two-byte word. Buffer 1 of node 1 is a receive buffer, and it has no buffer 63."""
@@ -251,7 +264,7 @@ class TestCopies(unittest.TestCase):
     def test_they_can_be_copied_and_pickled(self) -> None:
         for error in (ClusterRefused("Overlap 1 A 0", "c.toml:1:2: two owners"), ClusterRefused("Read"),
                       NotStarted(2, "No such file or directory", "/w"), BadCycles("the number of cycles is 0"),
-                      WrongLength(("Host", "WrongLength"), "commit 0 0 0 x", 2)):
+                      NoRoom(3), WrongLength(("Host", "WrongLength"), "commit 0 0 0 x", 2)):
             for other in (copy.copy(error), pickle.loads(pickle.dumps(error))):
                 self.assertEqual((type(other), str(other), vars(other)), (type(error), str(error), vars(error)))
 

@@ -102,9 +102,29 @@ class Names:
         return (self.top / name.split()[0]).is_file()
 
     def every_mutant(self) -> None:
-        """Checks that each mutant of the repository is named by the data of its crate."""
+        """Checks that each mutant is named by the data of its crate, and that it can be applied to the sources."""
+        folders = {"gate": self.top / "crates/{}/must-fail", "mutants": self.top / "wrong-bodies/{}"}
         for name, crate in self.crates.items():
             for key, mutants in (("gate", crate.gate), ("mutants", crate.mutants)):
                 for mutant in sorted(mutants):
                     told = f"the mutant {mutant} isn't named"
                     self.hold((name, key, mutant) in self.mutants, f"crates/{name}/promises.toml", told)
+                    file = Path(str(folders[key]).format(name)) / f"{mutant}.edit"
+                    lost = unapplied(self.top / "crates" / name, file.read_text(encoding="utf-8"))
+                    self.hold(lost is None, str(file.relative_to(self.top)), f"it doesn't stand there once: {lost}")
+
+
+def unapplied(crate: Path, edit: str) -> str | None:
+    """Returns the first text of an edit that doesn't stand exactly once in its file, after the changes before it."""
+    text, old = "", None
+    for line in edit.splitlines():
+        key, _, rest = line.partition(": ")
+        if key == "file":
+            text = (crate / rest).read_text(encoding="utf-8")
+        elif key == "old":
+            old = rest
+            if text.count(old) != 1:
+                return old
+        elif key == "new" and old is not None:
+            text = text.replace(old, rest)
+    return None

@@ -1,5 +1,6 @@
 -- The printed text and the exit status of each of the program's failures (project-defined).
 use Rattle.std.specs.Prelude.{ℕ, List, codes, ◌++◌}
+use Rattle.std.specs.Fmt.{decimal}
 use Rattle.fr_world.specs.declared.failure.WorldFailure.{WorldFailure}
 use Rattle.fr_world.specs.declared.failure.WorldFailure.TheVariants as failure
 use Rattle.fr_cli.specs.Commands.{order_error_text, status_of_words}
@@ -16,5 +17,6 @@ abbrev pub failure_text : WorldFailure → List ℕ
 failure_text (failure.Words e) = order_error_text e
 failure_text failure.Memory = codes "refused Memory"
 failure_text (failure.Text e) = codes "refused " ++ bench_error_text e
+failure_text (failure.Room n) = codes "refused NoRoom " ++ decimal n
 failure_text (failure.World e) = codes "refused " ++ bus_error_name e
 failure_text (failure.Session e) = codes "refused " ++ session_error_name e

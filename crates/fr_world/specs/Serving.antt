@@ -1,13 +1,17 @@
 -- The session of a run, with the world that it opens (project-defined).
-use Rattle.std.specs.Prelude.{◌≡◌, ℕ, ◌≤◌, List, true, Option, Some, None, Result, Ok, Err, min}
+use Rattle.std.specs.Prelude.{◌≡◌, ℕ, ◌≤◌, List, [], true, Option, Some, None, Result, Ok, Err, min}
 use Rattle.std.specs.Io.KnownBytes.{Keeps}
 use Rattle.fr_bus.specs.Live.{cycles_suit}
 use Rattle.fr_bus.specs.States.{cycles_fit}
 use Rattle.fr_cli.specs.declared.world.WorldRun.{WorldRun}
 use Rattle.fr_cli.specs.declared.world.WorldRun.TheVariants.{Kept, Endless}
+use Rattle.fr_core.specs.Settling.{IsFirst}
 use Rattle.fr_core.specs.Worlds.{OpensWorld, WorldState, opening_world}
 use Rattle.fr_endless.specs.Serving.{EndsEndless, ServedEndless}
 use Rattle.fr_live.specs.LiveWorlds.{Entries, OpensLiveWorld, with_room}
+use Rattle.fr_runs.specs.declared.check.RunRefusal.{RunRefusal}
+use Rattle.fr_runs.specs.declared.check.RunRefusal.TheVariants.{NoRoom}
+use Rattle.fr_runs.specs.Suiting.{HasRoom}
 use Rattle.fr_schedule.specs.Descriptions.{Description}
 use Rattle.fr_session.specs.Cuts.{EndsWorld}
 use Rattle.fr_session.specs.Sessions.{ServedWorld, Terms, terms_of}
@@ -17,15 +21,32 @@ use Rattle.fr_world.specs.declared.failure.WorldFailure.TheVariants as failure
 
 -- ---- with history
 
--- The opening world of a run of so many cycles is served, and the session ends with its input or early. Or there is no
--- such world, and nothing is taken or written.
+-- the journal of the node has room for the windows of a run without scripts
+abbrev pub HasWindowRoom : Description → ℕ → ℕ → Type 0
+HasWindowRoom d cycles n = HasRoom d cycles [] n
+
+-- the node that the refusal of a run names
+abbrev pub node_named : RunRefusal → Option ℕ
+node_named (NoRoom n) = Some n
+node_named refusal = None
+
+-- the first node without room, if a run may have so many cycles
+abbrev pub IsFullNode : Description → ℕ → Option ℕ → Type 0
+IsFullNode d cycles (Some n) = (cycles_fit cycles ≡ true) × IsFirst (HasWindowRoom d cycles) n
+IsFullNode d cycles None = cycles_fit cycles ≡ true → (n : ℕ) → HasWindowRoom d cycles n
+
+-- Each journal has room for the windows of a run of so many cycles. The opening world is served, and the session ends
+-- with its input or early. Or nothing is taken or written, since a journal has no room or there is no such world.
 abbrev pub ServesKept : Description → ℕ → Option (List ℕ) → Option (List ℕ) → Option (List ℕ) → Option (List ℕ)
     → Result (Unit {0}) WorldFailure → Type 0
 ServesKept d cycles text left before after (Ok done) =
-    (cycles_fit cycles ≡ true) × (new : WorldState) × ServedWorld text before after (opening_world d cycles) new
+    (cycles_fit cycles ≡ true) × ((n : ℕ) → HasWindowRoom d cycles n) × (new : WorldState)
+    × ServedWorld text before after (opening_world d cycles) new
 ServesKept d cycles text left before after (Err (failure.Session error)) =
-    (cycles_fit cycles ≡ true) × (new : WorldState)
+    (cycles_fit cycles ≡ true) × ((n : ℕ) → HasWindowRoom d cycles n) × (new : WorldState)
     × EndsWorld error text left before after (opening_world d cycles) new
+ServesKept d cycles text left before after (Err (failure.Room n)) =
+    (cycles_fit cycles ≡ true) × IsFirst (HasWindowRoom d cycles) n × Keeps text left × Keeps before after
 ServesKept d cycles text left before after (Err (failure.World error)) =
     OpensWorld d cycles (Err error) × Keeps text left × Keeps before after
 ServesKept d cycles text left before after (Err (failure.Words error)) = ⊥
@@ -58,6 +79,7 @@ ServesLive d cycles text left before after (Err (failure.World error)) =
     OpensLiveWorld d cycles greatest_room (Err error) × Keeps text left × Keeps before after
 ServesLive d cycles text left before after (Err (failure.Words error)) = ⊥
 ServesLive d cycles text left before after (Err failure.Memory) = ⊥
+ServesLive d cycles text left before after (Err (failure.Room n)) = ⊥
 ServesLive d cycles text left before after (Err (failure.Text error)) = ⊥
 
 -- ---- the run of a command

@@ -7,6 +7,7 @@ use fr_bus::error::BusError;
 use fr_cli::error::OrderError;
 use fr_files::error::BenchError;
 use fr_session::error::SessionError;
+use fr_slots::numbers::NodeId;
 use std::error::Error;
 use std::fmt;
 
@@ -20,6 +21,8 @@ pub enum WorldFailure {
     Memory,
     /// The cluster file was refused, or couldn't be read.
     Text(BenchError),
+    /// The node whose journal has no room for the windows of the run.
+    Room(NodeId),
     /// The world couldn't be made.
     World(BusError),
     /// The session ended before its input did.
@@ -38,6 +41,7 @@ impl fmt::Display for WorldFailure {
             WorldFailure::Words(error) => write!(f, "{error}"),
             WorldFailure::Memory => write!(f, "refused Memory"),
             WorldFailure::Text(error) => write!(f, "refused {error}"),
+            WorldFailure::Room(node) => write!(f, "refused NoRoom {node}"),
             WorldFailure::World(error) => write!(f, "refused {error}"),
             WorldFailure::Session(error) => write!(f, "refused {error}"),
         }
@@ -55,6 +59,7 @@ impl WorldFailure {
             WorldFailure::Words(error) => error.status(),
             WorldFailure::Memory
             | WorldFailure::Text(_)
+            | WorldFailure::Room(_)
             | WorldFailure::World(_)
             | WorldFailure::Session(_) => 1,
         }

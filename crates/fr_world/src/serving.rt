@@ -1,20 +1,55 @@
 //! A session with the world that it opens.
-ghost use Rattle.fr_world.specs.Serving.{ServesKept, ServesLive, ServesRun};
+ghost use Rattle.std.specs.Prelude.{◌≡◌, []};
+ghost use Rattle.fr_world.specs.Serving.{IsFullNode, ServesKept, ServesLive, ServesRun, node_named};
 
 use crate::failure::WorldFailure;
 use fr_cli::world::WorldRun;
+use fr_core::script::Script;
 use fr_core::world::World;
 use fr_endless::session::serve_endless;
 use fr_endless::world::{EndlessWorld, greatest_cycles};
 use fr_live::room::Room;
+use fr_runs::check::{RunRefusal, check_run};
+use fr_runs::fault_line::FaultLine;
 use fr_schedule::cluster::Cluster;
 use fr_session::session::serve;
+use fr_slots::numbers::NodeId;
 use std::alloc::Global;
 use std::io::{BufRead, Write};
 
+/// Returns the node that a refusal names because its journal lacks room.
+fn node_named(refusal: RunRefusal) -> Option<NodeId>
+    ensures { result ≡ node_named refusal }
+{
+    match refusal {
+        RunRefusal::NoRoom(node) => Some(node),
+        RunRefusal::BadCycles | RunRefusal::BadScript(_) | RunRefusal::BadFault(_) => None,
+    }
+}
+
+/// Returns the first node whose journal has no room for the windows of a run of so many cycles. There are no scripts
+/// and no fault lines.
+#[tactic(auto, using(crate::proofs::ServingLemmas::full_told))]
+fn full_node(
+    cluster: &Cluster,
+    scripts: &[Script],
+    faults: &[FaultLine],
+    cycles: u16,
+) -> Option<NodeId>
+    requires scripts { scripts.now ≡ [] }
+    requires faults { faults.now ≡ [] }
+    ensures { IsFullNode cluster.now cycles result }
+{
+    match check_run(cluster, scripts, faults, cycles) {
+        Ok(()) => None,
+        Err(refusal) => node_named(refusal),
+    }
+}
+
 /// Opens the world of the cluster in a run of so many cycles, and serves it with its history.
 ///
-/// Fails with `World` if the world can't be opened, and with `Session` if the session ends early.
+/// Fails with `Room` if the journal of a node has no room for the windows of the run, with `World` if the world can't
+/// be opened, and with `Session` if the session ends early.
 fn serve_kept<R: BufRead, W: Write>(
     alloc: Global,
     cluster: &Cluster,
@@ -25,6 +60,9 @@ fn serve_kept<R: BufRead, W: Write>(
     ensures { ServesKept cluster.now cycles (R.remaining reader.old) (R.remaining reader.new)
         (W.contents writer.old) (W.contents writer.new) result }
 {
+    if let Some(node) = full_node(cluster, &[], &[], cycles) {
+        return Err(WorldFailure::Room(node));
+    }
     let mut world = match World::new(alloc, cluster, cycles) {
         Ok(world) => world,
         Err(error) => return Err(WorldFailure::World(error)),
@@ -35,8 +73,9 @@ fn serve_kept<R: BufRead, W: Write>(
     }
 }
 
-/// Opens the world of the cluster in a run of so many cycles, and serves it without history. Fails as `serve_kept`
-/// does.
+/// Opens the world of the cluster in a run of so many cycles, and serves it without history.
+///
+/// Fails with `World` if the world can't be opened, and with `Session` if the session ends early.
 fn serve_live<R: BufRead, W: Write>(
     alloc: Global,
     cluster: &Cluster,
@@ -60,8 +99,9 @@ fn serve_live<R: BufRead, W: Write>(
 /// Opens the world of the cluster in this run, and answers each line of the reader (project-defined). An endless run
 /// without a number of cycles has the most that the cluster allows.
 ///
-/// Fails with `World` if the world can't be opened, before anything is read or written. Fails with `Session` if the
-/// session ends early.
+/// Fails before anything is read or written: with `World` if the world can't be opened, and with history also with
+/// `Room`, if the journal of a node has no room for two entries for each static slot and each minislot of each cycle.
+/// Fails with `Session` if the session ends early.
 pub fn serve_run<R: BufRead, W: Write>(
     alloc: Global,
     cluster: &Cluster,

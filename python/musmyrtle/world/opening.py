@@ -2,14 +2,14 @@
 import os
 
 from musmyrtle.visible import visible
-from musmyrtle.world.refusals import BadCycles, ClusterRefused
+from musmyrtle.world.refusals import BadCycles, ClusterRefused, NoRoom
 
 REFUSED = "refused "
 OF_THE_MACHINE = ("Memory", "Write")
 """Refusals that aren't about the cluster file."""
 
 
-def refused_cluster(said: str, cluster: str) -> ClusterRefused | BadCycles | None:
+def refused_cluster(said: str, cluster: str) -> ClusterRefused | BadCycles | NoRoom | None:
     """Returns the exception for the program's answer in place of its first line.
 
     Returns None if that is no refusal of the file or of the number of cycles. SAID may have further lines: before
@@ -24,6 +24,9 @@ def refused_cluster(said: str, cluster: str) -> ClusterRefused | BadCycles | Non
         return None
     if refusal == "BadCycles":
         return BadCycles("a run of the cluster can't have so many cycles")
+    name, _, node = refusal.partition(" ")
+    if name == "NoRoom" and node.isdigit():
+        return NoRoom(int(node))
     told = " ".join(filter(None, (explained, *lines[places[-1] + 1:])))
     return ClusterRefused(refusal, visible(reason_of(refusal, cluster) or told))
 

@@ -21,6 +21,22 @@ class BadCycles(SessionOver, ValueError):
     """A world has 1 to 1024 cycles, or 1 to 4000000 without history, so it isn't opened."""
 
 
+class NoRoom(SessionOver, ValueError):
+    """The journal of a node has no room for the windows of a world with history, so it isn't opened.
+
+    `node` is the number of the node.
+    """
+
+    def __init__(self, node: int) -> None:
+        # The argument of the exception, so that it can be copied and pickled.
+        super().__init__(node)
+        self.node = node
+
+    def __str__(self) -> str:
+        return (f"the journal of node {self.node} has no room for so many cycles. Expected fewer cycles, more "
+                f"`slot_entries` of the node, or a world without history")
+
+
 class ClusterRefused(SessionOver):
     """The program refuses the cluster file, so the world isn't opened.
 

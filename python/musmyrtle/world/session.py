@@ -34,7 +34,7 @@ class Session:
 
         ENDLESS asks for a world without history, whose CYCLES are None for the most. TIMEOUT is the time limit of each
         request in seconds, or None for no limit. Raises `NotStarted`, `ClusterRefused`, `BadCycles` where the cluster
-        can't have so many, `SessionOver` where the program speaks another version, and `TimedOut`.
+        can't have so many, `NoRoom`, `SessionOver` where the program speaks another version, and `TimedOut`.
         """
         command = [os.fspath(program), os.fspath(cluster), *(["--endless"] if endless else []),
                    *([] if cycles is None else ["--cycles", str(cycles)])]

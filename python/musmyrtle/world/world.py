@@ -55,9 +55,9 @@ class World:
         `record` has the window that was sealed last alone.
 
         PROGRAM is the `fr_world` to run, which `usual_world` finds otherwise. TIMEOUT is the time limit in seconds of
-        each request and of the opening, or None. Raises `BadCycles` for another number of cycles, `NotStarted` where
-        the program can't be started, `ClusterRefused`, `BadName` where a key `name` of the cluster file isn't a string,
-        and `TimedOut`.
+        each request and of the opening, or None. Raises `BadCycles` for another number of cycles, `NoRoom` where a
+        journal has no room for them, `NotStarted` where the program can't be started, `ClusterRefused`, `BadName` where
+        a key `name` of the cluster file isn't a string, and `TimedOut`.
         """
         self._is_endless = endless or cycles is None
         try:
