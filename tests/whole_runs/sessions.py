@@ -404,6 +404,10 @@ class Sessions:
         for name, error in {"missing.toml": "Read", ".": "Read", "": "Read", str(long): "TooLong",
                             "receive-buffer/trace": "Toml", str(self.folder / "bytes.toml"): "Toml"}.items():
             self.runs.check(f"a session of {name!r}", [name, "--cycles", "1"], refused(error))
+        for cluster, cycles in ((THREE_NODES, 293), (THREE_NODES, 1024), (self.small, 3)):
+            self.runs.check(f"a session of {cycles} cycles without room", [cluster, "--cycles", str(cycles)],
+                            refused("NoRoom 0"), given=b"now\n")
+        self.check("a session of all cycles with room", THREE_NODES, 292, [("now", "open 0 0 0 1 1")])
         words, unread = [THREE_NODES, "--cycles", "1"], (GREETING.encode(), b"refused Read\n", 1)
         with Folder(os.open(EXAMPLES, os.O_RDONLY)) as given:
             self.runs.check("a session by a folder", words, unread, given=given)
