@@ -1,16 +1,15 @@
--- The lines of one slot more, and what the sender of a dynamic slot has.
-use Rattle.std.proofs.Common.{◌≡◌, ℕ, suc, ◌+◌, Bool, true, false, ◌&&◌, ◌||◌, eqb, List, [], ◌∷◌, ◌++◌, Option, Result}
-use Rattle.std.proofs.Common.{Ok, Err, refl, subst, sym, ap, add-one, ◌∙◌, arith}
+-- The lines of both channels, and what the sender of a dynamic slot has.
+use Rattle.std.proofs.Common.{◌≡◌, ℕ, Bool, true, false, ◌&&◌, ◌||◌, eqb, List, [], ◌∷◌, ◌++◌, Option, Result}
+use Rattle.std.proofs.Common.{Ok, Err, refl, sym, ap, ◌∙◌, arith}
 use Rattle.std.proofs.lemmas.Bool.{and_from, and_parts, cond-false}
 use Rattle.std.proofs.lemmas.Bool.Decides.{nat_tests}
 use Rattle.std.specs.List.{list_any}
 use Rattle.std.specs.Prelude.{OnOk}
-use Rattle.std.specs.Io.KnownBytes.{Appends}
-use Rattle.std.proofs.KnownBytes.{Appends-nil, Appends-trans}
+use Rattle.std.proofs.KnownBytes.{Appends-trans}
 use Rattle.fr_latency.proofs.UsedLemmas.{any_at}
 use Rattle.fr_latency.specs.Openings.{is_for, is_used, slot_after, slots_before}
 use Rattle.fr_picture.specs.Owners.{Adds}
-use Rattle.fr_picture.specs.Ranges.{AreRanges, AreRangeTexts, IsRangeText}
+use Rattle.fr_picture.specs.Ranges.{AreRanges, AreRangeTexts, range_text}
 use Rattle.fr_schedule.specs.Descriptions.{Description}
 use Rattle.fr_schedule.specs.SenderTable.{IsSender}
 use Rattle.fr_slots.specs.Admission.{includes}
@@ -43,7 +42,8 @@ any_for_slot cycle slot channel (b ∷ bs) any =
     one : (list_any (sends_at slot channel cycle) bs ≡ true → list_any (is_for slot channel) bs ≡ true)
         → (here : Bool) → sends_at slot channel cycle b ≡ here
         → (here || list_any (sends_at slot channel cycle) bs) ≡ true → list_any (is_for slot channel) (b ∷ bs) ≡ true
-    one later true is rest = ap (λ (x : Bool). x || list_any (is_for slot channel) bs) (for_slot cycle slot channel b is)
+    one later true is rest =
+        ap (λ (x : Bool). x || list_any (is_for slot channel) bs) (for_slot cycle slot channel b is)
     one later false is rest =
         or_later (is_for slot channel b) (list_any (is_for slot channel) bs) (later rest)
 
@@ -63,30 +63,11 @@ slot_again p slot dynamic = grind (arith, nat_tests)
 
 -- ---- the lines
 
-pub no_ranges : (d : Description) (cycle : ℕ) (channel : Channel) (old : Option (List ℕ))
-    → Adds (AreRangeTexts d cycle channel 0) old old
-unfolding AreRangeTexts
-no_ranges d cycle channel old = ([], refl, Appends-nil old)
-
-pub one_more_range : (d : Description) (cycle : ℕ) (channel : Channel) (slot number : ℕ)
-    (old mid new : Option (List ℕ)) → number ≡ slot + 1
-    → Adds (AreRangeTexts d cycle channel slot) old mid → Adds (IsRangeText d cycle channel number) mid new
-    → Adds (AreRangeTexts d cycle channel (slot + 1)) old new
-unfolding AreRangeTexts
-one_more_range d cycle channel slot number old mid new is before here =
-    let (texts, texts_are, added) = before in
-    let (last, last_is, added_last) = here in
-    let next : number ≡ suc slot = is ∙ add-one slot in (
-      texts ++ last,
-      subst (λ (n : ℕ). AreRangeTexts d cycle channel n (texts ++ last)) (sym (add-one slot)) (
-        texts,
-        last,
-        texts_are,
-        subst (λ (n : ℕ). IsRangeText d cycle channel n last) next last_is,
-        refl,
-      ),
-      Appends-trans old mid new texts last added added_last,
-    )
+-- the line of the same numbers
+pub range_moved : (channel : Channel) (slot node : ℕ) (p q : Parameters) (first low last high top up height size : ℕ)
+    → p ≡ q → first ≡ low → last ≡ high → top ≡ up → height ≡ size
+    → range_text p channel slot node first last top height ≡ range_text q channel slot node low high up size
+range_moved channel slot node p q first low last high top up height size e f l t h = cc
 
 pub both_ranges : {X E : Type 0} (r : Result X E) (d : Description) (cycle : ℕ) (old mid new : Option (List ℕ))
     → Adds (AreRangeTexts d cycle A 2047) old mid → OnOk r (Adds (AreRangeTexts d cycle B 2047) mid new)

@@ -1,17 +1,16 @@
 -- The dynamic segments of a picture: an element for each dynamic slot with a sender in the cycle, which names the
--- sender by the sender table. These elements share the room of the segment: their place isn't the time of the slot.
-use Rattle.std.specs.Prelude.{◌≡◌, ◌⊎◌, ℕ, zero, suc, ◌+◌, ◌/◌, ◌==◌, ◌<◌, ◌≤◌, nat_lt, Bool, true, false, List, []}
+-- sender by the sender table. The boxes share the room of the segment.
+use Rattle.std.specs.Prelude.{◌≡◌, ◌⊎◌, ℕ, ◌+◌, ◌/◌, ◌==◌, ◌<◌, ◌≤◌, nat_lt, Bool, List, []}
 use Rattle.std.specs.Prelude.{◌++◌, codes, Option, Some, None, slice_get, if◌then◌else◌}
 use Rattle.std.specs.Fmt.{decimal}
 use Rattle.std.specs.List.{find}
-use Rattle.fr_picture.specs.Places.{across, extent, row_of}
+use Rattle.fr_picture.specs.Places.{row_of}
+use Rattle.fr_picture.specs.Shares.{AreTexts, HasSender, HasNoSender, box_left, box_length, room_left, room_length}
 use Rattle.fr_schedule.specs.Descriptions.{Description}
-use Rattle.fr_schedule.specs.SenderTable.{IsSender}
 use Rattle.fr_slots.specs.Admission.{CycleClass, letter_of}
 use Rattle.fr_slots.specs.declared.channel.Channel.{Channel}
 use Rattle.fr_slots.specs.declared.plan.Buffer.{Buffer}
 use Rattle.fr_slots.specs.Faults.{latest_on, sends_at}
-use Rattle.fr_slots.specs.Parameters.{is_static_slot}
 use Rattle.fr_slots.specs.Plans.{Plan}
 use Rattle.fr_svg.specs.Elements.{group_end, placed_text, rect_text}
 use Rattle.fr_timing.specs.Segments.{dynamic_start, symbol_start}
@@ -73,31 +72,22 @@ sender_text plan cycle channel slot node left length =
 
 -- ---- the slots
 
--- a place in the room of the segment
-pub record Share : Type 0 where
-  pub left : ℕ
-  pub length : ℕ
-
--- the element of a dynamic slot with this sender
+-- the element of a dynamic slot with this sender, whose box has its share of the room
 pub record IsSentText (d : Description) (cycle : ℕ) (channel : Channel) (slot node : ℕ) (text : List ℕ) : Type 0 where
   pub plan : Plan
   pub at : slice_get d.plans node ≡ Some plan
-  pub share : Share
-  pub text_is : text ≡ sender_text plan cycle channel slot node share.left share.length
+  pub text_is : text
+      ≡ sender_text plan cycle channel slot node (box_left d cycle channel slot) (box_length d cycle channel slot)
 
 -- the slot is a dynamic one with this sender in the cycle, or it has no element
 abbrev pub IsSlotText : Description → ℕ → Channel → ℕ → List ℕ → Type 0
 IsSlotText d cycle channel slot text =
-    ((node : ℕ) × (is_static_slot d.params slot ≡ false) × IsSender d cycle slot channel node
-    × IsSentText d cycle channel slot node text)
-    ⊎ (((is_static_slot d.params slot ≡ true) ⊎ ((node : ℕ) → IsSender d cycle slot channel node → ⊥)) × (text ≡ []))
+    ((node : ℕ) × HasSender d cycle channel slot node × IsSentText d cycle channel slot node text)
+    ⊎ (HasNoSender d cycle channel slot × (text ≡ []))
 
 -- the elements of this number of slots, from the first on
-unfoldable pub AreSlotTexts : Description → ℕ → Channel → ℕ → List ℕ → Type 0
-AreSlotTexts d cycle channel zero text = text ≡ []
-AreSlotTexts d cycle channel (suc slot) text =
-    (before : List ℕ) × (last : List ℕ) × AreSlotTexts d cycle channel slot before
-    × IsSlotText d cycle channel (suc slot) last × (text ≡ before ++ last)
+abbrev pub AreSlotTexts : Description → ℕ → Channel → ℕ → List ℕ → Type 0
+AreSlotTexts d cycle channel slots text = AreTexts (IsSlotText d cycle channel) slots text
 
 -- ---- the segment
 
@@ -113,8 +103,7 @@ dynamic_box left length channel = dynamic_front channel ++ rect_text left (row_o
 abbrev pub IsRoomText : Description → ℕ → Channel → List ℕ → Type 0
 IsRoomText d cycle channel text =
     (slots : List ℕ) × AreSlotTexts d cycle channel 2047 slots
-    × (text ≡ dynamic_box (across d.params (dynamic_start d.params))
-    (extent d.params (dynamic_start d.params) (symbol_start d.params)) channel ++ slots)
+    × (text ≡ dynamic_box (room_left d.params) (room_length d.params) channel ++ slots)
 
 -- nothing for a cluster without a dynamic segment
 abbrev pub IsDynamicText : Description → ℕ → Channel → List ℕ → Type 0

@@ -1,5 +1,5 @@
 -- The command `schedule` on the text of a cluster file.
-use Rattle.std.specs.Prelude.{◌≡◌, ℕ, List, ◌++◌, length, Option, Result}
+use Rattle.std.specs.Prelude.{◌≡◌, ℕ, ◌<◌, List, ◌++◌, length, Option, Result}
 use Rattle.fr_files.specs.ClusterFiles.{Tells}
 use Rattle.fr_files.specs.declared.error.BenchError.{BenchError}
 use Rattle.fr_picture.specs.Dynamics.{IsDynamicText}
@@ -7,6 +7,7 @@ use Rattle.fr_picture.specs.Frames.{front_text}
 use Rattle.fr_picture.specs.Guards.{AreGuardRows}
 use Rattle.fr_picture.specs.Owners.{Adds, AreOwnerTexts}
 use Rattle.fr_picture.specs.Ranges.{AreRanges}
+use Rattle.fr_schedule.specs.Clusters.{IsCluster}
 use Rattle.fr_schedule.specs.Descriptions.{Description}
 use Rattle.fr_slots.specs.declared.channel.Channel.TheVariants.{A, B}
 use Rattle.fr_svg.specs.Elements.{picture_end}
@@ -27,6 +28,11 @@ pub record IsPicture (d : Description) (cycle : ℕ) (text : List ℕ) : Type 0 
   pub ranges_are : AreRanges d cycle ranges
   pub guards_are : AreGuardRows d cycle (length d.plans) guards
   pub text_is : text ≡ front_text d cycle ++ owners ++ dynamic_a ++ dynamic_b ++ ranges ++ guards ++ picture_end
+
+-- a cycle of a cluster has one picture: any two are the same text
+abbrev pub AreSamePictures : Type 0
+AreSamePictures = (d : Description) (cycle : ℕ) → IsCluster d → cycle < 64 → (text other : List ℕ)
+    → IsPicture d cycle text → IsPicture d cycle other → text ≡ other
 
 -- the output of `schedule` for a cluster
 abbrev pub HasPicture : ℕ → Description → Option (List ℕ) → Option (List ℕ) → Type 0

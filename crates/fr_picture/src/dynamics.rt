@@ -1,22 +1,25 @@
 //! The dynamic segment of a channel, with the slots that have a sender in the cycle.
 
-ghost use Rattle.std.specs.Prelude.{◌≡◌, ◌<◌, ◌≤◌, ◌^◌, false, OnOk, option_map};
+ghost use Rattle.std.specs.Prelude.{◌≡◌, ◌+◌, ◌-◌, ◌<◌, ◌≤◌, ◌^◌, max, OnOk, option_map};
 ghost use Rattle.std.specs.List.{find};
 ghost use Rattle.fr_picture.specs.Dynamics.{AreSlotTexts, buffer_text, class_text, cycles_text, dynamic_box};
-ghost use Rattle.fr_picture.specs.Dynamics.{dynamic_front, first_text, IsDynamicText, IsRoomText, IsSentText};
-ghost use Rattle.fr_picture.specs.Dynamics.{IsSlotText, never_class, never_sends, never_words, sender_front};
+ghost use Rattle.fr_picture.specs.Dynamics.{dynamic_front, first_text, IsDynamicText, IsRoomText, IsSlotText};
+ghost use Rattle.fr_picture.specs.Dynamics.{never_class, never_sends, never_words, sender_front};
 ghost use Rattle.fr_picture.specs.Dynamics.{sender_numbers, sender_text, sender_title, size_text};
 ghost use Rattle.fr_picture.specs.Owners.{Adds};
-ghost use Rattle.fr_schedule.specs.SenderTable.{IsSender};
+ghost use Rattle.fr_picture.specs.Shares.{box_left, box_length, end_of_shares, HasSender, IsPlace, room_left};
+ghost use Rattle.fr_picture.specs.Shares.{room_length};
 ghost use Rattle.fr_slots.specs.Faults.{sends_at};
-ghost use Rattle.fr_slots.specs.Parameters.{is_static_slot};
+ghost use Rattle.fr_slots.specs.Numbers.{last_slot};
 ghost use Rattle.fr_text.specs.Writing.{Writes};
 
 use crate::scale::{CHANNEL_HEIGHT, NUMBER_LENGTH, across, extent, row_of};
+use crate::shares::{Sender, count_senders, length_of_shares, sender_in};
 use fr_schedule::cluster::Cluster;
 use fr_slots::channel::Channel;
 use fr_slots::filter::CycleFilter;
 use fr_slots::numbers::{Cycle, LAST_SLOT, NodeId, SlotId};
+use fr_slots::params::Params;
 use fr_slots::plan::{Buffer, NodePlan};
 use fr_svg::elements::{close_group, write_number, write_rect};
 use fr_timing::segments::segments_of;
@@ -25,32 +28,6 @@ use std::io::Write;
 
 /// The length of a box that has room for the number of a slot.
 const SLOT_LENGTH: u64 = 300;
-
-/// Returns the node that sends in the dynamic slot of this number in the cycle.
-fn sender_in(
-    cluster: &Cluster,
-    cycle: Cycle,
-    number: u16,
-    channel: Channel,
-) -> Option<(SlotId, NodeId)> {
-    let slot = SlotId::new(number)?;
-    if cluster.params().is_static(slot) {
-        return None;
-    }
-    let node = cluster.sender(cycle, slot, channel)?;
-    Some((slot, node))
-}
-
-/// Returns the number of dynamic slots of the channel that have a sender in the cycle.
-pub(crate) fn count_senders(cluster: &Cluster, cycle: Cycle, channel: Channel) -> u64 {
-    let mut count: u64 = 0;
-    for number in 1..=LAST_SLOT {
-        if sender_in(cluster, cycle, number, channel).is_some() {
-            count = count.saturating_add(1);
-        }
-    }
-    count
-}
 
 /// Returns whether the buffer sends in the slot.
 fn sends_at(buffer: &Buffer, slot: SlotId, channel: Channel, cycle: Cycle) -> bool
@@ -243,113 +220,95 @@ fn write_sender<W: Write>(
     close_group(writer)
 }
 
-/// Writes the element of a dynamic slot in which the node sends.
+/// Writes the element of a dynamic slot in which a node sends.
 fn write_sent<W: Write>(
     writer: &mut W,
     cluster: &Cluster,
     cycle: Cycle,
     channel: Channel,
-    slot: SlotId,
-    node: NodeId,
+    sender: Sender,
     left: u64,
     length: u64,
 ) -> io::Result<()>
-    requires sender { IsSender cluster.now cycle slot channel node }
-    requires left { left < 2 ^ 61 }
-    requires length { length < 2 ^ 62 }
+    requires sender { HasSender cluster.now cycle channel sender.slot sender.node }
+    requires left { left ≡ box_left cluster.now cycle channel sender.slot }
+    requires length { length ≡ box_length cluster.now cycle channel sender.slot }
+    requires near { left < 2 ^ 61 }
+    requires short { length < 2 ^ 62 }
     ensures { OnOk result
-        (Adds (IsSentText cluster.now cycle channel slot node) (W.contents writer.old) (W.contents writer.new)) }
+        (Adds (IsSlotText cluster.now cycle channel sender.slot) (W.contents writer.old) (W.contents writer.new)) }
 {
-    match cluster.node(node) {
-        Some(plan) => write_sender(writer, plan, cycle, channel, slot, node, left, length),
+    match cluster.node(sender.node) {
+        Some(plan) => write_sender(
+            writer,
+            plan,
+            cycle,
+            channel,
+            sender.slot,
+            sender.node,
+            left,
+            length,
+        ),
         None => Ok(()),
     }
 }
 
-/// Writes the element of a dynamic slot, if it has a sender in the cycle.
-fn write_open_slot<W: Write>(
-    writer: &mut W,
-    cluster: &Cluster,
-    cycle: Cycle,
-    channel: Channel,
-    slot: SlotId,
-    left: u64,
-    length: u64,
-) -> io::Result<()>
-    requires dynamic { is_static_slot cluster.now.params slot ≡ false }
-    requires left { left < 2 ^ 61 }
-    requires length { length < 2 ^ 62 }
-    ensures { OnOk result
-        (Adds (IsSlotText cluster.now cycle channel slot) (W.contents writer.old) (W.contents writer.new)) }
+/// Returns the distance of the room of the dynamic segment from the left.
+fn room_left(params: &Params) -> u64
+    ensures value { result ≡ room_left params.now }
+    ensures small { result < 2 ^ 47 }
 {
-    match cluster.sender(cycle, slot, channel) {
-        Some(node) => write_sent(writer, cluster, cycle, channel, slot, node, left, length),
-        None => Ok(()),
-    }
+    across(params, segments_of(params).dynamic)
 }
 
-/// Writes the element of a slot, if it is a dynamic one and has a sender in the cycle.
-fn write_slot<W: Write>(
-    writer: &mut W,
-    cluster: &Cluster,
-    cycle: Cycle,
-    channel: Channel,
-    slot: SlotId,
-    left: u64,
-    length: u64,
-) -> io::Result<()>
-    requires left { left < 2 ^ 61 }
-    requires length { length < 2 ^ 62 }
-    ensures { OnOk result
-        (Adds (IsSlotText cluster.now cycle channel slot) (W.contents writer.old) (W.contents writer.new)) }
+/// Returns the length of the room of the dynamic segment.
+fn room_length(params: &Params) -> u64
+    ensures value { result ≡ room_length params.now }
+    ensures small { result < 2 ^ 47 }
 {
-    let fixed = cluster.params().is_static(slot);
-    if fixed {
-        Ok(())
-    } else {
-        write_open_slot(writer, cluster, cycle, channel, slot, left, length)
-    }
+    let segments = segments_of(params);
+    extent(params, segments.dynamic, segments.symbol)
 }
 
-/// The room of the dynamic segment, and the number of slots that share it.
-#[derive(Clone, Copy)]
-struct Room {
-    left: u64,
-    length: u64,
-    count: u64,
-}
-
-/// Returns where the share of this index begins.
-fn share_of(room: Room, index: u64) -> u64
-    requires left { room.left < 2 ^ 60 }
-    requires length { room.length < 2 ^ 60 }
-    requires count { 1 ≤ room.count }
-    ensures { result < 2 ^ 61 }
+/// Returns the distance from the left at which so many of the equal shares of the room end.
+#[tactic(auto, unfolding(crate::specs::Shares::end_of_shares))]
+fn end_of_shares(params: &Params, count: u64, shares: u64) -> u64
+    requires count { 1 ≤ count }
+    requires shares { shares ≤ last_slot }
+    ensures value { result ≡ end_of_shares params.now count shares }
+    ensures small { result < 2 ^ 59 }
 {
-    room.left + (index.saturating_mul(room.length) / room.count).min(room.length)
+    room_left(params) + length_of_shares(room_length(params), count, shares)
 }
 
-/// Returns the length of a share, at least 1, so that it can be seen.
+/// Returns the length of a box, at least 1, so that it can be seen.
 fn length_of(start: u64, end: u64) -> u64
-    requires { end < 2 ^ 61 }
-    ensures { result < 2 ^ 62 }
+    requires { end < 2 ^ 59 }
+    ensures value { result ≡ max (end - start) 1 }
+    ensures small { result < 2 ^ 59 }
 {
     end.saturating_sub(start).max(1)
 }
 
-/// Returns the index of the share after that of a slot. A slot without a sender has none.
-pub(crate) fn index_after(
+/// Writes the element of a dynamic slot in which a node sends, after this number of such slots among so many.
+fn write_share<W: Write>(
+    writer: &mut W,
     cluster: &Cluster,
     cycle: Cycle,
     channel: Channel,
-    number: u16,
-    index: u64,
-) -> u64 {
-    if sender_in(cluster, cycle, number, channel).is_some() {
-        index.saturating_add(1)
-    } else {
-        index
-    }
+    sender: Sender,
+    before: u64,
+    count: u64,
+) -> io::Result<()>
+    requires sender { HasSender cluster.now cycle channel sender.slot sender.node }
+    requires place { IsPlace cluster.now cycle channel sender.slot before count }
+    ensures { OnOk result
+        (Adds (IsSlotText cluster.now cycle channel sender.slot) (W.contents writer.old) (W.contents writer.new)) }
+{
+    let left = end_of_shares(cluster.params(), count, before);
+    let end = end_of_shares(cluster.params(), count, before + 1);
+    let length = length_of(left, end);
+    write_sent(writer, cluster, cycle, channel, sender, left, length)
 }
 
 /// Writes the elements of all dynamic slots.
@@ -358,21 +317,16 @@ fn write_slots<W: Write>(
     cluster: &Cluster,
     cycle: Cycle,
     channel: Channel,
-    room: Room,
 ) -> io::Result<()>
-    requires left { room.left < 2 ^ 60 }
-    requires length { room.length < 2 ^ 60 }
-    requires count { 1 ≤ room.count }
     ensures { OnOk result
         (Adds (AreSlotTexts cluster.now cycle channel 2047) (W.contents writer.old) (W.contents writer.new)) }
 {
-    let mut index: u64 = 0;
+    let count = count_senders(cluster, cycle, channel);
+    let mut before: u64 = 0;
     for earlier in 0..LAST_SLOT {
-        let start = share_of(room, index);
-        index = index_after(cluster, cycle, channel, earlier + 1, index);
-        let length = length_of(start, share_of(room, index));
-        if let Some(slot) = SlotId::new(earlier + 1) {
-            write_slot(writer, cluster, cycle, channel, slot, start, length)?;
+        if let Some(sender) = sender_in(cluster, cycle, channel, earlier + 1) {
+            write_share(writer, cluster, cycle, channel, sender, before, count)?;
+            before += 1;
         }
     }
     Ok(())
@@ -410,17 +364,8 @@ fn write_room<W: Write>(
         (Adds (IsRoomText cluster.now cycle channel) (W.contents writer.old) (W.contents writer.new)) }
 {
     let params = cluster.params();
-    let segments = segments_of(params);
-    let left = across(params, segments.dynamic);
-    let length = extent(params, segments.dynamic, segments.symbol);
-    let count = count_senders(cluster, cycle, channel).max(1);
-    write_box(writer, left, length, channel)?;
-    let room = Room {
-        left,
-        length,
-        count,
-    };
-    write_slots(writer, cluster, cycle, channel, room)
+    write_box(writer, room_left(params), room_length(params), channel)?;
+    write_slots(writer, cluster, cycle, channel)
 }
 
 /// Writes the dynamic segment of a channel, in which the slots with a sender share the room.

@@ -13,16 +13,17 @@
 //! # Definitions
 //!
 //! - `Places`, `Frames`: places in a picture; its front, with the style, the heading, the segments and the names.
+//! - `Shares`: the dynamic slots that have a sender, and the places of their boxes and lines.
 //! - `Owners`, `Dynamics`, `Ranges`, `Guards`: the elements of the static slots, those of the dynamic slots, the
 //!   minislots at which these open, and the rows of the guardians.
-//! - `Schedules`: the picture.
+//! - `Schedules`: the picture, of which a cycle of a cluster has one.
 //!
 //! # Inner workings
 //!
 //! A picture is written part by part: the front (`frame`), the static slots by the sender table (`owners`), the dynamic
 //! segments (`dynamics`) with the ranges of their slots (`ranges`), and the guardians' intervals (`guards`). The clause
-//! gives the text of each part. It leaves free where the box of a dynamic slot lies, and at which height the line of a
-//! range. The ranges are gathered before, since they need the openings of all slots.
+//! gives each byte of each part. Boxes and lines of dynamic slots share their room, so `shares` counts the slots that
+//! have a sender. The ranges are gathered before, since they need the openings of all slots.
 #![tactic(auto)]
 
 mod dynamics;
@@ -32,3 +33,4 @@ pub mod owners;
 pub mod picture;
 mod ranges;
 pub mod scale;
+mod shares;

@@ -6,7 +6,7 @@ ghost use Rattle.fr_files.specs.Inputs.{ForText};
 ghost use Rattle.fr_latency.specs.Tables.{AreOpenings};
 ghost use Rattle.fr_picture.specs.Owners.{Adds};
 ghost use Rattle.fr_picture.specs.Ranges.{AreRanges};
-ghost use Rattle.fr_picture.specs.Schedules.{Draws, IsPicture};
+ghost use Rattle.fr_picture.specs.Schedules.{AreSamePictures, Draws, IsPicture};
 ghost use Rattle.fr_text.specs.Writing.{Writes};
 
 use crate::dynamics::write_dynamic;
@@ -98,17 +98,8 @@ fn write_picture<W: Write>(
     close_picture(writer)
 }
 
-/// Returns the picture of a cycle: an SVG text (project-defined).
-///
-/// All its parts are of this cycle:
-///
-/// - the four segments;
-/// - for each channel, the static slots with their owners, the dynamic slots with a sender, and for each of these the
-///   minislots at which it can open in a run without faults;
-/// - for each node and channel, the intervals in which its guardian is open.
-///
-/// The only error is `Memory`.
-pub fn picture_of(alloc: Global, cluster: &Cluster, cycle: Cycle) -> Result<Vec<u8>, BenchError>
+/// Returns the text of the picture of a cycle.
+fn picture_text(alloc: Global, cluster: &Cluster, cycle: Cycle) -> Result<Vec<u8>, BenchError>
     ensures picture { IfOk result (λ text. IsPicture cluster.now cycle text.items) }
     ensures refused { IfErr result (λ e. e ≡ refusal.Memory) }
 {
@@ -120,6 +111,24 @@ pub fn picture_of(alloc: Global, cluster: &Cluster, cycle: Cycle) -> Result<Vec<
         // A list of bytes takes no more only if an allocation fails.
         Err(_) => Err(BenchError::Memory),
     }
+}
+
+/// Returns the picture of a cycle: an SVG text (project-defined).
+///
+/// All its parts are of this cycle:
+///
+/// - the four segments;
+/// - for each channel, the static slots with their owners, the dynamic slots with a sender, and for each of these the
+///   minislots at which it can open in a run without faults;
+/// - for each node and channel, the intervals in which its guardian is open.
+///
+/// A cycle of a cluster has one picture. The only error is `Memory`.
+pub fn picture_of(alloc: Global, cluster: &Cluster, cycle: Cycle) -> Result<Vec<u8>, BenchError>
+    ensures picture { IfOk result (λ text. IsPicture cluster.now cycle text.items) }
+    ensures same { AreSamePictures }
+    ensures refused { IfErr result (λ e. e ≡ refusal.Memory) }
+{
+    picture_text(alloc, cluster, cycle)
 }
 
 /// Reads a cluster file to its end, and writes a picture of one of its cycles (project-defined).

@@ -1,20 +1,21 @@
 //! The minislots at which dynamic slots can open.
 
-ghost use Rattle.std.specs.Prelude.{◌≡◌, ◌+◌, ◌<◌, ◌≤◌, false, true, OnOk};
-ghost use Rattle.fr_latency.specs.Openings.{is_used, last_opening, slots_before};
+ghost use Rattle.std.specs.Prelude.{◌≡◌, ◌+◌, ◌*◌, ◌/◌, ◌<◌, ◌≤◌, false, max, min, true, OnOk};
+ghost use Rattle.fr_latency.specs.Openings.{is_used, slots_before};
 ghost use Rattle.fr_latency.specs.Rows.{AreRows};
 ghost use Rattle.fr_latency.specs.Tables.{AreOpenings};
 ghost use Rattle.fr_picture.specs.Owners.{Adds};
-ghost use Rattle.fr_picture.specs.Ranges.{AreRangeTexts, IsRangeText, latest_of, minislot_start, range_front, range_text};
-ghost use Rattle.fr_schedule.specs.Clusters.{IsCluster};
+ghost use Rattle.fr_picture.specs.Places.{row_of};
+ghost use Rattle.fr_picture.specs.Ranges.{AreRangeTexts, IsRangeText, latest_of, minislot_start, range_front};
+ghost use Rattle.fr_picture.specs.Ranges.{range_text};
+ghost use Rattle.fr_picture.specs.Shares.{HasSender, IsPlace};
 ghost use Rattle.fr_schedule.specs.Descriptions.{Description};
-ghost use Rattle.fr_schedule.specs.SenderTable.{IsSender};
 ghost use Rattle.fr_slots.specs.Numbers.{last_slot};
 ghost use Rattle.fr_slots.specs.Parameters.{is_static_slot};
 ghost use Rattle.fr_text.specs.Writing.{Writes};
 
-use crate::dynamics::{count_senders, index_after};
 use crate::scale::{CHANNEL_HEIGHT, across, extent, row_of};
+use crate::shares::{Sender, count_senders, length_of_shares, sender_in};
 use fr_latency::openings::{Openings, Row};
 use fr_schedule::cluster::Cluster;
 use fr_slots::channel::Channel;
@@ -128,76 +129,55 @@ fn write_range<W: Write>(
     close_group(writer)
 }
 
-/// Writes the line of a dynamic slot in which the node sends, if the slot can open in the cycle.
+/// Returns the place of the line of a dynamic slot with a sender, after this number of such slots among so many.
+fn strip_of(channel: Channel, before: u64, count: u64) -> Strip
+    requires count { 1 ≤ count }
+    requires before { before ≤ last_slot }
+    ensures top { result.top ≡ row_of channel + 350 + before * 70 / count }
+    ensures height { result.height ≡ min (max (70 / count) 4) 14 }
+{
+    Strip {
+        top: row_of(channel) + (CHANNEL_HEIGHT - STRIP) + length_of_shares(STRIP, count, before),
+        height: (STRIP / count).max(4).min(14),
+    }
+}
+
+/// Writes the line of a dynamic slot in which a node sends, if the slot can open in the cycle. It comes after this
+/// number of such slots among so many.
 fn write_sent_range<W: Write>(
     writer: &mut W,
     cluster: &Cluster,
     openings: &Openings,
     cycle: Cycle,
     channel: Channel,
-    slot: SlotId,
-    node: NodeId,
-    strip: Strip,
+    sender: Sender,
+    before: u64,
+    count: u64,
 ) -> io::Result<()>
     requires openings { AreOpenings cluster.now openings.now }
-    requires dynamic { is_static_slot cluster.now.params slot ≡ false }
-    requires sender { IsSender cluster.now cycle slot channel node }
+    requires sender { HasSender cluster.now cycle channel sender.slot sender.node }
+    requires place { IsPlace cluster.now cycle channel sender.slot before count }
     ensures { OnOk result
-        (Adds (IsRangeText cluster.now cycle channel slot) (W.contents writer.old) (W.contents writer.new)) }
+        (Adds (IsRangeText cluster.now cycle channel sender.slot) (W.contents writer.old) (W.contents writer.new)) }
 {
+    let slot = sender.slot;
     let last = latest_of(cluster, openings, cycle, channel, slot);
     if last == 0 {
         return Ok(());
     }
     // Each dynamic slot before takes one minislot at least.
     let first = slots_before(cluster.params(), slot) + 1;
+    let strip = strip_of(channel, before, count);
     write_range(
         writer,
         cluster.params(),
         channel,
         slot,
-        node,
+        sender.node,
         first,
         last,
         strip,
     )
-}
-
-/// Writes the line of a slot, if it is a dynamic one that has a sender in the cycle and can open there.
-fn write_slot_range<W: Write>(
-    writer: &mut W,
-    cluster: &Cluster,
-    openings: &Openings,
-    cycle: Cycle,
-    channel: Channel,
-    slot: SlotId,
-    strip: Strip,
-) -> io::Result<()>
-    requires { AreOpenings cluster.now openings.now }
-    ensures { OnOk result
-        (Adds (IsRangeText cluster.now cycle channel slot) (W.contents writer.old) (W.contents writer.new)) }
-{
-    let fixed = cluster.params().is_static(slot);
-    if fixed {
-        return Ok(());
-    }
-    match cluster.sender(cycle, slot, channel) {
-        Some(node) => write_sent_range(
-            writer, cluster, openings, cycle, channel, slot, node, strip,
-        ),
-        None => Ok(()),
-    }
-}
-
-/// Returns the place of the line of this index. The lines of a channel share its strip.
-fn strip_of(channel: Channel, count: u64, index: u64) -> Strip
-    requires { 1 ≤ count }
-{
-    let below = row_of(channel).saturating_add(CHANNEL_HEIGHT - STRIP);
-    Strip {
-        top: below.saturating_add(index.saturating_mul(STRIP) / count),
-        height: (STRIP / count).max(4).min(14),
-    }
 }
 
 /// Writes a line for each dynamic slot of the channel that has a sender in the cycle and can open there.
@@ -212,13 +192,14 @@ pub(crate) fn write_ranges<W: Write>(
     ensures { OnOk result
         (Adds (AreRangeTexts cluster.now cycle channel 2047) (W.contents writer.old) (W.contents writer.new)) }
 {
-    let count = count_senders(cluster, cycle, channel).max(1);
-    let mut index: u64 = 0;
+    let count = count_senders(cluster, cycle, channel);
+    let mut before: u64 = 0;
     for earlier in 0..LAST_SLOT {
-        let strip = strip_of(channel, count, index);
-        index = index_after(cluster, cycle, channel, earlier + 1, index);
-        if let Some(slot) = SlotId::new(earlier + 1) {
-            write_slot_range(writer, cluster, openings, cycle, channel, slot, strip)?;
+        if let Some(sender) = sender_in(cluster, cycle, channel, earlier + 1) {
+            write_sent_range(
+                writer, cluster, openings, cycle, channel, sender, before, count,
+            )?;
+            before += 1;
         }
     }
     Ok(())

@@ -22,7 +22,7 @@ pub const NUMBER_LENGTH: u64 = 150;
 #[tactic(auto, unfolding(crate::specs::Places::across))]
 pub fn across(params: &Params, macrotick: u32) -> u64
     ensures value { result ≡ across params.now macrotick }
-    ensures small { result < 2 ^ 60 }
+    ensures small { result < 2 ^ 47 }
 {
     LEFT + u64::from(macrotick) * LENGTH / u64::from(params.cycle_mt)
 }
@@ -31,7 +31,7 @@ pub fn across(params: &Params, macrotick: u32) -> u64
 #[tactic(auto, unfolding(crate::specs::Places::extent))]
 pub fn extent(params: &Params, start: u32, end: u32) -> u64
     ensures value { result ≡ extent params.now start end }
-    ensures small { result < 2 ^ 60 }
+    ensures small { result < 2 ^ 47 }
 {
     across(params, end)
         .saturating_sub(across(params, start))

@@ -1,4 +1,3 @@
-use Rattle.std.proofs.Common.{get_or}
 use Rattle.fr_picture.proofs.TickLemmas.{no_ticks, one_tick}
 use Rattle.fr_picture.proofs.frame.write_ticks.Goals as goal
 
