@@ -61,11 +61,11 @@ taken channel bytes e =
     (frame_check channel (take (length bytes - 3) bytes))) e in
     record { long = p.first; whole = p.second; checked = p.third }
 
-record IsRead (channel : Channel) (bytes : List ℕ) (f : Fields) : Type 0 where
-  none : refusal channel bytes ≡ None
-  fields_are : fields_of bytes ≡ f
+pub record IsRead (channel : Channel) (bytes : List ℕ) (f : Fields) : Type 0 where
+  pub none : refusal channel bytes ≡ None
+  pub fields_are : fields_of bytes ≡ f
 
-read : (channel : Channel) (bytes : List ℕ) (f : Fields) → decoded channel bytes ≡ Some f → IsRead channel bytes f
+pub read : (channel : Channel) (bytes : List ℕ) (f : Fields) → decoded channel bytes ≡ Some f → IsRead channel bytes f
 unfolding decoded
 read channel bytes f e = by (refusal channel bytes) refl e
   where

@@ -12,3 +12,8 @@ pub mod CaptureLaws
 mod OwnedLemmas
 pub mod ListenLaws
 pub mod OwnersLaws
+mod SizeLemmas
+mod SingleLemmas
+mod NextLemmas
+mod PassageLemmas
+mod CycleLemmas

@@ -68,7 +68,7 @@ all_at test [] k x all at = absurd (let none : ⊥ = cc in none)
 all_at test (y ∷ xs) zero x all at = ap test (sym (same_some y x at)) ∙ both_first (test y) (list_all test xs) all
 all_at test (y ∷ xs) (suc k) x all at = all_at test xs k x (both_rest (test y) (list_all test xs) all) at
 
-filter_has : {X : Type 0} (test : X → Bool) (xs : List X) (k : ℕ) (x : X) → slice_get xs k ≡ Some x → test x ≡ true
+pub filter_has : {X : Type 0} (test : X → Bool) (xs : List X) (k : ℕ) (x : X) → slice_get xs k ≡ Some x → test x ≡ true
     → IsAmong (filter test xs) x
 filter_has test [] k x at passing = absurd (let none : ⊥ = cc in none)
 filter_has test (y ∷ xs) zero x at passing =
@@ -81,15 +81,15 @@ filter_has test (y ∷ xs) (suc k) x at passing = by (test y) (filter_has test x
     by false rest = rest
 
 -- an item that a filter kept
-record IsKept {X : Type 0} (test : X → Bool) (xs : List X) (x : X) : Type 0 where
-  place : ℕ
-  at : slice_get xs place ≡ Some x
-  passing : test x ≡ true
+pub record IsKept {X : Type 0} (test : X → Bool) (xs : List X) (x : X) : Type 0 where
+  pub place : ℕ
+  pub at : slice_get xs place ≡ Some x
+  pub passing : test x ≡ true
 
 kept_more : {X : Type 0} (test : X → Bool) (y : X) (xs : List X) (x : X) → IsKept test xs x → IsKept test (y ∷ xs) x
 kept_more test y xs x k = record { place = suc k.place; at = k.at; passing = k.passing }
 
-filter_from : {X : Type 0} (test : X → Bool) (xs : List X) (k : ℕ) (x : X) → slice_get (filter test xs) k ≡ Some x
+pub filter_from : {X : Type 0} (test : X → Bool) (xs : List X) (k : ℕ) (x : X) → slice_get (filter test xs) k ≡ Some x
     → IsKept test xs x
 filter_from test [] k x at = absurd (let none : ⊥ = cc in none)
 filter_from test (y ∷ xs) k x at = by (test y) refl k at (λ j there. filter_from test xs j x there)
@@ -223,7 +223,7 @@ static_slot_is p w channel slot fits static slot_is =
     by A is = ap (static_slot_fits p) (sym is) ∙ both_first (static_slot_fits p w.a) (static_slot_fits p w.b) parts
     by B is = ap (static_slot_fits p) (sym is) ∙ both_rest (static_slot_fits p w.a) (static_slot_fits p w.b) parts
 
-dynamic_slot_is : (p : Parameters) (w : Opportunity) (channel : Channel) (slot : ℕ) → window_fits p w ≡ true
+pub dynamic_slot_is : (p : Parameters) (w : Opportunity) (channel : Channel) (slot : ℕ) → window_fits p w ≡ true
     → is_static w ≡ false → slot_of w channel ≡ Some slot → is_static_slot p slot ≡ false
 dynamic_slot_is p w channel slot fits dynamic slot_is =
     not-true (is_static_slot p slot) (by channel slot_is)
@@ -402,7 +402,7 @@ module _ (d : Description) (cycles : ℕ) (interfaces : List State) (rs : List R
       passes_of : ℕ → Bool
       passes_of node = passes d node r.window channel
 
-  sent_due : (k slot : ℕ) (r : Recorded) (channel : Channel) → slice_get rs k ≡ Some r
+  pub sent_due : (k slot : ℕ) (r : Recorded) (channel : Channel) → slice_get rs k ≡ Some r
       → slot_of r.window channel ≡ Some slot → (i : ℕ) (t : Sent) → slice_get r.sent i ≡ Some t
       → passed_on channel t ≡ true → SpellsDue d r.window channel slot t.bytes
   sent_due k slot r channel at slot_is i t there through =

@@ -96,7 +96,7 @@ some_buffer plan before number commit e = by (buffer_at plan number) refl e
     by (Some b) is f = record { buffer = b; at = is }
 
 -- the first buffer that sends in the slot is the transmitter of its window
-transmitter_is : (plan : Plan) (w : Opportunity) (channel : Channel) (slot : ℕ) → slot_of w channel ≡ Some slot
+pub transmitter_is : (plan : Plan) (w : Opportunity) (channel : Channel) (slot : ℕ) → slot_of w channel ≡ Some slot
     → buffer_in slot channel w.cycle plan ≡ option_and_then (buffer_at plan) (transmitter plan w channel)
 transmitter_is plan w channel slot slot_is =
     find_position (sends_at slot channel w.cycle) plan.buffers
@@ -224,7 +224,7 @@ owners_send d node s before w a b channel slot cluster fetched window =
 
 -- ---- dynamic windows
 
-not_owned : (plan : Plan) (w : Opportunity) (channel : Channel) (slot : ℕ) → is_static w ≡ false
+pub not_owned : (plan : Plan) (w : Opportunity) (channel : Channel) (slot : ℕ) → is_static w ≡ false
     → line_of plan w channel slot ≡ None
 not_owned plan w channel slot dynamic =
     cond-false (is_static w) (ownership plan.owned slot channel w.cycle) None dynamic

@@ -68,7 +68,7 @@ five n = refl
 three : (n : ℕ) → length (bytes_high_first 3 n) ≡ 3
 three n = refl
 
-length-frame : (f : Fields) (channel : Channel) → length (encoded f channel) ≡ 8 + length f.payload
+pub length-frame : (f : Fields) (channel : Channel) → length (encoded f channel) ≡ 8 + length f.payload
 unfolding encoded
 length-frame f channel =
     omega (
@@ -92,7 +92,7 @@ all_kept p q (x ∷ xs) e =
     by false here rest = rest
 
 -- if all that passed is of one node, it is that node's
-passed_mine : (channel : Channel) (n : ℕ) (xs : List Sent)
+pub passed_mine : (channel : Channel) (n : ℕ) (xs : List Sent)
     → ((k : ℕ) (t : Sent) → slice_get xs k ≡ Some t → passed_on channel t ≡ true → t.node ≡ n)
     → all_passed channel xs ≡ all_passed channel (own channel n xs)
 passed_mine channel n [] mine = refl

@@ -3,3 +3,4 @@ pub mod Alarms
 pub mod Offering
 pub mod Captured
 pub mod Listening
+pub mod Runs
