@@ -43,7 +43,7 @@ abbrev pub AreHeardAt : Description → Channel → List Recorded → Type 0
 AreHeardAt d channel [] = Unit {0}
 AreHeardAt d channel (r ∷ rs) = IsHeardAt d channel r × AreHeardAt d channel rs
 
-pub frames_of : (d : Description) (channel : Channel) (rs : List Recorded) → AreHeardAt d channel rs → List Fields
+abbrev pub frames_of : (d : Description) (channel : Channel) (rs : List Recorded) → AreHeardAt d channel rs → List Fields
 frames_of d channel [] h = []
 frames_of d channel (r ∷ rs) h = with_frame d channel r h.0 (frames_of d channel rs h.1)
 
@@ -189,10 +189,10 @@ module _ (d : Description) (cycles : ℕ) (channel : Channel) (cluster : IsClust
       → statics_of (this_cycle (before ++ rs)) ≡ d.params.static_slots
       → FollowOn d channel s (frames_of d channel rs h)
   unfolding AllAfter
-  follow before [] h s all at end k low high =
+  follow before [] h s all at end =
       let over : statics_of (this_cycle before) ≡ d.params.static_slots =
       ap (λ (l : List Recorded). statics_of (this_cycle l)) (sym (append-nil before)) ∙ end in
-      at.free k low (omega (arith, high, over))
+      λ k low high. at.free k low (omega (arith, high, over))
   follow before (r ∷ rs) h s all at end =
       step before r h.0 s (frames_of d channel rs h.1) at (next_window d.params cycles before r.window all.0.0)
       (λ t here. follow (before ++ r ∷ []) rs h.1 t all.1 here
