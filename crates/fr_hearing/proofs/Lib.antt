@@ -17,3 +17,5 @@ mod SingleLemmas
 mod NextLemmas
 mod PassageLemmas
 mod CycleLemmas
+mod HearingLemmas
+pub mod RunLaws
