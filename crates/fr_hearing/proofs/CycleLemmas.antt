@@ -186,21 +186,22 @@ module _ (d : Description) (cycles : ℕ) (channel : Channel) (cluster : IsClust
 
   follow : (before rs : List Recorded) (h : AreHeardAt d channel rs) (s : Spot)
       → AllAfter (IsRecorded d cycles) before rs → IsAt d channel (course_of d.params cycles before) s
-      → statics_of (this_cycle (before ++ rs)) ≡ d.params.static_slots
+      → d.params.static_slots ≤ statics_of (this_cycle (before ++ rs))
       → FollowOn d channel s (frames_of d channel rs h)
   unfolding AllAfter
   follow before [] h s all at end =
-      let over : statics_of (this_cycle before) ≡ d.params.static_slots =
-      ap (λ (l : List Recorded). statics_of (this_cycle l)) (sym (append-nil before)) ∙ end in
+      let over : d.params.static_slots ≤ statics_of (this_cycle before) =
+      subst (λ (l : List Recorded). d.params.static_slots ≤ statics_of (this_cycle l)) (append-nil before) end in
       λ k low high. at.free k low (omega (arith, high, over))
   follow before (r ∷ rs) h s all at end =
       step before r h.0 s (frames_of d channel rs h.1) at (next_window d.params cycles before r.window all.0.0)
       (λ t here. follow (before ++ r ∷ []) rs h.1 t all.1 here
-      (ap (λ (l : List Recorded). statics_of (this_cycle l)) (append_assoc before (r ∷ []) rs) ∙ end))
+      (subst (λ (l : List Recorded). d.params.static_slots ≤ statics_of (this_cycle l))
+      (sym (append_assoc before (r ∷ []) rs)) end))
 
   -- the whole record
   pub from_start : (rs : List Recorded) (h : AreHeardAt d channel rs) → AllAfter (IsRecorded d cycles) [] rs
-      → 1 ≤ length rs → statics_of (this_cycle rs) ≡ d.params.static_slots
+      → 1 ≤ length rs → d.params.static_slots ≤ statics_of (this_cycle rs)
       → Begins d channel 0 (frames_of d channel rs h)
   unfolding AllAfter
   from_start [] h all some end = absurd (let none : ⊥ = omega (arith, some) in none)

@@ -94,7 +94,7 @@ module _ (w : WorldState) (head : Headline w) (channel : Channel) (healthy : IsH
       (world_follows w head.agrees)
       (λ n s here. let c = world_configured w head.agrees n s here in c.params_are)
       (λ n s here. let c = world_configured w head.agrees n s here in c.plan_at)
-      as_many head.run.recorded healthy.sound 0 k s r channel (slice_get-get_or w.interfaces 0 no_interface some) at in
+      as_many head.run.recorded channel healthy.sound 0 k s r (slice_get-get_or w.interfaces 0 no_interface some) at in
       fetch_fits d 0 s h.before r.window h.a h.b h.fetched_is
 
   silent : all_passed channel r.sent ≡ [] → heard w.bus.cluster.params r channel ≡ Silence
@@ -109,7 +109,7 @@ module _ (w : WorldState) (head : Headline w) (channel : Channel) (healthy : IsH
       owned : (node : ℕ) → IsSender w.bus.cluster r.window.cycle slot channel node → ⊥
       owned node sender =
           let static_slot = static_slot_is w.bus.cluster.params r.window channel slot window_here static slot_is in
-          let heard_is = owners_are_heard w head healthy.sound k slot node r channel at (healthy.intact k r at) static
+          let heard_is = owners_are_heard w head channel healthy.sound k slot node r at (healthy.intact k r at) static
           slot_is
           (record {
             plan = sender.plan;
@@ -162,12 +162,12 @@ module _ (w : WorldState) (head : Headline w) (channel : Channel) (healthy : IsH
           (legal_at w.interfaces head.legal) (world_follows w head.agrees)
           (λ n s here. let c = world_configured w head.agrees n s here in c.params_are)
           (λ n s here. let c = world_configured w head.agrees n s here in c.plan_at)
-          (head.agrees.agrees.a_station_each ∙ head.run.one_each) head.run.recorded healthy.sound k r channel at none))
+          (head.agrees.agrees.a_station_each ∙ head.run.one_each) head.run.recorded channel healthy.sound k r at none))
       by (Some slot) is = either slot is (alone w.bus.cluster w.bus.cycles w.interfaces w.bus.sealed head.run.lawful
           (legal_at w.interfaces head.legal) (world_follows w head.agrees)
           (λ n s here. let c = world_configured w head.agrees n s here in c.params_are)
           (λ n s here. let c = world_configured w head.agrees n s here in c.plan_at)
-          (head.agrees.agrees.a_station_each ∙ head.run.one_each) head.run.recorded healthy.sound k r channel at slot
+          (head.agrees.agrees.a_station_each ∙ head.run.one_each) head.run.recorded channel healthy.sound k r at slot
           is)
 
 pub each_heard : (d : Description) (channel : Channel) (rs : List Recorded)

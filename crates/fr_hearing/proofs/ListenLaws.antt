@@ -32,7 +32,7 @@ use Rattle.fr_frame.specs.Fields.{Fields}
 use Rattle.fr_guardian.specs.Guarding.{passes}
 use Rattle.fr_hearing.proofs.OfferLaws.{owners_send, senders_send}
 use Rattle.fr_hearing.proofs.OwnedLemmas.{offers_own}
-use Rattle.fr_hearing.specs.Listening.{is_sound, AreSound, IsOwnersThere, IsThere, SpellsDue, HeardIsDue}
+use Rattle.fr_hearing.specs.Listening.{is_sound, is_sound_on, AreSound, IsOwnersThere, IsThere, SpellsDue, HeardIsDue}
 use Rattle.fr_hearing.specs.Offering.{IsFetched, HandsDue}
 use Rattle.fr_interface.specs.State.{State, IsLegalInterface}
 use Rattle.fr_journal.specs.declared.entry.Entry.TheVariants.{Fetch}
@@ -103,6 +103,21 @@ filter_from test (y ∷ xs) k x at = by (test y) refl k at (λ j there. filter_f
     }
     by true is (suc j) there more = kept_more test y xs x (more j there)
     by false is j there more = kept_more test y xs x (more j there)
+
+-- a node's transmissions on a channel without faults are sound
+pub own_sound : (channel : Channel) (n : ℕ) (xs : List Sent) → list_all (is_sound_on channel) xs ≡ true
+    → list_all is_sound (own channel n xs) ≡ true
+own_sound channel n [] e = refl
+own_sound channel n (t ∷ xs) e =
+    by (is_of n t) (is_channel t.channel channel) (both_first (is_sound_on channel t) (list_all (is_sound_on channel) xs)
+    e)
+    (own_sound channel n xs (both_rest (is_sound_on channel t) (list_all (is_sound_on channel) xs) e))
+  where
+    by : (mine on : Bool) → cond on (is_sound t) true ≡ true → list_all is_sound (own channel n xs) ≡ true
+        → list_all is_sound (cond (mine && on) (t ∷ own channel n xs) (own channel n xs)) ≡ true
+    by true true here rest = both (is_sound t) (list_all is_sound (own channel n xs)) here rest
+    by true false here rest = rest
+    by false on here rest = rest
 
 -- ---- the only transmission
 
@@ -335,10 +350,10 @@ module _ (d : Description) (cycles : ℕ) (interfaces : List State) (rs : List R
     (params_are : (n : ℕ) (s : State) → slice_get interfaces n ≡ Some s → s.params ≡ d.params)
     (plan_at : (n : ℕ) (s : State) → slice_get interfaces n ≡ Some s → slice_get d.plans n ≡ Some s.plan)
     (as_many : length interfaces ≡ length d.plans) (recorded : AllAfter (IsRecorded d cycles) [] rs)
-    (sound : AreSound rs) where
-  pub handed_by : (n k : ℕ) (s : State) (r : Recorded) (channel : Channel) → slice_get interfaces n ≡ Some s
+    (channel : Channel) (sound : AreSound channel rs) where
+  pub handed_by : (n k : ℕ) (s : State) (r : Recorded) → slice_get interfaces n ≡ Some s
       → slice_get rs k ≡ Some r → IsHanded d n s r channel
-  handed_by n k s r channel here at =
+  handed_by n k s r here at =
       let follows = follow n s here in
       let there : slice_get (fetched s) k ≡ Some (offers_of n r) =
       ap (λ (l : List Handed). slice_get l k) follows.fetches ∙ get-append (map (offers_of n) rs) follows.under_way k
@@ -363,20 +378,21 @@ module _ (d : Description) (cycles : ℕ) (interfaces : List State) (rs : List R
       }
 
   -- the node of a transmission, and what it handed over
-  pub record IsSentBy (r : Recorded) (channel : Channel) (t : Sent) : Type 0 where
+  pub record IsSentBy (r : Recorded) (t : Sent) : Type 0 where
     pub state : State
     pub here : slice_get interfaces t.node ≡ Some state
     pub offer : offer_in channel t.node r.sent ≡ Some t.bytes
 
-  pub sent_by : (k slot : ℕ) (r : Recorded) (channel : Channel) → slice_get rs k ≡ Some r
+  pub sent_by : (k slot : ℕ) (r : Recorded) → slice_get rs k ≡ Some r
       → slot_of r.window channel ≡ Some slot → (i : ℕ) (t : Sent) → slice_get r.sent i ≡ Some t
-      → passed_on channel t ≡ true → IsSentBy r channel t
-  sent_by k slot r channel at slot_is i t there through =
+      → passed_on channel t ≡ true → IsSentBy r t
+  sent_by k slot r at slot_is i t there through =
       let outcome : IsOutcome d r = (recorded_at d cycles rs k r recorded at).1 in
       let count = length outcome.stations in
       let on = both_first (is_channel t.channel channel) (is_passed t.fate) through in
       let silent = neither t.babble (is_muted t.fate) (not-true (t.babble || is_muted t.fate)
-      (all_at is_sound r.sent i t (sound k r at) there)) in
+      (sym (cond-true (is_channel t.channel channel) (is_sound t) true on)
+      ∙ all_at (is_sound_on channel) r.sent i t (sound k r at) there)) in
       let known : list_all (λ (u : Sent). nat_lt u.node count) r.sent ≡ true =
       ap (list_all (λ (u : Sent). nat_lt u.node count)) outcome.sent_is
       ∙ of_all d r.window (λ (u : Sent). nat_lt u.node count) count
@@ -402,12 +418,12 @@ module _ (d : Description) (cycles : ℕ) (interfaces : List State) (rs : List R
       passes_of : ℕ → Bool
       passes_of node = passes d node r.window channel
 
-  pub sent_due : (k slot : ℕ) (r : Recorded) (channel : Channel) → slice_get rs k ≡ Some r
+  pub sent_due : (k slot : ℕ) (r : Recorded) → slice_get rs k ≡ Some r
       → slot_of r.window channel ≡ Some slot → (i : ℕ) (t : Sent) → slice_get r.sent i ≡ Some t
       → passed_on channel t ≡ true → SpellsDue d r.window channel slot t.bytes
-  sent_due k slot r channel at slot_is i t there through =
-      let by = sent_by k slot r channel at slot_is i t there through in
-      let h = handed_by t.node k by.state r channel by.here at in
+  sent_due k slot r at slot_is i t there through =
+      let by = sent_by k slot r at slot_is i t there through in
+      let h = handed_by t.node k by.state r by.here at in
       let f = frame_of channel (frame_with by.state.params by.state.plan h.before r.window channel
       (offered_on channel h.a h.b)) t.bytes (h.handed ∙ by.offer) in
       record {
@@ -417,22 +433,21 @@ module _ (d : Description) (cycles : ℕ) (interfaces : List State) (rs : List R
             f.frame f.is (is_static r.window) refl;
       }
 
-  heard_due : (k slot : ℕ) (r : Recorded) (channel : Channel) (bytes : ArrayVec ℕ) → slice_get rs k ≡ Some r
+  heard_due : (k slot : ℕ) (r : Recorded) (bytes : ArrayVec ℕ) → slice_get rs k ≡ Some r
       → corrupt_on r channel ≡ None → slot_of r.window channel ≡ Some slot → heard d.params r channel ≡ Bytes bytes
       → SpellsDue d r.window channel slot bytes
-  heard_due k slot r channel bytes at whole slot_is hears =
+  heard_due k slot r bytes at whole slot_is hears =
       let l = lone d.params r.window (all_passed channel r.sent) bytes
       (sym (ap (λ (c : Option ℕ). heard_of d.params r.window c (all_passed channel r.sent)) whole) ∙ hears) in
       let kept = filter_from (passed_on channel) r.sent 0 l.sender (ap (λ (ts : List Sent). slice_get ts 0) l.only) in
       subst (SpellsDue d r.window channel slot) l.bytes_are
-      (sent_due k slot r channel at slot_is kept.place l.sender kept.at kept.passing)
+      (sent_due k slot r at slot_is kept.place l.sender kept.at kept.passing)
 
 pub heard_is_due : (w : WorldState) → Headline w → HeardIsDue w
-heard_is_due w head sound k slot r channel bytes at whole slot_is hears =
+heard_is_due w head channel sound k slot r bytes at whole slot_is hears =
     heard_due w.bus.cluster w.bus.cycles w.interfaces w.bus.sealed head.run.lawful (legal_at w.interfaces head.legal)
     (world_follows w head.agrees)
     (λ n s here. let c = world_configured w head.agrees n s here in c.params_are)
     (λ n s here. let c = world_configured w head.agrees n s here in c.plan_at)
-    (head.agrees.agrees.a_station_each ∙ head.run.one_each) head.run.recorded sound k slot r channel bytes at whole
-    slot_is
-    hears
+    (head.agrees.agrees.a_station_each ∙ head.run.one_each) head.run.recorded channel sound k slot r bytes at
+    whole slot_is hears

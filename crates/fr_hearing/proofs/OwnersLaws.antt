@@ -34,7 +34,7 @@ use Rattle.fr_frame.specs.Fields.{Fields}
 use Rattle.fr_frame.specs.Spelling.{header}
 use Rattle.fr_guardian.proofs.AloneLemmas.{owner_passes}
 use Rattle.fr_guardian.specs.Guarding.{passes}
-use Rattle.fr_hearing.proofs.ListenLaws.{handed_by, sent_by, IsHanded, IsSentBy, frame_of, IsFrameOf, static_slot_is}
+use Rattle.fr_hearing.proofs.ListenLaws.{own_sound, handed_by, sent_by, IsHanded, IsSentBy, frame_of, IsFrameOf, static_slot_is}
 use Rattle.fr_hearing.proofs.ListenLaws.{not_nothing, legal_fetch, in_range, window_is, fetch_range, fetch_fits}
 use Rattle.fr_hearing.proofs.OfferLaws.{owners_send}
 use Rattle.fr_hearing.proofs.OwnedLemmas.{offers_own, owned_is}
@@ -80,16 +80,6 @@ length-frame f channel =
     )
 
 -- ---- lists
-
-all_kept : {X : Type 0} (p q : X → Bool) (xs : List X) → list_all p xs ≡ true → list_all p (filter q xs) ≡ true
-all_kept p q [] e = refl
-all_kept p q (x ∷ xs) e =
-    by (q x) (both_first (p x) (list_all p xs) e) (all_kept p q xs (both_rest (p x) (list_all p xs) e))
-  where
-    by : (b : Bool) → p x ≡ true → list_all p (filter q xs) ≡ true
-        → list_all p (cond b (x ∷ filter q xs) (filter q xs)) ≡ true
-    by true here rest = both (p x) (list_all p (filter q xs)) here rest
-    by false here rest = rest
 
 -- if all that passed is of one node, it is that node's
 pub passed_mine : (channel : Channel) (n : ℕ) (xs : List Sent)
@@ -185,13 +175,13 @@ module _ (d : Description) (cycles : ℕ) (interfaces : List State) (rs : List R
     (params_are : (n : ℕ) (s : State) → slice_get interfaces n ≡ Some s → s.params ≡ d.params)
     (plan_at : (n : ℕ) (s : State) → slice_get interfaces n ≡ Some s → slice_get d.plans n ≡ Some s.plan)
     (as_many : length interfaces ≡ length d.plans) (recorded : AllAfter (IsRecorded d cycles) [] rs)
-    (sound : AreSound rs) (k slot owner : ℕ) (r : Recorded) (channel : Channel) (at : slice_get rs k ≡ Some r)
+    (channel : Channel) (sound : AreSound channel rs) (k slot owner : ℕ) (r : Recorded)
+    (at : slice_get rs k ≡ Some r)
     (static : is_static r.window ≡ true) (slot_is : slot_of r.window channel ≡ Some slot)
     (owns_it : IsOwner d r.window.cycle slot channel owner) where
   handed_here : (n : ℕ) (s : State) → slice_get interfaces n ≡ Some s → IsHanded d n s r channel
-  handed_here n s here = handed_by d cycles interfaces rs cluster legal follow params_are plan_at as_many recorded sound
-      n
-      k s r channel here at
+  handed_here n s here = handed_by d cycles interfaces rs cluster legal follow params_are plan_at as_many recorded
+      channel sound n k s r here at
 
   within : owner < length interfaces
   within = let small : owner < length d.plans = slice_get_within d.plans owner owns_it.plan owns_it.at in
@@ -210,9 +200,8 @@ module _ (d : Description) (cycles : ℕ) (interfaces : List State) (rs : List R
   -- another node that sends here would own the slot, too
   sends_owned : (i : ℕ) (t : Sent) → slice_get r.sent i ≡ Some t → passed_on channel t ≡ true → t.node ≡ owner
   sends_owned i t there_is through =
-      let by = sent_by d cycles interfaces rs cluster legal follow params_are plan_at as_many recorded sound k slot r
-      channel
-      at slot_is i t there_is through in
+      let by = sent_by d cycles interfaces rs cluster legal follow params_are plan_at as_many recorded channel
+      sound k slot r at slot_is i t there_is through in
       let h = handed_here t.node by.state by.here in
       let f = frame_of channel (frame_with by.state.params by.state.plan h.before r.window channel
       (offered_on channel h.a h.b)) t.bytes (h.handed ∙ by.offer) in
@@ -271,7 +260,7 @@ module _ (d : Description) (cycles : ℕ) (interfaces : List State) (rs : List R
       owner_record ∙ ap (λ (x : Option (ArrayVec ℕ)). of_owner owner channel side.mute x side.babble) offer in
       let all_sound : list_all is_sound (of_owner owner channel side.mute (Some bytes) side.babble) ≡ true =
       ap (list_all is_sound) (sym mine)
-      ∙ all_kept is_sound (λ (t : Sent). is_of owner t && is_channel t.channel channel) r.sent (sound k r at) in
+      ∙ own_sound channel owner r.sent (sound k r at) in
       let size : length (encoded due.frame channel) ≡ 8 + 2 * d.params.static_words =
       length-frame due.frame channel ∙ ap (λ (n : ℕ). 8 + n) due.full in
       let one : of_owner owner channel side.mute (Some bytes) side.babble ≡ sent_one owner channel bytes ∷ [] =
@@ -310,11 +299,10 @@ module _ (d : Description) (cycles : ℕ) (interfaces : List State) (rs : List R
       })) whole
 
 pub owners_are_heard : (w : WorldState) → Headline w → OwnersAreHeard w
-owners_are_heard w head sound k slot owner r channel at whole static slot_is owns_it =
+owners_are_heard w head channel sound k slot owner r at whole static slot_is owns_it =
     hears_owner w.bus.cluster w.bus.cycles w.interfaces w.bus.sealed head.run.lawful (legal_at w.interfaces head.legal)
     (world_follows w head.agrees)
     (λ n s here. let c = world_configured w head.agrees n s here in c.params_are)
     (λ n s here. let c = world_configured w head.agrees n s here in c.plan_at)
-    (head.agrees.agrees.a_station_each ∙ head.run.one_each) head.run.recorded sound k slot owner r channel at static
-    slot_is
-    owns_it whole
+    (head.agrees.agrees.a_station_each ∙ head.run.one_each) head.run.recorded channel sound k slot owner r at
+    static slot_is owns_it whole

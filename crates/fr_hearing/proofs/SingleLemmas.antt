@@ -25,7 +25,7 @@ use Rattle.fr_frame.specs.Fields.{Fields}
 use Rattle.fr_guardian.specs.Guarding.{passes}
 use Rattle.fr_hearing.proofs.ListenLaws.{all_at, filter_has, IsKept, filter_from, static_slot_is, dynamic_slot_is}
 use Rattle.fr_hearing.proofs.ListenLaws.{not_nothing, legal_fetch, in_range, window_is, handed_by, sent_by, sent_due}
-use Rattle.fr_hearing.proofs.ListenLaws.{frame_of, fetch_range}
+use Rattle.fr_hearing.proofs.ListenLaws.{frame_of, own_sound}
 use Rattle.fr_hearing.proofs.OfferLaws.{some_buffer, transmitter_is, line_is, not_owned}
 use Rattle.fr_hearing.proofs.OwnedLemmas.{offers_own}
 use Rattle.fr_hearing.proofs.OwnersLaws.{passed_mine}
@@ -120,16 +120,6 @@ all_rest : {X : Type 0} (test : X → Bool) (xs ys : List X) → list_all test (
 all_rest test [] ys e = e
 all_rest test (x ∷ xs) ys e = all_rest test xs ys (both_rest (test x) (list_all test (xs ++ ys)) e)
 
-all_filtered : {X : Type 0} (p q : X → Bool) (xs : List X) → list_all p xs ≡ true → list_all p (filter q xs) ≡ true
-all_filtered p q [] e = refl
-all_filtered p q (x ∷ xs) e =
-    by (q x) (both_first (p x) (list_all p xs) e) (all_filtered p q xs (both_rest (p x) (list_all p xs) e))
-  where
-    by : (b : Bool) → p x ≡ true → list_all p (filter q xs) ≡ true
-        → list_all p (cond b (x ∷ filter q xs) (filter q xs)) ≡ true
-    by true here rest = both (p x) (list_all p (filter q xs)) here rest
-    by false here rest = rest
-
 -- ---- a node without babbles
 
 one_offer : (n : ℕ) (channel : Channel) (fate : SentFate) (offer : Option (ArrayVec ℕ))
@@ -183,7 +173,7 @@ module _ (d : Description) (cycles : ℕ) (interfaces : List State) (rs : List R
     (params_are : (n : ℕ) (s : State) → slice_get interfaces n ≡ Some s → s.params ≡ d.params)
     (plan_at : (n : ℕ) (s : State) → slice_get interfaces n ≡ Some s → slice_get d.plans n ≡ Some s.plan)
     (as_many : length interfaces ≡ length d.plans) (recorded : AllAfter (IsRecorded d cycles) [] rs)
-    (sound : AreSound rs) (k : ℕ) (r : Recorded) (channel : Channel) (at : slice_get rs k ≡ Some r) where
+    (channel : Channel) (sound : AreSound channel rs) (k : ℕ) (r : Recorded) (at : slice_get rs k ≡ Some r) where
   outcome : IsOutcome d r
   outcome = (recorded_at d cycles rs k r recorded at).1
 
@@ -229,10 +219,10 @@ module _ (d : Description) (cycles : ℕ) (interfaces : List State) (rs : List R
     sender_is : (i : ℕ) (t : Sent) → slice_get r.sent i ≡ Some t → passed_on channel t ≡ true
         → (r.window.cycle < 64) × IsSender d r.window.cycle slot channel t.node
     sender_is i t there_is through =
-        let by = sent_by d cycles interfaces rs cluster legal follow params_are plan_at as_many recorded sound k slot r
-        channel at slot_is i t there_is through in
-        let h = handed_by d cycles interfaces rs cluster legal follow params_are plan_at as_many recorded sound t.node k
-        by.state r channel by.here at in
+        let by = sent_by d cycles interfaces rs cluster legal follow params_are plan_at as_many recorded channel sound k
+        slot r at slot_is i t there_is through in
+        let h = handed_by d cycles interfaces rs cluster legal follow params_are plan_at as_many recorded channel sound
+        t.node k by.state r by.here at in
         let f = frame_of channel (frame_with by.state.params by.state.plan h.before r.window channel
         (offered_on channel h.a h.b)) t.bytes (h.handed ∙ by.offer) in
         (
@@ -254,7 +244,7 @@ module _ (d : Description) (cycles : ℕ) (interfaces : List State) (rs : List R
         let one = own_are i t there_is ∙ ap (sent_in d r.window t.node channel side) slot_is in
         let all_sound : list_all is_sound (sent_in d r.window t.node channel side (Some slot)) ≡ true =
         ap (list_all is_sound) (sym one)
-        ∙ all_filtered is_sound (λ (u : Sent). is_of t.node u && is_channel u.channel channel) r.sent (sound k r at) in
+        ∙ own_sound channel t.node r.sent (sound k r at) in
         let few = few_sent t.node channel (fate_of side.mute (passes d t.node r.window channel))
         (fate_of false (passes d t.node r.window channel)) side.offer side.babble all_sound in
         let size : length (own channel t.node r.sent)
@@ -278,8 +268,8 @@ module _ (d : Description) (cycles : ℕ) (interfaces : List State) (rs : List R
             inr (record {
               sender = t;
               only = e;
-              due = sent_due d cycles interfaces rs cluster legal follow params_are plan_at as_many recorded sound k
-                  slot r channel at slot_is here.place t here.at here.passing;
+              due = sent_due d cycles interfaces rs cluster legal follow params_are plan_at as_many recorded channel
+                  sound k slot r at slot_is here.place t here.at here.passing;
             })
         by (t ∷ u ∷ us) e =
             let here = kept (t ∷ u ∷ us) t (u ∷ us) e refl in

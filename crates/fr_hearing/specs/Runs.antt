@@ -33,15 +33,15 @@ IsIntact channel rs = (k : ℕ) (r : Recorded) → slice_get rs k ≡ Some r →
 abbrev pub IsClocked : Description → Channel → Type 0
 IsClocked d channel = (cycle : ℕ) → cycle < 64 → is_clocked d channel cycle ≡ true
 
--- there is a cycle, and the static segment of the last one is complete
+-- there is a cycle, and the last one has all its static windows
 pub record IsComplete (p : Parameters) (rs : List Recorded) : Type 0 where
   pub some_window : 1 ≤ length rs
-  pub static_over : statics_of (this_cycle rs) ≡ p.static_slots
+  pub static_over : p.static_slots ≤ statics_of (this_cycle rs)
 
--- The run has neither babbles nor muted offers, and no flipped bit on the channel. It ends with a cycle, or after the
--- static segment of a cycle.
+-- On the channel the run has no babble, no muted offer and no flipped bit. It ends with a cycle, or after the static
+-- segment of one.
 pub record IsHealthy (w : WorldState) (channel : Channel) : Type 0 where
-  pub sound : AreSound w.bus.sealed
+  pub sound : AreSound channel w.bus.sealed
   pub intact : IsIntact channel w.bus.sealed
   pub clocked : IsClocked w.bus.cluster channel
   pub complete : IsComplete w.bus.cluster.params w.bus.sealed
