@@ -44,7 +44,7 @@ one_alone : (a b : Bool) (c : Channel) → ((is_channel c A && a) && (is_channel
 one_alone a b A = and_right a false refl
 one_alone a b B = refl
 
-alone : (d : Description) (most : ℕ) (whole : Bool) (channel : Channel)
+pub alone : (d : Description) (most : ℕ) (whole : Bool) (channel : Channel)
     → IsAlone (rules_of d most whole (Some channel) 0) channel
 unfolding rules_of
 alone d most whole channel = record {
@@ -52,7 +52,7 @@ alone d most whole channel = record {
   only = refl;
 }
 
-cluster_of : (d : Description) (most : ℕ) (whole : Bool) (channel : Channel)
+pub cluster_of : (d : Description) (most : ℕ) (whole : Bool) (channel : Channel)
     → (rules_of d most whole (Some channel) 0).cluster ≡ d
 unfolding rules_of
 cluster_of d most whole channel = refl
@@ -88,7 +88,7 @@ channel_on r channel s fs (inl o) = ap (λ (c : Core). c.channel) o.here
 channel_on r channel s fs (inr (inl w)) = ap (λ (c : Core). c.channel) w.here
 channel_on r channel s fs (inr (inr b)) = ap (λ (c : Core). c.channel) b.here
 
-turn_rules : (s : State) (channel : Channel) → (turn s channel).rules ≡ s.rules
+pub turn_rules : (s : State) (channel : Channel) → (turn s channel).rules ≡ s.rules
 turn_rules s channel = by (is_channel s.channel channel)
   where
     by : (b : Bool) → (let t : State = cond b s (turned s) in t).rules ≡ s.rules
@@ -176,10 +176,10 @@ all_records r channel (rec ∷ rs) fs s is_alone (inr own) on =
 
 -- ---- before the first frame
 
-abbrev core_fresh : Rules → Channel → Core
+abbrev pub core_fresh : Rules → Channel → Core
 core_fresh r channel = record (core_before r channel) { heard = false }
 
-fresh_core : (r : Rules) (channel : Channel) → core (turn (fresh r) channel) ≡ core_fresh r channel
+pub fresh_core : (r : Rules) (channel : Channel) → core (turn (fresh r) channel) ≡ core_fresh r channel
 unfolding fresh
 fresh_core r A = refl
 fresh_core r B = refl
@@ -278,25 +278,25 @@ finished r channel s plain on =
     let is : IsEnd r channel (settle (turn s channel) None) = at_end r channel (turn s channel) plain on in
     subst (IsEnd r channel) (sym (end_none r channel (settle (turn s channel) None) is)) is
 
-found_none : (s : State) → s.found ≡ none_found → has_finding s ≡ false
+pub found_none : (s : State) → s.found ≡ none_found → has_finding s ≡ false
 unfolding none_found
 found_none s e = ap (list_any is_some_number) e
 
-skip_channel : (s : State) (channel other : Channel) → s.rules.only ≡ Some channel → is_channel channel other ≡ false
+pub skip_channel : (s : State) (channel other : Channel) → s.rules.only ≡ Some channel → is_channel channel other ≡ false
     → finish_on s other true ≡ s
 unfolding finish_on
 skip_channel s channel other only is_other =
     cond-false (judges s.rules other) (finish_channel (turn s other) true) s
     (ap (λ (o : Option Channel). judged_by o other) only ∙ is_other)
 
-end_channel : (s : State) (channel : Channel) → s.rules.only ≡ Some channel
+pub end_channel : (s : State) (channel : Channel) → s.rules.only ≡ Some channel
     → finish_on s channel true ≡ finish_channel (turn s channel) true
 unfolding finish_on
 end_channel s channel only =
     cond-true (judges s.rules channel) (finish_channel (turn s channel) true) s
     (ap (λ (o : Option Channel). judged_by o channel) only ∙ same_channel channel)
 
-abbrev cleared : State → State
+abbrev pub cleared : State → State
 cleared s = record s { lines = [] }
 
 cleared_on : (r : Rules) (channel : Channel) (s : State) → IsOn r channel (turn s channel) []

@@ -19,7 +19,6 @@ use Rattle.fr_hearing.proofs.PassageLemmas.{IsHeardAt, with_frame, IsAt, due_at_
 use Rattle.fr_hearing.proofs.SizeLemmas.{IsFoundAt, found_at}
 use Rattle.fr_hearing.specs.Heard.{Spot, cycle_start, after_frame, IsAllowed, AreFree, static_end, IsFirst, IsOver, AreHeard}
 use Rattle.fr_hearing.specs.Heard.{FollowOn}
-use Rattle.fr_hearing.specs.Runs.{IsClocked}
 use Rattle.fr_judging.specs.Rules.{due_at, is_clocked, owns_some, owns_in}
 use Rattle.fr_logged.proofs.DueLemmas.{due_is_owners}
 use Rattle.fr_logged.proofs.FirstLemmas.{some_found_in}
@@ -137,7 +136,8 @@ begins d channel cycle (f ∷ fs) owner (inr next) = absurd (not_free d channel 
 
 -- ---- cycle by cycle
 
-module _ (d : Description) (cycles : ℕ) (channel : Channel) (cluster : IsCluster d) (clocked : IsClocked d channel) where
+module _ (d : Description) (cycles : ℕ) (channel : Channel) (cluster : IsCluster d)
+    (clocked : (cycle : ℕ) → cycle < 64 → is_clocked d channel cycle ≡ true) where
   -- the first window of a cycle, with the frames after it
   from_first : (before : List Recorded) (r : Recorded) (heard_is : IsHeardAt d channel r) (fs : List Fields)
       → r.window ≡ static_window (course_of d.params cycles before).windows

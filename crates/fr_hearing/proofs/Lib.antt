@@ -18,4 +18,5 @@ mod NextLemmas
 mod PassageLemmas
 mod CycleLemmas
 mod HearingLemmas
+pub mod SilenceLaws
 pub mod RunLaws

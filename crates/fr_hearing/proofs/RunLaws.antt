@@ -2,12 +2,17 @@
 -- them has no finding.
 use Rattle.std.proofs.Common.{◌≡◌, ℕ, ℤ, zero, suc, ◌+◌, ◌*◌, ◌%◌, ◌<◌, ◌≤◌, Bool, true, false, cond, List, [], ◌∷◌}
 use Rattle.std.proofs.Common.{◌++◌, length, map, Option, Some, None, refl, sym, ap, subst, ◌∙◌, arith, ◌⊎◌, inl, inr}
-use Rattle.std.specs.Prelude.{nat_le, ◌&&◌, ◌^◌}
-use Rattle.std.proofs.lemmas.Bool.{leb-true}
+use Rattle.std.specs.Option.{option_or}
+use Rattle.std.specs.Prelude.{nat_le, nat_lt, ◌-◌, ◌&&◌, ◌^◌}
+use Rattle.std.proofs.lemmas.Bool.{leb-true, leb-false, ltb-false, cond-true}
 use Rattle.arrayvec.specs.ArrayVec.{ArrayVec}
 use Rattle.fr_bus.specs.Record.{Recorded, heard}
 use Rattle.fr_capture.specs.Pcap.{packet}
-use Rattle.fr_core.proofs.CaseLemmas.{both_rest}
+use Rattle.fr_bus.specs.declared.error.Phase.{Phase}
+use Rattle.fr_bus.specs.declared.error.Phase.TheVariants.{Finished}
+use Rattle.fr_bus.specs.States.{Stands}
+use Rattle.fr_bus.specs.Windows.{following, this_cycle, statics_of, cycles_begun, next_dynamic, first_of_cycle}
+use Rattle.fr_core.proofs.CaseLemmas.{both_rest, both}
 use Rattle.fr_core.specs.Headline.{Headline}
 use Rattle.fr_core.specs.Worlds.{WorldState}
 use Rattle.fr_frame.proofs.EncodingLemmas.{encoded_is_decoded}
@@ -20,21 +25,28 @@ use Rattle.fr_hearing.proofs.CaptureLaws.{read, reads_back}
 use Rattle.fr_hearing.proofs.CycleLemmas.{AreHeardAt, frames_of, Begins, from_start, are_heard}
 use Rattle.fr_hearing.proofs.HearingLemmas.{window_heard, each_heard}
 use Rattle.fr_hearing.proofs.PassageLemmas.{IsHeardAt, with_frame}
+use Rattle.fr_hearing.proofs.RecordLemmas.{same_channel}
+use Rattle.fr_hearing.proofs.SilenceLaws.{no_alarm_in_silence, nothing_due}
 use Rattle.fr_hearing.proofs.SizeLemmas.{static_words, dynamic_sized}
-use Rattle.fr_hearing.specs.Alarms.{Spells, AreOn}
+use Rattle.fr_hearing.specs.Alarms.{Spells, AreOn, judged}
 use Rattle.fr_hearing.specs.Captured.{record_of}
 use Rattle.fr_hearing.specs.Heard.{Spot, after_frame, cycle_start, IsAllowed, IsAllowedAs, FollowOn, AreHeard}
 use Rattle.fr_hearing.specs.Runs.{IsHealthy, AreReceived, HasCycles, CyclesAreHeard, packets_seen, packets_of, logged}
-use Rattle.fr_hearing.specs.Runs.{AreLogged, NoAlarmInRun}
-use Rattle.fr_judging.specs.Rules.{due_at, due_or}
+use Rattle.fr_hearing.specs.Runs.{AreLogged, NoAlarmInRun, IsComplete, FinishedIsComplete, ClockIsTold}
+use Rattle.fr_judging.specs.Judging.{fresh, finish, has_finding}
+use Rattle.fr_judging.specs.Rules.{due_at, due_or, rules_of, judges, has_sender, has_sender_in, is_clocked, unclocked}
 use Rattle.fr_logged.specs.Dues.{due_of}
 use Rattle.fr_logged.specs.declared.due.Due.{Due}
 use Rattle.fr_recording.specs.Records.{Record}
 use Rattle.fr_schedule.specs.Clusters.{IsCluster}
 use Rattle.fr_schedule.specs.Descriptions.{Description}
+use Rattle.fr_slots.specs.Admission.{is_channel}
 use Rattle.fr_slots.specs.declared.channel.Channel.{Channel}
+use Rattle.fr_slots.specs.declared.channel.Channel.TheVariants.{A, B}
 use Rattle.fr_slots.specs.Numbers.{last_slot}
+use Rattle.fr_slots.specs.Parameters.{Parameters}
 use Rattle.fr_slots.specs.Plans.{Each}
+use Rattle.fr_slots.specs.Windows.{static_window}
 use Rattle.fr_status.specs.Forms.{Seen}
 
 -- ---- the frames
@@ -51,18 +63,18 @@ received_are d channel (r ∷ rs) h = by h.0 (received_are d channel rs h.1)
         inr (loud.bytes, loud.frame, frames_of d channel rs h.1, refl, loud.hears, loud.spelled, rest)
 
 pub cycles_are_heard : (w : WorldState) → Headline w → CyclesAreHeard w
-cycles_are_heard w head channel healthy =
+cycles_are_heard w head channel some healthy =
     let d = w.bus.cluster in
     let h : AreHeardAt d channel w.bus.sealed = each_heard d channel w.bus.sealed (window_heard w head channel healthy)
     in
     let b : Begins d channel 0 (frames_of d channel w.bus.sealed h) =
-    from_start d w.bus.cycles channel head.run.lawful healthy.clocked w.bus.sealed h head.run.recorded
+    from_start d w.bus.cycles channel head.run.lawful (healthy.clocked some) w.bus.sealed h head.run.recorded
     healthy.complete.some_window healthy.complete.static_over in
     record {
       first = b.frame;
       rest = b.rest;
       received = subst (AreReceived d.params channel w.bus.sealed) b.is (received_are d channel w.bus.sealed h);
-      cycles = are_heard d w.bus.cycles channel head.run.lawful healthy.clocked (frames_of d channel w.bus.sealed h) b;
+      cycles = are_heard d w.bus.cycles channel head.run.lawful (healthy.clocked some) (frames_of d channel w.bus.sealed h) b;
     }
 
 -- ---- each of them is a frame
@@ -186,11 +198,113 @@ are_on channel (r ∷ rs) packets fs (inr own) same each =
       are_on channel rs own.2 first.more own.5 first.rest_are frames.1,
     )
 
+-- ---- a channel without a sender
+
+-- no frame is due there
+all_quiet : (d : Description) (channel : Channel) (rs : List Recorded) (h : AreHeardAt d channel rs)
+    → has_sender d channel ≡ false → packets_of d.params channel rs ≡ []
+all_quiet d channel [] h none = refl
+all_quiet d channel (r ∷ rs) h none = by h.0 (all_quiet d channel rs h.1 none)
+  where
+    by : IsHeardAt d channel r → packets_of d.params channel rs ≡ [] → packets_of d.params channel (r ∷ rs) ≡ []
+    by (inl quiet) rest = ap (λ (o : Seen). packets_seen channel o ++ packets_of d.params channel rs) quiet.hears ∙ rest
+    by (inr loud) rest = absurd (nothing_due d channel r loud none)
+
+none_on : (channel : Channel) (records : List Record) (packets : List (List ℕ)) → AreLogged channel records packets
+    → packets ≡ [] → AreOn channel records []
+none_on channel records packets logged_are none = are_on channel records packets [] logged_are none tt
+
 pub no_alarm_in_run : (w : WorldState) → Headline w → NoAlarmInRun w
-no_alarm_in_run w head most whole channel records healthy logged_are =
-    let d = w.bus.cluster in
-    let h = cycles_are_heard w head channel healthy in
-    let frames = heard_frames d channel head.run.lawful h.first h.rest h.cycles in
-    no_false_alarm d most whole channel records h.first h.rest
-    (are_on channel records (packets_of d.params channel w.bus.sealed) (h.first ∷ h.rest) logged_are
-    (packets_are d channel w.bus.sealed (h.first ∷ h.rest) h.received frames) frames) h.cycles
+no_alarm_in_run w head most whole channel records healthy logged_are = by (has_sender w.bus.cluster channel) refl
+  where
+    packets : List (List ℕ)
+    packets = packets_of w.bus.cluster.params channel w.bus.sealed
+
+    by : (b : Bool) → has_sender w.bus.cluster channel ≡ b
+        → has_finding (finish (judged (fresh (rules_of w.bus.cluster most whole (Some channel) 0)) records) true)
+        ≡ false
+    by true some =
+        let d = w.bus.cluster in
+        let h = cycles_are_heard w head channel some healthy in
+        let frames = heard_frames d channel head.run.lawful h.first h.rest h.cycles in
+        no_false_alarm d most whole channel records h.first h.rest
+        (are_on channel records (packets_of d.params channel w.bus.sealed) (h.first ∷ h.rest) logged_are
+        (packets_are d channel w.bus.sealed (h.first ∷ h.rest) h.received frames) frames) h.cycles
+    by false none =
+        let d = w.bus.cluster in
+        no_alarm_in_silence d most whole channel records
+        (none_on channel records (packets_of d.params channel w.bus.sealed) logged_are
+        (all_quiet d channel w.bus.sealed
+        (each_heard d channel w.bus.sealed (window_heard w head channel healthy)) none)) none
+
+-- ---- runs that are over, and clusters with a clock
+
+over_statics : (p : Parameters) (cycles : ℕ) (rs : List Recorded) → 1 ≤ cycles → following p cycles rs ≡ None
+    → IsComplete p rs
+over_statics p cycles [] some e = by (nat_lt 0 cycles) refl e
+  where
+    by : (b : Bool) → nat_lt 0 cycles ≡ b → cond b (Some (static_window 0 0 1)) None ≡ None → IsComplete p []
+    by true is f = absurd (let none : ⊥ = cc in none)
+    by false is f = absurd (let few = ltb-false 0 cycles is in let none : ⊥ = omega (arith, few, some) in none)
+over_statics p cycles (r ∷ rs) some e =
+    by (nat_lt (statics_of (this_cycle (r ∷ rs))) p.static_slots) refl e
+  where
+    by : (b : Bool) → nat_lt (statics_of (this_cycle (r ∷ rs))) p.static_slots ≡ b
+        → option_or (cond b (Some (static_window (length (r ∷ rs)) ((cycles_begun (r ∷ rs) - 1) % 64)
+        (statics_of (this_cycle (r ∷ rs)) + 1)))
+        (next_dynamic p (length (r ∷ rs)) ((cycles_begun (r ∷ rs) - 1) % 64) (this_cycle (r ∷ rs))))
+        (first_of_cycle cycles (length (r ∷ rs)) (cycles_begun (r ∷ rs))) ≡ None → IsComplete p (r ∷ rs)
+    by true is f = absurd (let none : ⊥ = cc in none)
+    by false is f = record {
+      some_window = omega arith;
+      static_over = ltb-false (statics_of (this_cycle (r ∷ rs))) p.static_slots is;
+    }
+
+pub finished_is_complete : (w : WorldState) → Headline w → FinishedIsComplete w
+finished_is_complete w head finished =
+    let stands : Stands Finished w.bus = subst (λ (phase : Phase). Stands phase w.bus) finished head.run.stands in
+    over_statics w.bus.cluster.params w.bus.cycles w.bus.sealed head.run.some_cycles stands.1
+
+nat_split : (n k : ℕ) → n ≤ k → (k ≡ n) ⊎ (n + 1 ≤ k)
+nat_split n k le = split (nat_le k n) refl
+  where
+    split : (b : Bool) → nat_le k n ≡ b → (k ≡ n) ⊎ (n + 1 ≤ k)
+    split true is = inl (let few = leb-true k n is in omega (arith, few, le))
+    split false is = inr (let most = leb-false k n is in omega (arith, most))
+
+all_clocked : (d : Description) (channel : Channel) (from more : ℕ) → unclocked d channel from more ≡ None
+    → (cycle : ℕ) → from ≤ cycle → cycle < from + more → is_clocked d channel cycle ≡ true
+unfolding unclocked
+all_clocked d channel from zero e cycle low high = absurd (let none : ⊥ = omega (arith, low, high) in none)
+all_clocked d channel from (suc more) e cycle low high =
+    by (is_clocked d channel from) refl e (all_clocked d channel (from + 1) more)
+  where
+    by : (b : Bool) → is_clocked d channel from ≡ b
+        → cond b (unclocked d channel (from + 1) more) (Some from) ≡ None
+        → (unclocked d channel (from + 1) more ≡ None → (k : ℕ) → from + 1 ≤ k → k < from + 1 + more
+        → is_clocked d channel k ≡ true)
+        → is_clocked d channel cycle ≡ true
+    by false is f rest = absurd (let none : ⊥ = cc in none)
+    by true is f rest = elim (nat_split from cycle low) [
+      | inl same ↦ ap (is_clocked d channel) same ∙ is
+      | inr above ↦ rest f cycle above (omega (arith, high))
+    ]
+
+pub clock_is_told : ClockIsTold
+unfolding rules_of
+clock_is_told d most whole channel macrotick e some cycle fits =
+    all_clocked d channel 0 64
+    (sym (cond-true (judges (rules_of d most whole (Some channel) macrotick) channel
+    && has_sender_in (rules_of d most whole (Some channel) macrotick) channel) (unclocked d channel 0 64) None
+    (judged_sender channel)) ∙ e) cycle (omega arith) (omega (arith, fits))
+  where
+    sends_in : (on : Channel) → has_sender d on ≡ true
+        → has_sender_in (rules_of d most whole (Some channel) macrotick) on ≡ true
+    sends_in A is = is
+    sends_in B is = is
+
+    judged_sender : (on : Channel) → (judges (rules_of d most whole (Some channel) macrotick) channel
+        && has_sender_in (rules_of d most whole (Some channel) macrotick) channel) ≡ true
+    judged_sender on = both (is_channel channel channel)
+        (has_sender_in (rules_of d most whole (Some channel) macrotick) channel) (same_channel channel)
+        (sends_in channel some)

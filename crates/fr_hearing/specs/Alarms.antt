@@ -2,7 +2,7 @@
 use Rattle.std.specs.Prelude.{◌≡◌, ℕ, Bool, false, true, List, [], ◌∷◌, ◌⊎◌, Option, Some, None, Result, Ok}
 use Rattle.fr_frame.specs.Fields.{Fields}
 use Rattle.fr_judging.specs.Judging.{State, fresh, judge, finish, has_finding}
-use Rattle.fr_judging.specs.Rules.{rules_of}
+use Rattle.fr_judging.specs.Rules.{rules_of, has_sender}
 use Rattle.fr_hearing.specs.Heard.{AreHeard}
 use Rattle.fr_logged.specs.Logged.{kind_of, spelled}
 use Rattle.fr_logged.specs.declared.record.Kind.{Kind}
@@ -43,4 +43,10 @@ judged s (r ∷ rs) = judged (judge s r) rs
 abbrev pub NoFalseAlarm : Type 0
 NoFalseAlarm = (d : Description) (most : ℕ) (whole : Bool) (channel : Channel) (rs : List Record) (f : Fields)
     (fs : List Fields) → AreOn channel rs (f ∷ fs) → AreHeard d channel (f ∷ fs)
+    → has_finding (finish (judged (fresh (rules_of d most whole (Some channel) 0)) rs) true) ≡ false
+
+-- A channel without a sender and without records has no finding.
+abbrev pub NoAlarmInSilence : Type 0
+NoAlarmInSilence = (d : Description) (most : ℕ) (whole : Bool) (channel : Channel) (rs : List Record)
+    → AreOn channel rs [] → has_sender d channel ≡ false
     → has_finding (finish (judged (fresh (rules_of d most whole (Some channel) 0)) rs) true) ≡ false

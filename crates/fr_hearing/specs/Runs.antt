@@ -3,6 +3,7 @@
 use Rattle.std.specs.Prelude.{◌≡◌, ℕ, ℤ, ◌<◌, ◌≤◌, Bool, true, false, List, [], ◌∷◌, ◌++◌, length, slice_get, ◌⊎◌, Option}
 use Rattle.std.specs.Prelude.{Some, None}
 use Rattle.arrayvec.specs.ArrayVec.{ArrayVec}
+use Rattle.fr_bus.specs.declared.error.Phase.TheVariants.{Finished}
 use Rattle.fr_bus.specs.Record.{Recorded, corrupt_on, heard}
 use Rattle.fr_bus.specs.Windows.{this_cycle, statics_of}
 use Rattle.fr_capture.specs.Pcap.{packet, link_type}
@@ -14,7 +15,7 @@ use Rattle.fr_hearing.specs.Alarms.{is_on, judged}
 use Rattle.fr_hearing.specs.Heard.{AreHeard}
 use Rattle.fr_hearing.specs.Listening.{AreSound}
 use Rattle.fr_judging.specs.Judging.{fresh, finish, has_finding}
-use Rattle.fr_judging.specs.Rules.{rules_of, is_clocked}
+use Rattle.fr_judging.specs.Rules.{rules_of, is_clocked, has_sender, no_clock_on}
 use Rattle.fr_logged.specs.Logged.{kind_of}
 use Rattle.fr_recording.specs.Records.{Record}
 use Rattle.fr_schedule.specs.Descriptions.{Description}
@@ -29,14 +30,23 @@ use Rattle.fr_status.specs.declared.seen.Seen.TheVariants.{Silence, Own, Conflic
 abbrev pub IsIntact : Channel → List Recorded → Type 0
 IsIntact channel rs = (k : ℕ) (r : Recorded) → slice_get rs k ≡ Some r → corrupt_on r channel ≡ None
 
--- in each cycle a static slot has an owner on the channel
+-- if a node sends on the channel, a static slot has an owner there in each cycle
 abbrev pub IsClocked : Description → Channel → Type 0
-IsClocked d channel = (cycle : ℕ) → cycle < 64 → is_clocked d channel cycle ≡ true
+IsClocked d channel = has_sender d channel ≡ true → (cycle : ℕ) → cycle < 64 → is_clocked d channel cycle ≡ true
+
+-- This holds of each cluster that isn't refused as `NoClock`.
+abbrev pub ClockIsTold : Type 0
+ClockIsTold = (d : Description) (most : ℕ) (whole : Bool) (channel : Channel) (macrotick : ℕ)
+    → no_clock_on (rules_of d most whole (Some channel) macrotick) channel ≡ None → IsClocked d channel
 
 -- there is a cycle, and the last one has all its static windows
 pub record IsComplete (p : Parameters) (rs : List Recorded) : Type 0 where
   pub some_window : 1 ≤ length rs
   pub static_over : p.static_slots ≤ statics_of (this_cycle rs)
+
+-- A run that is over is complete.
+abbrev pub FinishedIsComplete : WorldState → Type 0
+FinishedIsComplete w = w.bus.phase ≡ Finished → IsComplete w.bus.cluster.params w.bus.sealed
 
 -- On the channel the run has no babble, no muted offer and no flipped bit. It ends with a cycle, or after the static
 -- segment of one.
@@ -65,7 +75,8 @@ pub record HasCycles (w : WorldState) (channel : Channel) : Type 0 where
 
 -- The frames that a listener receives in a run without faults are those of whole cycles.
 abbrev pub CyclesAreHeard : WorldState → Type 0
-CyclesAreHeard w = (channel : Channel) → IsHealthy w channel → HasCycles w channel
+CyclesAreHeard w = (channel : Channel) → has_sender w.bus.cluster channel ≡ true → IsHealthy w channel
+    → HasCycles w channel
 
 -- ---- recordings of a run
 
