@@ -1,8 +1,8 @@
 -- The frames of a record of windows are those of a channel's cycles.
-use Rattle.std.proofs.Common.{◌≡◌, ℕ, zero, suc, ◌+◌, ◌-◌, ◌%◌, ◌<◌, ◌≤◌, Bool, true, false, cond, ◌&&◌, ◌||◌, List, []}
-use Rattle.std.proofs.Common.{◌∷◌, ◌++◌, length, Option, Some, None, refl, sym, ap, subst, ◌∙◌, arith, slice_get, ◌⊎◌}
+use Rattle.std.proofs.Common.{◌≡◌, ℕ, zero, suc, ◌+◌, ◌-◌, ◌%◌, ◌<◌, ◌≤◌, Bool, true, false, ◌&&◌, ◌||◌, List, []}
+use Rattle.std.proofs.Common.{◌∷◌, ◌++◌, length, Some, None, refl, sym, ap, subst, ◌∙◌, arith, slice_get}
 use Rattle.std.proofs.Common.{inl, inr}
-use Rattle.std.specs.Prelude.{◌==◌, min, nat_le}
+use Rattle.std.specs.Prelude.{◌==◌}
 use Rattle.std.specs.List.{list_any}
 use Rattle.std.proofs.lemmas.Bool.{eq-eqb, le-leb}
 use Rattle.std.proofs.lemmas.List.{append_assoc, append-nil}
@@ -16,8 +16,8 @@ use Rattle.fr_frame.specs.Fields.{Fields}
 use Rattle.fr_guardian.proofs.AloneLemmas.{each_at}
 use Rattle.fr_hearing.proofs.NextLemmas.{IsNextOf, next_window, after_first, after_static, after_dynamic, some_minislot}
 use Rattle.fr_hearing.proofs.PassageLemmas.{IsHeardAt, with_frame, IsAt, due_at_some, static_step, first_step, dynamic_step}
-use Rattle.fr_hearing.proofs.SizeLemmas.{IsFoundAt, found_at}
-use Rattle.fr_hearing.specs.Heard.{Spot, cycle_start, after_frame, IsAllowed, AreFree, static_end, IsFirst, IsOver, AreHeard}
+use Rattle.fr_hearing.proofs.SizeLemmas.{found_at}
+use Rattle.fr_hearing.specs.Heard.{Spot, cycle_start, after_frame, IsAllowed, AreFree, static_end, IsFirst, AreHeard}
 use Rattle.fr_hearing.specs.Heard.{FollowOn}
 use Rattle.fr_judging.specs.Rules.{due_at, is_clocked, owns_some, owns_in}
 use Rattle.fr_logged.proofs.DueLemmas.{due_is_owners}
@@ -29,12 +29,10 @@ use Rattle.fr_slots.proofs.FaultlessLemmas.{faultless}
 use Rattle.fr_slots.proofs.PlaceLemmas.{same_some}
 use Rattle.fr_slots.specs.Admission.{includes, cycle_admitted}
 use Rattle.fr_slots.specs.declared.channel.Channel.{Channel}
-use Rattle.fr_slots.specs.declared.plan.Own.{Own}
 use Rattle.fr_slots.specs.Faults.{claims}
 use Rattle.fr_slots.specs.History.{AllAfter}
-use Rattle.fr_slots.specs.Parameters.{Parameters}
 use Rattle.fr_slots.specs.Plans.{Plan, IsOwn}
-use Rattle.fr_slots.specs.Windows.{Opportunity, static_window}
+use Rattle.fr_slots.specs.Windows.{static_window}
 
 -- ---- the windows of a record
 

@@ -1,20 +1,17 @@
 -- In a run without faults on a channel a listener receives silence or the frame that is due, window by window.
-use Rattle.std.proofs.Common.{◌≡◌, ℕ, zero, suc, ◌+◌, ◌-◌, ◌*◌, ◌<◌, ◌≤◌, Bool, true, false, cond, List, [], ◌∷◌, length}
-use Rattle.std.proofs.Common.{Option, Some, None, refl, sym, ap, subst, ◌∙◌, arith, slice_get, get_or, ◌⊎◌, inl, inr}
+use Rattle.std.proofs.Common.{◌≡◌, ℕ, zero, suc, ◌+◌, ◌-◌, ◌*◌, ◌<◌, ◌≤◌, Bool, true, false, List, [], ◌∷◌, length}
+use Rattle.std.proofs.Common.{Option, Some, None, refl, sym, ap, ◌∙◌, arith, slice_get, get_or, ◌⊎◌, inl, inr}
 use Rattle.std.proofs.Common.{map}
 use Rattle.std.specs.Prelude.{nat_lt, max, ◌==◌}
 use Rattle.std.specs.List.{fold, list_any}
-use Rattle.std.proofs.lemmas.Bool.{cond-true, cond-false, le-ltb, eq-eqb}
+use Rattle.std.proofs.lemmas.Bool.{cond-true, cond-false, le-ltb}
 use Rattle.std.proofs.lemmas.Option.{slice_get-get_or}
-use Rattle.arrayvec.specs.ArrayVec.{ArrayVec}
 use Rattle.fr_bus.specs.declared.outcome.Sent.{Sent}
 use Rattle.fr_bus.specs.Outcome.{all_passed, heard_of, received, overruns, longest}
 use Rattle.fr_bus.specs.Record.{Recorded, corrupt_on, heard}
-use Rattle.fr_core.proofs.CaseLemmas.{differ}
 use Rattle.fr_core.proofs.FollowLemmas.{world_follows, world_configured, legal_at}
 use Rattle.fr_core.specs.Headline.{Headline}
 use Rattle.fr_core.specs.Worlds.{WorldState, no_interface}
-use Rattle.fr_frame.specs.Encoding.{encoded}
 use Rattle.fr_frame.specs.Fields.{Fields}
 use Rattle.fr_hearing.proofs.CycleLemmas.{AreHeardAt}
 use Rattle.fr_hearing.proofs.ListenLaws.{handed_by, fetch_fits, static_slot_is, dynamic_slot_is}
@@ -32,7 +29,7 @@ use Rattle.fr_schedule.specs.Descriptions.{Description}
 use Rattle.fr_schedule.specs.SenderTable.{IsSender}
 use Rattle.fr_slots.specs.declared.channel.Channel.{Channel}
 use Rattle.fr_slots.specs.Faults.{is_owned, sends_at}
-use Rattle.fr_slots.specs.Parameters.{Parameters, is_static_slot}
+use Rattle.fr_slots.specs.Parameters.{is_static_slot}
 use Rattle.fr_slots.specs.Windows.{Opportunity, slot_of, is_static, window_fits}
 use Rattle.fr_status.specs.declared.seen.Seen.TheVariants.{Silence, Overrun, Bytes}
 

@@ -1,23 +1,21 @@
 -- In a run without faults of senders each frame that a listener receives is due in its window.
-use Rattle.std.proofs.Common.{◌≡◌, ℕ, zero, suc, ◌+◌, ◌<◌, ◌≤◌, Bool, true, false, not, cond, ◌&&◌, ◌||◌, List, [], ◌∷◌}
-use Rattle.std.proofs.Common.{◌++◌, length, map, take, Option, Some, None, refl, sym, ap, subst, ◌∙◌, arith, slice_get}
+use Rattle.std.proofs.Common.{◌≡◌, ℕ, zero, suc, ◌<◌, Bool, true, false, not, cond, ◌&&◌, ◌||◌, List, [], ◌∷◌}
+use Rattle.std.proofs.Common.{◌++◌, length, map, Option, Some, None, refl, sym, ap, subst, ◌∙◌, arith, slice_get}
 use Rattle.std.proofs.Common.{get_or}
-use Rattle.std.proofs.Common.{is_some}
 use Rattle.std.specs.Prelude.{nat_lt, slice_index_or, ◌==◌}
 use Rattle.std.specs.List.{filter, list_all}
-use Rattle.std.proofs.lemmas.Bool.{eqb-true, eq-eqb, lt-ltb, ltb-true, cond-false, cond-true, not-true}
+use Rattle.std.proofs.lemmas.Bool.{eq-eqb, lt-ltb, ltb-true, cond-false, cond-true, not-true}
 use Rattle.std.proofs.lemmas.Option.{slice_get-get_or}
 use Rattle.arrayvec.specs.ArrayVec.{ArrayVec}
 use Rattle.fr_bus.specs.declared.outcome.Sent.{Sent}
 use Rattle.fr_bus.specs.declared.outcome.SentFate.{SentFate}
 use Rattle.fr_bus.specs.Outcome.{transmission, sent_in, is_of, passed_on, all_passed, fate_of, is_passed, heard_of}
-use Rattle.fr_bus.specs.Outcome.{received}
 use Rattle.fr_bus.specs.Outcome.{overruns}
 use Rattle.fr_bus.specs.Record.{Recorded, IsOutcome, is_offer_of, offer_in, side_on, corrupt_on, heard}
 use Rattle.fr_bus.specs.States.{IsRecorded, idle_station}
 use Rattle.fr_core.proofs.CaseLemmas.{both_first, both_rest, both, differ}
 use Rattle.fr_core.proofs.FollowLemmas.{world_follows, world_configured, legal_at}
-use Rattle.fr_core.proofs.HandingLemmas.{fetch_of, bytes_on, handed_on, offer_is}
+use Rattle.fr_core.proofs.HandingLemmas.{fetch_of, bytes_on, offer_is}
 use Rattle.fr_core.proofs.JudgedLemmas.{recorded_at}
 use Rattle.fr_core.proofs.OwnLemmas.{own_from}
 use Rattle.fr_core.proofs.ReceiverLemmas.{handed_is_offered}
@@ -33,7 +31,7 @@ use Rattle.fr_guardian.specs.Guarding.{passes}
 use Rattle.fr_hearing.proofs.OfferLaws.{owners_send, senders_send}
 use Rattle.fr_hearing.proofs.OwnedLemmas.{offers_own}
 use Rattle.fr_hearing.specs.Listening.{is_sound, is_sound_on, AreSound, IsOwnersThere, IsThere, SpellsDue, HeardIsDue}
-use Rattle.fr_hearing.specs.Offering.{IsFetched, HandsDue}
+use Rattle.fr_hearing.specs.Offering.{IsFetched}
 use Rattle.fr_interface.specs.State.{State, IsLegalInterface}
 use Rattle.fr_journal.specs.declared.entry.Entry.TheVariants.{Fetch}
 use Rattle.fr_journal.specs.declared.entry.Offered.{Offered}
@@ -41,7 +39,7 @@ use Rattle.fr_journal.specs.declared.entry.Offered.TheVariants.{Nothing}
 use Rattle.fr_journal.specs.Entries.{IsEntry}
 use Rattle.fr_journal.specs.Forms.{Entry}
 use Rattle.fr_journal.specs.Legal.{IsLegal, IsLegalFetch}
-use Rattle.fr_journal.specs.Offers.{frame_with, frame_of_offer, bytes_of, offered}
+use Rattle.fr_journal.specs.Offers.{frame_with, frame_of_offer, bytes_of}
 use Rattle.fr_schedule.specs.Clusters.{IsCluster}
 use Rattle.fr_schedule.specs.Descriptions.{Description}
 use Rattle.fr_slots.proofs.PlaceLemmas.{IsAmong, same_some, get-append, map-get, AllAfter-cut}
@@ -52,9 +50,9 @@ use Rattle.fr_slots.specs.History.{AllAfter}
 use Rattle.fr_slots.specs.Parameters.{Parameters, is_static_slot}
 use Rattle.fr_slots.specs.Windows.{Opportunity, slot_of, is_static, window_fits, static_slot_fits, dynamic_slot_fits}
 use Rattle.fr_slots.specs.Windows.{IsInRange}
-use Rattle.fr_status.specs.declared.seen.Seen.TheVariants.{Silence, Noise, Overrun, Bytes}
+use Rattle.fr_status.specs.declared.seen.Seen.TheVariants.{Overrun, Bytes}
 use Rattle.std.specs.Option.{option_and_then}
-use Rattle.std.specs.Prelude.{nat_le, option_map}
+use Rattle.std.specs.Prelude.{nat_le}
 
 -- ---- lists
 

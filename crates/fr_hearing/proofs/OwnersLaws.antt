@@ -1,23 +1,22 @@
 -- In a run without faults of senders a listener receives the frame of each static slot's owner.
-use Rattle.std.proofs.Common.{◌≡◌, ℕ, zero, suc, ◌+◌, ◌*◌, ◌<◌, ◌≤◌, Bool, true, false, not, cond, ◌&&◌, ◌||◌, List, []}
-use Rattle.std.proofs.Common.{◌∷◌, ◌++◌, length, Option, Some, None, refl, sym, ap, subst, ◌∙◌, arith, slice_get}
+use Rattle.std.proofs.Common.{◌≡◌, ℕ, suc, ◌+◌, ◌*◌, ◌<◌, Bool, true, false, cond, ◌&&◌, List, []}
+use Rattle.std.proofs.Common.{◌∷◌, ◌++◌, length, Option, Some, None, refl, sym, ap, ◌∙◌, arith, slice_get}
 use Rattle.std.proofs.Common.{get_or}
 use Rattle.std.proofs.Common.{length-append}
-use Rattle.std.specs.Prelude.{nat_lt, slice_index_or, ◌==◌, is_some, nat_le, ◌-◌}
+use Rattle.std.specs.Prelude.{nat_lt, slice_index_or, ◌==◌, ◌-◌}
 use Rattle.std.specs.Int.{bytes_high_first}
-use Rattle.std.specs.List.{filter, list_all, list_any}
-use Rattle.std.proofs.lemmas.Bool.{eqb-true, eq-eqb, ne_eqb, le-ltb, cond-true, cond-false}
+use Rattle.std.specs.List.{list_all}
+use Rattle.std.proofs.lemmas.Bool.{eq-eqb, ne_eqb, le-ltb, cond-true, cond-false}
 use Rattle.std.proofs.lemmas.Option.{slice_get-get_or, slice_get_within}
 use Rattle.arrayvec.specs.ArrayVec.{ArrayVec}
 use Rattle.fr_bus.proofs.OfferLemmas.{offer_of_station}
 use Rattle.fr_bus.specs.declared.outcome.Sent.{Sent}
-use Rattle.fr_bus.specs.declared.outcome.SentFate.{SentFate}
-use Rattle.fr_bus.specs.declared.outcome.SentFate.TheVariants.{Passed, Blocked, Muted}
+use Rattle.fr_bus.specs.declared.outcome.SentFate.TheVariants.{Passed}
 use Rattle.fr_bus.specs.Outcome.{transmission, is_of, passed_on, all_passed, fate_of, is_passed, heard_of, received}
 use Rattle.fr_bus.specs.Outcome.{overruns}
-use Rattle.fr_bus.specs.Record.{Recorded, IsOutcome, offer_in, side_on, corrupt_on, heard}
+use Rattle.fr_bus.specs.Record.{Recorded, IsOutcome, offer_in, side_on, corrupt_on}
 use Rattle.fr_bus.specs.States.{IsRecorded, idle_station}
-use Rattle.fr_core.proofs.CaseLemmas.{both_first, both_rest, both}
+use Rattle.fr_core.proofs.CaseLemmas.{both}
 use Rattle.fr_core.proofs.FollowLemmas.{world_follows, world_configured, legal_at}
 use Rattle.fr_core.proofs.HandingLemmas.{offer_is}
 use Rattle.fr_core.proofs.JudgedLemmas.{recorded_at}
@@ -25,7 +24,7 @@ use Rattle.fr_core.proofs.OwnLemmas.{own_from, own_is}
 use Rattle.fr_core.specs.Accounts.{own, of_owner}
 use Rattle.fr_core.specs.Agreeing.{Follows}
 use Rattle.fr_core.specs.Headline.{Headline}
-use Rattle.fr_core.specs.Receivers.{is_muted, offered_on, IsOwner}
+use Rattle.fr_core.specs.Receivers.{offered_on, IsOwner}
 use Rattle.fr_core.specs.Worlds.{WorldState, no_interface}
 use Rattle.fr_frame.specs.Bits.{number_of}
 use Rattle.fr_frame.specs.Crc.{frame_check}
@@ -33,21 +32,19 @@ use Rattle.fr_frame.specs.Encoding.{encoded, checked_bytes}
 use Rattle.fr_frame.specs.Fields.{Fields}
 use Rattle.fr_frame.specs.Spelling.{header}
 use Rattle.fr_guardian.proofs.AloneLemmas.{owner_passes}
-use Rattle.fr_guardian.specs.Guarding.{passes}
-use Rattle.fr_hearing.proofs.ListenLaws.{own_sound, handed_by, sent_by, IsHanded, IsSentBy, frame_of, IsFrameOf, static_slot_is}
+use Rattle.fr_hearing.proofs.ListenLaws.{own_sound, handed_by, sent_by, IsHanded, frame_of, static_slot_is}
 use Rattle.fr_hearing.proofs.ListenLaws.{not_nothing, legal_fetch, in_range, window_is, fetch_range, fetch_fits}
 use Rattle.fr_hearing.proofs.OfferLaws.{owners_send}
 use Rattle.fr_hearing.proofs.OwnedLemmas.{offers_own, owned_is}
 use Rattle.fr_hearing.specs.Listening.{is_sound, AreSound, Receives, OwnersAreHeard}
-use Rattle.fr_hearing.specs.Offering.{IsFetched, HandsDue}
+use Rattle.fr_hearing.specs.Offering.{HandsDue}
 use Rattle.fr_interface.specs.State.{State, IsLegalInterface}
-use Rattle.fr_journal.specs.Offers.{frame_with, bytes_of, owns, line_of}
+use Rattle.fr_journal.specs.Offers.{frame_with, bytes_of, line_of}
 use Rattle.fr_minislot.specs.DynamicRows.{minislots_filled_by}
 use Rattle.fr_schedule.specs.Clusters.{IsCluster}
 use Rattle.fr_schedule.specs.Descriptions.{Description}
-use Rattle.fr_schedule.specs.SenderTable.{IsSender}
 use Rattle.fr_logged.proofs.DueLemmas.{static_sender}
-use Rattle.fr_logged.proofs.FirstLemmas.{any_found_in, there, IsThere}
+use Rattle.fr_logged.proofs.FirstLemmas.{any_found_in, there}
 use Rattle.fr_hearing.proofs.OfferLaws.{line_is}
 use Rattle.fr_slots.proofs.PlaceLemmas.{same_some}
 use Rattle.fr_slots.specs.Admission.{is_channel}
@@ -57,7 +54,7 @@ use Rattle.fr_slots.specs.Faults.{is_owned, claims}
 use Rattle.fr_slots.specs.History.{AllAfter}
 use Rattle.fr_slots.specs.Parameters.{Parameters, is_static_slot}
 use Rattle.fr_slots.specs.Plans.{Plan}
-use Rattle.fr_slots.specs.Windows.{Opportunity, slot_of, is_static}
+use Rattle.fr_slots.specs.Windows.{slot_of, is_static}
 use Rattle.fr_status.specs.declared.seen.Seen.TheVariants.{Overrun, Bytes}
 
 -- ---- the length of a frame

@@ -1,12 +1,12 @@
 -- In a run without faults on a channel the frames that a listener receives are those of whole cycles, and a recording of
 -- them has no finding.
-use Rattle.std.proofs.Common.{◌≡◌, ℕ, ℤ, zero, suc, ◌+◌, ◌*◌, ◌%◌, ◌<◌, ◌≤◌, Bool, true, false, cond, List, [], ◌∷◌}
+use Rattle.std.proofs.Common.{◌≡◌, ℕ, zero, suc, ◌+◌, ◌*◌, ◌%◌, ◌<◌, ◌≤◌, Bool, true, false, cond, List, [], ◌∷◌}
 use Rattle.std.proofs.Common.{◌++◌, length, map, Option, Some, None, refl, sym, ap, subst, ◌∙◌, arith, ◌⊎◌, inl, inr}
 use Rattle.std.specs.Option.{option_or}
-use Rattle.std.specs.Prelude.{nat_le, nat_lt, ◌-◌, ◌&&◌, ◌^◌}
+use Rattle.std.specs.Prelude.{nat_le, nat_lt, ◌-◌, ◌&&◌}
 use Rattle.std.proofs.lemmas.Bool.{leb-true, leb-false, ltb-false, cond-true}
 use Rattle.arrayvec.specs.ArrayVec.{ArrayVec}
-use Rattle.fr_bus.specs.Record.{Recorded, heard}
+use Rattle.fr_bus.specs.Record.{Recorded}
 use Rattle.fr_capture.specs.Pcap.{packet}
 use Rattle.fr_bus.specs.declared.error.Phase.{Phase}
 use Rattle.fr_bus.specs.declared.error.Phase.TheVariants.{Finished}
@@ -29,9 +29,8 @@ use Rattle.fr_hearing.proofs.RecordLemmas.{same_channel}
 use Rattle.fr_hearing.proofs.SilenceLaws.{no_alarm_in_silence, nothing_due}
 use Rattle.fr_hearing.proofs.SizeLemmas.{static_words, dynamic_sized}
 use Rattle.fr_hearing.specs.Alarms.{Spells, AreOn, judged}
-use Rattle.fr_hearing.specs.Captured.{record_of}
 use Rattle.fr_hearing.specs.Heard.{Spot, after_frame, cycle_start, IsAllowed, IsAllowedAs, FollowOn, AreHeard}
-use Rattle.fr_hearing.specs.Runs.{IsHealthy, AreReceived, HasCycles, CyclesAreHeard, packets_seen, packets_of, logged}
+use Rattle.fr_hearing.specs.Runs.{AreReceived, CyclesAreHeard, packets_seen, packets_of, logged}
 use Rattle.fr_hearing.specs.Runs.{AreLogged, NoAlarmInRun, IsComplete, FinishedIsComplete, ClockIsTold}
 use Rattle.fr_judging.specs.Judging.{fresh, finish, has_finding}
 use Rattle.fr_judging.specs.Rules.{due_at, due_or, rules_of, judges, has_sender, has_sender_in, is_clocked, unclocked}

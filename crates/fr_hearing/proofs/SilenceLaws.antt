@@ -1,13 +1,13 @@
 -- A channel without a sender has no frame and no finding.
-use Rattle.std.proofs.Common.{◌≡◌, ℕ, zero, suc, ◌+◌, ◌≤◌, Bool, true, false, not, cond, ◌&&◌, ◌||◌, List, [], ◌∷◌, refl}
-use Rattle.std.proofs.Common.{sym, ap, subst, ◌∙◌, arith, ◌⊎◌, inl, inr, Option, Some, None, slice_get}
-use Rattle.std.proofs.lemmas.Bool.{cond-true, cond-false, eqb-true, and_left, false_from_ne_true}
+use Rattle.std.proofs.Common.{◌≡◌, ℕ, zero, suc, Bool, true, false, not, cond, ◌&&◌, ◌||◌, List, [], ◌∷◌, refl}
+use Rattle.std.proofs.Common.{sym, ap, ◌∙◌, inl, inr, Some, None, slice_get}
+use Rattle.std.proofs.lemmas.Bool.{cond-false, eqb-true, and_left}
 use Rattle.std.specs.Prelude.{◌==◌}
 use Rattle.std.specs.List.{list_any}
 use Rattle.fr_bus.specs.Record.{Recorded}
 use Rattle.fr_core.proofs.CaseLemmas.{both, both_first, both_rest, differ}
 use Rattle.fr_frame.specs.Fields.{Fields}
-use Rattle.fr_hearing.proofs.AlarmLaws.{IsAlone, alone, cluster_of, core_fresh, fresh_core, turn_rules, found_none}
+use Rattle.fr_hearing.proofs.AlarmLaws.{IsAlone, alone, core_fresh, fresh_core, turn_rules, found_none}
 use Rattle.fr_hearing.proofs.AlarmLaws.{skip_channel, end_channel, cleared}
 use Rattle.fr_hearing.proofs.CoreLemmas.{Core, core}
 use Rattle.fr_hearing.proofs.PassageLemmas.{IsLoud}
@@ -16,7 +16,7 @@ use Rattle.fr_hearing.proofs.StepLemmas.{settle_none}
 use Rattle.fr_hearing.specs.Alarms.{AreOn, judged, NoAlarmInSilence}
 use Rattle.fr_hearing.specs.Listening.{IsThere}
 use Rattle.fr_judging.specs.Judging.{State, turn, turned, judge, fresh, finish, finish_on, finish_channel, tell_end}
-use Rattle.fr_judging.specs.Judging.{tell_nothing, says_nothing, settle, end_cycle, end_in, find, symbol_place}
+use Rattle.fr_judging.specs.Judging.{tell_nothing, says_nothing, end_cycle, end_in, find, symbol_place}
 use Rattle.fr_judging.specs.Judging.{has_finding}
 use Rattle.fr_judging.specs.Rules.{rules_of, has_sender, has_sender_in, sends_on, own_includes, transmits_on}
 use Rattle.fr_judging.specs.declared.rules.Rules.{Rules}
@@ -24,7 +24,6 @@ use Rattle.fr_logged.proofs.SenderLemmas.{due_nobody}
 use Rattle.fr_logged.specs.Dues.{due_of}
 use Rattle.fr_logged.specs.declared.due.Due.{Due}
 use Rattle.fr_logged.specs.Findings.{bare}
-use Rattle.fr_logged.specs.Logged.{kind_of}
 use Rattle.fr_logged.specs.declared.finding.Name.TheVariants as name
 use Rattle.fr_recording.specs.Records.{Record}
 use Rattle.fr_schedule.specs.Descriptions.{Description}
@@ -36,8 +35,8 @@ use Rattle.fr_slots.specs.declared.channel.Channel.TheVariants.{A, B}
 use Rattle.fr_slots.specs.declared.plan.Buffer.{Buffer}
 use Rattle.fr_slots.specs.declared.plan.Own.{Own}
 use Rattle.fr_slots.specs.Faults.{claims, is_owned, sends_at, transmits}
-use Rattle.fr_slots.specs.Parameters.{Parameters, is_static_slot}
-use Rattle.fr_slots.specs.Plans.{Plan, filter_admits}
+use Rattle.fr_slots.specs.Parameters.{is_static_slot}
+use Rattle.fr_slots.specs.Plans.{filter_admits}
 use Rattle.fr_slots.specs.Windows.{is_static}
 
 -- ---- nothing is due

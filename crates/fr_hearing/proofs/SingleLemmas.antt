@@ -1,11 +1,10 @@
 -- In a run without faults of senders at most one frame passes on a channel in a window.
-use Rattle.std.proofs.Common.{◌≡◌, ℕ, zero, suc, ◌+◌, ◌*◌, ◌<◌, ◌≤◌, Bool, true, false, not, cond, ◌&&◌, ◌||◌, List, []}
-use Rattle.std.proofs.Common.{◌∷◌, ◌++◌, length, Option, Some, None, refl, sym, ap, subst, ◌∙◌, arith, slice_get}
-use Rattle.std.proofs.Common.{◌⊎◌, inl, inr, map, length-append}
+use Rattle.std.proofs.Common.{◌≡◌, ℕ, suc, ◌<◌, ◌≤◌, Bool, true, false, cond, ◌&&◌, List, []}
+use Rattle.std.proofs.Common.{◌∷◌, ◌++◌, length, Option, Some, None, refl, sym, ap, ◌∙◌, arith, slice_get}
+use Rattle.std.proofs.Common.{◌⊎◌, inl, inr, length-append}
 use Rattle.std.specs.Prelude.{nat_lt, slice_index_or, ◌==◌, is_some}
 use Rattle.std.specs.List.{filter, list_all}
-use Rattle.std.proofs.lemmas.Bool.{eq-eqb, lt-ltb, ltb-true, cond-true}
-use Rattle.std.proofs.lemmas.Option.{slice_get_within}
+use Rattle.std.proofs.lemmas.Bool.{eq-eqb, lt-ltb, ltb-true}
 use Rattle.arrayvec.specs.ArrayVec.{ArrayVec}
 use Rattle.fr_bus.specs.declared.outcome.Sent.{Sent}
 use Rattle.fr_bus.specs.declared.outcome.SentFate.{SentFate}
@@ -35,7 +34,7 @@ use Rattle.fr_interface.specs.State.{State, IsLegalInterface}
 use Rattle.fr_journal.specs.declared.entry.Offered.{Offered}
 use Rattle.fr_journal.specs.declared.entry.Offered.TheVariants.{Nothing, Null, Data}
 use Rattle.fr_journal.specs.Forms.{Entry}
-use Rattle.fr_journal.specs.Offers.{frame_with, offered, offered_at, data_or, commit_offered, line_of, transmitter}
+use Rattle.fr_journal.specs.Offers.{frame_with, offered, offered_at, data_or, commit_offered, line_of}
 use Rattle.fr_logged.proofs.DueLemmas.{static_sender, dynamic_sender}
 use Rattle.fr_logged.proofs.FirstLemmas.{any_found_in, there}
 use Rattle.fr_logged.specs.Dues.{buffer_in}
@@ -224,8 +223,7 @@ module _ (d : Description) (cycles : ℕ) (interfaces : List State) (rs : List R
         let h = handed_by d cycles interfaces rs cluster legal follow params_are plan_at as_many recorded channel sound
         t.node k by.state r by.here at in
         let f = frame_of channel (frame_with by.state.params by.state.plan h.before r.window channel
-        (offered_on channel h.a h.b)) t.bytes (h.handed ∙ by.offer) in
-        (
+        (offered_on channel h.a h.b)) t.bytes (h.handed ∙ by.offer) in (
           fits d t.node by.state h.before r.window h.a h.b channel slot cluster h.fetched_is slot_is f.frame f.is,
           sends d t.node by.state h.before r.window h.a h.b channel slot cluster h.fetched_is slot_is f.frame f.is
               (is_static r.window) refl,

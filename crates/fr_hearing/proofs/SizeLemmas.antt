@@ -1,19 +1,13 @@
 -- The size of a frame that is due: its words, its minislots and its bytes.
-use Rattle.std.proofs.Common.{◌≡◌, ℕ, zero, suc, ◌+◌, ◌-◌, ◌*◌, ◌/◌, ◌%◌, ◌<◌, ◌≤◌, Bool, true, false, cond, not, ◌&&◌}
-use Rattle.std.proofs.Common.{List, [], ◌∷◌, length, Option, Some, None, refl, sym, ap, subst, ◌∙◌, arith, slice_get}
-use Rattle.std.proofs.lemmas.Bool.{cond-true, cond-false, eqb-true, ne_eqb, leb-true, leb-false, le-ltb, ltb-false}
+use Rattle.std.proofs.Common.{◌≡◌, ℕ, zero, suc, ◌+◌, ◌-◌, ◌*◌, ◌<◌, ◌≤◌, Bool, true, false, cond, not, ◌&&◌}
+use Rattle.std.proofs.Common.{List, [], ◌∷◌, Option, Some, None, refl, sym, ap, subst, ◌∙◌, arith, slice_get}
+use Rattle.std.proofs.lemmas.Bool.{cond-true, cond-false, eqb-true, ne_eqb, leb-true, leb-false}
 use Rattle.std.proofs.lemmas.Grind.{div_ceil_times}
 use Rattle.std.proofs.Math.Nat.{add-mul, mul-le-mul_right}
 use Rattle.std.specs.Int.{div_ceil}
 use Rattle.std.specs.List.{find}
-use Rattle.std.specs.Prelude.{◌==◌, ◌||◌, nat_le, nat_lt, is_some, unwrap_or, ◌^◌}
-use Rattle.fr_bus.specs.Outcome.{overruns}
+use Rattle.std.specs.Prelude.{◌==◌, ◌||◌, nat_le, is_some, unwrap_or}
 use Rattle.fr_core.proofs.CaseLemmas.{both, both_first, both_rest}
-use Rattle.fr_frame.specs.Fields.{Fields, IsFrame}
-use Rattle.fr_guardian.proofs.AloneLemmas.{each_at}
-use Rattle.fr_hearing.specs.Heard.{IsOwners}
-use Rattle.fr_hearing.specs.Listening.{IsThere, IsOwnersThere}
-use Rattle.fr_hearing.specs.Offering.{IsDueThere}
 use Rattle.fr_logged.specs.Dues.{line_in, buffer_in, owner_or, owner_from, sender_or, sender_from, dynamic_due, due_of}
 use Rattle.fr_logged.specs.declared.due.Due.{Due}
 use Rattle.fr_minislot.specs.DynamicRows.{minislots_filled_by, row_length}
@@ -26,9 +20,8 @@ use Rattle.fr_slots.specs.declared.channel.Channel.{Channel}
 use Rattle.fr_slots.specs.declared.plan.Buffer.{Buffer}
 use Rattle.fr_slots.specs.declared.plan.Own.{Own}
 use Rattle.fr_slots.specs.Faults.{minislots_filled, sends_at, transmits, transmits_dynamic, words_of, latest_on}
-use Rattle.fr_slots.specs.Parameters.{Parameters, IsParameters, is_static_slot}
+use Rattle.fr_slots.specs.Parameters.{Parameters, is_static_slot}
 use Rattle.fr_slots.specs.Plans.{Plan, Each, AllFit, buffer_fits, filter_admits, words_fit, is_receive}
-use Rattle.fr_slots.specs.Windows.{Opportunity, is_static, IsInRange}
 
 -- ---- quotients that are rounded up
 

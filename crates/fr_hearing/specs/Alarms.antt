@@ -1,5 +1,5 @@
 -- A recording of a bus without faults has no finding (project-defined).
-use Rattle.std.specs.Prelude.{◌≡◌, ℕ, Bool, false, true, List, [], ◌∷◌, ◌⊎◌, Option, Some, None, Result, Ok}
+use Rattle.std.specs.Prelude.{◌≡◌, ℕ, Bool, false, true, List, [], ◌∷◌, ◌⊎◌, Some, Ok}
 use Rattle.fr_frame.specs.Fields.{Fields}
 use Rattle.fr_judging.specs.Judging.{State, fresh, judge, finish, has_finding}
 use Rattle.fr_judging.specs.Rules.{rules_of, has_sender}

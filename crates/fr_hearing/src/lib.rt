@@ -8,11 +8,15 @@
 //! - `Alarms`: recordings of such frames, and the law that they have no finding.
 //! - `Offering`: the frames that nodes hand to the bus, and those that are due there.
 //! - `Listening`: the frames that a listener receives in the windows of a run without faults of senders.
+//! - `Runs`: runs without faults on a channel, their recordings, and the law that these have no finding.
 //! - `Captured`: the record of a frame in a capture.
 //!
 //! # Laws
 //!
+//! - `RunLaws`: in each run without faults on a channel, the frames that a listener receives there are those of whole
+//!   cycles. A recording of them has no finding on this channel, without times.
 //! - `AlarmLaws`: each channel by itself, without times, has no false alarm.
+//! - `SilenceLaws`: a channel without a sender has none, either.
 //! - `OfferLaws`: in each static window its owner hands over the frame that is due. So does each node that sends in a
 //!   dynamic one.
 //! - `ListenLaws`: each frame that a listener receives without faults is due in its window.
