@@ -76,6 +76,20 @@ module _ (d : Description) (cluster : IsCluster d) (w : Opportunity) (channel : 
       by_zero zero e = absurd (let none : ⊥ = cc in none)
       by_zero (suc m) e = omega arith
 
+  few_bytes : (b : Bool) → is_static w ≡ b → IsThere d w channel slot f b → length f.payload ≤ 254
+  few_bytes true static there =
+      let words = there.owners.words in
+      let due_words = static_words d slot channel w.cycle there.due
+      (static_slot_is d.params w channel slot fits static slot_is) there.due_is in
+      let most : d.params.static_words ≤ 127 = cluster.params_are.static_words_fit.at_most in
+      omega (arith, words, due_words, most)
+  few_bytes false dynamic there =
+      let words = there.words in
+      let sized = dynamic_sized d slot channel w.cycle there.due cluster
+      (dynamic_slot_is d.params w channel slot fits dynamic slot_is) there.due_is in
+      let most = sized.words_fit in
+      omega (arith, words, most)
+
 -- ---- the windows of a world
 
 module _ (w : WorldState) (head : Headline w) (channel : Channel) (healthy : IsHealthy w channel) (k : ℕ) (r : Recorded)
@@ -143,6 +157,8 @@ module _ (w : WorldState) (head : Headline w) (channel : Channel) (healthy : IsH
         spelled = due.spelled;
         is_there = due.is_there;
         size = longest_one channel r lone.sender lone.only ∙ size;
+        few = few_bytes d head.run.lawful r.window channel slot window_here slot_is due.frame (is_static r.window) refl
+            due.is_there;
       }
 
   pub window_heard : IsHeardAt w.bus.cluster channel r

@@ -20,3 +20,5 @@ mod CycleLemmas
 mod HearingLemmas
 pub mod SilenceLaws
 pub mod RunLaws
+mod ReadingLemmas
+pub mod FileLaws

@@ -53,6 +53,7 @@ pub record IsLoud (d : Description) (channel : Channel) (r : Recorded) : Type 0 
   pub spelled : bytes.items ≡ encoded frame channel
   pub is_there : IsThere d r.window channel slot frame (is_static r.window)
   pub size : longest channel r.sent ≡ 8 + length frame.payload
+  pub few : length frame.payload ≤ 254
 
 abbrev pub IsHeardAt : Description → Channel → Recorded → Type 0
 IsHeardAt d channel r = IsQuiet d channel r ⊎ IsLoud d channel r

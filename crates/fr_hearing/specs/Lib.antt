@@ -4,3 +4,4 @@ pub mod Offering
 pub mod Captured
 pub mod Listening
 pub mod Runs
+pub mod Files
