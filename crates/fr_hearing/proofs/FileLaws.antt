@@ -11,17 +11,18 @@ use Rattle.fr_core.specs.Worlds.{WorldState}
 use Rattle.fr_frame.specs.declared.decode.DecodeError.{DecodeError}
 use Rattle.fr_frame.specs.declared.decode.DecodeError.TheVariants.{TooShort, LengthMismatch, HeaderCrc, FrameCrc}
 use Rattle.fr_frame.specs.Refusal.{refusal}
-use Rattle.fr_hearing.proofs.HearingLemmas.{window_heard}
+use Rattle.fr_hearing.proofs.HearingLemmas.{window_heard, each_heard}
 use Rattle.fr_hearing.proofs.OwnersLaws.{length-frame}
 use Rattle.fr_hearing.proofs.PassageLemmas.{IsHeardAt}
 use Rattle.fr_hearing.proofs.ReadingLemmas.{bytes_more, records_more, IsReady, read_item, started, none_yet}
-use Rattle.fr_hearing.proofs.RunLaws.{no_alarm_in_run}
+use Rattle.fr_hearing.proofs.RunLaws.{no_alarm_in_run, no_alarm_of_both, all_quiet}
 use Rattle.fr_hearing.specs.Alarms.{is_on}
-use Rattle.fr_hearing.specs.Files.{window_seen, Clock, capture_of, NoAlarmInFile}
+use Rattle.fr_hearing.specs.Files.{window_seen, Clock, capture_of, NoAlarmInFile, NoAlarmInFileOfBoth}
 use Rattle.fr_hearing.specs.Runs.{IsHealthy, packets_seen, packets_of, logged, AreLogged}
+use Rattle.fr_judging.specs.Rules.{has_sender, other_channel}
 use Rattle.fr_logged.specs.Logged.{kind_of}
 use Rattle.fr_recording.specs.Records.{Record}
-use Rattle.fr_recording.specs.Stream.{Progress, fresh, take_bytes, records_from, records_in, end_in}
+use Rattle.fr_recording.specs.Stream.{refusal_in, Progress, fresh, take_bytes, records_from, records_in, end_in}
 use Rattle.fr_recording.specs.declared.phase.Phase.{Phase}
 use Rattle.fr_recording.specs.declared.phase.Phase.TheVariants.{RecordHeader}
 use Rattle.fr_slots.specs.Admission.{is_channel}
@@ -201,23 +202,50 @@ not_refused q is =
     ∙ ap (λ (held : List ℕ). end_in (RecordHeader 1000 210)
     q.state held) is.none_held
 
+module _ (w : WorldState) (head : Headline w) (time : Clock) (healthy : (on : Channel) → IsHealthy w on) where
+  abbrev windows : List ℕ
+  windows = each_after (λ (b : List Recorded) (r : Recorded). window_seen w.bus.cluster.params (time b r) r) []
+      w.bus.sealed
+
+  all : (channel : Channel) → IsAllRead channel (take_bytes fresh file_header) windows
+      (packets_of w.bus.cluster.params channel w.bus.sealed)
+  all channel = read_all w.bus.cluster.params channel time (take_bytes fresh file_header) started [] w.bus.sealed
+      (λ k r at on. short_seen w head on (healthy on) k r at)
+
+  read_whole : refusal_in (capture_of time w.bus.cluster.params w.bus.sealed) ≡ None
+  read_whole =
+      let leads : take_bytes fresh (capture_of time w.bus.cluster.params w.bus.sealed) ≡ (all A).next =
+      bytes_more file_header windows fresh ∙ (all A).leads in
+      ap (λ (q : Progress). end_in q.state.phase q.state q.held) leads ∙ not_refused (all A).next (all A).ready
+
+  file_logged : (channel : Channel)
+      → AreLogged channel (records_in (capture_of time w.bus.cluster.params w.bus.sealed))
+      (packets_of w.bus.cluster.params channel w.bus.sealed)
+  file_logged channel =
+      let records_are : records_in (capture_of time w.bus.cluster.params w.bus.sealed)
+      ≡ records_from (take_bytes fresh file_header) windows =
+      records_more file_header windows fresh
+      ∙ ap (λ (l : List Record). l ++ records_from (take_bytes fresh file_header) windows) none_yet in
+      subst (λ (l : List Record). AreLogged channel l (packets_of w.bus.cluster.params channel w.bus.sealed))
+      (sym records_are) (all channel).are_logged
+
+  none_logged : (channel : Channel) → has_sender w.bus.cluster channel ≡ false
+      → AreLogged channel (records_in (capture_of time w.bus.cluster.params w.bus.sealed)) []
+  none_logged channel none =
+      subst (AreLogged channel (records_in (capture_of time w.bus.cluster.params w.bus.sealed)))
+      (all_quiet w.bus.cluster channel w.bus.sealed
+      (each_heard w.bus.cluster channel w.bus.sealed (window_heard w head channel (healthy channel))) none)
+      (file_logged channel)
+
 pub no_alarm_in_file : (w : WorldState) → Headline w → NoAlarmInFile w
-no_alarm_in_file w head most whole channel time healthy =
-    let p = w.bus.cluster.params in
-    let rs : List Recorded = w.bus.sealed in
-    let all = read_all w.bus.cluster.params channel time (take_bytes fresh file_header) started [] w.bus.sealed
-    (λ k r at on. short_seen w head on (healthy on) k r at) in
-    let bytes : List ℕ = each_after (λ (b : List Recorded) (r : Recorded). window_seen w.bus.cluster.params (time b r) r)
-    [] w.bus.sealed in
-    let leads : take_bytes fresh (capture_of time w.bus.cluster.params w.bus.sealed) ≡ all.next =
-    bytes_more file_header bytes fresh ∙ all.leads in
-    let records_are : records_in (capture_of time w.bus.cluster.params w.bus.sealed)
-    ≡ records_from (take_bytes fresh file_header) bytes =
-    records_more file_header bytes fresh
-    ∙ ap (λ (l : List Record). l ++ records_from (take_bytes fresh file_header) bytes) none_yet in (
-      ap (λ (q : Progress). end_in q.state.phase q.state q.held) leads ∙ not_refused all.next all.ready,
-      no_alarm_in_run w head most whole channel (records_in (capture_of time w.bus.cluster.params w.bus.sealed))
-          (healthy channel)
-          (subst (λ (l : List Record). AreLogged channel l (packets_of w.bus.cluster.params channel w.bus.sealed))
-          (sym records_are) all.are_logged),
-    )
+no_alarm_in_file w head most whole channel time healthy = (
+  read_whole w head time healthy,
+  no_alarm_in_run w head most whole channel (records_in (capture_of time w.bus.cluster.params w.bus.sealed))
+      (healthy channel) (file_logged w head time healthy channel),
+)
+
+pub no_alarm_in_file_of_both : (w : WorldState) → Headline w → NoAlarmInFileOfBoth w
+no_alarm_in_file_of_both w head most whole channel time healthy some none =
+    no_alarm_of_both w head most whole channel (records_in (capture_of time w.bus.cluster.params w.bus.sealed))
+    (healthy channel) some none (file_logged w head time healthy channel)
+    (none_logged w head time healthy (other_channel channel) none)

@@ -20,7 +20,7 @@ use Rattle.fr_frame.specs.declared.decode.DecodeError.{DecodeError}
 use Rattle.fr_frame.specs.Encoding.{encoded}
 use Rattle.fr_frame.specs.Fields.{Fields, IsFrame}
 use Rattle.fr_frame.specs.Refusal.{refusal}
-use Rattle.fr_hearing.proofs.AlarmLaws.{no_false_alarm}
+use Rattle.fr_hearing.proofs.AlarmLaws.{no_false_alarm, no_false_alarm_of_both}
 use Rattle.fr_hearing.proofs.CaptureLaws.{read, reads_back}
 use Rattle.fr_hearing.proofs.CycleLemmas.{AreHeardAt, frames_of, Begins, from_start, are_heard}
 use Rattle.fr_hearing.proofs.HearingLemmas.{window_heard, each_heard}
@@ -31,9 +31,9 @@ use Rattle.fr_hearing.proofs.SizeLemmas.{static_words, dynamic_sized}
 use Rattle.fr_hearing.specs.Alarms.{Spells, AreOn, judged}
 use Rattle.fr_hearing.specs.Heard.{Spot, after_frame, cycle_start, IsAllowed, IsAllowedAs, FollowOn, AreHeard}
 use Rattle.fr_hearing.specs.Runs.{AreReceived, CyclesAreHeard, packets_seen, packets_of, logged}
-use Rattle.fr_hearing.specs.Runs.{AreLogged, NoAlarmInRun, IsComplete, FinishedIsComplete, ClockIsTold}
+use Rattle.fr_hearing.specs.Runs.{AreLogged, NoAlarmInRun, NoAlarmOfBoth, IsComplete, FinishedIsComplete, ClockIsTold}
 use Rattle.fr_judging.specs.Judging.{fresh, finish, has_finding}
-use Rattle.fr_judging.specs.Rules.{due_at, due_or, rules_of, judges, has_sender, has_sender_in, is_clocked, unclocked}
+use Rattle.fr_judging.specs.Rules.{other_channel, due_at, due_or, rules_of, judges, has_sender, has_sender_in, is_clocked, unclocked}
 use Rattle.fr_logged.specs.Dues.{due_of}
 use Rattle.fr_logged.specs.declared.due.Due.{Due}
 use Rattle.fr_recording.specs.Records.{Record}
@@ -200,7 +200,7 @@ are_on channel (r ∷ rs) packets fs (inr own) same each =
 -- ---- a channel without a sender
 
 -- no frame is due there
-all_quiet : (d : Description) (channel : Channel) (rs : List Recorded) (h : AreHeardAt d channel rs)
+pub all_quiet : (d : Description) (channel : Channel) (rs : List Recorded) (h : AreHeardAt d channel rs)
     → has_sender d channel ≡ false → packets_of d.params channel rs ≡ []
 all_quiet d channel [] h none = refl
 all_quiet d channel (r ∷ rs) h none = by h.0 (all_quiet d channel rs h.1 none)
@@ -235,6 +235,16 @@ no_alarm_in_run w head most whole channel records healthy logged_are = by (has_s
         (none_on channel records (packets_of d.params channel w.bus.sealed) logged_are
         (all_quiet d channel w.bus.sealed
         (each_heard d channel w.bus.sealed (window_heard w head channel healthy)) none)) none
+
+pub no_alarm_of_both : (w : WorldState) → Headline w → NoAlarmOfBoth w
+no_alarm_of_both w head most whole channel records healthy some none logged_are aside =
+    let d = w.bus.cluster in
+    let h = cycles_are_heard w head channel some healthy in
+    let frames = heard_frames d channel head.run.lawful h.first h.rest h.cycles in
+    no_false_alarm_of_both d most whole channel records h.first h.rest
+    (are_on channel records (packets_of d.params channel w.bus.sealed) (h.first ∷ h.rest) logged_are
+    (packets_are d channel w.bus.sealed (h.first ∷ h.rest) h.received frames) frames) h.cycles none
+    (none_on (other_channel channel) records [] aside refl)
 
 -- ---- runs that are over, and clusters with a clock
 

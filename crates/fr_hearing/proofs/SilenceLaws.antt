@@ -1,30 +1,25 @@
 -- A channel without a sender has no frame and no finding.
 use Rattle.std.proofs.Common.{◌≡◌, ℕ, zero, suc, Bool, true, false, not, cond, ◌&&◌, ◌||◌, List, [], ◌∷◌, refl}
 use Rattle.std.proofs.Common.{sym, ap, ◌∙◌, inl, inr, Some, None, slice_get}
-use Rattle.std.proofs.lemmas.Bool.{cond-false, eqb-true, and_left}
+use Rattle.std.proofs.lemmas.Bool.{cond-false, eqb-true}
 use Rattle.std.specs.Prelude.{◌==◌}
 use Rattle.std.specs.List.{list_any}
 use Rattle.fr_bus.specs.Record.{Recorded}
 use Rattle.fr_core.proofs.CaseLemmas.{both, both_first, both_rest, differ}
 use Rattle.fr_frame.specs.Fields.{Fields}
-use Rattle.fr_hearing.proofs.AlarmLaws.{IsAlone, alone, core_fresh, fresh_core, turn_rules, found_none}
-use Rattle.fr_hearing.proofs.AlarmLaws.{skip_channel, end_channel, cleared}
+use Rattle.fr_hearing.proofs.AlarmLaws.{IsAlone, alone, core_fresh, fresh_core, turn_rules, found_none, silent_end}
+use Rattle.fr_hearing.proofs.AlarmLaws.{end_channel, cleared, aside_record, not_judged_alone}
 use Rattle.fr_hearing.proofs.CoreLemmas.{Core, core}
 use Rattle.fr_hearing.proofs.PassageLemmas.{IsLoud}
-use Rattle.fr_hearing.proofs.RecordLemmas.{other_record}
-use Rattle.fr_hearing.proofs.StepLemmas.{settle_none}
 use Rattle.fr_hearing.specs.Alarms.{AreOn, judged, NoAlarmInSilence}
 use Rattle.fr_hearing.specs.Listening.{IsThere}
-use Rattle.fr_judging.specs.Judging.{State, turn, turned, judge, fresh, finish, finish_on, finish_channel, tell_end}
-use Rattle.fr_judging.specs.Judging.{tell_nothing, says_nothing, end_cycle, end_in, find, symbol_place}
+use Rattle.fr_judging.specs.Judging.{State, turn, turned, judge, fresh, finish, finish_on, finish_channel}
 use Rattle.fr_judging.specs.Judging.{has_finding}
-use Rattle.fr_judging.specs.Rules.{rules_of, has_sender, has_sender_in, sends_on, own_includes, transmits_on}
+use Rattle.fr_judging.specs.Rules.{judges, other_channel, rules_of, has_sender, has_sender_in, sends_on, own_includes, transmits_on}
 use Rattle.fr_judging.specs.declared.rules.Rules.{Rules}
 use Rattle.fr_logged.proofs.SenderLemmas.{due_nobody}
 use Rattle.fr_logged.specs.Dues.{due_of}
 use Rattle.fr_logged.specs.declared.due.Due.{Due}
-use Rattle.fr_logged.specs.Findings.{bare}
-use Rattle.fr_logged.specs.declared.finding.Name.TheVariants as name
 use Rattle.fr_recording.specs.Records.{Record}
 use Rattle.fr_schedule.specs.Descriptions.{Description}
 use Rattle.fr_schedule.specs.SenderTable.{IsSender}
@@ -121,39 +116,24 @@ nothing_due d channel r l none = by (is_static r.window) l.is_there
 
 -- ---- the judgement
 
-all_others : (r : Rules) (channel : Channel) (rs : List Record) (s : State) → IsAlone r channel → AreOn channel rs []
+all_others : (r : Rules) (channel : Channel) (rs : List Record) (s : State)
+    → judges r (other_channel channel) ≡ false → AreOn channel rs []
     → core (turn s channel) ≡ core_fresh r channel → core (turn (judged s rs) channel) ≡ core_fresh r channel
-all_others r channel [] s is_alone on e = e
-all_others r channel (rec ∷ rs) s is_alone (inl other) e =
-    all_others r channel rs (judge s rec) is_alone other.1
-    (other_record channel s rec (ap (λ (q : Rules). q.only)
-    (sym (turn_rules s channel) ∙ ap (λ (c : Core). c.rules) e) ∙ is_alone.only) other.0 ∙ e)
-all_others r channel (rec ∷ rs) s is_alone (inr own) e =
+all_others r channel [] s aside on e = e
+all_others r channel (rec ∷ rs) s aside (inl other) e =
+    all_others r channel rs (judge s rec) aside other.1
+    (aside_record r channel s rec rs (sym (turn_rules s channel) ∙ ap (λ (c : Core). c.rules) e) (inl aside) other.0
+    ∙ e)
+all_others r channel (rec ∷ rs) s aside (inr own) e =
     let no : ◌≡◌ {A = List Fields} [] (own.0 ∷ own.1) = own.2 in
     absurd (let none : ⊥ = cc in none)
 
-no_cycle : (s : State) → s.mine.current ≡ None → end_cycle s None ≡ s
-unfolding end_cycle
-no_cycle s e = ap (end_in s None) e
-
-none_told : (s : State) → has_sender_in s.rules s.channel ≡ false → tell_nothing s ≡ s
-unfolding tell_nothing
-none_told s none =
-    cond-false (has_sender_in s.rules s.channel && says_nothing s)
-    (find s None (symbol_place s) (bare name.Nothing)) s
-    (and_left (has_sender_in s.rules s.channel) (says_nothing s) none)
-
-either_same : {X : Type 0} (b : Bool) (x y : X) → x ≡ y → cond b x y ≡ y
-either_same true x y e = e
-either_same false x y e = refl
-
-silent_end : (r : Rules) (channel : Channel) (s : State) → has_sender_in r channel ≡ false
-    → core s ≡ core_fresh r channel → finish_channel s true ≡ s
-unfolding tell_end
-silent_end r channel s none e =
-    ap tell_end (settle_none s None (ap (λ (c : Core). c.held) e))
-    ∙ ap tell_nothing (either_same s.rules.whole (end_cycle s None) s (no_cycle s (ap (λ (c : Core). c.current) e)))
-    ∙ none_told s (ap (λ (c : Core). has_sender_in c.rules c.channel) e ∙ none)
+skip_channel : (r : Rules) (s : State) (other : Channel) → s.rules ≡ r → judges r other ≡ false
+    → finish_on s other true ≡ s
+unfolding finish_on
+skip_channel r s other rules_are none =
+    cond-false (judges s.rules other) (finish_channel (turn s other) true) s
+    (ap (λ (q : Rules). judges q other) rules_are ∙ none)
 
 cleared_core : (s : State) (channel : Channel) → core (turn (cleared s) channel) ≡ core (turn s channel)
 cleared_core s channel = by (is_channel s.channel channel)
@@ -162,25 +142,29 @@ cleared_core s channel = by (is_channel s.channel channel)
     by true = refl
     by false = refl
 
-silent_finish : (r : Rules) (channel : Channel) (s : State) → IsAlone r channel → has_sender_in r channel ≡ false
+-- nothing is told of the channel
+silent_here : (r : Rules) (channel : Channel) (s : State) → IsAlone r channel → has_sender_in r channel ≡ false
+    → core (turn s channel) ≡ core_fresh r channel → finish_on s channel true ≡ turn s channel
+silent_here r channel s is_alone none e =
+    end_channel s channel
+    (ap (λ (q : Rules). judges q channel) (sym (turn_rules s channel) ∙ ap (λ (c : Core). c.rules) e) ∙ is_alone.mine)
+    ∙ silent_end (turn s channel) (ap (λ (c : Core). has_sender_in c.rules c.channel) e ∙ none)
+    (ap (λ (c : Core). c.held) e) (ap (λ (c : Core). c.current) e)
+
+silent_finish : (r : Rules) (channel : Channel) (s : State) → IsAlone r channel
+    → judges r (other_channel channel) ≡ false → has_sender_in r channel ≡ false
     → core (turn s channel) ≡ core_fresh r channel → has_finding (finish s true) ≡ false
 unfolding finish
-silent_finish r A s is_alone none e =
+silent_finish r A s is_alone aside none e =
     let here : core (turn (cleared s) A) ≡ core_fresh r A = cleared_core s A ∙ e in
-    let rules_are : s.rules ≡ r = sym (turn_rules s A) ∙ ap (λ (c : Core). c.rules) e in
-    let only : s.rules.only ≡ Some A = ap (λ (q : Rules). q.only) rules_are ∙ is_alone.only in
-    let same : finish_on (cleared s) A true ≡ turn (cleared s) A =
-    end_channel (cleared s) A only ∙ silent_end r A (turn (cleared s) A) none here in
-    ap (λ (t : State). has_finding (finish_on t B true)) same
-    ∙ ap has_finding (skip_channel (turn (cleared s) A) A B
-    (ap (λ (c : Core). c.rules.only) here ∙ is_alone.only) refl)
+    ap (λ (t : State). has_finding (finish_on t B true)) (silent_here r A (cleared s) is_alone none here)
+    ∙ ap has_finding (skip_channel r (turn (cleared s) A) B (ap (λ (c : Core). c.rules) here) aside)
     ∙ found_none (turn (cleared s) A) (ap (λ (c : Core). c.found) here)
-silent_finish r B s is_alone none e =
+silent_finish r B s is_alone aside none e =
     let here : core (turn (cleared s) B) ≡ core_fresh r B = cleared_core s B ∙ e in
     let rules_are : s.rules ≡ r = sym (turn_rules s B) ∙ ap (λ (c : Core). c.rules) e in
-    let only : s.rules.only ≡ Some B = ap (λ (q : Rules). q.only) rules_are ∙ is_alone.only in
-    ap (λ (t : State). has_finding (finish_on t B true)) (skip_channel (cleared s) B A only refl)
-    ∙ ap has_finding (end_channel (cleared s) B only ∙ silent_end r B (turn (cleared s) B) none here)
+    ap (λ (t : State). has_finding (finish_on t B true)) (skip_channel r (cleared s) A rules_are aside)
+    ∙ ap has_finding (silent_here r B (cleared s) is_alone none here)
     ∙ found_none (turn (cleared s) B) (ap (λ (c : Core). c.found) here)
 
 sends_in : (d : Description) (most : ℕ) (whole : Bool) (channel on : Channel) → has_sender d on ≡ false
@@ -193,5 +177,6 @@ pub no_alarm_in_silence : NoAlarmInSilence
 no_alarm_in_silence d most whole channel rs on none =
     let r : Rules = rules_of d most whole (Some channel) 0 in
     let is_alone : IsAlone r channel = alone d most whole channel in
-    silent_finish r channel (judged (fresh r) rs) is_alone (sends_in d most whole channel channel none)
-    (all_others r channel rs (fresh r) is_alone on (fresh_core r channel))
+    let aside : judges r (other_channel channel) ≡ false = not_judged_alone d most whole channel in
+    silent_finish r channel (judged (fresh r) rs) is_alone aside (sends_in d most whole channel channel none)
+    (all_others r channel rs (fresh r) aside on (fresh_core r channel))

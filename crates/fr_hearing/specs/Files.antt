@@ -7,7 +7,7 @@ use Rattle.fr_core.specs.Worlds.{WorldState}
 use Rattle.fr_hearing.specs.Alarms.{judged}
 use Rattle.fr_hearing.specs.Runs.{IsHealthy}
 use Rattle.fr_judging.specs.Judging.{fresh, finish, has_finding}
-use Rattle.fr_judging.specs.Rules.{rules_of}
+use Rattle.fr_judging.specs.Rules.{rules_of, has_sender, other_channel}
 use Rattle.fr_recording.specs.Stream.{records_in, refusal_in}
 use Rattle.fr_slots.specs.declared.channel.Channel.{Channel}
 use Rattle.fr_slots.specs.declared.channel.Channel.TheVariants.{A, B}
@@ -32,3 +32,11 @@ NoAlarmInFile w = (most : ℕ) (whole : Bool) (channel : Channel) (time : Clock)
     → (refusal_in (capture_of time w.bus.cluster.params w.bus.sealed) ≡ None)
     × (has_finding (finish (judged (fresh (rules_of w.bus.cluster most whole (Some channel) 0))
     (records_in (capture_of time w.bus.cluster.params w.bus.sealed))) true) ≡ false)
+
+-- If one channel alone has a sender, both channels together have no finding, either.
+abbrev pub NoAlarmInFileOfBoth : WorldState → Type 0
+NoAlarmInFileOfBoth w = (most : ℕ) (whole : Bool) (channel : Channel) (time : Clock)
+    → ((on : Channel) → IsHealthy w on) → has_sender w.bus.cluster channel ≡ true
+    → has_sender w.bus.cluster (other_channel channel) ≡ false
+    → has_finding (finish (judged (fresh (rules_of w.bus.cluster most whole None 0))
+    (records_in (capture_of time w.bus.cluster.params w.bus.sealed))) true) ≡ false

@@ -15,7 +15,7 @@ use Rattle.fr_hearing.specs.Alarms.{is_on, judged}
 use Rattle.fr_hearing.specs.Heard.{AreHeard}
 use Rattle.fr_hearing.specs.Listening.{AreSound}
 use Rattle.fr_judging.specs.Judging.{fresh, finish, has_finding}
-use Rattle.fr_judging.specs.Rules.{rules_of, is_clocked, has_sender, no_clock_on}
+use Rattle.fr_judging.specs.Rules.{rules_of, is_clocked, has_sender, no_clock_on, other_channel}
 use Rattle.fr_logged.specs.Logged.{kind_of}
 use Rattle.fr_recording.specs.Records.{Record}
 use Rattle.fr_schedule.specs.Descriptions.{Description}
@@ -111,3 +111,11 @@ abbrev pub NoAlarmInRun : WorldState → Type 0
 NoAlarmInRun w = (most : ℕ) (whole : Bool) (channel : Channel) (records : List Record) → IsHealthy w channel
     → AreLogged channel records (packets_of w.bus.cluster.params channel w.bus.sealed)
     → has_finding (finish (judged (fresh (rules_of w.bus.cluster most whole (Some channel) 0)) records) true) ≡ false
+
+-- If the channel alone has a sender, both channels together have no finding, either.
+abbrev pub NoAlarmOfBoth : WorldState → Type 0
+NoAlarmOfBoth w = (most : ℕ) (whole : Bool) (channel : Channel) (records : List Record) → IsHealthy w channel
+    → has_sender w.bus.cluster channel ≡ true → has_sender w.bus.cluster (other_channel channel) ≡ false
+    → AreLogged channel records (packets_of w.bus.cluster.params channel w.bus.sealed)
+    → AreLogged (other_channel channel) records []
+    → has_finding (finish (judged (fresh (rules_of w.bus.cluster most whole None 0)) records) true) ≡ false
