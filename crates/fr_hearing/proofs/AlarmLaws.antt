@@ -1,16 +1,13 @@
 -- A recording of some whole cycles without faults has no finding on a channel.
-use Rattle.std.proofs.Common.{◌≡◌, ℕ, zero, suc, ◌+◌, ◌-◌, ◌%◌, ◌<◌, ◌≤◌, Bool, true, false, cond, List, [], ◌∷◌, refl}
+use Rattle.std.proofs.Common.{◌≡◌, ℕ, Bool, true, false, cond, List, [], ◌∷◌, refl}
 use Rattle.std.proofs.Common.{sym}
-use Rattle.std.proofs.Common.{ap, subst, ◌∙◌, arith, ◌⊎◌, inl, inr}
+use Rattle.std.proofs.Common.{ap, subst, ◌∙◌, ◌⊎◌, inl, inr}
 use Rattle.std.proofs.lemmas.Bool.{cond-true, cond-false, and_left, and_right}
-use Rattle.std.specs.Prelude.{Option, Some, None, Result, Ok, Err, not, ◌==◌, ◌&&◌, ◌||◌}
+use Rattle.std.specs.Prelude.{Some, None, not, ◌&&◌}
 use Rattle.std.specs.List.{list_any}
 use Rattle.fr_frame.specs.Fields.{Fields}
 use Rattle.fr_logged.specs.Findings.{bare}
-use Rattle.fr_logged.specs.Logged.{kind_of, spelled}
 use Rattle.fr_logged.specs.declared.finding.Name.TheVariants as name
-use Rattle.fr_logged.specs.declared.record.Kind.{Kind}
-use Rattle.fr_logged.specs.declared.record.Kind.TheVariants.{Foreign, Symbol, Frame}
 use Rattle.fr_recording.specs.Records.{Record}
 use Rattle.fr_schedule.specs.Descriptions.{Description}
 use Rattle.fr_slots.specs.Admission.{is_channel}
@@ -18,41 +15,104 @@ use Rattle.fr_slots.specs.declared.channel.Channel.{Channel}
 use Rattle.fr_slots.specs.declared.channel.Channel.TheVariants.{A, B}
 use Rattle.fr_judging.specs.Judging.{State, turn, turned, judge, take_kind, next_record, frame_on, good, count_record}
 use Rattle.fr_judging.specs.Judging.{fresh, finish, finish_on, finish_channel, tell_end, tell_nothing, says_nothing}
-use Rattle.fr_judging.specs.Judging.{settle, end_cycle, has_finding, is_some_number, none_found, find, symbol_place}
+use Rattle.fr_judging.specs.Judging.{settle, end_cycle, end_in, has_finding, is_some_number, none_found, find, symbol_place}
 use Rattle.fr_judging.specs.Judging.{place_frame, speak, next_of}
-use Rattle.fr_judging.specs.Rules.{judges, judged_by, are_both, rules_of, has_sender_in, has_sender}
+use Rattle.fr_judging.specs.Rules.{judges, other_channel, rules_of, has_sender_in, has_sender}
+use Rattle.fr_judging.specs.declared.lane.Lane.{Lane}
+use Rattle.fr_logged.specs.Logged.{kind_of}
 use Rattle.fr_judging.specs.declared.line.At.{At}
 use Rattle.fr_judging.specs.declared.rules.Rules.{Rules}
-use Rattle.fr_hearing.specs.Alarms.{is_on, Spells, AreOn, judged, NoFalseAlarm}
-use Rattle.fr_hearing.specs.Heard.{Spot, cycle_start, after_frame, IsAllowed, IsFirst, IsOver, AreHeard, FollowOn}
+use Rattle.fr_hearing.specs.Alarms.{is_on, Spells, AreOn, judged, NoFalseAlarm, NoFalseAlarmOfBoth}
+use Rattle.fr_hearing.specs.Heard.{Spot, cycle_start, after_frame, IsAllowed, IsOver, AreHeard, FollowOn}
 use Rattle.fr_hearing.proofs.CameLemmas.{IsPlain, core_at}
 use Rattle.fr_hearing.proofs.CoreLemmas.{Core, core}
-use Rattle.fr_hearing.proofs.CourseLemmas.{IsOpen, IsWaiting, IsBegun, IsOn, next_frame}
+use Rattle.fr_hearing.proofs.CourseLemmas.{IsOn, next_frame}
 use Rattle.fr_hearing.proofs.OpenLemmas.{core_before, over_none}
 use Rattle.fr_hearing.proofs.RecordLemmas.{same_channel, turn_none, record_turn, other_record, at_record, own_frame}
-use Rattle.fr_hearing.proofs.StepLemmas.{waiting, held_at, place_first, settle_none, good_is, spoken, heard_core}
+use Rattle.fr_hearing.proofs.StepLemmas.{waiting, held_at, place_first, settle_none, good_is, spoken}
 use Rattle.fr_hearing.proofs.StepLemmas.{settle_at, settle_first, settle_next}
 
 -- ---- one channel alone
 
--- the rules judge this channel alone, without times
+-- the rules judge the channel, and without times; the other one isn't judged, or has no sender
 pub record IsAlone (r : Rules) (channel : Channel) : Type 0 where
   pub plain : IsPlain r
-  pub only : r.only ≡ Some channel
+  pub mine : judges r channel ≡ true
+  pub others : (judges r (other_channel channel) ≡ false) ⊎ (has_sender_in r (other_channel channel) ≡ false)
+
+-- then it has no record, either
+abbrev pub AreAside : Rules → Channel → List Record → Type 0
+AreAside r channel rs = (judges r (other_channel channel) ≡ false) ⊎ AreOn (other_channel channel) rs []
 
 one_alone : (a b : Bool) (c : Channel) → ((is_channel c A && a) && (is_channel c B && b)) ≡ false
 one_alone a b A = and_right a false refl
 one_alone a b B = refl
 
-alone : (d : Description) (most : ℕ) (whole : Bool) (channel : Channel)
+not_other : (c : Channel) → is_channel c (other_channel c) ≡ false
+not_other A = refl
+not_other B = refl
+
+pub alone : (d : Description) (most : ℕ) (whole : Bool) (channel : Channel)
     → IsAlone (rules_of d most whole (Some channel) 0) channel
 unfolding rules_of
 alone d most whole channel = record {
   plain = record { untimed = refl; one = one_alone (has_sender d A) (has_sender d B) channel };
-  only = refl;
+  mine = same_channel channel;
+  others = inl (not_other channel);
 }
 
-cluster_of : (d : Description) (most : ℕ) (whole : Bool) (channel : Channel)
+-- both channels are judged, but only one has a sender
+pub alone_of_both : (d : Description) (most : ℕ) (whole : Bool) (channel : Channel)
+    → has_sender d (other_channel channel) ≡ false → IsAlone (rules_of d most whole None 0) channel
+unfolding rules_of
+alone_of_both d most whole A none = record {
+  plain = record { untimed = refl; one = and_right (true && has_sender d A) (true && has_sender d B) none };
+  mine = refl;
+  others = inr none;
+}
+alone_of_both d most whole B none = record {
+  plain = record { untimed = refl; one = and_left (true && has_sender d A) (true && has_sender d B) none };
+  mine = refl;
+  others = inr none;
+}
+
+head_aside : (r : Rules) (channel : Channel) (rec : Record) (rs : List Record) → AreAside r channel (rec ∷ rs)
+    → (judges r (other_channel channel) ≡ false)
+    ⊎ (is_on (other_channel channel) (kind_of rec.link rec.bytes) ≡ false)
+head_aside r channel rec rs (inl none) = inl none
+head_aside r channel rec rs (inr (inl other)) = inr other.0
+head_aside r channel rec rs (inr (inr own)) =
+    let no : ◌≡◌ {A = List Fields} [] (own.0 ∷ own.1) = own.2 in
+    absurd (let none : ⊥ = cc in none)
+
+tail_aside : (r : Rules) (channel : Channel) (rec : Record) (rs : List Record) → AreAside r channel (rec ∷ rs)
+    → AreAside r channel rs
+tail_aside r channel rec rs (inl none) = inl none
+tail_aside r channel rec rs (inr (inl other)) = inr other.1
+tail_aside r channel rec rs (inr (inr own)) =
+    let no : ◌≡◌ {A = List Fields} [] (own.0 ∷ own.1) = own.2 in
+    absurd (let none : ⊥ = cc in none)
+
+-- a record aside leaves the channel as it is
+pub aside_record : (r : Rules) (channel : Channel) (s : State) (rec : Record) (rs : List Record) → s.rules ≡ r
+    → AreAside r channel (rec ∷ rs) → is_on channel (kind_of rec.link rec.bytes) ≡ false
+    → core (turn (judge s rec) channel) ≡ core (turn s channel)
+aside_record r channel s rec rs rules_are aside is_other =
+    other_record channel s rec
+    (subst (λ (q : Rules). (judges q (other_channel channel) ≡ false)
+    ⊎ (is_on (other_channel channel) (kind_of rec.link rec.bytes) ≡ false)) (sym rules_are)
+    (head_aside r channel rec rs aside)) is_other
+
+pub not_judged_alone : (d : Description) (most : ℕ) (whole : Bool) (channel : Channel)
+    → judges (rules_of d most whole (Some channel) 0) (other_channel channel) ≡ false
+unfolding rules_of
+not_judged_alone d most whole channel = not_other channel
+
+cluster_of_both : (d : Description) (most : ℕ) (whole : Bool) → (rules_of d most whole None 0).cluster ≡ d
+unfolding rules_of
+cluster_of_both d most whole = refl
+
+pub cluster_of : (d : Description) (most : ℕ) (whole : Bool) (channel : Channel)
     → (rules_of d most whole (Some channel) 0).cluster ≡ d
 unfolding rules_of
 cluster_of d most whole channel = refl
@@ -88,7 +148,19 @@ channel_on r channel s fs (inl o) = ap (λ (c : Core). c.channel) o.here
 channel_on r channel s fs (inr (inl w)) = ap (λ (c : Core). c.channel) w.here
 channel_on r channel s fs (inr (inr b)) = ap (λ (c : Core). c.channel) b.here
 
-turn_rules : (s : State) (channel : Channel) → (turn s channel).rules ≡ s.rules
+aside_held : (r : Rules) (channel : Channel) (s : State) (fs : List Fields) → IsOn r channel s fs
+    → s.other.held ≡ None
+aside_held r channel s fs (inl o) = ap (λ (c : Core). c.aside) o.here
+aside_held r channel s fs (inr (inl w)) = ap (λ (c : Core). c.aside) w.here
+aside_held r channel s fs (inr (inr b)) = ap (λ (c : Core). c.aside) b.here
+
+aside_open : (r : Rules) (channel : Channel) (s : State) (fs : List Fields) → IsOn r channel s fs
+    → s.other.current ≡ None
+aside_open r channel s fs (inl o) = ap (λ (c : Core). c.opposite) o.here
+aside_open r channel s fs (inr (inl w)) = ap (λ (c : Core). c.opposite) w.here
+aside_open r channel s fs (inr (inr b)) = ap (λ (c : Core). c.opposite) b.here
+
+pub turn_rules : (s : State) (channel : Channel) → (turn s channel).rules ≡ s.rules
 turn_rules s channel = by (is_channel s.channel channel)
   where
     by : (b : Bool) → (let t : State = cond b s (turned s) in t).rules ≡ s.rules
@@ -130,8 +202,7 @@ frame_record r channel s rec f is_alone rules_are channel_is spells next =
     ap (take_kind (next_record s) (at_record s rec) rec.original rec.bytes) spells.is_frame
     ∙ cond-true (judges s.rules channel)
     (frame_on (turn (next_record s) channel) (at_record s rec) rec.original rec.bytes) (next_record s)
-    (ap (λ (q : Rules). judges q channel) rules_are ∙ ap (λ (o : Option Channel). judged_by o channel) is_alone.only
-    ∙ same_channel channel)
+    (ap (λ (q : Rules). judges q channel) rules_are ∙ is_alone.mine)
     ∙ own_frame r channel (turn (next_record s) channel) (at_record s rec) rec.original rec.bytes f next.spot
     (turn_rules (next_record s) channel ∙ rules_are) channel_is spells.spells next.allowed
 
@@ -161,25 +232,26 @@ own_record r channel s rec f fs is_alone spells on =
 -- ---- all records
 
 all_records : (r : Rules) (channel : Channel) (rs : List Record) (fs : List Fields) (s : State) → IsAlone r channel
-    → AreOn channel rs fs → IsOn r channel (turn s channel) fs → IsOn r channel (turn (judged s rs) channel) []
-all_records r channel [] fs s is_alone none on =
+    → AreAside r channel rs → AreOn channel rs fs → IsOn r channel (turn s channel) fs
+    → IsOn r channel (turn (judged s rs) channel) []
+all_records r channel [] fs s is_alone aside none on =
     subst (λ (gs : List Fields). IsOn r channel (turn s channel) gs) none on
-all_records r channel (rec ∷ rs) fs s is_alone (inl other) on =
-    all_records r channel rs fs (judge s rec) is_alone other.1
+all_records r channel (rec ∷ rs) fs s is_alone aside (inl other) on =
+    all_records r channel rs fs (judge s rec) is_alone (tail_aside r channel rec rs aside) other.1
     (same_on r channel (turn s channel) (turn (judge s rec) channel) fs
-    (other_record channel s rec (ap (λ (q : Rules). q.only)
-    (sym (turn_rules s channel) ∙ rules_on r channel (turn s channel) fs on) ∙ is_alone.only) other.0) on)
-all_records r channel (rec ∷ rs) fs s is_alone (inr own) on =
-    all_records r channel rs own.1 (judge s rec) is_alone own.4
+    (aside_record r channel s rec rs
+    (sym (turn_rules s channel) ∙ rules_on r channel (turn s channel) fs on) aside other.0) on)
+all_records r channel (rec ∷ rs) fs s is_alone aside (inr own) on =
+    all_records r channel rs own.1 (judge s rec) is_alone (tail_aside r channel rec rs aside) own.4
     (own_record r channel s rec own.0 own.1 is_alone own.3
     (subst (λ (gs : List Fields). IsOn r channel (turn s channel) gs) own.2 on))
 
 -- ---- before the first frame
 
-abbrev core_fresh : Rules → Channel → Core
+abbrev pub core_fresh : Rules → Channel → Core
 core_fresh r channel = record (core_before r channel) { heard = false }
 
-fresh_core : (r : Rules) (channel : Channel) → core (turn (fresh r) channel) ≡ core_fresh r channel
+pub fresh_core : (r : Rules) (channel : Channel) → core (turn (fresh r) channel) ≡ core_fresh r channel
 unfolding fresh
 fresh_core r A = refl
 fresh_core r B = refl
@@ -215,15 +287,15 @@ no_first : {X : Type 0} (f : Fields) (fs : List Fields) → ◌≡◌ {A = List 
 no_first f fs e = absurd (let none : ⊥ = cc in none)
 
 from_fresh : (r : Rules) (channel : Channel) (rs : List Record) (f : Fields) (fs : List Fields) (s : State)
-    → IsAlone r channel → AreOn channel rs (f ∷ fs) → AreHeard r.cluster channel (f ∷ fs)
+    → IsAlone r channel → AreAside r channel rs → AreOn channel rs (f ∷ fs) → AreHeard r.cluster channel (f ∷ fs)
     → core (turn s channel) ≡ core_fresh r channel → IsOn r channel (turn (judged s rs) channel) []
-from_fresh r channel [] f fs s is_alone none heard_are e = no_first f fs none
-from_fresh r channel (rec ∷ rs) f fs s is_alone (inl other) heard_are e =
-    from_fresh r channel rs f fs (judge s rec) is_alone other.1 heard_are
-    (other_record channel s rec (ap (λ (q : Rules). q.only)
-    (sym (turn_rules s channel) ∙ ap (λ (c : Core). c.rules) e) ∙ is_alone.only) other.0 ∙ e)
-from_fresh r channel (rec ∷ rs) f fs s is_alone (inr own) heard_are e =
-    all_records r channel rs own.1 (judge s rec) is_alone own.4
+from_fresh r channel [] f fs s is_alone aside none heard_are e = no_first f fs none
+from_fresh r channel (rec ∷ rs) f fs s is_alone aside (inl other) heard_are e =
+    from_fresh r channel rs f fs (judge s rec) is_alone (tail_aside r channel rec rs aside) other.1 heard_are
+    (aside_record r channel s rec rs
+    (sym (turn_rules s channel) ∙ ap (λ (c : Core). c.rules) e) aside other.0 ∙ e)
+from_fresh r channel (rec ∷ rs) f fs s is_alone aside (inr own) heard_are e =
+    all_records r channel rs own.1 (judge s rec) is_alone (tail_aside r channel rec rs aside) own.4
     (first_record r channel s rec own.0 own.1 is_alone own.3 e
     (subst (λ (gs : List Fields). AreHeard r.cluster channel gs) own.2 heard_are))
 
@@ -278,25 +350,113 @@ finished r channel s plain on =
     let is : IsEnd r channel (settle (turn s channel) None) = at_end r channel (turn s channel) plain on in
     subst (IsEnd r channel) (sym (end_none r channel (settle (turn s channel) None) is)) is
 
-found_none : (s : State) → s.found ≡ none_found → has_finding s ≡ false
+pub found_none : (s : State) → s.found ≡ none_found → has_finding s ≡ false
 unfolding none_found
 found_none s e = ap (list_any is_some_number) e
 
-skip_channel : (s : State) (channel other : Channel) → s.rules.only ≡ Some channel → is_channel channel other ≡ false
-    → finish_on s other true ≡ s
-unfolding finish_on
-skip_channel s channel other only is_other =
-    cond-false (judges s.rules other) (finish_channel (turn s other) true) s
-    (ap (λ (o : Option Channel). judged_by o other) only ∙ is_other)
-
-end_channel : (s : State) (channel : Channel) → s.rules.only ≡ Some channel
+pub end_channel : (s : State) (channel : Channel) → judges s.rules channel ≡ true
     → finish_on s channel true ≡ finish_channel (turn s channel) true
 unfolding finish_on
-end_channel s channel only =
-    cond-true (judges s.rules channel) (finish_channel (turn s channel) true) s
-    (ap (λ (o : Option Channel). judged_by o channel) only ∙ same_channel channel)
+end_channel s channel mine =
+    cond-true (judges s.rules channel) (finish_channel (turn s channel) true) s mine
 
-abbrev cleared : State → State
+no_cycle : (s : State) → s.mine.current ≡ None → end_cycle s None ≡ s
+unfolding end_cycle
+no_cycle s e = ap (end_in s None) e
+
+none_told : (s : State) → has_sender_in s.rules s.channel ≡ false → tell_nothing s ≡ s
+unfolding tell_nothing
+none_told s none =
+    cond-false (has_sender_in s.rules s.channel && says_nothing s)
+    (find s None (symbol_place s) (bare name.Nothing)) s
+    (and_left (has_sender_in s.rules s.channel) (says_nothing s) none)
+
+-- nothing is told of a channel without a sender that had no frame
+pub silent_end : (s : State) → has_sender_in s.rules s.channel ≡ false → s.mine.held ≡ None → s.mine.current ≡ None
+    → finish_channel s true ≡ s
+unfolding tell_end
+silent_end s none held current =
+    ap tell_end (settle_none s None held)
+    ∙ ap tell_nothing (either_same s.rules.whole (end_cycle s None) s (no_cycle s current))
+    ∙ none_told s none
+
+-- ---- turned states
+
+turn_found : (s : State) (channel : Channel) → (turn s channel).found ≡ s.found
+turn_found s channel = by (is_channel s.channel channel)
+  where
+    by : (b : Bool) → (let t : State = cond b s (turned s) in t).found ≡ s.found
+    by true = refl
+    by false = refl
+
+double : (c : Channel) → other_channel (other_channel c) ≡ c
+double A = refl
+double B = refl
+
+turned_twice : (s : State) → turned (turned s) ≡ s
+turned_twice s = ap (λ (c : Channel). record s { channel = c }) (double s.channel)
+
+turn_other : (s : State) (channel : Channel) → s.channel ≡ other_channel channel → turn s channel ≡ turned s
+turn_other s channel e =
+    cond-false (is_channel s.channel channel) s (turned s)
+    (ap (λ (c : Channel). is_channel c channel) e ∙ by channel)
+  where
+    by : (c : Channel) → is_channel (other_channel c) c ≡ false
+    by A = refl
+    by B = refl
+
+pub turn_again : (s : State) (channel : Channel) → turn (turn s (other_channel channel)) channel ≡ turn s channel
+turn_again s channel = by s.channel channel refl
+  where
+    by : (c on : Channel) → s.channel ≡ c → turn (turn s (other_channel on)) on ≡ turn s on
+    by A A e = ap (λ (t : State). turn t A) (turn_other s B e)
+        ∙ turn_other (turned s) A (ap other_channel e) ∙ turned_twice s ∙ sym (turn_none s A e)
+    by A B e = ap (λ (t : State). turn t B) (turn_none s A e)
+    by B A e = ap (λ (t : State). turn t A) (turn_none s B e)
+    by B B e = ap (λ (t : State). turn t B) (turn_other s A e)
+        ∙ turn_other (turned s) B (ap other_channel e) ∙ turned_twice s ∙ sym (turn_none s B e)
+
+-- the other lane stands first once it is turned
+pub lane_aside : (s : State) (channel : Channel) → (turn s (other_channel channel)).mine ≡ (turn s channel).other
+lane_aside s channel = by s.channel channel
+  where
+    by : (c on : Channel) → (let t : State = cond (is_channel c (other_channel on)) s (turned s) in t).mine
+        ≡ (let t : State = cond (is_channel c on) s (turned s) in t).other
+    by A A = refl
+    by A B = refl
+    by B A = refl
+    by B B = refl
+
+turn_channel : (s : State) (channel : Channel) → (turn s channel).channel ≡ channel
+turn_channel s channel = by s.channel channel refl
+  where
+    by : (c on : Channel) → s.channel ≡ c → (turn s on).channel ≡ on
+    by A A e = ap (λ (t : State). t.channel) (turn_none s A e) ∙ e
+    by A B e = ap (λ (t : State). t.channel) (turn_other s B e) ∙ ap other_channel e
+    by B A e = ap (λ (t : State). t.channel) (turn_other s A e) ∙ ap other_channel e
+    by B B e = ap (λ (t : State). t.channel) (turn_none s B e) ∙ e
+
+-- the end of the other channel changes nothing, but it may come first
+pub aside_end : (r : Rules) (other : Channel) (s : State) → s.rules ≡ r
+    → ((judges r other ≡ false) ⊎ (has_sender_in r other ≡ false)) → (turn s other).mine.held ≡ None
+    → (turn s other).mine.current ≡ None
+    → (finish_on s other true ≡ s) ⊎ (finish_on s other true ≡ turn s other)
+unfolding finish_on
+aside_end r other s rules_are aside held current = by (judges s.rules other) refl aside
+  where
+    silent : has_sender_in r other ≡ false → has_sender_in (turn s other).rules (turn s other).channel ≡ false
+    silent none = ap (λ (q : Rules). has_sender_in q (turn s other).channel) (turn_rules s other ∙ rules_are)
+        ∙ ap (has_sender_in r) (turn_channel s other) ∙ none
+
+    by : (b : Bool) → judges s.rules other ≡ b → ((judges r other ≡ false) ⊎ (has_sender_in r other ≡ false))
+        → (cond b (finish_channel (turn s other) true) s ≡ s)
+        ⊎ (cond b (finish_channel (turn s other) true) s ≡ turn s other)
+    by false is e = inl refl
+    by true is (inl none) = absurd (let no : judges r other ≡ true = ap (λ (q : Rules). judges q other) (sym rules_are)
+        ∙ is in let none : ⊥ = cc in none)
+    by true is (inr none) = inr (silent_end (turn s other) (silent none) held current)
+
+abbrev pub cleared : State → State
 cleared s = record s { lines = [] }
 
 cleared_on : (r : Rules) (channel : Channel) (s : State) → IsOn r channel (turn s channel) []
@@ -308,6 +468,23 @@ cleared_on r channel s on =
     by true = refl
     by false = refl
 
+-- the end of both channels, of which the other one may come first
+first_end : (r : Rules) (s : State) → IsAlone r A → IsEnd r A (finish_on s A true)
+    → has_finding (finish_on (finish_on s A true) B true) ≡ false
+first_end r s is_alone end =
+    let channel_is : (finish_on s A true).channel ≡ A = ap (λ (c : Core). c.channel) end.here in
+    let at_a : turn (finish_on s A true) A ≡ finish_on s A true = turn_none (finish_on s A true) A channel_is in
+    let lane : (turn (finish_on s A true) B).mine ≡ (finish_on s A true).other =
+    lane_aside (finish_on s A true) A ∙ ap (λ (t : State). t.other) at_a in
+    let none : (finish_on s A true).found ≡ none_found = ap (λ (c : Core). c.found) end.here in
+    elim (aside_end r B (finish_on s A true) (ap (λ (c : Core). c.rules) end.here) is_alone.others
+    (ap (λ (l : Lane). l.held) lane ∙ ap (λ (c : Core). c.aside) end.here)
+    (ap (λ (l : Lane). l.current) lane ∙ ap (λ (c : Core). c.opposite) end.here)) [
+      | inl still ↦ ap has_finding still ∙ found_none (finish_on s A true) none
+      | inr turned_is ↦ ap has_finding turned_is
+          ∙ found_none (turn (finish_on s A true) B) (turn_found (finish_on s A true) B ∙ none)
+    ]
+
 whole_end : (r : Rules) (channel : Channel) (s : State) → IsAlone r channel → IsOn r channel (turn s channel) []
     → has_finding (finish s true) ≡ false
 unfolding finish
@@ -315,21 +492,27 @@ whole_end r A s is_alone on =
     let is : IsEnd r A (finish_channel (turn (cleared s) A) true) =
     finished r A (cleared s) is_alone.plain (cleared_on r A s on) in
     let rules_are : s.rules ≡ r = sym (turn_rules s A) ∙ rules_on r A (turn s A) [] on in
-    let only : s.rules.only ≡ Some A = ap (λ (q : Rules). q.only) rules_are ∙ is_alone.only in
+    let mine : judges s.rules A ≡ true = ap (λ (q : Rules). judges q A) rules_are ∙ is_alone.mine in
     let last : finish_channel (turn (cleared s) A) true ≡ finish_on (cleared s) A true =
-    sym (end_channel (cleared s) A only) in
-    let end : IsEnd r A (finish_on (cleared s) A true) = subst (IsEnd r A) last is in
-    ap has_finding (skip_channel (finish_on (cleared s) A true) A B
-    (ap (λ (c : Core). c.rules.only) end.here ∙ is_alone.only) refl)
-    ∙ found_none (finish_on (cleared s) A true) (ap (λ (c : Core). c.found) end.here)
+    sym (end_channel (cleared s) A mine) in
+    first_end r (cleared s) is_alone (subst (IsEnd r A) last is)
 whole_end r B s is_alone on =
-    let is : IsEnd r B (finish_channel (turn (cleared s) B) true) =
-    finished r B (cleared s) is_alone.plain (cleared_on r B s on) in
+    let is : IsEnd r B (finish_channel (turn (cleared s) B) true) = finished r B (cleared s) is_alone.plain
+    (cleared_on r B s on) in
     let rules_are : s.rules ≡ r = sym (turn_rules s B) ∙ rules_on r B (turn s B) [] on in
-    let only : s.rules.only ≡ Some B = ap (λ (q : Rules). q.only) rules_are ∙ is_alone.only in
-    ap (λ (t : State). has_finding (finish_on t B true)) (skip_channel (cleared s) B A only refl)
-    ∙ ap has_finding (end_channel (cleared s) B only)
-    ∙ found_none (finish_channel (turn (cleared s) B) true) (ap (λ (c : Core). c.found) is.here)
+    let lane : (turn (cleared s) A).mine ≡ (turn (cleared s) B).other = lane_aside (cleared s) B in
+    let last : (t : State) → t.rules ≡ r → turn t B ≡ turn (cleared s) B
+    → has_finding (finish_on t B true) ≡ false =
+    λ t same turned_is. ap has_finding (end_channel t B (ap (λ (q : Rules). judges q B) same ∙ is_alone.mine)
+    ∙ ap (λ (u : State). finish_channel u true) turned_is)
+    ∙ found_none (finish_channel (turn (cleared s) B) true) (ap (λ (c : Core). c.found) is.here) in
+    elim (aside_end r A (cleared s) rules_are is_alone.others
+    (ap (λ (l : Lane). l.held) lane ∙ aside_held r B (turn (cleared s) B) [] (cleared_on r B s on))
+    (ap (λ (l : Lane). l.current) lane ∙ aside_open r B (turn (cleared s) B) [] (cleared_on r B s on))) [
+      | inl still ↦ ap (λ (t : State). has_finding (finish_on t B true)) still ∙ last (cleared s) rules_are refl
+      | inr turned_is ↦ ap (λ (t : State). has_finding (finish_on t B true)) turned_is
+          ∙ last (turn (cleared s) A) (turn_rules (cleared s) A ∙ rules_are) (turn_again (cleared s) B)
+    ]
 
 -- ---- no false alarm
 
@@ -339,5 +522,14 @@ no_false_alarm d most whole channel rs f fs on heard_are =
     let is_alone : IsAlone r channel = alone d most whole channel in
     let same : r.cluster ≡ d = cluster_of d most whole channel in
     whole_end r channel (judged (fresh r) rs) is_alone
-    (from_fresh r channel rs f fs (fresh r) is_alone on
+    (from_fresh r channel rs f fs (fresh r) is_alone (inl (not_judged_alone d most whole channel)) on
+    (subst (λ (e : Description). AreHeard e channel (f ∷ fs)) (sym same) heard_are) (fresh_core r channel))
+
+pub no_false_alarm_of_both : NoFalseAlarmOfBoth
+no_false_alarm_of_both d most whole channel rs f fs on heard_are none aside =
+    let r : Rules = rules_of d most whole None 0 in
+    let is_alone : IsAlone r channel = alone_of_both d most whole channel none in
+    let same : r.cluster ≡ d = cluster_of_both d most whole in
+    whole_end r channel (judged (fresh r) rs) is_alone
+    (from_fresh r channel rs f fs (fresh r) is_alone (inr aside) on
     (subst (λ (e : Description). AreHeard e channel (f ∷ fs)) (sym same) heard_are) (fresh_core r channel))

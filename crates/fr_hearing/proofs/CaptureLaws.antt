@@ -1,34 +1,29 @@
 -- The record of a frame in a capture spells the frame.
-use Rattle.std.proofs.Common.{◌≡◌, ℕ, ℤ, zero, suc, ◌+◌, ◌-◌, ◌*◌, ◌<◌, ◌≤◌, Bool, true, false, cond, not, List, []}
-use Rattle.std.proofs.Common.{◌∷◌}
-use Rattle.std.proofs.Common.{length, take, drop, refl, sym, ap, subst, ◌∙◌, arith, Option, Some, None, length-take}
-use Rattle.std.proofs.Common.{length-drop}
+use Rattle.std.proofs.Common.{◌≡◌, ℕ, ◌+◌, ◌-◌, ◌*◌, ◌≤◌, Bool, true, false, cond, not, List}
+use Rattle.std.proofs.Common.{length, take, drop, refl, sym, ap, ◌∙◌, arith, Option, Some, None, length-take}
 use Rattle.std.proofs.lemmas.Bool.{cond-true, cond-false, eqb-true, eq-eqb, le-ltb, ltb-false}
 use Rattle.std.proofs.lemmas.List.{take-take, drop-take}
-use Rattle.std.specs.Prelude.{Result, Ok, Err, nat_lt, ◌==◌, is_some, slice_index}
-use Rattle.fr_capture.specs.Pcap.{packet, channel_mark, link_type}
-use Rattle.fr_frame.proofs.DecodingLemmas.{spelled_is_decoded}
-use Rattle.fr_frame.proofs.EncodingLemmas.{encoded_is_canonical, encoded_is_decoded, length-encoded}
+use Rattle.std.specs.Prelude.{Ok, Err, nat_lt, ◌==◌, is_some}
+use Rattle.fr_capture.specs.Pcap.{packet, link_type}
+use Rattle.fr_frame.proofs.EncodingLemmas.{encoded_is_decoded}
 use Rattle.fr_frame.specs.Bits.{bits_of_bytes, number_of}
 use Rattle.fr_frame.specs.Crc.{header_check, frame_check}
 use Rattle.fr_frame.specs.Decoding.{decoded, fields_of, payload_of}
 use Rattle.fr_frame.specs.declared.decode.DecodeError.{DecodeError}
 use Rattle.fr_frame.specs.declared.decode.DecodeError.TheVariants.{TooShort, LengthMismatch, HeaderCrc, FrameCrc}
 use Rattle.fr_frame.specs.Encoding.{encoded}
-use Rattle.fr_frame.specs.Fields.{Fields, IsFrame}
-use Rattle.fr_frame.specs.Header.{bits_at, number_at, flag_at}
+use Rattle.fr_frame.specs.Fields.{Fields}
+use Rattle.fr_frame.specs.Header.{bits_at, number_at}
 use Rattle.fr_frame.specs.Refusal.{refusal}
-use Rattle.fr_hearing.specs.Alarms.{Spells}
-use Rattle.fr_hearing.specs.Captured.{record_of, ReadsBack}
+use Rattle.fr_hearing.specs.Captured.{ReadsBack}
 use Rattle.fr_logged.specs.Findings.{with_numbers}
 use Rattle.fr_logged.specs.Headers.{header_in, right_crc}
-use Rattle.fr_logged.specs.Logged.{kind_of, kind_by, spelled, spelled_in, unless_logged, logged_in, logged_by, frame_by}
+use Rattle.fr_logged.specs.Logged.{kind_of, spelled, spelled_in, unless_logged, logged_in, logged_by, frame_by}
 use Rattle.fr_logged.specs.Logged.{or_else, length_finding, header_finding, frame_finding, trailer_finding, fields_by}
 use Rattle.fr_logged.specs.Logged.{cut}
 use Rattle.fr_logged.specs.Logged.{right_trailer, trailer_of}
 use Rattle.fr_logged.specs.declared.finding.Finding.{Finding}
 use Rattle.fr_logged.specs.declared.finding.Name.TheVariants as name
-use Rattle.fr_logged.specs.declared.frame.Header.{Header}
 use Rattle.fr_logged.specs.declared.record.Kind.TheVariants.{Frame}
 use Rattle.fr_slots.specs.declared.channel.Channel.{Channel}
 use Rattle.fr_slots.specs.declared.channel.Channel.TheVariants.{A, B}
@@ -61,11 +56,11 @@ taken channel bytes e =
     (frame_check channel (take (length bytes - 3) bytes))) e in
     record { long = p.first; whole = p.second; checked = p.third }
 
-record IsRead (channel : Channel) (bytes : List ℕ) (f : Fields) : Type 0 where
-  none : refusal channel bytes ≡ None
-  fields_are : fields_of bytes ≡ f
+pub record IsRead (channel : Channel) (bytes : List ℕ) (f : Fields) : Type 0 where
+  pub none : refusal channel bytes ≡ None
+  pub fields_are : fields_of bytes ≡ f
 
-read : (channel : Channel) (bytes : List ℕ) (f : Fields) → decoded channel bytes ≡ Some f → IsRead channel bytes f
+pub read : (channel : Channel) (bytes : List ℕ) (f : Fields) → decoded channel bytes ≡ Some f → IsRead channel bytes f
 unfolding decoded
 read channel bytes f e = by (refusal channel bytes) refl e
   where

@@ -1,15 +1,13 @@
 -- The part of a judge's state on which findings depend, and the steps that leave it as it is.
-use Rattle.std.proofs.Common.{◌≡◌, ℕ, zero, suc, ◌+◌, ◌-◌, ◌<◌, ◌≤◌, Bool, true, false, cond, List, [], ◌∷◌, refl, sym}
+use Rattle.std.proofs.Common.{◌≡◌, ℕ, zero, suc, ◌+◌, ◌-◌, ◌<◌, ◌≤◌, Bool, true, false, cond, List, refl}
 use Rattle.std.proofs.Common.{ap, ◌∙◌, arith}
 use Rattle.std.proofs.lemmas.Bool.{cond-false}
-use Rattle.std.specs.Prelude.{Option, Some, None, min, nat_le, ◌==◌, not, ◌&&◌, ◌||◌}
+use Rattle.std.specs.Prelude.{Option, Some, None, nat_le, ◌==◌, not, ◌&&◌, ◌||◌}
 use Rattle.fr_frame.specs.Fields.{Fields}
-use Rattle.fr_logged.specs.Dues.{due_of}
 use Rattle.fr_logged.specs.Logged.{place_of as frame_place}
 use Rattle.fr_logged.specs.declared.due.Due.{Due}
 use Rattle.fr_logged.specs.declared.finding.Finding.{Finding}
 use Rattle.fr_recording.specs.Numbers.{counted}
-use Rattle.fr_schedule.specs.Descriptions.{Description}
 use Rattle.fr_slots.specs.declared.channel.Channel.{Channel}
 use Rattle.fr_judging.specs.Judging.{State, add_line, back_line, add_back, back_of, back, away_at, with_away, show}
 use Rattle.fr_judging.specs.Judging.{show_frame, count_frame, find_some, keep_frame, fix, miss, miss_due, skipped}
@@ -27,6 +25,7 @@ pub record Core : Type 0 where
   pub rules : Rules
   pub channel : Channel
   pub opposite : Option ℕ
+  pub aside : Option Held
   pub held : Option Held
   pub current : Option ℕ
   pub last : ℕ
@@ -34,13 +33,14 @@ pub record Core : Type 0 where
   pub minislot : ℕ
   pub heard : Bool
 
--- of the other channel the open cycle alone
+-- of the other channel the open cycle and the waiting frame alone
 abbrev pub core : State → Core
 core s = record {
   found = s.found;
   rules = s.rules;
   channel = s.channel;
   opposite = s.other.current;
+  aside = s.other.held;
   held = s.mine.held;
   current = s.mine.current;
   last = s.mine.last;

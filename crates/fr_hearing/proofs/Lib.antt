@@ -12,3 +12,13 @@ pub mod CaptureLaws
 mod OwnedLemmas
 pub mod ListenLaws
 pub mod OwnersLaws
+mod SizeLemmas
+mod SingleLemmas
+mod NextLemmas
+mod PassageLemmas
+mod CycleLemmas
+mod HearingLemmas
+pub mod SilenceLaws
+pub mod RunLaws
+mod ReadingLemmas
+pub mod FileLaws

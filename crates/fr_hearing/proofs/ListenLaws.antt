@@ -1,23 +1,21 @@
 -- In a run without faults of senders each frame that a listener receives is due in its window.
-use Rattle.std.proofs.Common.{◌≡◌, ℕ, zero, suc, ◌+◌, ◌<◌, ◌≤◌, Bool, true, false, not, cond, ◌&&◌, ◌||◌, List, [], ◌∷◌}
-use Rattle.std.proofs.Common.{◌++◌, length, map, take, Option, Some, None, refl, sym, ap, subst, ◌∙◌, arith, slice_get}
+use Rattle.std.proofs.Common.{◌≡◌, ℕ, zero, suc, ◌<◌, Bool, true, false, not, cond, ◌&&◌, ◌||◌, List, [], ◌∷◌}
+use Rattle.std.proofs.Common.{◌++◌, length, map, Option, Some, None, refl, sym, ap, subst, ◌∙◌, arith, slice_get}
 use Rattle.std.proofs.Common.{get_or}
-use Rattle.std.proofs.Common.{is_some}
 use Rattle.std.specs.Prelude.{nat_lt, slice_index_or, ◌==◌}
 use Rattle.std.specs.List.{filter, list_all}
-use Rattle.std.proofs.lemmas.Bool.{eqb-true, eq-eqb, lt-ltb, ltb-true, cond-false, cond-true, not-true}
+use Rattle.std.proofs.lemmas.Bool.{eq-eqb, lt-ltb, ltb-true, cond-false, cond-true, not-true}
 use Rattle.std.proofs.lemmas.Option.{slice_get-get_or}
 use Rattle.arrayvec.specs.ArrayVec.{ArrayVec}
 use Rattle.fr_bus.specs.declared.outcome.Sent.{Sent}
 use Rattle.fr_bus.specs.declared.outcome.SentFate.{SentFate}
 use Rattle.fr_bus.specs.Outcome.{transmission, sent_in, is_of, passed_on, all_passed, fate_of, is_passed, heard_of}
-use Rattle.fr_bus.specs.Outcome.{received}
 use Rattle.fr_bus.specs.Outcome.{overruns}
 use Rattle.fr_bus.specs.Record.{Recorded, IsOutcome, is_offer_of, offer_in, side_on, corrupt_on, heard}
 use Rattle.fr_bus.specs.States.{IsRecorded, idle_station}
 use Rattle.fr_core.proofs.CaseLemmas.{both_first, both_rest, both, differ}
 use Rattle.fr_core.proofs.FollowLemmas.{world_follows, world_configured, legal_at}
-use Rattle.fr_core.proofs.HandingLemmas.{fetch_of, bytes_on, handed_on, offer_is}
+use Rattle.fr_core.proofs.HandingLemmas.{fetch_of, bytes_on, offer_is}
 use Rattle.fr_core.proofs.JudgedLemmas.{recorded_at}
 use Rattle.fr_core.proofs.OwnLemmas.{own_from}
 use Rattle.fr_core.proofs.ReceiverLemmas.{handed_is_offered}
@@ -32,8 +30,8 @@ use Rattle.fr_frame.specs.Fields.{Fields}
 use Rattle.fr_guardian.specs.Guarding.{passes}
 use Rattle.fr_hearing.proofs.OfferLaws.{owners_send, senders_send}
 use Rattle.fr_hearing.proofs.OwnedLemmas.{offers_own}
-use Rattle.fr_hearing.specs.Listening.{is_sound, AreSound, IsOwnersThere, IsThere, SpellsDue, HeardIsDue}
-use Rattle.fr_hearing.specs.Offering.{IsFetched, HandsDue}
+use Rattle.fr_hearing.specs.Listening.{is_sound, is_sound_on, AreSound, IsOwnersThere, IsThere, SpellsDue, HeardIsDue}
+use Rattle.fr_hearing.specs.Offering.{IsFetched}
 use Rattle.fr_interface.specs.State.{State, IsLegalInterface}
 use Rattle.fr_journal.specs.declared.entry.Entry.TheVariants.{Fetch}
 use Rattle.fr_journal.specs.declared.entry.Offered.{Offered}
@@ -41,7 +39,7 @@ use Rattle.fr_journal.specs.declared.entry.Offered.TheVariants.{Nothing}
 use Rattle.fr_journal.specs.Entries.{IsEntry}
 use Rattle.fr_journal.specs.Forms.{Entry}
 use Rattle.fr_journal.specs.Legal.{IsLegal, IsLegalFetch}
-use Rattle.fr_journal.specs.Offers.{frame_with, frame_of_offer, bytes_of, offered}
+use Rattle.fr_journal.specs.Offers.{frame_with, frame_of_offer, bytes_of}
 use Rattle.fr_schedule.specs.Clusters.{IsCluster}
 use Rattle.fr_schedule.specs.Descriptions.{Description}
 use Rattle.fr_slots.proofs.PlaceLemmas.{IsAmong, same_some, get-append, map-get, AllAfter-cut}
@@ -52,9 +50,9 @@ use Rattle.fr_slots.specs.History.{AllAfter}
 use Rattle.fr_slots.specs.Parameters.{Parameters, is_static_slot}
 use Rattle.fr_slots.specs.Windows.{Opportunity, slot_of, is_static, window_fits, static_slot_fits, dynamic_slot_fits}
 use Rattle.fr_slots.specs.Windows.{IsInRange}
-use Rattle.fr_status.specs.declared.seen.Seen.TheVariants.{Silence, Noise, Overrun, Bytes}
+use Rattle.fr_status.specs.declared.seen.Seen.TheVariants.{Overrun, Bytes}
 use Rattle.std.specs.Option.{option_and_then}
-use Rattle.std.specs.Prelude.{nat_le, option_map}
+use Rattle.std.specs.Prelude.{nat_le}
 
 -- ---- lists
 
@@ -68,7 +66,7 @@ all_at test [] k x all at = absurd (let none : ⊥ = cc in none)
 all_at test (y ∷ xs) zero x all at = ap test (sym (same_some y x at)) ∙ both_first (test y) (list_all test xs) all
 all_at test (y ∷ xs) (suc k) x all at = all_at test xs k x (both_rest (test y) (list_all test xs) all) at
 
-filter_has : {X : Type 0} (test : X → Bool) (xs : List X) (k : ℕ) (x : X) → slice_get xs k ≡ Some x → test x ≡ true
+pub filter_has : {X : Type 0} (test : X → Bool) (xs : List X) (k : ℕ) (x : X) → slice_get xs k ≡ Some x → test x ≡ true
     → IsAmong (filter test xs) x
 filter_has test [] k x at passing = absurd (let none : ⊥ = cc in none)
 filter_has test (y ∷ xs) zero x at passing =
@@ -81,15 +79,15 @@ filter_has test (y ∷ xs) (suc k) x at passing = by (test y) (filter_has test x
     by false rest = rest
 
 -- an item that a filter kept
-record IsKept {X : Type 0} (test : X → Bool) (xs : List X) (x : X) : Type 0 where
-  place : ℕ
-  at : slice_get xs place ≡ Some x
-  passing : test x ≡ true
+pub record IsKept {X : Type 0} (test : X → Bool) (xs : List X) (x : X) : Type 0 where
+  pub place : ℕ
+  pub at : slice_get xs place ≡ Some x
+  pub passing : test x ≡ true
 
 kept_more : {X : Type 0} (test : X → Bool) (y : X) (xs : List X) (x : X) → IsKept test xs x → IsKept test (y ∷ xs) x
 kept_more test y xs x k = record { place = suc k.place; at = k.at; passing = k.passing }
 
-filter_from : {X : Type 0} (test : X → Bool) (xs : List X) (k : ℕ) (x : X) → slice_get (filter test xs) k ≡ Some x
+pub filter_from : {X : Type 0} (test : X → Bool) (xs : List X) (k : ℕ) (x : X) → slice_get (filter test xs) k ≡ Some x
     → IsKept test xs x
 filter_from test [] k x at = absurd (let none : ⊥ = cc in none)
 filter_from test (y ∷ xs) k x at = by (test y) refl k at (λ j there. filter_from test xs j x there)
@@ -103,6 +101,21 @@ filter_from test (y ∷ xs) k x at = by (test y) refl k at (λ j there. filter_f
     }
     by true is (suc j) there more = kept_more test y xs x (more j there)
     by false is j there more = kept_more test y xs x (more j there)
+
+-- a node's transmissions on a channel without faults are sound
+pub own_sound : (channel : Channel) (n : ℕ) (xs : List Sent) → list_all (is_sound_on channel) xs ≡ true
+    → list_all is_sound (own channel n xs) ≡ true
+own_sound channel n [] e = refl
+own_sound channel n (t ∷ xs) e =
+    by (is_of n t) (is_channel t.channel channel) (both_first (is_sound_on channel t) (list_all (is_sound_on channel) xs)
+    e)
+    (own_sound channel n xs (both_rest (is_sound_on channel t) (list_all (is_sound_on channel) xs) e))
+  where
+    by : (mine on : Bool) → cond on (is_sound t) true ≡ true → list_all is_sound (own channel n xs) ≡ true
+        → list_all is_sound (cond (mine && on) (t ∷ own channel n xs) (own channel n xs)) ≡ true
+    by true true here rest = both (is_sound t) (list_all is_sound (own channel n xs)) here rest
+    by true false here rest = rest
+    by false on here rest = rest
 
 -- ---- the only transmission
 
@@ -223,7 +236,7 @@ static_slot_is p w channel slot fits static slot_is =
     by A is = ap (static_slot_fits p) (sym is) ∙ both_first (static_slot_fits p w.a) (static_slot_fits p w.b) parts
     by B is = ap (static_slot_fits p) (sym is) ∙ both_rest (static_slot_fits p w.a) (static_slot_fits p w.b) parts
 
-dynamic_slot_is : (p : Parameters) (w : Opportunity) (channel : Channel) (slot : ℕ) → window_fits p w ≡ true
+pub dynamic_slot_is : (p : Parameters) (w : Opportunity) (channel : Channel) (slot : ℕ) → window_fits p w ≡ true
     → is_static w ≡ false → slot_of w channel ≡ Some slot → is_static_slot p slot ≡ false
 dynamic_slot_is p w channel slot fits dynamic slot_is =
     not-true (is_static_slot p slot) (by channel slot_is)
@@ -335,10 +348,10 @@ module _ (d : Description) (cycles : ℕ) (interfaces : List State) (rs : List R
     (params_are : (n : ℕ) (s : State) → slice_get interfaces n ≡ Some s → s.params ≡ d.params)
     (plan_at : (n : ℕ) (s : State) → slice_get interfaces n ≡ Some s → slice_get d.plans n ≡ Some s.plan)
     (as_many : length interfaces ≡ length d.plans) (recorded : AllAfter (IsRecorded d cycles) [] rs)
-    (sound : AreSound rs) where
-  pub handed_by : (n k : ℕ) (s : State) (r : Recorded) (channel : Channel) → slice_get interfaces n ≡ Some s
+    (channel : Channel) (sound : AreSound channel rs) where
+  pub handed_by : (n k : ℕ) (s : State) (r : Recorded) → slice_get interfaces n ≡ Some s
       → slice_get rs k ≡ Some r → IsHanded d n s r channel
-  handed_by n k s r channel here at =
+  handed_by n k s r here at =
       let follows = follow n s here in
       let there : slice_get (fetched s) k ≡ Some (offers_of n r) =
       ap (λ (l : List Handed). slice_get l k) follows.fetches ∙ get-append (map (offers_of n) rs) follows.under_way k
@@ -363,20 +376,21 @@ module _ (d : Description) (cycles : ℕ) (interfaces : List State) (rs : List R
       }
 
   -- the node of a transmission, and what it handed over
-  pub record IsSentBy (r : Recorded) (channel : Channel) (t : Sent) : Type 0 where
+  pub record IsSentBy (r : Recorded) (t : Sent) : Type 0 where
     pub state : State
     pub here : slice_get interfaces t.node ≡ Some state
     pub offer : offer_in channel t.node r.sent ≡ Some t.bytes
 
-  pub sent_by : (k slot : ℕ) (r : Recorded) (channel : Channel) → slice_get rs k ≡ Some r
+  pub sent_by : (k slot : ℕ) (r : Recorded) → slice_get rs k ≡ Some r
       → slot_of r.window channel ≡ Some slot → (i : ℕ) (t : Sent) → slice_get r.sent i ≡ Some t
-      → passed_on channel t ≡ true → IsSentBy r channel t
-  sent_by k slot r channel at slot_is i t there through =
+      → passed_on channel t ≡ true → IsSentBy r t
+  sent_by k slot r at slot_is i t there through =
       let outcome : IsOutcome d r = (recorded_at d cycles rs k r recorded at).1 in
       let count = length outcome.stations in
       let on = both_first (is_channel t.channel channel) (is_passed t.fate) through in
       let silent = neither t.babble (is_muted t.fate) (not-true (t.babble || is_muted t.fate)
-      (all_at is_sound r.sent i t (sound k r at) there)) in
+      (sym (cond-true (is_channel t.channel channel) (is_sound t) true on)
+      ∙ all_at (is_sound_on channel) r.sent i t (sound k r at) there)) in
       let known : list_all (λ (u : Sent). nat_lt u.node count) r.sent ≡ true =
       ap (list_all (λ (u : Sent). nat_lt u.node count)) outcome.sent_is
       ∙ of_all d r.window (λ (u : Sent). nat_lt u.node count) count
@@ -402,12 +416,12 @@ module _ (d : Description) (cycles : ℕ) (interfaces : List State) (rs : List R
       passes_of : ℕ → Bool
       passes_of node = passes d node r.window channel
 
-  sent_due : (k slot : ℕ) (r : Recorded) (channel : Channel) → slice_get rs k ≡ Some r
+  pub sent_due : (k slot : ℕ) (r : Recorded) → slice_get rs k ≡ Some r
       → slot_of r.window channel ≡ Some slot → (i : ℕ) (t : Sent) → slice_get r.sent i ≡ Some t
       → passed_on channel t ≡ true → SpellsDue d r.window channel slot t.bytes
-  sent_due k slot r channel at slot_is i t there through =
-      let by = sent_by k slot r channel at slot_is i t there through in
-      let h = handed_by t.node k by.state r channel by.here at in
+  sent_due k slot r at slot_is i t there through =
+      let by = sent_by k slot r at slot_is i t there through in
+      let h = handed_by t.node k by.state r by.here at in
       let f = frame_of channel (frame_with by.state.params by.state.plan h.before r.window channel
       (offered_on channel h.a h.b)) t.bytes (h.handed ∙ by.offer) in
       record {
@@ -417,22 +431,21 @@ module _ (d : Description) (cycles : ℕ) (interfaces : List State) (rs : List R
             f.frame f.is (is_static r.window) refl;
       }
 
-  heard_due : (k slot : ℕ) (r : Recorded) (channel : Channel) (bytes : ArrayVec ℕ) → slice_get rs k ≡ Some r
+  heard_due : (k slot : ℕ) (r : Recorded) (bytes : ArrayVec ℕ) → slice_get rs k ≡ Some r
       → corrupt_on r channel ≡ None → slot_of r.window channel ≡ Some slot → heard d.params r channel ≡ Bytes bytes
       → SpellsDue d r.window channel slot bytes
-  heard_due k slot r channel bytes at whole slot_is hears =
+  heard_due k slot r bytes at whole slot_is hears =
       let l = lone d.params r.window (all_passed channel r.sent) bytes
       (sym (ap (λ (c : Option ℕ). heard_of d.params r.window c (all_passed channel r.sent)) whole) ∙ hears) in
       let kept = filter_from (passed_on channel) r.sent 0 l.sender (ap (λ (ts : List Sent). slice_get ts 0) l.only) in
       subst (SpellsDue d r.window channel slot) l.bytes_are
-      (sent_due k slot r channel at slot_is kept.place l.sender kept.at kept.passing)
+      (sent_due k slot r at slot_is kept.place l.sender kept.at kept.passing)
 
 pub heard_is_due : (w : WorldState) → Headline w → HeardIsDue w
-heard_is_due w head sound k slot r channel bytes at whole slot_is hears =
+heard_is_due w head channel sound k slot r bytes at whole slot_is hears =
     heard_due w.bus.cluster w.bus.cycles w.interfaces w.bus.sealed head.run.lawful (legal_at w.interfaces head.legal)
     (world_follows w head.agrees)
     (λ n s here. let c = world_configured w head.agrees n s here in c.params_are)
     (λ n s here. let c = world_configured w head.agrees n s here in c.plan_at)
-    (head.agrees.agrees.a_station_each ∙ head.run.one_each) head.run.recorded sound k slot r channel bytes at whole
-    slot_is
-    hears
+    (head.agrees.agrees.a_station_each ∙ head.run.one_each) head.run.recorded channel sound k slot r bytes at
+    whole slot_is hears

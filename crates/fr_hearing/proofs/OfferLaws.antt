@@ -1,20 +1,18 @@
 -- In each static window its owner hands over the frame that is due.
-use Rattle.std.proofs.Common.{◌≡◌, ℕ, zero, suc, ◌+◌, ◌*◌, ◌/◌, ◌<◌, ◌≤◌, Bool, true, false, cond, ◌&&◌, List, [], ◌∷◌}
+use Rattle.std.proofs.Common.{◌≡◌, ℕ, zero, suc, ◌*◌, ◌≤◌, Bool, true, false, cond, ◌&&◌, List, [], ◌∷◌}
 use Rattle.std.proofs.Common.{◌++◌}
-use Rattle.std.proofs.Common.{length, refl, sym, ap, subst, ◌∙◌, arith, Option, Some, None, slice_get, get_or}
+use Rattle.std.proofs.Common.{length, refl, sym, ap, subst, ◌∙◌, arith, Option, Some, None, slice_get}
 use Rattle.std.proofs.Common.{replicate}
 use Rattle.std.proofs.lemmas.Bool.{cond-true, cond-false, eqb-true, ne_eqb, leb-true}
-use Rattle.std.proofs.lemmas.List.Quantifiers.{position-Some}
-use Rattle.std.proofs.lemmas.Option.{get_or_from_slice_get}
 use Rattle.std.specs.Prelude.{IfSome, IsSomeAnd, is_some, ◌==◌, ◌||◌, nat_le}
-use Rattle.std.specs.List.{find, position, list_all}
+use Rattle.std.specs.List.{position, list_all}
 use Rattle.std.specs.Option.{option_and_then}
 use Rattle.fr_core.proofs.CaseLemmas.{kept_if}
 use Rattle.fr_core.proofs.HandingLemmas.{offer_is, data_is}
-use Rattle.fr_core.proofs.TakingLemmas.{IsOfferedBy, in_slot, Admits, transmitter_admits}
+use Rattle.fr_core.proofs.TakingLemmas.{in_slot, transmitter_admits}
 use Rattle.fr_core.specs.Receivers.{offered_on}
 use Rattle.fr_frame.specs.Fields.{Fields}
-use Rattle.fr_hearing.specs.Heard.{IsOwners, IsNull, HasContent}
+use Rattle.fr_hearing.specs.Heard.{IsOwners}
 use Rattle.fr_interface.specs.State.{State, IsLegalInterface}
 use Rattle.fr_journal.proofs.LastCommitLemmas.{last_commit-there, IsCommitAt}
 use Rattle.fr_journal.specs.declared.entry.Entry.TheVariants.{Commit, Withdraw, Read, Pop, Fetch, Observe}
@@ -24,12 +22,12 @@ use Rattle.fr_journal.specs.Fate.{is_commit_on, last_commit}
 use Rattle.fr_journal.specs.Forms.{Entry}
 use Rattle.fr_journal.specs.Legal.{IsLegal, IsLegalFetch}
 use Rattle.fr_journal.specs.Offers.{may_begin}
-use Rattle.fr_journal.specs.Offers.{transmitter, is_admitting, ready, ready_in, commit_offered, owns, ownership}
+use Rattle.fr_journal.specs.Offers.{transmitter, ready, ready_in, commit_offered, owns, ownership}
 use Rattle.fr_journal.specs.Offers.{line_of}
 use Rattle.fr_journal.specs.Offers.{data_or, offered_at, offered, payload_in, payload_of, sync_of, startup_of}
-use Rattle.fr_journal.specs.Offers.{preamble_of, preamble_in, null_frame, data_frame_of, frame_of_offer, frame_with}
+use Rattle.fr_journal.specs.Offers.{preamble_of, null_frame, data_frame_of, frame_of_offer, frame_with}
 use Rattle.fr_logged.proofs.DueLemmas.{due_is_owners, due_is_senders}
-use Rattle.fr_logged.proofs.FirstLemmas.{find_position, IsThere, there}
+use Rattle.fr_logged.proofs.FirstLemmas.{find_position, there}
 use Rattle.fr_hearing.specs.Offering.{IsFetched, IsOwnWindow, HandsDue, OwnersSend, IsOpenWindow}
 use Rattle.fr_hearing.specs.Offering.{IsDueThere, SendersSend}
 use Rattle.fr_logged.specs.Dues.{line_in, buffer_in, static_due, dynamic_due, preamble_of as due_preamble, due_of}
@@ -96,7 +94,7 @@ some_buffer plan before number commit e = by (buffer_at plan number) refl e
     by (Some b) is f = record { buffer = b; at = is }
 
 -- the first buffer that sends in the slot is the transmitter of its window
-transmitter_is : (plan : Plan) (w : Opportunity) (channel : Channel) (slot : ℕ) → slot_of w channel ≡ Some slot
+pub transmitter_is : (plan : Plan) (w : Opportunity) (channel : Channel) (slot : ℕ) → slot_of w channel ≡ Some slot
     → buffer_in slot channel w.cycle plan ≡ option_and_then (buffer_at plan) (transmitter plan w channel)
 transmitter_is plan w channel slot slot_is =
     find_position (sends_at slot channel w.cycle) plan.buffers
@@ -224,7 +222,7 @@ owners_send d node s before w a b channel slot cluster fetched window =
 
 -- ---- dynamic windows
 
-not_owned : (plan : Plan) (w : Opportunity) (channel : Channel) (slot : ℕ) → is_static w ≡ false
+pub not_owned : (plan : Plan) (w : Opportunity) (channel : Channel) (slot : ℕ) → is_static w ≡ false
     → line_of plan w channel slot ≡ None
 not_owned plan w channel slot dynamic =
     cond-false (is_static w) (ownership plan.owned slot channel w.cycle) None dynamic

@@ -1,9 +1,9 @@
 -- A frame that opens the first cycle, or the next one.
-use Rattle.std.proofs.Common.{◌≡◌, ℕ, zero, suc, ◌+◌, ◌-◌, ◌%◌, ◌<◌, ◌≤◌, Bool, true, false, cond, List, [], ◌∷◌, refl}
+use Rattle.std.proofs.Common.{◌≡◌, ℕ, ◌+◌, ◌<◌, ◌≤◌, Bool, true, false, cond, refl}
 use Rattle.std.proofs.Common.{sym}
-use Rattle.std.proofs.Common.{ap, subst, ◌∙◌, arith, ◌*◌}
+use Rattle.std.proofs.Common.{ap, subst, ◌∙◌, ◌*◌}
 use Rattle.std.proofs.lemmas.Bool.{cond-true, cond-false, and_left}
-use Rattle.std.specs.Prelude.{Option, Some, None, min, nat_le, nat_lt, ◌==◌, ℤ, ◌&&◌}
+use Rattle.std.specs.Prelude.{Option, Some, None, min, nat_lt, ◌==◌, ℤ, ◌&&◌}
 use Rattle.std.specs.Option.{is_none}
 use Rattle.fr_frame.specs.Fields.{Fields}
 use Rattle.fr_slots.specs.declared.channel.Channel.{Channel}
@@ -16,7 +16,7 @@ use Rattle.fr_judging.specs.Rules.{due_at, are_both}
 use Rattle.fr_judging.specs.declared.distance.Distance.{Distance}
 use Rattle.fr_judging.specs.declared.line.At.{At}
 use Rattle.fr_judging.specs.declared.rules.Rules.{Rules}
-use Rattle.fr_hearing.specs.Heard.{Spot, cycle_start, after_frame, AreFree, IsFirst, IsNext, IsOver}
+use Rattle.fr_hearing.specs.Heard.{Spot, cycle_start, after_frame, IsFirst, IsNext, IsOver}
 use Rattle.fr_hearing.proofs.CameLemmas.{IsPlain, core_at, came_at}
 use Rattle.fr_hearing.proofs.CoreLemmas.{Core, core, skip_none}
 use Rattle.fr_hearing.proofs.CountLemmas.{one_step}
@@ -52,6 +52,7 @@ core_before r channel = record {
   rules = r;
   channel = channel;
   opposite = None;
+  aside = None;
   held = None;
   current = None;
   last = 0;

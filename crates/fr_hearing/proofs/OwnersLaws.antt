@@ -1,23 +1,22 @@
 -- In a run without faults of senders a listener receives the frame of each static slot's owner.
-use Rattle.std.proofs.Common.{◌≡◌, ℕ, zero, suc, ◌+◌, ◌*◌, ◌<◌, ◌≤◌, Bool, true, false, not, cond, ◌&&◌, ◌||◌, List, []}
-use Rattle.std.proofs.Common.{◌∷◌, ◌++◌, length, Option, Some, None, refl, sym, ap, subst, ◌∙◌, arith, slice_get}
+use Rattle.std.proofs.Common.{◌≡◌, ℕ, suc, ◌+◌, ◌*◌, ◌<◌, Bool, true, false, cond, ◌&&◌, List, []}
+use Rattle.std.proofs.Common.{◌∷◌, ◌++◌, length, Option, Some, None, refl, sym, ap, ◌∙◌, arith, slice_get}
 use Rattle.std.proofs.Common.{get_or}
 use Rattle.std.proofs.Common.{length-append}
-use Rattle.std.specs.Prelude.{nat_lt, slice_index_or, ◌==◌, is_some, nat_le, ◌-◌}
+use Rattle.std.specs.Prelude.{nat_lt, slice_index_or, ◌==◌, ◌-◌}
 use Rattle.std.specs.Int.{bytes_high_first}
-use Rattle.std.specs.List.{filter, list_all, list_any}
-use Rattle.std.proofs.lemmas.Bool.{eqb-true, eq-eqb, ne_eqb, le-ltb, cond-true, cond-false}
+use Rattle.std.specs.List.{list_all}
+use Rattle.std.proofs.lemmas.Bool.{eq-eqb, ne_eqb, le-ltb, cond-true, cond-false}
 use Rattle.std.proofs.lemmas.Option.{slice_get-get_or, slice_get_within}
 use Rattle.arrayvec.specs.ArrayVec.{ArrayVec}
 use Rattle.fr_bus.proofs.OfferLemmas.{offer_of_station}
 use Rattle.fr_bus.specs.declared.outcome.Sent.{Sent}
-use Rattle.fr_bus.specs.declared.outcome.SentFate.{SentFate}
-use Rattle.fr_bus.specs.declared.outcome.SentFate.TheVariants.{Passed, Blocked, Muted}
+use Rattle.fr_bus.specs.declared.outcome.SentFate.TheVariants.{Passed}
 use Rattle.fr_bus.specs.Outcome.{transmission, is_of, passed_on, all_passed, fate_of, is_passed, heard_of, received}
 use Rattle.fr_bus.specs.Outcome.{overruns}
-use Rattle.fr_bus.specs.Record.{Recorded, IsOutcome, offer_in, side_on, corrupt_on, heard}
+use Rattle.fr_bus.specs.Record.{Recorded, IsOutcome, offer_in, side_on, corrupt_on}
 use Rattle.fr_bus.specs.States.{IsRecorded, idle_station}
-use Rattle.fr_core.proofs.CaseLemmas.{both_first, both_rest, both}
+use Rattle.fr_core.proofs.CaseLemmas.{both}
 use Rattle.fr_core.proofs.FollowLemmas.{world_follows, world_configured, legal_at}
 use Rattle.fr_core.proofs.HandingLemmas.{offer_is}
 use Rattle.fr_core.proofs.JudgedLemmas.{recorded_at}
@@ -25,7 +24,7 @@ use Rattle.fr_core.proofs.OwnLemmas.{own_from, own_is}
 use Rattle.fr_core.specs.Accounts.{own, of_owner}
 use Rattle.fr_core.specs.Agreeing.{Follows}
 use Rattle.fr_core.specs.Headline.{Headline}
-use Rattle.fr_core.specs.Receivers.{is_muted, offered_on, IsOwner}
+use Rattle.fr_core.specs.Receivers.{offered_on, IsOwner}
 use Rattle.fr_core.specs.Worlds.{WorldState, no_interface}
 use Rattle.fr_frame.specs.Bits.{number_of}
 use Rattle.fr_frame.specs.Crc.{frame_check}
@@ -33,21 +32,19 @@ use Rattle.fr_frame.specs.Encoding.{encoded, checked_bytes}
 use Rattle.fr_frame.specs.Fields.{Fields}
 use Rattle.fr_frame.specs.Spelling.{header}
 use Rattle.fr_guardian.proofs.AloneLemmas.{owner_passes}
-use Rattle.fr_guardian.specs.Guarding.{passes}
-use Rattle.fr_hearing.proofs.ListenLaws.{handed_by, sent_by, IsHanded, IsSentBy, frame_of, IsFrameOf, static_slot_is}
+use Rattle.fr_hearing.proofs.ListenLaws.{own_sound, handed_by, sent_by, IsHanded, frame_of, static_slot_is}
 use Rattle.fr_hearing.proofs.ListenLaws.{not_nothing, legal_fetch, in_range, window_is, fetch_range, fetch_fits}
 use Rattle.fr_hearing.proofs.OfferLaws.{owners_send}
 use Rattle.fr_hearing.proofs.OwnedLemmas.{offers_own, owned_is}
 use Rattle.fr_hearing.specs.Listening.{is_sound, AreSound, Receives, OwnersAreHeard}
-use Rattle.fr_hearing.specs.Offering.{IsFetched, HandsDue}
+use Rattle.fr_hearing.specs.Offering.{HandsDue}
 use Rattle.fr_interface.specs.State.{State, IsLegalInterface}
-use Rattle.fr_journal.specs.Offers.{frame_with, bytes_of, owns, line_of}
+use Rattle.fr_journal.specs.Offers.{frame_with, bytes_of, line_of}
 use Rattle.fr_minislot.specs.DynamicRows.{minislots_filled_by}
 use Rattle.fr_schedule.specs.Clusters.{IsCluster}
 use Rattle.fr_schedule.specs.Descriptions.{Description}
-use Rattle.fr_schedule.specs.SenderTable.{IsSender}
 use Rattle.fr_logged.proofs.DueLemmas.{static_sender}
-use Rattle.fr_logged.proofs.FirstLemmas.{any_found_in, there, IsThere}
+use Rattle.fr_logged.proofs.FirstLemmas.{any_found_in, there}
 use Rattle.fr_hearing.proofs.OfferLaws.{line_is}
 use Rattle.fr_slots.proofs.PlaceLemmas.{same_some}
 use Rattle.fr_slots.specs.Admission.{is_channel}
@@ -57,7 +54,7 @@ use Rattle.fr_slots.specs.Faults.{is_owned, claims}
 use Rattle.fr_slots.specs.History.{AllAfter}
 use Rattle.fr_slots.specs.Parameters.{Parameters, is_static_slot}
 use Rattle.fr_slots.specs.Plans.{Plan}
-use Rattle.fr_slots.specs.Windows.{Opportunity, slot_of, is_static}
+use Rattle.fr_slots.specs.Windows.{slot_of, is_static}
 use Rattle.fr_status.specs.declared.seen.Seen.TheVariants.{Overrun, Bytes}
 
 -- ---- the length of a frame
@@ -68,7 +65,7 @@ five n = refl
 three : (n : ℕ) → length (bytes_high_first 3 n) ≡ 3
 three n = refl
 
-length-frame : (f : Fields) (channel : Channel) → length (encoded f channel) ≡ 8 + length f.payload
+pub length-frame : (f : Fields) (channel : Channel) → length (encoded f channel) ≡ 8 + length f.payload
 unfolding encoded
 length-frame f channel =
     omega (
@@ -81,18 +78,8 @@ length-frame f channel =
 
 -- ---- lists
 
-all_kept : {X : Type 0} (p q : X → Bool) (xs : List X) → list_all p xs ≡ true → list_all p (filter q xs) ≡ true
-all_kept p q [] e = refl
-all_kept p q (x ∷ xs) e =
-    by (q x) (both_first (p x) (list_all p xs) e) (all_kept p q xs (both_rest (p x) (list_all p xs) e))
-  where
-    by : (b : Bool) → p x ≡ true → list_all p (filter q xs) ≡ true
-        → list_all p (cond b (x ∷ filter q xs) (filter q xs)) ≡ true
-    by true here rest = both (p x) (list_all p (filter q xs)) here rest
-    by false here rest = rest
-
 -- if all that passed is of one node, it is that node's
-passed_mine : (channel : Channel) (n : ℕ) (xs : List Sent)
+pub passed_mine : (channel : Channel) (n : ℕ) (xs : List Sent)
     → ((k : ℕ) (t : Sent) → slice_get xs k ≡ Some t → passed_on channel t ≡ true → t.node ≡ n)
     → all_passed channel xs ≡ all_passed channel (own channel n xs)
 passed_mine channel n [] mine = refl
@@ -185,13 +172,13 @@ module _ (d : Description) (cycles : ℕ) (interfaces : List State) (rs : List R
     (params_are : (n : ℕ) (s : State) → slice_get interfaces n ≡ Some s → s.params ≡ d.params)
     (plan_at : (n : ℕ) (s : State) → slice_get interfaces n ≡ Some s → slice_get d.plans n ≡ Some s.plan)
     (as_many : length interfaces ≡ length d.plans) (recorded : AllAfter (IsRecorded d cycles) [] rs)
-    (sound : AreSound rs) (k slot owner : ℕ) (r : Recorded) (channel : Channel) (at : slice_get rs k ≡ Some r)
+    (channel : Channel) (sound : AreSound channel rs) (k slot owner : ℕ) (r : Recorded)
+    (at : slice_get rs k ≡ Some r)
     (static : is_static r.window ≡ true) (slot_is : slot_of r.window channel ≡ Some slot)
     (owns_it : IsOwner d r.window.cycle slot channel owner) where
   handed_here : (n : ℕ) (s : State) → slice_get interfaces n ≡ Some s → IsHanded d n s r channel
-  handed_here n s here = handed_by d cycles interfaces rs cluster legal follow params_are plan_at as_many recorded sound
-      n
-      k s r channel here at
+  handed_here n s here = handed_by d cycles interfaces rs cluster legal follow params_are plan_at as_many recorded
+      channel sound n k s r here at
 
   within : owner < length interfaces
   within = let small : owner < length d.plans = slice_get_within d.plans owner owns_it.plan owns_it.at in
@@ -210,9 +197,8 @@ module _ (d : Description) (cycles : ℕ) (interfaces : List State) (rs : List R
   -- another node that sends here would own the slot, too
   sends_owned : (i : ℕ) (t : Sent) → slice_get r.sent i ≡ Some t → passed_on channel t ≡ true → t.node ≡ owner
   sends_owned i t there_is through =
-      let by = sent_by d cycles interfaces rs cluster legal follow params_are plan_at as_many recorded sound k slot r
-      channel
-      at slot_is i t there_is through in
+      let by = sent_by d cycles interfaces rs cluster legal follow params_are plan_at as_many recorded channel
+      sound k slot r at slot_is i t there_is through in
       let h = handed_here t.node by.state by.here in
       let f = frame_of channel (frame_with by.state.params by.state.plan h.before r.window channel
       (offered_on channel h.a h.b)) t.bytes (h.handed ∙ by.offer) in
@@ -271,7 +257,7 @@ module _ (d : Description) (cycles : ℕ) (interfaces : List State) (rs : List R
       owner_record ∙ ap (λ (x : Option (ArrayVec ℕ)). of_owner owner channel side.mute x side.babble) offer in
       let all_sound : list_all is_sound (of_owner owner channel side.mute (Some bytes) side.babble) ≡ true =
       ap (list_all is_sound) (sym mine)
-      ∙ all_kept is_sound (λ (t : Sent). is_of owner t && is_channel t.channel channel) r.sent (sound k r at) in
+      ∙ own_sound channel owner r.sent (sound k r at) in
       let size : length (encoded due.frame channel) ≡ 8 + 2 * d.params.static_words =
       length-frame due.frame channel ∙ ap (λ (n : ℕ). 8 + n) due.full in
       let one : of_owner owner channel side.mute (Some bytes) side.babble ≡ sent_one owner channel bytes ∷ [] =
@@ -310,11 +296,10 @@ module _ (d : Description) (cycles : ℕ) (interfaces : List State) (rs : List R
       })) whole
 
 pub owners_are_heard : (w : WorldState) → Headline w → OwnersAreHeard w
-owners_are_heard w head sound k slot owner r channel at whole static slot_is owns_it =
+owners_are_heard w head channel sound k slot owner r at whole static slot_is owns_it =
     hears_owner w.bus.cluster w.bus.cycles w.interfaces w.bus.sealed head.run.lawful (legal_at w.interfaces head.legal)
     (world_follows w head.agrees)
     (λ n s here. let c = world_configured w head.agrees n s here in c.params_are)
     (λ n s here. let c = world_configured w head.agrees n s here in c.plan_at)
-    (head.agrees.agrees.a_station_each ∙ head.run.one_each) head.run.recorded sound k slot owner r channel at static
-    slot_is
-    owns_it whole
+    (head.agrees.agrees.a_station_each ∙ head.run.one_each) head.run.recorded channel sound k slot owner r at
+    static slot_is owns_it whole

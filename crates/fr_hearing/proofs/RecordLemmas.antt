@@ -1,12 +1,11 @@
 -- The records of a recording: those of the channel spell its frames, and the others leave the channel as it is.
-use Rattle.std.proofs.Common.{◌≡◌, ℕ, zero, suc, ◌+◌, ◌-◌, ◌%◌, ◌<◌, ◌≤◌, Bool, true, false, cond, List, [], ◌∷◌, refl}
+use Rattle.std.proofs.Common.{◌≡◌, ℕ, ◌≤◌, Bool, true, false, cond, List, refl}
 use Rattle.std.proofs.Common.{sym}
-use Rattle.std.proofs.Common.{ap, subst, ◌∙◌, arith, ◌⊎◌, inl, inr}
-use Rattle.std.proofs.lemmas.Bool.{cond-true, cond-false, le-ltb, leb-true, ne_eqb, and_left, and_right, and_from}
-use Rattle.std.specs.Prelude.{Option, Some, None, Result, Ok, Err, min, nat_le, nat_lt, ◌==◌, ◌&&◌, ◌||◌}
+use Rattle.std.proofs.Common.{ap, ◌∙◌, arith, ◌⊎◌, inl, inr}
+use Rattle.std.proofs.lemmas.Bool.{cond-true, cond-false, le-ltb, leb-true, ne_eqb, and_left, and_right}
+use Rattle.std.specs.Prelude.{Ok, nat_le, nat_lt, ◌==◌, ◌&&◌}
 use Rattle.fr_frame.specs.Fields.{Fields}
 use Rattle.fr_logged.specs.Logged.{kind_of, spelled}
-use Rattle.fr_logged.specs.declared.finding.Finding.{Finding}
 use Rattle.fr_logged.specs.declared.record.Kind.{Kind}
 use Rattle.fr_logged.specs.declared.record.Kind.TheVariants.{Foreign, Symbol, Frame}
 use Rattle.fr_recording.specs.Numbers.{counted}
@@ -21,12 +20,12 @@ use Rattle.fr_logged.specs.Findings.{number_word}
 use Rattle.fr_logged.specs.Logged.{place_of as frame_place}
 use Rattle.fr_logged.specs.declared.finding.Name.TheVariants as name
 use Rattle.fr_logged.specs.declared.finding.Word.TheVariants.{Absent}
-use Rattle.fr_judging.specs.Rules.{judges, judged_by}
+use Rattle.fr_judging.specs.Rules.{judges, other_channel}
 use Rattle.fr_judging.specs.declared.line.At.{At}
 use Rattle.fr_judging.specs.declared.rules.Rules.{Rules}
-use Rattle.fr_hearing.specs.Alarms.{is_on, Spells}
+use Rattle.fr_hearing.specs.Alarms.{is_on}
 use Rattle.fr_hearing.specs.Heard.{Spot, IsAllowed, IsAllowedAs}
-use Rattle.fr_hearing.proofs.CoreLemmas.{Core, core}
+use Rattle.fr_hearing.proofs.CoreLemmas.{core}
 
 -- ---- the channel that stands first
 
@@ -54,32 +53,42 @@ foreign_turn : (s : State) (channel : Channel)
 foreign_turn s channel =
     turned_core (is_channel s.channel channel) (record s { foreign = counted s.foreign 1 }) s refl refl
 
-not_judged : (r : Rules) (channel other : Channel) → r.only ≡ Some channel → is_channel channel other ≡ false
-    → judges r other ≡ false
-not_judged r channel other only is_other = ap (λ (o : Option Channel). judged_by o other) only ∙ is_other
+-- a record that isn't on the channel is foreign, or of the other channel, which may not be judged
+not_judged : (r : Rules) (channel other : Channel)
+    → ((judges r (other_channel channel) ≡ false) ⊎ (is_channel (other_channel channel) other ≡ false))
+    → is_channel channel other ≡ false → judges r other ≡ false
+not_judged r A A aside is_other = absurd (let none : ⊥ = cc in none)
+not_judged r A B (inl none) is_other = none
+not_judged r A B (inr e) is_other = absurd (let none : ⊥ = cc in none)
+not_judged r B A (inl none) is_other = none
+not_judged r B A (inr e) is_other = absurd (let none : ⊥ = cc in none)
+not_judged r B B aside is_other = absurd (let none : ⊥ = cc in none)
 
 pub other_kind : (channel : Channel) (s : State) (at : At) (original : ℕ) (bytes : List ℕ) (k : Kind)
-    → s.rules.only ≡ Some channel → is_on channel k ≡ false
+    → ((judges s.rules (other_channel channel) ≡ false) ⊎ (is_on (other_channel channel) k ≡ false))
+    → is_on channel k ≡ false
     → core (turn (take_kind s at original bytes k) channel) ≡ core (turn s channel)
 unfolding take_kind
-other_kind channel s at original bytes Foreign only is_other = foreign_turn s channel
-other_kind channel s at original bytes (Symbol other) only is_other =
+other_kind channel s at original bytes Foreign aside is_other = foreign_turn s channel
+other_kind channel s at original bytes (Symbol other) aside is_other =
     ap (λ (t : State). core (turn t channel))
     (cond-false (judges s.rules other) (symbol_on (count_symbol (turn s other)) at original bytes) s
-    (not_judged s.rules channel other only is_other))
-other_kind channel s at original bytes (Frame other) only is_other =
+    (not_judged s.rules channel other aside is_other))
+other_kind channel s at original bytes (Frame other) aside is_other =
     ap (λ (t : State). core (turn t channel))
     (cond-false (judges s.rules other) (frame_on (turn s other) at original bytes) s
-    (not_judged s.rules channel other only is_other))
+    (not_judged s.rules channel other aside is_other))
 
 abbrev pub at_record : State → Record → At
 at_record s r = record { number = (next_record s).records; time = r.time }
 
-pub other_record : (channel : Channel) (s : State) (r : Record) → s.rules.only ≡ Some channel
+pub other_record : (channel : Channel) (s : State) (r : Record)
+    → ((judges s.rules (other_channel channel) ≡ false)
+    ⊎ (is_on (other_channel channel) (kind_of r.link r.bytes) ≡ false))
     → is_on channel (kind_of r.link r.bytes) ≡ false → core (turn (judge s r) channel) ≡ core (turn s channel)
 unfolding judge
-other_record channel s r only is_other =
-    other_kind channel (next_record s) (at_record s r) r.original r.bytes (kind_of r.link r.bytes) only is_other
+other_record channel s r aside is_other =
+    other_kind channel (next_record s) (at_record s r) r.original r.bytes (kind_of r.link r.bytes) aside is_other
     ∙ record_turn s channel
 
 -- ---- frames of the channel

@@ -1,8 +1,8 @@
 -- A recording of a bus without faults has no finding (project-defined).
-use Rattle.std.specs.Prelude.{◌≡◌, ℕ, Bool, false, true, List, [], ◌∷◌, ◌⊎◌, Option, Some, None, Result, Ok}
+use Rattle.std.specs.Prelude.{◌≡◌, ℕ, Bool, false, true, List, [], ◌∷◌, ◌⊎◌, Some, None, Ok}
 use Rattle.fr_frame.specs.Fields.{Fields}
 use Rattle.fr_judging.specs.Judging.{State, fresh, judge, finish, has_finding}
-use Rattle.fr_judging.specs.Rules.{rules_of}
+use Rattle.fr_judging.specs.Rules.{rules_of, has_sender, other_channel}
 use Rattle.fr_hearing.specs.Heard.{AreHeard}
 use Rattle.fr_logged.specs.Logged.{kind_of, spelled}
 use Rattle.fr_logged.specs.declared.record.Kind.{Kind}
@@ -43,4 +43,17 @@ judged s (r ∷ rs) = judged (judge s r) rs
 abbrev pub NoFalseAlarm : Type 0
 NoFalseAlarm = (d : Description) (most : ℕ) (whole : Bool) (channel : Channel) (rs : List Record) (f : Fields)
     (fs : List Fields) → AreOn channel rs (f ∷ fs) → AreHeard d channel (f ∷ fs)
+    → has_finding (finish (judged (fresh (rules_of d most whole (Some channel) 0)) rs) true) ≡ false
+
+-- The same of both channels without times, if the other one has neither a sender nor a record.
+abbrev pub NoFalseAlarmOfBoth : Type 0
+NoFalseAlarmOfBoth = (d : Description) (most : ℕ) (whole : Bool) (channel : Channel) (rs : List Record) (f : Fields)
+    (fs : List Fields) → AreOn channel rs (f ∷ fs) → AreHeard d channel (f ∷ fs)
+    → has_sender d (other_channel channel) ≡ false → AreOn (other_channel channel) rs []
+    → has_finding (finish (judged (fresh (rules_of d most whole None 0)) rs) true) ≡ false
+
+-- A channel without a sender and without records has no finding.
+abbrev pub NoAlarmInSilence : Type 0
+NoAlarmInSilence = (d : Description) (most : ℕ) (whole : Bool) (channel : Channel) (rs : List Record)
+    → AreOn channel rs [] → has_sender d channel ≡ false
     → has_finding (finish (judged (fresh (rules_of d most whole (Some channel) 0)) rs) true) ≡ false

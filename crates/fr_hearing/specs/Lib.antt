@@ -3,3 +3,5 @@ pub mod Alarms
 pub mod Offering
 pub mod Captured
 pub mod Listening
+pub mod Runs
+pub mod Files

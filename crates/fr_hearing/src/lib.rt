@@ -9,10 +9,16 @@
 //! - `Offering`: the frames that nodes hand to the bus, and those that are due there.
 //! - `Listening`: the frames that a listener receives in the windows of a run without faults of senders.
 //! - `Captured`: the record of a frame in a capture.
+//! - `Runs`: runs without faults on a channel, their recordings, and the law that these have no finding.
+//! - `Files`: the bytes of a capture of such a run.
 //!
 //! # Laws
 //!
+//! - `RunLaws`: in each run without faults on a channel, the frames that a listener receives there are those of whole
+//!   cycles. A recording of them has no finding on this channel, without times.
+//! - `FileLaws`: a capture of the bus of a run without faults is read as such a recording.
 //! - `AlarmLaws`: each channel by itself, without times, has no false alarm.
+//! - `SilenceLaws`: a channel without a sender has none, either.
 //! - `OfferLaws`: in each static window its owner hands over the frame that is due. So does each node that sends in a
 //!   dynamic one.
 //! - `ListenLaws`: each frame that a listener receives without faults is due in its window.
