@@ -111,7 +111,7 @@ pub fn spelled(channel: Channel, original: u32, bytes: &[u8]) -> Result<LentFram
 pub fn plain(channel: Channel, original: u32, bytes: &[u8]) -> Option<LentFrame<'_>>
     ensures { result ≡ result_ok (spelled channel original bytes.now) }
 {
-    if bytes.len() < original as usize {
+    if original as usize > bytes.len() {
         return None;
     }
     if logged_in(bytes).is_some() {
