@@ -3,6 +3,7 @@ pub mod Distances
 pub mod DueTable
 pub mod Fields
 pub mod Judging
+pub mod KeptFields
 pub mod Lanes
 pub mod Names
 pub mod Rules

@@ -50,4 +50,4 @@ static_place slot channel = slot % 1024 * 2 + channel_number channel
 
 -- of a static slot on a channel, and a node
 abbrev pub away_place : ℕ → Channel → ℕ → ℕ
-away_place slot channel node = static_place slot channel * 16 + node % 16
+away_place slot channel node = node % 16 * 2048 + static_place slot channel

@@ -62,9 +62,7 @@ fn are_equal(one: &[u8], other: &[u8]) -> bool
 fn differ(frame: &LentFrame<'_>, shown: &Shown) -> Option<Finding>
     ensures { result ≡ differ frame.now (Some shown.now.frame) }
 {
-    if frame.has_data == shown.frame.has_data
-        && are_equal(frame.payload, shown.frame.payload.as_slice())
-    {
+    if frame.has_data == shown.frame.has_data() && are_equal(frame.payload, shown.frame.payload()) {
         return None;
     }
     Some(Finding::bare(Name::Channels))
@@ -185,7 +183,7 @@ impl Judge {
                 let opened = self.mine.cycles;
                 let shown = &mut self.shown[place];
                 shown.opened = opened;
-                shown.frame.replace_by(frame);
+                shown.frame.keep(frame);
             }
             _ => {}
         }
@@ -394,10 +392,13 @@ impl Judge {
     pub(crate) fn came(&mut self, frame: &LentFrame<'_>, at: &At)
         ensures { self.new ≡ came self.old frame.now at.now }
     {
-        let due = self.due(u32::from(frame.id), frame.cycle);
         if frame.id <= self.rules.cluster.params().static_slots {
+            let due = self.static_due(u32::from(frame.id), frame.cycle);
             self.static_came(frame, at, due);
         } else {
+            let due = self
+                .rules
+                .due(u32::from(frame.id), self.channel, frame.cycle);
             self.dynamic_came(frame, at, due);
         }
     }

@@ -1,39 +1,22 @@
 //! The start and the end of a recording.
 
 ghost use Rattle.std.specs.Prelude.{◌≡◌, IfOk, length};
-ghost use Rattle.fr_judging.specs.Judging.{fresh, no_frame, none_shown, no_counts, none_away, none_found, lane_on};
+ghost use Rattle.fr_judging.specs.Judging.{fresh, none_shown, no_counts, none_away, none_found, lane_on};
 ghost use Rattle.fr_judging.specs.Judging.{tally_at, found_of, has_finding};
 ghost use Rattle.fr_judging.specs.Judging.{says_nothing, tell_nothing, tell_end, finish_channel, finish_on, finish};
 
 use crate::came::SILENCE;
 use crate::dues::all_dues;
 use crate::judge::{AWAY_PLACES, Judge, MOST_LINES, STATIC_PLACES, Shown};
+use crate::kept::KeptFrame;
 use crate::lane::Lane;
 use crate::line::Line;
 use crate::names::{NAMES, index_of};
 use crate::rules::Rules;
 use crate::tally::{SlotTally, no_counts};
-use fr_frame::frame::Frame;
-use fr_frame::payload::Payload;
 use fr_logged::finding::{Finding, Name};
 use fr_slots::channel::Channel;
-use fr_slots::numbers::Cycle;
 use std::alloc::{AllocError, Global};
-
-/// Returns a frame for a slot that had none yet.
-fn no_frame() -> Frame
-    ensures { result ≡ no_frame }
-{
-    Frame {
-        preamble: false,
-        has_data: false,
-        sync: false,
-        startup: false,
-        id: 0,
-        payload: Payload::default(),
-        cycle: Cycle::from_bits(0),
-    }
-}
 
 /// Returns the places for the frames of static slots, without a frame.
 fn none_shown(alloc: Global) -> Result<Vec<Shown>, AllocError>
@@ -44,7 +27,7 @@ fn none_shown(alloc: Global) -> Result<Vec<Shown>, AllocError>
     for place in 0..STATIC_PLACES {
         shown.push(Shown {
             opened: 0,
-            frame: no_frame(),
+            frame: KeptFrame::none(),
         })?;
     }
     Ok(shown)

@@ -4,12 +4,12 @@ ghost use Rattle.std.specs.Prelude.{◌≡◌, ◌≤◌, ◌<◌, length, repli
 ghost use Rattle.fr_judging.specs.Tallies.{fresh_tally, place_of, static_place, away_place, channel_number};
 ghost use Rattle.fr_judging.specs.Rules.{other_channel};
 
+use crate::kept::KeptFrame;
 use crate::lane::Lane;
 use crate::line::Line;
 use crate::names::NAMES;
 use crate::rules::Rules;
 use crate::tally::SlotTally;
-use fr_frame::frame::Frame;
 use fr_logged::due::Due;
 use fr_slots::channel::Channel;
 use std::alloc::{AllocError, Global};
@@ -32,7 +32,7 @@ pub(crate) const MOST_LINES: usize = 4096;
 pub struct Shown {
     /// The number of cycles that the channel had opened.
     pub opened: u64,
-    pub frame: Frame,
+    pub frame: KeptFrame,
 }
 
 /// Judges a recording, record by record (project-defined).
@@ -110,5 +110,5 @@ pub(crate) fn away_place(slot: u32, channel: Channel, node: u8) -> usize
     ensures value { result ≡ away_place slot channel node }
     ensures fits { result < 32768 }
 {
-    static_place(slot, channel) * 16 + usize::from(node % 16)
+    usize::from(node % 16) * STATIC_PLACES + static_place(slot, channel)
 }

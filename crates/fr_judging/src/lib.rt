@@ -21,13 +21,16 @@
 //! - `Fields`: the private fields of a judge. Meaning: the record of `Judging` that is the model of the type.
 //! - `DueTable`, `Counting`: the table of what is due in static slots; the counts of a slot that stay in their place.
 //!   Meaning: `due_at` of `Rules`; `count_frame` of `Judging`.
+//! - `KeptFields`: the private fields of a frame that is kept. Meaning: `Fields` of `fr_frame`.
 //!
 //! # Inner workings
 //!
 //! The channel of a record is moved to the front, so that each step speaks of this channel and the other one. A good
 //! frame whose count isn't that of the open cycle waits for the next good frame of its channel. Everything else is
-//! decided at once. All memory is taken by `Judge::new`. `dues` has what is due in each static slot and cycle. Most frames
-//! have no finding: what they need is done in place, and the rest of the work is in functions that aren't inlined.
+//! decided at once. All memory is taken by `Judge::new`. `dues` has what is due in each static slot, cycle after cycle.
+//! Most frames have no finding: what they need is done in place, and the rest of the work is in functions that aren't
+//! inlined. `kept` has the frame that the other channel is compared with. What is read for the frames of a cycle lies
+//! close together, so that it stays in the cache.
 #![tactic(auto)]
 
 mod came;
@@ -36,6 +39,7 @@ mod dues;
 mod ends;
 mod find;
 pub mod judge;
+pub mod kept;
 pub mod lane;
 pub mod line;
 mod missing;

@@ -20,7 +20,7 @@ use crate::opening::count_word;
 use fr_frame::frame::Frame;
 use fr_frame::lent::LentFrame;
 use fr_logged::finding::{Finding, Name, Place, Word};
-use fr_logged::record::{Kind, cut, kind_of, place_in, place_of, spelled};
+use fr_logged::record::{Kind, cut, kind_of, place_in, place_of, plain, spelled};
 use fr_recording::numbers::Moment;
 use fr_slots::channel::Channel;
 
@@ -198,6 +198,7 @@ impl Judge {
 
     /// Takes a frame that is spelled as its header says.
     #[tactic(auto, unfolding(crate::specs::Judging::spelled_frame))]
+    #[inline(always)]
     fn spelled_frame(&mut self, at: &At, frame: &LentFrame<'_>)
         ensures { self.new ≡ spelled_frame self.old at.now frame.now }
     {
@@ -231,6 +232,17 @@ impl Judge {
         ensures { self.new ≡ frame_on self.old at.now original bytes.now }
     {
         self.mine.frames = self.mine.frames.saturating_add(1);
+        match plain(self.channel, original, bytes) {
+            Some(frame) => self.spelled_frame(at, &frame),
+            None => self.unspelled(at, original, bytes),
+        }
+    }
+
+    /// Tells a record of a frame on the channel that isn't spelled as its header says.
+    #[inline(never)]
+    fn unspelled(&mut self, at: &At, original: u32, bytes: &[u8])
+        ensures { self.new ≡ take_frame self.old at.now bytes.now (spelled self.old.channel original bytes.now) }
+    {
         match spelled(self.channel, original, bytes) {
             Ok(frame) => self.spelled_frame(at, &frame),
             Err(finding) => self.ill(at, &place_in(self.channel, bytes), finding),

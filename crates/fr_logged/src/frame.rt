@@ -1,7 +1,8 @@
 //! The frame in the bytes of a record.
 
 ghost use Rattle.std.specs.Prelude.{◌≡◌, ◌+◌, ◌*◌, ◌≤◌, ◌<◌, ◌^◌, length, take, drop};
-ghost use Rattle.std.specs.Result.{result_err};
+ghost use Rattle.std.specs.Option.{is_none};
+ghost use Rattle.std.specs.Result.{result_ok};
 ghost use Rattle.fr_frame.specs.Bits.{bits_of, bits_of_bytes, number_of};
 ghost use Rattle.fr_logged.specs.Headers.{header_in, right_crc};
 ghost use Rattle.fr_logged.specs.Logged.{frame_by, fields_by, length_finding, header_finding, frame_finding};
@@ -150,6 +151,52 @@ fn frame_finding(channel: Channel, words: u16, bytes: &[u8]) -> Option<Finding>
     }
     let right = crc24(&bytes[..bytes.len() - 3], channel);
     trailer_finding(right, trailer_of(bytes))
+}
+
+/// Returns whether a record may have so many bytes, by its header.
+fn is_length_well(due: usize, there: usize) -> bool
+    requires { due < 300 }
+    ensures { result ≡ is_none (length_finding due there) }
+{
+    there == due || there == due + 3
+}
+
+/// Returns whether the trailer is right, or isn't there.
+fn is_trailer_well(channel: Channel, words: u16, bytes: &[u8]) -> bool
+    requires words_fit { words < 2 ^ 7 }
+    requires long { 3 ≤ length bytes.now }
+    ensures { result ≡ is_none (frame_finding channel words bytes.now) }
+{
+    if bytes.len() == 5 + 2 * usize::from(words) {
+        return true;
+    }
+    frame_finding(channel, words, bytes).is_none()
+}
+
+/// Returns the frame that the bytes of a record spell after its first two, if there is no finding. It makes none, which
+/// would take longer than the rest.
+pub(crate) fn plain_by<'a>(
+    channel: Channel,
+    header: &Header,
+    bytes: &'a [u8],
+) -> Option<LentFrame<'a>>
+    requires header { header.now ≡ header_in bytes.now }
+    requires id_fits { header.now.id < 2 ^ 11 }
+    requires words_fit { header.now.words < 2 ^ 7 }
+    requires long { 5 ≤ length bytes.now }
+    requires short { length bytes.now < 2 ^ 63 }
+    ensures { result ≡ result_ok (frame_by channel header.now bytes.entry.now) }
+{
+    if !is_length_well(7 + 2 * usize::from(header.words), bytes.len() + 2) {
+        return None;
+    }
+    if header.crc != right_crc(header, bytes) {
+        return None;
+    }
+    if !is_trailer_well(channel, header.words, bytes) {
+        return None;
+    }
+    Some(lent_from(header, bytes))
 }
 
 /// Returns the frame that the bytes of a record spell after its first two, or the finding.

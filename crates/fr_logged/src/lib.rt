@@ -13,8 +13,9 @@
 //! # Inner workings
 //!
 //! A record of link type 210 has a byte with channel and kind, a byte of flags, and then the bytes of a frame without
-//! trailer, or with it (`record`). `frame` reads the header as one number, and `header_crc` takes its CRC from `tables`,
-//! without a copy of the payload. `due` goes along the lines of the plans.
+//! trailer, or with it (`record`). `frame` reads the header as one number, and `header_crc` takes its CRC from
+//! `tables`, without a copy of the payload. `plain` reads a frame and makes no finding, which takes less time than
+//! `spelled`. `due` goes along the lines of the plans.
 #![tactic(auto)]
 
 pub mod due;

@@ -1,11 +1,12 @@
 //! Records of link type 210.
 
 ghost use Rattle.std.specs.Prelude.{◌≡◌};
+ghost use Rattle.std.specs.Result.{result_ok};
 ghost use Rattle.fr_logged.specs.Logged.{kind_of, logged_in, logged_by, spelled, cut, place_in, place_of, channel_in};
 ghost use Rattle.fr_logged.specs.Logged.{kind_by};
 
 use crate::finding::{Finding, Name, Place, Word};
-use crate::frame::{frame_by, header_in};
+use crate::frame::{frame_by, header_in, plain_by};
 use fr_frame::lent::LentFrame;
 use fr_slots::channel::Channel;
 
@@ -103,6 +104,24 @@ pub fn spelled(channel: Channel, original: u32, bytes: &[u8]) -> Result<LentFram
     }
     let body = &bytes[2..];
     frame_by(channel, &header_in(body), body)
+}
+
+/// Returns the frame that a record of a frame spells on the channel, with so many bytes that there were, if it has no
+/// finding.
+pub fn plain(channel: Channel, original: u32, bytes: &[u8]) -> Option<LentFrame<'_>>
+    ensures { result ≡ result_ok (spelled channel original bytes.now) }
+{
+    if original as usize > bytes.len() {
+        return None;
+    }
+    if logged_in(bytes).is_some() {
+        return None;
+    }
+    if bytes.len() < 7 {
+        return None;
+    }
+    let body = &bytes[2..];
+    plain_by(channel, &header_in(body), body)
 }
 
 /// Returns the place of a record of a frame, as its header says, if it is whole.

@@ -16,6 +16,10 @@ pub record IsWholeHead (order : Order) (scale link : ℕ) (bytes : List ℕ) (he
   pub whole : 16 + head.captured ≤ length bytes
   pub is_head : record_head order scale link (take 16 bytes) ≡ Some head
 
+-- a record of a classic file, and its head comes next again
+abbrev pub tell_next : State → Head → List ℕ → State
+tell_next s head bytes = record s { captured = bytes; told = Some head; begin = s.at }
+
 -- a record of a classic file has been read, which takes so many of the bytes
 pub record TakesRecord (old : State) (bytes : List ℕ) (count : ℕ) (new : State) : Type 0 where
   pub scale : ℕ

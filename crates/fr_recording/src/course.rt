@@ -8,7 +8,7 @@ ghost use Rattle.fr_recording.specs.Stream.{tell, after_record_head, skip, after
 ghost use Rattle.fr_recording.specs.Stream.{next_option, after_option_header, after_option, after_head, after_packet};
 ghost use Rattle.fr_recording.specs.Stream.{after_simple, after_bytes, after_trailer, enter, after_block_header};
 ghost use Rattle.fr_recording.specs.Stream.{after_part, end_in};
-ghost use Rattle.fr_recording.specs.Steps.{IsWholeHead, TakesRecord};
+ghost use Rattle.fr_recording.specs.Steps.{IsWholeHead, TakesRecord, tell_next};
 
 use crate::heads::{
     Magic, SECTION, is_bad_front, is_length_of, link_of, magic_of, order_of, packet_head,
@@ -203,6 +203,17 @@ impl Course {
         self.start(Phase::RecordHeader(scale, link));
     }
 
+    /// Completes a record of a classic file, before the next one. The part that comes next is stored already.
+    fn tell_next(&mut self, head: Head, bytes: &[u8])
+        requires { length bytes.now ≤ most_captured }
+        ensures { self.new ≡ tell_next self.old head bytes.now }
+    {
+        // As in `tell`, the head is stored first.
+        self.told = Some(head);
+        self.keep(bytes);
+        self.begin = self.at;
+    }
+
     fn after_record_head(&mut self, scale: u32, link: u16, bytes: &[u8])
         requires { length bytes.now ≡ 16 }
         ensures { self.new ≡ after_record_head self.old scale link (record_head self.old.order scale link bytes.now) }
@@ -229,7 +240,7 @@ impl Course {
         };
         let whole = 16 + head.captured.number() as usize;
         self.read_on(whole as u64);
-        self.tell(scale, link, head, &bytes[16..whole]);
+        self.tell_next(head, &bytes[16..whole]);
         whole
     }
 
