@@ -22,6 +22,7 @@ use Rattle.fr_hearing.specs.Heard.{FollowOn}
 use Rattle.fr_judging.specs.Rules.{due_at, is_clocked, owns_some, owns_in}
 use Rattle.fr_logged.proofs.DueLemmas.{due_is_owners}
 use Rattle.fr_logged.proofs.FirstLemmas.{some_found_in}
+use Rattle.fr_logged.specs.Dues.{static_due, buffer_in}
 use Rattle.fr_logged.specs.declared.due.Due.{Due}
 use Rattle.fr_schedule.specs.Clusters.{IsCluster, IsNode}
 use Rattle.fr_schedule.specs.Descriptions.{Description}
@@ -93,8 +94,10 @@ has_owner d channel cycle cluster fits clocked =
       slot = line.value.slot;
       from_one = own_is.slot_is.from_one;
       static = few;
-      due = _;
-      due_is = due_at_some d line.value.slot channel cycle _ own_is.slot_is.from_one own_is.slot_is.at_most due;
+      due = static_due d.params here.place node.value owner.value
+          (buffer_in line.value.slot channel cycle node.value);
+      due_is = due_at_some d line.value.slot channel cycle (static_due d.params here.place node.value owner.value
+          (buffer_in line.value.slot channel cycle node.value)) own_is.slot_is.from_one own_is.slot_is.at_most due;
     }
 
 not_free : (d : Description) (channel : Channel) (cycle : ℕ) → HasOwner d channel cycle

@@ -22,3 +22,4 @@ pub mod SilenceLaws
 pub mod RunLaws
 mod ReadingLemmas
 pub mod FileLaws
+pub mod WorkedLemmas
