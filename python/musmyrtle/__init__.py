@@ -35,8 +35,8 @@ __all__ = [
     "BusMemory", "BusRefused", "BusUnknownNode", "Channel", "ClusterRefused", "Corrupt", "Counters", "Fault", "Frame",
     "HostFull", "HostRefused", "Memory", "Moment", "Mute", "Names", "Node", "NoHistory", "NoQueue", "NoRoom",
     "NotAllPut", "NotAllTaken", "NotCollecting", "NotFetched", "NotInAScenario", "NotObserved", "NotReceive",
-    "NotSealed", "NotStarted", "NotTransmit", "NoWindow", "Queue", "ReceiveBuffer", "Record", "Refused", "Report", "Scenario",
-    "ScenarioText", "Sent", "SessionOver", "SlotFull", "SlotRefused", "TimedOut", "TooManyFaults", "TransmitBuffer",
-    "UnknownBuffer", "UnknownName", "UnknownNode", "UnknownTask", "Window", "WindowOrder", "World", "WrongLength",
-    "WrongTurn", "WrongWindow", "at_slot", "every", "on_frame",
+    "NotSealed", "NotStarted", "NotTransmit", "NoWindow", "Queue", "ReceiveBuffer", "Record", "Refused", "Report",
+    "Scenario", "ScenarioText", "Sent", "SessionOver", "SlotFull", "SlotRefused", "TimedOut", "TooManyFaults",
+    "TransmitBuffer", "UnknownBuffer", "UnknownName", "UnknownNode", "UnknownTask", "Window", "WindowOrder", "World",
+    "WrongLength", "WrongTurn", "WrongWindow", "at_slot", "every", "on_frame",
 ]

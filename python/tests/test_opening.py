@@ -191,8 +191,8 @@ class TestRefusedCluster(Folders):
         with self.assertRaises(NoRoom) as raised:
             World(THREE_NODES, 293)
         self.assertEqual((raised.exception.node, str(raised.exception)), (
-            0, "the journal of node 0 has no room for so many cycles. Expected fewer cycles, more `slot_entries` of the "
-               "node, or a world without history"))
+            0, "the journal of node 0 has no room for so many cycles. Expected fewer cycles, more `slot_entries` of "
+               "the node, or a world without history"))
         self.assertIsInstance(raised.exception, SessionOver)
         self.assertIsInstance(raised.exception, ValueError)
         with World(THREE_NODES, 293, endless=True):
