@@ -1,4 +1,7 @@
-"""The names in the sources of a crate: functions with their clauses, types, modules, words and mutants; and tests of single calls."""
+"""The names in the sources of a crate, and of tests of single calls.
+
+Those of a crate are functions with their clauses, types, modules, words and mutants.
+"""
 import re
 from pathlib import Path
 
