@@ -10,6 +10,7 @@ pub mod PlanRowLemmas
 pub mod RisingLemmas
 pub mod ReceiverLemmas
 pub mod ListeningLemmas
+pub mod EndLemmas
 pub mod FaultLineLemmas
 pub mod FaultRunLemmas
 pub mod DynamicRowLemmas

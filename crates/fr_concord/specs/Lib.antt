@@ -7,6 +7,7 @@ pub mod PlanRows
 pub mod Rising
 pub mod Receivers
 pub mod Listening
+pub mod Ends
 pub mod FaultLines
 pub mod FaultRuns
 pub mod DynamicRows

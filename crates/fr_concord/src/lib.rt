@@ -14,6 +14,7 @@
 //! - `Rising`: the times of a capture.
 //! - `Receivers`: the receivers in `commits` and in tables, against those of journals.
 //! - `Listening`: the listener of a capture of the bus.
+//! - `Ends`: the ends of transmissions in `record` and `commits`, against what is heard.
 //! - `FaultLines`: the line numbers of faults in the record of a run.
 //! - `FaultRuns`: a session of fault lines, against the single-threaded run with these faults.
 //!
@@ -38,6 +39,7 @@
 //!   that the journals have.
 //! - `ListeningLemmas`: `is_heard_alike`, `is_captured_alike`, `is_own_or_conflict`. A listener hears what a silent
 //!   node observes.
+//! - `EndLemmas`: `are_ends_heard`. The printed end of a transmission is what a listener hears of it.
 //! - `FaultRunLemmas`: `sessions_played`. A session of fault lines and a run leads to the world of the single-threaded
 //!   run.
 //! - `FaultLineLemmas`: `faults_numbered`, `offers_unnumbered`. Each babble and each muted offer has a line number, and
