@@ -126,11 +126,11 @@ def listened(running: subprocess.Popen[Any], listen: Callable[[IO[str]], None] |
 
 
 def ask(program: str, words: list[str], started: Started = subprocess.Popen,
-        listen: Callable[[IO[str]], None] | None = None) -> Answer:
+        listen: Callable[[IO[str]], None] | None = None, known: re.Pattern[str] | None = None) -> Answer:
     """Returns the program's answer. Messages of its launcher, such as that it builds first, are passed on.
 
-    The lines by which a launcher explains a refusal aren't, since this package has longer reasons of its own. LISTEN
-    reads what the program prints, in a thread of its own, until its end.
+    The lines by which a launcher explains a refusal aren't, since this package has longer reasons of its own, nor those
+    of the form KNOWN. LISTEN reads what the program prints, in a thread of its own, until its end.
     """
     refusal = None
     told: deque[str] = deque(maxlen=MOST_TOLD)
@@ -145,7 +145,8 @@ def ask(program: str, words: list[str], started: Started = subprocess.Popen,
                 refusal = line.removeprefix("refused ")
             elif refusal is None or not line.startswith(f"{Path(program).name}: "):
                 told.append(line)
-                pass_on(line)
+                if known is None or not known.fullmatch(line):
+                    pass_on(line)
     if running.returncode == 0:
         return Answer(0, None)
     is_named = refusal is not None

@@ -104,7 +104,7 @@ class TestRuns(Command):
 
 class TestFiles(Command):
     def test_names_that_are_no_strings(self):
-        """The bench reads no key `name`. The table is that of the cluster without such keys."""
+        """Such a key `name` is no name. The table is that of the cluster without such keys."""
         right = self.asked()
         (self.folder / "cluster").write_text(TWO_NODES.replace("[[node]]\n", "[[node]]\nname = 7\n"))
         self.assertEqual(self.asked(), right)

@@ -4,6 +4,7 @@ from unittest.mock import patch
 from musmyrtle.faults.campaign import NoReference
 from musmyrtle.faults.frames import data_frame
 from musmyrtle.faults.listing import Selection, SingleFault
+from musmyrtle.named_windows import RunCycles
 from musmyrtle.world.refusals import Memory, SessionOver
 from tests.campaigns import CampaignCases
 from tests.two_nodes import PARAMETERS
@@ -104,19 +105,28 @@ class TestForged(CampaignCases):
         scene = SCENE.replace("end\n", "commit 0 0 0 2 x0005\nend\n")
         lines = {name: it.lines for name, it in self.at(self.campaign_of(scene=scene), "all", "lost").items()}
         self.assertEqual(lines, {
-            "lost 0 AB * all": ("mute 0 A 0 m1", "mute 0 A 0 m2", "mute 0 B 0 m3"),
-            "lost 0 A * all": ("mute 0 A 0 m1", "mute 0 A 0 m2"), "lost 0 B * all": ("mute 0 B 0 m3",)})
+            "lost 0 AB * all": ("lost 0 *",), "lost 0 A * all": ("mute 0 A * *",), "lost 0 B * all": ("mute 0 B * *",)})
 
     def test_all_that_a_node_sends_on_both_channels(self):
         """Slots 4 and 5 are sent on B. With slot 4 lost at minislot 2 slot 5 opens at minislot 3, and not at 5."""
         cluster = CLUSTER.format(latest=10).replace('slot = 4, channels = "A"', 'slot = 4, channels = "B"')
         campaign = self.campaign(cluster, SCENE.replace("end\n", "commit 0 0 0 2 x0005\nend\n"), 2)
         lines = {name: it.lines for name, it in self.at(campaign, "all", "lost").items()}
-        self.assertEqual(lines["lost 0 AB * all"], ("mute 0 A 0 m1", "mute 0 B 0 m2", "mute 0 B 0 m3"))
+        self.assertEqual(lines["lost 0 AB * all"], ("lost 0 *",))
+
+    def test_beside_a_loss_of_the_scenario(self):
+        """The scenario has lost slot 3 at minislot 1 of cycle 0. There the static slots are still to be lost, and slot
+        4, which opens at minislot 2 then."""
+        scene = SCENE.replace("end\n", "mute 0 A 0 m1\nend\n")
+        lines = {name: it.lines for name, it in self.at(self.campaign_of(scene=scene), "all", "lost").items()}
+        rest = ("mute 0 A 1 *", "mute 0 A 0 s*", "mute 0 A 0 m2")
+        self.assertEqual(lines, {"lost 0 AB * all": (*rest, "mute 0 B * *"), "lost 0 A * all": rest,
+                                 "lost 0 B * all": ()})
 
     def test_all_that_a_node_sends_in_one_cycle(self):
         """Slot 4 opens at minislot 4 in cycle 0, too late, and is sent in cycle 1. There it is lost, though it would be
         sent in cycle 0 if slot 3 were lost then."""
-        lines = {name: it.lines for name, it in self.at(self.campaign_of(latest=3), "all", "lost", cycle=1).items()}
-        self.assertEqual(lines, {"lost 0 AB 1 all": ("mute 0 A 1 m2",), "lost 0 A 1 all": ("mute 0 A 1 m2",),
+        found = self.at(self.campaign_of(latest=3), "all", "lost", cycles=RunCycles.of("1"))
+        lines = {name: it.lines for name, it in found.items()}
+        self.assertEqual(lines, {"lost 0 AB 1 all": ("lost 0 1",), "lost 0 A 1 all": ("mute 0 A 1 *",),
                                  "lost 0 B 1 all": ()})

@@ -7,6 +7,7 @@ from musmyrtle.faults.fifo_costs import fifo_effects
 from musmyrtle.faults.fifos import Fifo, StoredFrame
 from musmyrtle.faults.listing import Selection
 from musmyrtle.faults.table import Results, has_effect, summary, verdict
+from musmyrtle.named_windows import RunCycles
 from tests.campaigns import PROGRAM, CampaignCases
 from tests.two_nodes import PARAMETERS
 
@@ -37,7 +38,7 @@ class TestContent(CampaignCases):
     def queue(self, campaign: Campaign, name: str) -> list[tuple]:
         kind, node, _, cycle, place = name.split(" ")
         selection = Selection(frozenset([kind]), frozenset([int(node)]), frozenset([place]),
-                              None if cycle == "*" else int(cycle))
+                              None if cycle == "*" else RunCycles.of(cycle))
         return [(it.effect, it.amount, it.without, it.having) for it in self.found(campaign, selection)[name]
                 if it.thing == "queue"]
 

@@ -7,6 +7,7 @@ from musmyrtle.faults.listing import LeftOut, Listing, Selection, SingleFault, i
 from musmyrtle.faults.options import numbers_of, places_of
 from musmyrtle.faults.played import Begun, forged_babble
 from musmyrtle.faults.table import listed
+from musmyrtle.named_windows import RunCycles
 from musmyrtle.scenario import Reading as ScenarioReading
 from tests.campaigns import cluster_of
 from tests.cases import CLUSTER
@@ -60,9 +61,9 @@ class TestList(unittest.TestCase):
     def test_both_channels(self):
         """A fault of both channels has the lines of each, and a forged frame the CRC of its channel."""
         lines = {str(it): list(it.lines) for it in faults_of(TWO_NODES, 1)[0]}
-        self.assertEqual(lines["lost 0 AB * all"], ["mute 0 A * s*", "mute 0 B * s*"])
+        self.assertEqual(lines["lost 0 AB * all"], ["mute 0 AB * s*"])
         self.assertEqual(lines["lost 1 AB * all"], ["mute 1 A * s*"])
-        self.assertEqual(lines["noise 1 AB * s2"], ["babble 1 A * s2 xff", "babble 1 B * s2 xff"])
+        self.assertEqual(lines["noise 1 AB * s2"], ["babble 1 AB * s2 xff"])
         frames = [data_frame(2, 0, bytes.fromhex("a55a"), channel).hex() for channel in "AB"]
         self.assertEqual(lines["forged 0 AB * s2"], [f"babble 0 A 0 s2 x{frames[0]}", f"babble 0 B 0 s2 x{frames[1]}"])
 
@@ -101,8 +102,11 @@ class TestList(unittest.TestCase):
     def test_forged_frames_of_a_long_run(self):
         """The cycle count of a frame wraps at 64, and the cycle of a run doesn't."""
         lines = {str(it): it.lines for it in faults_of(TWO_NODES, 66)[0]}["forged 0 A * s2"]
-        self.assertEqual(lines[64].split(" ")[3], "64")
-        self.assertEqual([lines[it].split(" ")[-1] for it in (64, 65)], [lines[it].split(" ")[-1] for it in (0, 1)])
+        self.assertEqual(len(lines), 66)
+        self.assertEqual([it.split(" ")[3] for it in lines[:5]], ["0", "64", "1", "65", "2"])
+        self.assertEqual([lines[it].split(" ")[-1] for it in (1, 3)], [lines[it].split(" ")[-1] for it in (0, 2)])
+        lines = {str(it): it.lines for it in faults_of(TWO_NODES, 1024)[0]}["forged 0 A * s2"]
+        self.assertEqual([it.split(" ")[3] for it in lines], [f"{count}-{count + 960}/64" for count in range(64)])
         self.assertEqual(forged_babble(0, "A", 3, 64), forged_babble(0, "A", 3, 0))
 
     def test_narrowed(self):
@@ -111,7 +115,7 @@ class TestList(unittest.TestCase):
         self.assertEqual(self.names(TWO_NODES, 2, only("noise", places=places_of("2"), nodes=frozenset([0]))),
                          ["noise 0 AB * s2", "noise 0 A * s2", "noise 0 B * s2"])
         self.assertEqual(self.names(TWO_NODES, 2, only("header", nodes=frozenset([1]))), ["header - A * s2"])
-        found = faults_of(TWO_NODES, 2, only("mute", cycle=1, places=places_of("s*")))[0]
+        found = faults_of(TWO_NODES, 2, only("mute", cycles=RunCycles.of("1"), places=places_of("s*")))[0]
         self.assertEqual([it.lines for it in found], [("mute 0 A 1 s*",), ("mute 0 B 1 s*",), ("mute 1 A 1 s*",)])
 
     def test_words(self):
@@ -141,7 +145,7 @@ class TestList(unittest.TestCase):
         found, left_out = faults_of(TWO_NODES, 3, only("mute", nodes=frozenset([0])), "mute 0 A 1 s1\nmute 0 B * s*\n")
         self.assertEqual([(str(it), it.lines) for it in found], [
             ("mute 0 A * s1", ("mute 0 A 0 s1", "mute 0 A 2 s1")),
-            ("mute 0 A * s*", ("mute 0 A 0 s*", "mute 0 A 1 s2", "mute 0 A 2 s*"))])
+            ("mute 0 A * s*", ("mute 0 A 0 s*", "mute 0 A 2 s*", "mute 0 A 1 s2"))])
         self.assertEqual(left_out, LeftOut(taken=2))
 
     def test_dynamic_segment(self):
@@ -151,7 +155,7 @@ class TestList(unittest.TestCase):
         commit = "commit 2 0 1 0 x7001\n"
         found = faults_of(CLUSTER, 2, only("lost", nodes=frozenset([2])), commit, plays)[0]
         self.assertEqual([(str(it), it.lines) for it in found], [
-            ("lost 2 AB * all", ("mute 2 A 1 m1",)), ("lost 2 A * all", ("mute 2 A 1 m1",)), ("lost 2 B * all", ())])
+            ("lost 2 AB * all", ("lost 2 *",)), ("lost 2 A * all", ("mute 2 A * *",)), ("lost 2 B * all", ())])
         found = faults_of(CLUSTER, 2, only("noise", nodes=frozenset([0])), commit, plays)[0]
         dynamic = [(it.channels, it.place) for it in found if it.is_dynamic]
         self.assertEqual(dynamic, [("AB", "m1"), ("AB", "m2"), ("A", "m1"), ("A", "m2"), ("B", "m1")])

@@ -51,14 +51,14 @@ IN_CLUSTERS = (
     ("Expected `sync = true, startup = true` at an ownership line", "guard", "guard"),
 )
 IN_SCENARIOS = (
-    ("Expected `frscenario 2`, or `frscenario 1`", "frscenario 1", "frscenario 3"),
+    ("Expected `frscenario 3`, `frscenario 2` or `frscenario 1`", "frscenario 1", "frscenario 4"),
     ("the first line ends with a carriage return", "frscenario 1\n", "frscenario 1\r\n"),
     ("Expected `end` as the last line", "end\n", ""),
     ("Expected a line feed at the end of the file", "end\n", "end"),
     ("Expected nothing after `end`", "end\n", "end\n\n"),
     ("Is `commit` meant?", "commit", "comit"),
-    ("A scenario has no comments", "pop 0 1 2", "# pop 0 1 2"),
-    ("A scenario has no empty lines", "pop 0 1 2", ""),
+    ("Version 1 has no comments. `frscenario 3` in the first line has them", "pop 0 1 2", "# pop 0 1 2"),
+    ("Version 1 has no empty lines", "pop 0 1 2", ""),
     ("Expected one space between two words", "pop 0 1 2", "pop 0  1 2"),
     ("Expected `commit NODE TASK CYCLE BUFFER HEX`", "commit 0 0 0 0 x0a0b", "commit 0 0 0 x0a0b"),
     ("two lower-case hexadecimal digits for each byte", "x0a0b", "x0A0B"),
@@ -70,7 +70,7 @@ IN_SCENARIOS = (
     ("Expected a table `queue` of node 1", "pop 0 1 2", "pop 1 1 2"),
     ("Expected a receive buffer", "read 1 0 3 1", "read 1 0 3 0"),
     ("Slot 5 is a dynamic slot, and `sN` is for static slots", "babble 2 A * s*", "babble 2 A * s5"),
-    ("Expected `A` or `B`", "babble 2 A *", "babble 2 AB *"),
+    ("`frscenario 3` has this form", "babble 2 A *", "babble 2 AB *"),
 )
 IN_TRACES = (
     ("Expected lower-case hexadecimal digits: `a`", 8, "Line Form", BUFFER, "0a0ba32217", "0A0ba32217"),

@@ -16,7 +16,7 @@ from random import Random
 from musmyrtle.program import usual_program
 from musmyrtle.show.page import FILES, SCRIPTS
 from tests.pages import HERE, SCRIPT, Pages, needs_node, view
-from tests.shows import EXAMPLES, NETWORK, SCENE, THREE
+from tests.shows import EXAMPLES, FIRST, NETWORK, SCENE, THREE
 from tests.test_visible_output import IN_TOML, SPELLED
 
 TOP = Path(__file__).resolve().parents[2]
@@ -178,6 +178,17 @@ class Scripts(Pages):
         self.assertIn("pedal (0)conflictbrake (1)conflict", error["details"])
         self.assertEqual(collision["status"], "There is no earlier collision.")
         self.assertEqual(none["status"], "There is no later error.")
+
+    def test_faults_on_both_channels(self) -> None:
+        """A line for both channels is one fault, and has an effect if it has one on either. Brake is lost in slot 2 on
+        both channels, where it sends `force` on A and a null frame on B."""
+        lines = f"commit pedal 0 0 log {FIRST}\nmute pedal AB 0 d3\ncorrupt AB 1 m9 0\nlost brake 1\n"
+        page = self.page(*self.run_of(scene=f"frscenario 3\n{lines}end\n"))
+        first, both, lost = self.walked(page, "click faults line 3", "click faults line 5")
+        self.assertIn("line 3: mute pedal (0) AB 0 d31 windowline 4: corrupt AB 1 m9 0no effect"
+                      "line 5: lost brake (1) 12 windows", first["faults"])
+        self.assertIn("It took effect in 1 window.", both["details"])
+        self.assertIn("It took effect in 2 windows.", lost["details"])
 
     def test_the_view(self) -> None:
         shown = self.walked(self.page(*self.run_of()), "press 1", "press 0", "press +", "press Home", "press End",

@@ -64,6 +64,69 @@ FAULTS = (
 )
 
 
+SCENARIO_3 = """frscenario 3
+# Two nodes have names.
+
+commit pedal 0 0 0 x0a0b   # once
+commit 0 1 2 0 x0c0d
+\tpop pedal 1 2
+commit brake 0 0-3 state x1111
+read brake 0 3 1
+commit 2 0 0-3/2 0 x7001
+babble 2 AB * s* x00
+lost brake 2-3
+end
+"""
+CLUSTER_3 = CLUSTER.replace("tasks = 2\nown", 'name = "pedal"\ntasks = 2\nown', 1)
+CLUSTER_3 = CLUSTER_3.replace("[[node]]\ntasks = 2\nown", '[[node]]\nname = "brake"\ntasks = 2\nown', 1)
+CLUSTER_3 = CLUSTER_3.replace("latest_a = 4", 'name = "two words"\nlatest_a = 4')
+CLUSTER_3 = CLUSTER_3.replace('{kind = "state", slot = 2', '{name = "state", kind = "state", slot = 2')
+ONCE = "commit pedal 0 0 0 x0a0b"
+LINES_3 = (
+    ("BadLine 4", "scenario:4:8",
+     ("NODE is `pedel`", "No node has this name. Is `pedal` meant?", "or the name of a node"), ONCE,
+     "commit pedel 0 0 0 x0a0b"),
+    ("BadLine 4", "scenario:4:8", ("NODE is `16`", "a number from 0 to 15"), ONCE, "commit 16 0 0 0 x0a0b"),
+    ("BadLine 4", "scenario:4:20", ("BUFFER is `state`", "No buffer of node 0 has this name.", "a number from 0 to 63"),
+     ONCE, "commit pedal   0 0 state x0a0b"),
+    ("BadLine 4", "scenario:4:12", ("BUFFER is `b`", "The cluster file has 3 nodes, and no node 7."), ONCE,
+     "read 7 0 0 b"),
+    ("BadLine 4", "scenario:4:16", ("CYCLES is `3-2`", "C not above D"), ONCE, "commit pedal 0 3-2 0 x0a0b"),
+    ("BadLine 4", "scenario:4:13", ("CYCLES is `0-3/0`", "`C-D/STEP`"), ONCE, "pop pedal 0 0-3/0"),
+    ("BadLine 4", "scenario:4:13", ("CYCLES is `0/2`",), ONCE, "pop pedal 0 0/2"),
+    ("BadLine 4", "scenario:4:13", ("CYCLES is `0-1024`",), ONCE, "pop pedal 0 0-1024"),
+    ("BadLine 4", "scenario:4:13", ("CYCLES is `-3`",), ONCE, "pop pedal 0 -3"),
+    ("BadLine 4", "scenario:4:6", ("NODE is `AB`",), ONCE, "lost AB 0"),
+    ("BadLine 4", "scenario:4:11", ("the line has 2 words, and `lost` has 3", "`lost NODE CYCLES`"), ONCE,
+     "lost pedal"),
+    ("BadLine 4", "scenario:4:8", ("CHANNELS is `BA`", "`A`, `B` or `AB`"), ONCE, "mute 0 BA * s*"),
+    ("BadLine 4", "scenario:4:13", ("PLACE is `s3-2`", "`sN-M` for N up to M"), ONCE, "mute 0 A *  s3-2"),
+    ("BadLine 4", "scenario:4:12", ("PLACE is `d*`", "`dN` for dynamic slot N"), ONCE, "mute 0 A * d*"),
+    ("BadLine 4", "scenario:4:12", ("PLACE is `m1-2`",), ONCE, "mute 0 A * m1-2"),
+    ("BadLine 4", "scenario:4:12", ("PLACE is `d8001`", "N from 1 to 8000"), ONCE, "mute 0 A * d8001"),
+    ("BadLine 4", "scenario:4:12", ("a carriage return stands in the line",), ONCE, "pop pedal 0\r 2"),
+    ("BadLine 4", "scenario:4:1", ("no line begins with `losst`", "Is `lost` meant?"), ONCE, "losst pedal 2"),
+    ("BadLine 4", "scenario:4", ("has 1210 bytes",), ONCE, "#" * 1201),
+    ("BadLine 12", "scenario:12:9", ("the line has 2 words, and `end` has 1",), "\nend\n", "\nend then\n"),
+    ("BadLine 13", "scenario:13", ("after `end`, in line 12, the file goes on",), "\nend\n", "\n end # all\n\n"),
+    ("Truncated", "scenario:12", ("`end` has no line feed",), "\nend\n", "\nend # all"),
+    ("Truncated", "scenario:11", ("ends without the line `end`",), "end\n", ""),
+)
+RUNS_3 = (
+    ("BadScript 0", "scenario:4:18", ("`commit` names buffer 1 of node 0, which is of kind receive",), ONCE,
+     "commit pedal 0 0 1 x0a0b"),
+    ("BadScript 3", "scenario:4:5", ("there is no node 3",), ONCE, "pop 3 0 3"),
+    ("BadFault 0", "scenario:4:6", ("there is no node 3",), ONCE, "lost 3 0"),
+    ("BadFault 0", "scenario:4:14", ("there is no static slot 4", "Expected `d4`"), ONCE, "mute 0 A 0-2 s2-4"),
+    ("BadFault 0", "scenario:4:12", ("there is no dynamic slot 8", "dynamic slots 4 to 7"), ONCE, "mute 0 A * d8"),
+    ("BadFault 0", "scenario:4:12", ("there is no dynamic slot 3", "Expected `s3`"), ONCE, "mute 0 A * d3"),
+    ("BadFault 2", "scenario:10:15",
+     ("two lines babble of node 2 on A at s2-3 in cycle 1", "scenario:4:17: line 4"), ONCE, "babble 2 AB 1-3 s2-3 x01"),
+    ("BadFault 3", "scenario:11:1", ("two lines mute of node 1 on A at m2 in cycle 3", "A line `lost` is `mute`"), ONCE,
+     "mute brake A 3 m2"),
+)
+
+
 class RefusedScenarios(Cases):
     def rows(self, rows):
         for refusal, place, words, *changes in rows:
@@ -72,6 +135,47 @@ class RefusedScenarios(Cases):
 
     def test_lines(self):
         self.rows(LINES)
+
+    def test_lines_of_version_3(self):
+        for rows in (LINES_3, RUNS_3):
+            for refusal, place, words, *changes in rows:
+                with self.subTest(refusal=refusal, changes=changes):
+                    text = self.changed(SCENARIO_3, changes).encode()
+                    self.refused(refusal, place, words, CLUSTER_3, text, 4)
+
+    def test_names_that_no_line_can_have(self):
+        for name, why in (("two words", "No node has this name."), ("brake", "Several nodes have this name."),
+                          ("g\u00e9", "The name can't stand in a scenario")):
+            cluster = CLUSTER_3.replace("two words", name)
+            word = name.replace(" ", "-")
+            text = self.changed(SCENARIO_3, (ONCE, f"pop {word} 0 0"))
+            self.refused("BadLine 4", "scenario:4:5", (f"NODE is `{word}`", why), cluster, text, 4)
+
+    def test_version_3_is_accepted(self):
+        found, _ = self.look(CLUSTER_3, SCENARIO_3, 4)
+        self.assertEqual((found.refusals, [it.name for it in found.notes]), ([], []))
+
+    def test_lines_that_are_left_out(self):
+        """A run of two cycles leaves out lines 5, 6, 8 and 11. A script that is left out has no number."""
+        found, answer = self.look(CLUSTER_3, SCENARIO_3, 2)
+        self.assertEqual((found.refusals, [it.name for it in found.notes]), ([], ["skipped-line"]))
+        text = self.text(found, answer)
+        self.assertIn("scenario:5: note: 4 lines of the scenario left out [skipped-line]", text)
+        for line in (6, 8, 11):
+            self.assertIn(f"scenario:{line}: line {line} is left out too", text)
+        self.refused("BadScript 1", "scenario:7:22", ("has no buffer 9",), CLUSTER_3,
+                     self.changed(SCENARIO_3, ("0-3 state", "0-3   9")), 2)
+
+    def test_too_many_calls(self):
+        """256 lines of 1,024 cycles have the most calls, and more than host entries. One more is too many."""
+        lines = "pop pedal 0 *\n" * 256
+        self.refused("NoRoom 0", "cluster.toml:15:1", ("has 262144 calls in the scenario",), CLUSTER_3,
+                     f"frscenario 3\n{lines}end\n", 1024)
+        words = ("the scenario makes 262145 calls in 1024 cycles", "It makes at most 262144.")
+        self.refused("TooManyCalls", "scenario:258", words, CLUSTER_3, f"frscenario 3\n{lines}pop 0 0 1023\nend\n",
+                     1024)
+        self.refused("BadLine 259", "scenario:259:1", (), CLUSTER_3,
+                     f"frscenario 3\n{lines}pop 0 0 1023\npopp\nend\n", 1024)
 
     def test_scripts(self):
         self.rows(SCRIPTS)

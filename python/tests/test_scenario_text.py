@@ -18,7 +18,7 @@ from musmyrtle.program import usual_program
 TOP = Path(__file__).resolve().parents[2]
 THREE_NODES = TOP / "examples/three-nodes/cluster.toml"
 PROGRAM = os.environ.get("FR_BENCH") or usual_program() or "fr_bench"
-WANTED = "frscenario 2\ncommit 0 0 0 0 x0007\ncommit 0 0 1 0 x0007\nmute 2 A * s*\nmute 2 B * s*\nend\n"
+WANTED = "frscenario 3\ncommit 0 0 * 0 x0007\nmute 2 AB * s*\nend\n"
 
 
 def printed(value: object, end: str = "\n") -> str:

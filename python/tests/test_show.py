@@ -1,4 +1,5 @@
 """The tables of `musmyrtle`: values worked out by hand, or from the documents."""
+import json
 import unittest
 
 from tests.shows import FIRST, NETWORK, POP, SCENE, SECOND, THREE, Shows
@@ -206,6 +207,16 @@ class Runs(Shows):
 
     def test_faults_without_effect(self) -> None:
         self.assertEqual(self.values("idle", "line fault", "run", *self.run_of()), [(10, "corrupt B 0 m9 0")])
+
+    def test_a_scenario_of_version_3(self) -> None:
+        """A line for two channels that has an effect on one of them isn't idle. Lines that are left out are named once.
+        """
+        lines = f"commit pedal 0 0 log {FIRST}\nmute pedal AB 0 d3 # the log\ncorrupt AB 1 m9 0\nlost brake 2-5\n"
+        status, output, told = self.asked("run", *self.run_of(scene=f"frscenario 3\n{lines}end\n"), "--json")
+        rows = [json.loads(line) for line in output.splitlines()]
+        self.assertEqual((status, told), (0, "line 5 names no cycle of the run\n"))
+        self.assertEqual([(it["line"], it["fault"]) for it in rows if it["kind"] == "idle"], [(4, "corrupt AB 1 m9 0")])
+        self.assertEqual([it["why"] for it in rows if it["kind"] == "undelivered"], ["lost on A in cycle 0, by line 3"])
 
     def test_a_run_in_which_nothing_is_wrong(self) -> None:
         scene = "frscenario 1\ncommit 0 0 0 0 x0001\nend\n"

@@ -9,7 +9,7 @@ PAGE = (Path(__file__).resolve().parents[2] / "docs/TUTORIAL.md").read_text()
 BLOCKS = dict(re.findall(r"^```(\S+)\n(.*?)^```$", PAGE, re.MULTILINE | re.DOTALL))
 NETWORK = (BLOCKS["network.toml"] + BLOCKS["nodes.toml"]).replace("nit_mt = 10\n", "nit_mt = 100\n").replace("latestA",
                                                                                                              "latest_a")
-DRIVE = BLOCKS["drive"].replace("x22f1\n", "x22f19000\n")
+DRIVE = BLOCKS["drive"].replace("x22f1\n", "x22f19000\n").replace("read wheel 0 5 0", "read wheel 0 5 1")
 EVENT = '{kind = "event", slot = 5, channels = "A", words = 2}'
 OWN = 'own = [{slot = 2, channels = "AB", sync = true, startup = true}]'
 
@@ -39,12 +39,13 @@ WARNED = (
     ("minislot_mt = 6\n", "minislot_mt = 2\n"), ("latest_a = 30", "latest_a = 30\nslot_entries = 80"),
 )
 OF_DRIVE = (
-    ("frscenario 2", "frscenario 3"), ("pop 2 0 2", "pop 2 0 2 "), ("pop 2 0 2", "pop 1 0 2"),
-    ("pop 2 0 2", "pop 2 1 2"), ("commit 0 0 2", "commit 3 0 2"), ("commit 0 0 2 0", "commit 0 0 2 1"),
-    ("read 1 0 3 1", "read 1 0 3 0"), ("read 1 0 3 1", "read 1 0 6 1"), ("read 1 0 3 1", "read 1 0 3 7"),
-    ("x22f19000", "x22F19000"), ("x22f19000", "x22f190"), ("commit 1 0 3 0", "commit 1 0 2 0"),
-    ("end\n", "mute 3 A * s*\nend\n"), ("end\n", "mute 0 A * s5\nend\n"),
-    ("end\n", "mute 0 A * s1\nmute 0 A 2 s*\nend\n"),
+    ("frscenario 3", "frscenario 4"), ("pop gateway 0 2", "pop gateway 0 2\r"), ("pop gateway 0 2", "pop rack 0 2"),
+    ("pop gateway 0 2", "pop gateway 1 2"), ("commit wheel 0 2", "commit 3 0 2"),
+    ("commit wheel 0 2 0", "commit wheel 0 2 1"), ("read rack 0 3 1", "read rack 0 3 0"),
+    ("read rack 0 3 1", "read rak 0 3 1"), ("read rack 0 3 1", "read rack 0 3 7"), ("x22f19000", "x22F19000"),
+    ("x22f19000", "x22f190"), ("commit rack 0 3 0", "commit rack 0 3-2 0"), ("end\n", "mute 3 A * s*\nend\n"),
+    ("end\n", "mute wheel A * s5\nend\n"), ("end\n", "mute wheel A * s1\nmute 0 AB 2 s*\nend\n"),
+    ("end\n", "lost rack 2\nmute rack B 1-3 *\nend\n"), ("end\n", "babble rack A * d4 x00\nend\n"),
 )
 
 

@@ -12,7 +12,7 @@ from tempfile import TemporaryDirectory
 import musmyrtle
 from musmyrtle import (
     Babble, BadFault, BadLine, BadName, BusRefused, Corrupt, HostRefused, Moment, Mute, Names, NotAllPut,
-    NotCollecting, NotInAScenario, NotReceive, NotSealed, NoWindow, Refused, Scenario, SessionOver, TooManyFaults,
+    NotCollecting, NotReceive, NotSealed, NoWindow, Refused, Scenario, SessionOver, TooManyFaults,
     UnknownBuffer, UnknownName, UnknownNode, UnknownTask, Window, World, WrongLength, WrongTurn,
 )
 from musmyrtle.world.node import Buffer, Node
@@ -275,6 +275,38 @@ class TestWorld(unittest.TestCase):
                 self.world.play_scenario(text, 4)
         self.assertEqual(self.world.transcript(), "")
 
+    def test_a_scenario_of_version_3(self):
+        """Ranges, comments and free spaces. Lines that name only later cycles are left out."""
+        text = ("frscenario 3\n# two cycles\n\n commit 0 0\t0-1 0 x0a0b # twice\nread 1 0 1-9 1\npop 0 0 2-5\n"
+                "mute 0 A 2 s*\nend\n")
+        self.assertEqual(self.world.play_scenario(text, 2), [
+            ("commit 0 0 0 x0a0b", "committed 0"), ("commit 0 0 0 x0a0b", "committed 15"),
+            ("read 1 0 1", "frame 0 1 --s- x0a0b")])
+        with self.assertRaisesRegex(ValueError, "^scenario line 2: NODE is `pedal`. No node has this name"):
+            self.world.play_scenario("frscenario 3\npop pedal 0 0\nend\n", 1)
+
+    def test_a_fault_line_of_two_channels(self):
+        """`AB` and `lost` are a request for each channel. If the second one is refused, the first is dropped too."""
+        with self.world.fault("mute 0 AB * s1"):
+            self.world.keep("lost 1 *")
+            self.assertEqual(self.world.transcript(), "".join(f"{it}\n" for it in (
+                "mute 0 A * s1", "mute 0 B * s1", *(f"mute 1 {on} * {place}" for on in "AB"
+                                                    for place in ("s*", "m1", "m2", "m3", "m4")))))
+            with self.assertRaises(BadFault):
+                self.world.keep("mute 0 AB * s1")
+            self.world.run(1)
+        self.world.keep("mute 0 A * s1")
+        with self.assertRaises(BadFault):
+            self.world.keep("lost 0 0-3")
+        self.world.forget()
+        self.world.keep("mute 0 B * s1")
+        with self.assertRaises(BadFault):
+            self.world.keep("mute 0 AB * s1")
+        self.world.keep("mute 0 A * s1")
+        self.world.run(1)
+        fates = [[it.fate for it in self.world.record(number).sent] for number in (0, 1, 7)]
+        self.assertEqual(fates, [["muted", "muted"], ["muted", "muted"], ["muted", "muted"]])
+
     def test_the_channel_of_a_frame_is_that_of_the_report_and_the_trace(self):
         """Slot 1 is sent on both channels, and the receive buffer is for channel A alone."""
         self.sender.commit(0, b"\0\7")
@@ -416,18 +448,39 @@ class TestScenario(unittest.TestCase):
         scenario.corrupt(9, minislot=2, channels="B", cycles=3)
         scenario.lose(2, cycles=range(2, 9))
         self.assertEqual(self.lines(scenario), [
-            "babble 2 A * s1 x00", "babble 2 B * s1 x00", "corrupt B 3 m2 9",
-            "mute 2 A 2 s*", "mute 2 A 3 s*", "mute 2 B 2 s*", "mute 2 B 3 s*", "mute 2 A 2 m1", "mute 2 A 3 m1"])
+            "babble 2 AB * s1 x00", "corrupt B 3 m2 9", "lost 2 2-3"])
 
-    def test_what_no_line_says(self):
-        with TemporaryDirectory() as folder:
-            cluster = Path(folder) / "cluster.toml"
-            buffer = '{kind = "event", slot = 4, channels = "A", words = 1},'
-            text = THREE_NODES.read_text()
-            cluster.write_text(text.replace(buffer, buffer.replace("slot = 4", "slot = 5"))
-                               .replace('{kind = "receive", slot = 2, channels = "A"},', buffer))
-            with self.assertRaises(NotInAScenario):
-                Scenario(cluster, cycles=4).lose(2)
+    def test_places(self):
+        scenario = Scenario(THREE_NODES, cycles=4)
+        scenario.mute(0, slot=3)
+        scenario.mute(0, slot=4, channels="A")
+        for place in ("*", "s*", "m*", "s1-3", "m4", "d7"):
+            scenario.mute(1, place=place)
+        self.assertEqual(self.lines(scenario), ["mute 0 AB * s3", "mute 0 A * d4", *(
+            f"mute 1 AB * {place}" for place in ("*", "s*", "m*", "s1-3", "m4", "d7"))])
+        for more in ({"slot": 1, "minislot": 1}, {"slot": 1, "place": "*"}, {"place": "s4-2"}, {"place": "d0"},
+                     {"place": "s8001"}, {"place": ""}):
+            with self.assertRaises(ValueError):
+                scenario.corrupt(0, **more)
+
+    def test_cycles(self):
+        """Cycles with one step are one line, and two that aren't neighbours two lines."""
+        scenario = Scenario(THREE_NODES, cycles=16)
+        for cycles in (None, range(16), range(3, 9), range(0, 16, 4), [1, 2, 7], [0, 1, 2, 5, 7, 9, 15], 3, 16, [0, 9]):
+            scenario.lose(0, cycles=cycles)
+        self.assertEqual([line.removeprefix("lost 0 ") for line in self.lines(scenario)], [
+            "*", "*", "3-8", "0-12/4", "1-2", "7", "0-2", "5-9/2", "15", "3", "0", "9"])
+
+    def test_calls_of_one_cycle_stand_in_their_order(self):
+        """Equal payloads of neighbouring cycles are one line, and lines stand in the order of the calls."""
+        scenario = Scenario(HOSTS / "brakes.toml", cycles=6)
+        pedal = scenario.task("pedal")
+        pedal.commit("position", [b"\0\1\0\0"] * 3 + [b"\0\2\0\0"] * 3)
+        pedal.at([1, 3, 5]).withdraw("position")
+        pedal.at(0).commit("position", b"\0\3\0\0")
+        self.assertEqual(self.lines(scenario), [
+            "commit 0 0 0-2 0 x00010000", "commit 0 0 3-5 0 x00020000", "withdraw 0 0 1-5/2 0",
+            "commit 0 0 0 0 x00030000"])
 
     def test_numbers_out_of_range(self):
         scenario = Scenario(THREE_NODES, cycles=4)

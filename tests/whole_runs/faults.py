@@ -105,6 +105,9 @@ class Faults:
             told, status = self.ask(*words, *babbles)[1:]
             wanted = f"in guarded static slots that aren't the node's own, {count}, none made any difference to a node"
             self.runs.compare(f"babbles on both channels in {words[0]}", (wanted in told, status), (True, 0))
+        by_numbers, by_names = (self.ask(car[0], scene, "--cycles", "8", "--kinds", "lost", "--nodes", "1,2")
+                                for scene in ("vehicle/scenario", "vehicle/scenario-3"))
+        self.runs.compare("the losses of the car by names", by_names, by_numbers)
 
     def refused(self):
         """Checks that a refusal is reported once, as `lint` reports it, and that nothing is printed."""
@@ -115,7 +118,8 @@ class Faults:
                       ["missing", *THREE_NODES[1:]], [THREE_NODES[0], "missing", "--cycles", "4"]):
             lint = run([sys.executable, "-B", TOP / "musmyrtle", "lint", "--program", self.bench, *words])
             self.runs.compare(f"what is refused of {words[:2]}", self.ask(*words), ("", lint[0].decode(), 1))
-        no_words = (["--kinds", "mutes"], ["--nodes", "x"], ["--in-cycle", "4"], ["--resume"], ["--fail-on", "worse"],
+        no_words = (["--kinds", "mutes"], ["--nodes", "x"], ["--in-cycle", "4"], ["--in-cycle", "3-2"], ["--in-cycle", "*"],
+                    ["--in-cycles", "0-3/0"], ["--resume"], ["--fail-on", "worse"],
                     ["--sshlogin", "a"], ["--against", "missing"], ["--against", EXAMPLES / "three-nodes/plan"],
                     ["--program", "missing"])
         for words in ([], THREE_NODES[:2], *([*THREE_NODES, *it] for it in no_words)):
@@ -128,11 +132,16 @@ class Faults:
         for words, told in ((["--nodes", "9", "--fail-on", "lost"], "cluster has no node 9: its nodes are 0 to 2"),
                             (["--slots", "99"], "cluster has no static slot 99: its static slots are 1 to 3"),
                             (["--slots", "m99"], "cluster has no minislot 99: its minislots are 1 to 4"),
-                            (["--in-cycle", "9"], "run has no cycle 9: it has 4 cycles")):
+                            (["--in-cycle", "9"], "run has no cycle 9: it has 4 cycles"),
+                            (["--in-cycles", "2-9"], "run has no cycle 9: it has 4 cycles")):
             for more in ([], ["--list"]):
                 output, error, status = self.ask(*THREE_NODES, *words, *more)
                 wanted = "", f"musmyrtle faults: the {told}", 2
                 self.runs.compare(f"the words {words + more}", (output, error.splitlines()[-1], status), wanted)
+        listed = self.ask(*THREE_NODES, "--kinds", "lost", "--nodes", "2", "--in-cycle", "0-3/3", "--list")
+        wanted = "".join(f"lost\t2\t{channels}\t0-3/3\tall{more}\n" for channels, more
+                         in (("AB", ""), ("A", ""), ("B", "\tidle")))
+        self.runs.compare("losses of two cycles", listed, (wanted, "", 0))
         empty = self.ask(*THREE_NODES, "--kinds", "mute", "--slots", "all", "--list")
         self.runs.compare("a place that no fault of the kind has", empty, ("", "", 0))
 

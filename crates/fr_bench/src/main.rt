@@ -32,8 +32,8 @@ use failure::BenchFailure;
 use fr_cli::bench::order;
 use fr_cli::waiting::{WaitingReader, WaitingWriter};
 use fr_cli::words::{texts_of, words_given};
-use fr_files::cluster_file::cluster_of;
 use fr_files::named::file_named;
+use fr_names::cluster_file::named_cluster_of;
 use fr_threads::outcome::{RunOptions, run_cluster};
 use fr_threads::outcome_error::OutcomeError;
 use std::io;
@@ -43,24 +43,34 @@ use std::sync::Wait;
 use std::thread::Threads;
 use std::time::Clock;
 
+/// Writes a line on standard error for each line of the scenario that names cycles, but none of the run.
+fn tell_skipped<R: Eprint>(rt: &R, skipped: &[u32]) {
+    for number in skipped {
+        let _ = eprintln!(rt; "line {number} names no cycle of the run");
+    }
+}
+
 /// Runs the cluster of one file with the scenario of the other. The scenario is opened once the cluster is accepted.
-fn run_files<R: Files + Print + AllocGlobal + Threads + Wait + Clock + Sync>(
+fn run_files<R: Files + Print + Eprint + AllocGlobal + Threads + Wait + Clock + Sync>(
     rt: &R,
     cluster: &str,
     scenario: &str,
     options: RunOptions,
 ) -> Result<(), OutcomeError> {
     let alloc = rt.alloc();
-    let cluster = cluster_of(alloc, &mut file_named(rt, cluster)?)?;
+    let (cluster, names) = named_cluster_of(alloc, &mut file_named(rt, cluster)?)?;
     let mut file = file_named(rt, scenario)?;
-    run_cluster(
+    let skipped = run_cluster(
         rt,
         alloc,
         &cluster,
+        &names,
         &mut file,
         options,
         &mut WaitingWriter::new(rt, io::writer(rt)),
-    )
+    )?;
+    tell_skipped(rt, skipped.as_slice());
+    Ok(())
 }
 
 /// Executes the command on the text of its source.
@@ -80,7 +90,7 @@ fn print_from<R: Files + Input + Print + AllocGlobal + Clock>(
 }
 
 /// Executes the task.
-fn carry_out<R: Files + Input + Print + AllocGlobal + Threads + Wait + Clock + Sync>(
+fn carry_out<R: Files + Input + Print + Eprint + AllocGlobal + Threads + Wait + Clock + Sync>(
     rt: &R,
     task: &Task<'_>,
 ) -> Result<(), BenchFailure> {
@@ -91,7 +101,7 @@ fn carry_out<R: Files + Input + Print + AllocGlobal + Threads + Wait + Clock + S
 }
 
 /// Reads the words and executes their command.
-fn run<R: Env + Files + Input + Print + AllocGlobal + Threads + Wait + Clock + Sync>(
+fn run<R: Env + Files + Input + Print + Eprint + AllocGlobal + Threads + Wait + Clock + Sync>(
     rt: &R,
 ) -> Result<(), BenchFailure> {
     let words = words_given(rt)?;

@@ -10,7 +10,7 @@ use Rattle.fr_core.specs.Steps.{event_of}
 use Rattle.fr_interface.specs.declared.call.Call.{Call}
 use Rattle.fr_interface.specs.declared.call.Call.TheVariants.{Commit, Withdraw, Read, Pop}
 use Rattle.fr_lines.proofs.WordLemmas.{IsWord, number_word, payload_word, long_word}
-use Rattle.fr_runs.specs.declared.fault_line.FaultCycles.{FaultCycles}
+use Rattle.fr_runs.specs.declared.cycles.RunCycles.{RunCycles}
 use Rattle.fr_runs.specs.declared.fault_line.FaultLine.{FaultLine}
 use Rattle.fr_runs.specs.declared.fault_line.FaultPlace.{FaultPlace}
 use Rattle.fr_frame.specs.Payload.{IsPayload}
@@ -187,7 +187,7 @@ injected_so (Corrupt c bit) fits =
     line_so (codes "corrupt") (channel_word c ∷ decimal bit ∷ [])
     (refl, (first.plain, (second.plain, tt))) (omega (arith, first.short, second.short))
 
-faulty_so : (f : Fault) (cycles : FaultCycles) (place : FaultPlace) → IsSpelledFault f → AreSpelledCycles cycles
+faulty_so : (f : Fault) (cycles : RunCycles) (place : FaultPlace) → IsSpelledFault f → AreSpelledCycles cycles
     → IsSpelledPlace place → IsLineOf (fault_words (cycles_word cycles) (place_word place) f)
 faulty_so (Babble n c bytes) cycles place fits cycles_fit place_fits =
     let first = node_word n fits.0 in

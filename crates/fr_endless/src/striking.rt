@@ -10,7 +10,8 @@ use crate::world::EndlessWorld;
 use fr_bus::live::LiveBus;
 use fr_bus::windows::opens_cycle;
 use fr_core::event::Event;
-use fr_runs::fault_line::{FaultCycles, FaultLine};
+use fr_runs::cycles::RunCycles;
+use fr_runs::fault_line::FaultLine;
 use fr_slots::window::Window;
 
 /// Returns whether the fault occurs in this window of this cycle of the run, whose number may have more than 16 bits
@@ -20,8 +21,11 @@ pub fn strikes(line: &FaultLine, cycle: u32, window: &Window) -> bool
 {
     // A line of each cycle occurs in the window as it does in cycle 0.
     match line.cycles {
-        FaultCycles::Every => line.strikes(0, window),
-        FaultCycles::Only(only) => u32::from(only) == cycle && line.strikes(only, window),
+        RunCycles::Every => line.strikes(0, window),
+        RunCycles::Only(only) => u32::from(only) == cycle && line.strikes(only, window),
+        RunCycles::Span { last, .. } => {
+            cycle <= u32::from(last) && line.strikes(cycle as u16, window)
+        }
     }
 }
 

@@ -2,7 +2,7 @@
 //! (project-defined).
 //!
 //! ```text
-//! let scenario = scenario_of(alloc, &mut file)?;
+//! let scenario = scenario_of(alloc, &mut file, &names, cycles)?;
 //! write_outcome(&mut output, interfaces, windows)?; // node 0, its report, node 1 and so on
 //! ```
 //!

@@ -14,21 +14,22 @@ use Rattle.fr_bus.specs.declared.outcome.Sent.{Sent}
 use Rattle.fr_bus.specs.Record.{Recorded, corrupt_on, recordable}
 use Rattle.fr_bus.specs.Windows.{begins_cycle, cycles_begun}
 use Rattle.fr_core.proofs.CaseLemmas.{both_first, both_rest}
+use Rattle.fr_runs.specs.Cycles.{names_cycle}
 use Rattle.fr_runs.specs.declared.fault_line.FaultLine.{FaultLine}
 use Rattle.fr_runs.specs.Faulted.{HasFaultsAt, cycle_at, bytes_babbled, bit_due, babble_by, babble_due, is_babble_of}
 use Rattle.fr_runs.specs.Faulted.{babble_in, HasFaults, IsDue, is_muted, is_loss_due, IsDueAt, IsBabbled, IsBabbledBy}
 use Rattle.fr_runs.specs.Faulted.{IsBabbledAt, bit_turned, bit_by, is_lost_by, loses, lines_of_cycle}
-use Rattle.fr_runs.specs.Striking.{names_cycle, names_window, strikes}
+use Rattle.fr_runs.specs.Striking.{channel_of, names_window, strikes}
 use Rattle.fr_slots.specs.Admission.{is_channel}
 use Rattle.fr_slots.specs.declared.channel.Channel.{Channel}
 use Rattle.fr_slots.specs.declared.channel.Channel.TheVariants.{A, B}
 use Rattle.fr_slots.specs.Windows.{Opportunity, slot_of}
 
-same_channel : (c e : Channel) → is_channel c e ≡ true → c ≡ e
-same_channel A A is = refl
-same_channel A B is = absurd (let none : ⊥ = cc in none)
-same_channel B A is = absurd (let none : ⊥ = cc in none)
-same_channel B B is = refl
+pub one_channel : (c e : Channel) → is_channel c e ≡ true → c ≡ e
+one_channel A A is = refl
+one_channel A B is = absurd (let none : ⊥ = cc in none)
+one_channel B A is = absurd (let none : ⊥ = cc in none)
+one_channel B B is = refl
 
 module _ (lines : List FaultLine) (cycle : ℕ) (w : Opportunity) (channel : Channel) (node : ℕ) where
   abbrev Due : ArrayVec ℕ → Type 0
@@ -40,7 +41,7 @@ module _ (lines : List FaultLine) (cycle : ℕ) (w : Opportunity) (channel : Cha
       let first = both_first (t.node == node && is_channel t.channel channel) t.babble own in
       let of : t.node ≡ node = eqb-true t.node node (both_first (t.node == node) (is_channel t.channel channel) first)
       in
-      let on : t.channel ≡ channel = same_channel t.channel channel
+      let on : t.channel ≡ channel = one_channel t.channel channel
       (both_rest (t.node == node) (is_channel t.channel channel) first) in
       let babble : t.babble ≡ true = both_rest (t.node == node && is_channel t.channel channel) t.babble own in
       subst (λ c. recordable (slot_of w c) (babble_due lines cycle w node c) ≡ Some t.bytes) on
@@ -78,7 +79,7 @@ module _ (cycle : ℕ) (r : Recorded) (channel : Channel) (node : ℕ) where
       by_test true both =
           let same : Some own ≡ Some bytes = subst (λ b. cond b (Some own) None ≡ Some bytes) both is in
           let of_node : of ≡ node = eqb-true of node (both_first (of == node) (is_channel on channel) both) in
-          let on_channel : on ≡ channel = same_channel on channel (both_rest (of == node) (is_channel on channel) both)
+          let on_channel : on ≡ channel = one_channel on channel (both_rest (of == node) (is_channel on channel) both)
           in
           subst (λ o. babble_in channel node r.sent ≡ recordable (slot_of r.window channel) o) same
           (subst (λ c. babble_in c node r.sent ≡ recordable (slot_of r.window c) (Some own)) on_channel
@@ -141,7 +142,7 @@ has_faults lines cycle r on_a on_b due babbled = record {
 
 module _ (cycle : ℕ) (w : Opportunity) where
   unnamed : (line : FaultLine) → names_cycle line.cycles cycle ≡ false → strikes line cycle w ≡ false
-  unnamed line other = ap (λ b. b && names_window line.place w) other
+  unnamed line other = ap (λ b. b && names_window line.place (channel_of line.fault) w) other
 
   bit_of_cycle_next : (channel : Channel) (line : FaultLine) (lines : List FaultLine) (b : Bool)
       → names_cycle line.cycles cycle ≡ b

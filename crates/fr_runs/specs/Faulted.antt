@@ -12,8 +12,9 @@ use Rattle.fr_bus.specs.declared.outcome.Sent.{Sent}
 use Rattle.fr_bus.specs.Outcome.{is_of}
 use Rattle.fr_bus.specs.Record.{Recorded, corrupt_on, recordable}
 use Rattle.fr_bus.specs.Windows.{cycles_begun}
+use Rattle.fr_runs.specs.Cycles.{names_cycle}
 use Rattle.fr_runs.specs.declared.fault_line.FaultLine.{FaultLine}
-use Rattle.fr_runs.specs.Striking.{names_cycle, strikes}
+use Rattle.fr_runs.specs.Striking.{strikes}
 use Rattle.fr_slots.specs.Admission.{is_channel}
 use Rattle.fr_slots.specs.declared.channel.Channel.{Channel}
 use Rattle.fr_slots.specs.Windows.{Opportunity, slot_of}

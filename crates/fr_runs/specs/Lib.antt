@@ -1,3 +1,4 @@
+pub mod Cycles
 pub mod Striking
 pub mod Suiting
 pub mod Refusing

@@ -1,18 +1,21 @@
 -- Scripts of tasks, and faults, that fit a cluster and a run of so many cycles (project-defined).
-use Rattle.std.specs.Prelude.{◌≡◌, ℕ, ◌+◌, ◌*◌, ◌<◌, ◌≤◌, ◌==◌, nat_lt, nat_le, Bool, true, false, ◌&&◌, List, length}
-use Rattle.std.specs.Prelude.{take, slice_get, Option, Some, None, is_some, IfSome, if◌then◌else◌}
-use Rattle.std.specs.List.{list_all, list_any, sum_by, AllAdjacentBelow}
+use Rattle.std.specs.Prelude.{◌≡◌, ℕ, ◌+◌, ◌-◌, ◌*◌, ◌<◌, ◌≤◌, ◌==◌, nat_lt, nat_le, min, max, Bool, true, false, not}
+use Rattle.std.specs.Prelude.{◌&&◌, ◌||◌, List, length, take, slice_get, Option, Some, None, is_some, IfSome}
+use Rattle.std.specs.Prelude.{if◌then◌else◌}
+use Rattle.std.specs.List.{list_all, list_any, range_with_len, sum_by, AllAdjacentBelow}
 use Rattle.fr_bus.specs.declared.fault.Fault.{Fault}
 use Rattle.fr_bus.specs.declared.fault.Fault.TheVariants.{Babble, Mute, Corrupt}
 use Rattle.fr_interface.specs.declared.call.Call.{Call}
 use Rattle.fr_interface.specs.declared.call.Call.TheVariants.{Commit, Withdraw, Read, Pop}
 use Rattle.fr_core.specs.declared.script.Line.{Line}
 use Rattle.fr_core.specs.Scripts.{Scripted, is_for}
-use Rattle.fr_runs.specs.declared.fault_line.FaultCycles.{FaultCycles}
-use Rattle.fr_runs.specs.declared.fault_line.FaultCycles.TheVariants.{Every, Only}
+use Rattle.fr_runs.specs.Cycles.{names_cycle}
+use Rattle.fr_runs.specs.declared.cycles.RunCycles.{RunCycles}
+use Rattle.fr_runs.specs.declared.cycles.RunCycles.TheVariants.{Every, Only, Span}
 use Rattle.fr_runs.specs.declared.fault_line.FaultLine.{FaultLine}
 use Rattle.fr_runs.specs.declared.fault_line.FaultPlace.{FaultPlace}
-use Rattle.fr_runs.specs.declared.fault_line.FaultPlace.TheVariants.{EverySlot, Slot, Minislot}
+use Rattle.fr_runs.specs.declared.fault_line.FaultPlace.TheVariants.{EveryWindow, EverySlot, Slot, Slots}
+use Rattle.fr_runs.specs.declared.fault_line.FaultPlace.TheVariants.{EveryMinislot, Minislot, Dynamic}
 use Rattle.fr_schedule.specs.Descriptions.{Description}
 use Rattle.fr_slots.specs.Admission.{is_channel}
 use Rattle.fr_slots.specs.declared.plan.Buffer.{Buffer}
@@ -78,15 +81,22 @@ has_node nodes (Babble node channel bytes) = nat_lt node nodes
 has_node nodes (Mute node channel) = nat_lt node nodes
 has_node nodes (Corrupt channel bit) = true
 
-abbrev pub has_cycle : ℕ → FaultCycles → Bool
+-- the run has the cycle, or the first cycle of the span
+abbrev pub has_cycle : ℕ → RunCycles → Bool
 has_cycle cycles Every = true
 has_cycle cycles (Only cycle) = nat_lt cycle cycles
+has_cycle cycles (Span first last step) = nat_lt first cycles && nat_le first last && not (step == 0)
 
--- slots and minislots are numbered from 1
+-- Slots and minislots are numbered from 1. Dynamic slots come after the static ones, and a cycle opens at most one for
+-- each minislot.
 abbrev pub has_place : Parameters → FaultPlace → Bool
+has_place p EveryWindow = true
 has_place p EverySlot = true
 has_place p (Slot number) = nat_le 1 number && nat_le number p.static_slots
+has_place p (Slots first last) = nat_le 1 first && nat_le first last && nat_le last p.static_slots
+has_place p EveryMinislot = true
 has_place p (Minislot number) = nat_le 1 number && nat_le number p.minislots
+has_place p (Dynamic number) = nat_lt p.static_slots number && nat_le number (p.static_slots + p.minislots)
 
 -- the run has the node, cycle and place of the line
 abbrev pub line_fits : Description → ℕ → FaultLine → Bool
@@ -105,28 +115,94 @@ are_alike (Corrupt c bit) (Babble m e others) = false
 are_alike (Corrupt c bit) (Mute m e) = false
 are_alike (Corrupt c bit) (Corrupt e other) = is_channel c e
 
--- they have a cycle of the run in common
-abbrev pub cycles_meet : FaultCycles → FaultCycles → Bool
-cycles_meet Every other = true
-cycles_meet (Only cycle) Every = true
-cycles_meet (Only cycle) (Only other) = cycle == other
+-- both name this cycle
+abbrev pub names_both : RunCycles → RunCycles → ℕ → Bool
+names_both cycles others cycle = names_cycle cycles cycle && names_cycle others cycle
 
--- they have a window in common, if one opens at each minislot
+-- They have a cycle of the run in common. Two spans can share those from the greater first to the smaller last cycle.
+abbrev pub cycles_meet : RunCycles → RunCycles → Bool
+cycles_meet Every others = true
+cycles_meet (Only cycle) others = names_cycle others cycle
+cycles_meet (Span first last step) Every = true
+cycles_meet (Span first last step) (Only other) = names_cycle (Span first last step) other
+cycles_meet (Span first last step) (Span from to by) =
+    list_any (names_both (Span first last step) (Span from to by))
+    (range_with_len (max first from) (min last to + 1 - max first from))
+
+-- the place has static slots
+abbrev pub has_static : FaultPlace → Bool
+has_static EveryWindow = true
+has_static EverySlot = true
+has_static (Slot number) = true
+has_static (Slots first last) = true
+has_static EveryMinislot = false
+has_static (Minislot number) = false
+has_static (Dynamic number) = false
+
+-- the place has windows of the dynamic segment
+abbrev pub has_dynamic : FaultPlace → Bool
+has_dynamic EveryWindow = true
+has_dynamic EverySlot = false
+has_dynamic (Slot number) = false
+has_dynamic (Slots first last) = false
+has_dynamic EveryMinislot = true
+has_dynamic (Minislot number) = true
+has_dynamic (Dynamic number) = true
+
+-- the first and the last static slot of the place, if it has only some
+abbrev pub first_static : FaultPlace → Option ℕ
+first_static (Slot number) = Some number
+first_static (Slots first last) = Some first
+first_static other = None
+
+abbrev pub last_static : FaultPlace → Option ℕ
+last_static (Slot number) = Some number
+last_static (Slots first last) = Some last
+last_static other = None
+
+-- the minislot of the place, if it has only one
+abbrev pub minislot_of : FaultPlace → Option ℕ
+minislot_of (Minislot number) = Some number
+minislot_of other = None
+
+-- the dynamic slot of the place, if it has only one
+abbrev pub dynamic_of : FaultPlace → Option ℕ
+dynamic_of (Dynamic number) = Some number
+dynamic_of other = None
+
+-- the first number isn't after the last, if there are both
+abbrev pub in_order : Option ℕ → Option ℕ → Bool
+in_order None last = true
+in_order (Some first) None = true
+in_order (Some first) (Some last) = nat_le first last
+
+-- the numbers are the same, if there are both
+abbrev pub agree : Option ℕ → Option ℕ → Bool
+agree None other = true
+agree (Some number) None = true
+agree (Some number) (Some other) = number == other
+
+-- their static slots have one in common
+abbrev pub slots_meet : FaultPlace → FaultPlace → Bool
+slots_meet place other =
+    in_order (first_static place) (last_static other) && in_order (first_static other) (last_static place)
+
+-- their windows of the dynamic segment have one in common; a dynamic slot may open at any minislot
+abbrev pub minislots_meet : FaultPlace → FaultPlace → Bool
+minislots_meet place other =
+    agree (minislot_of place) (minislot_of other) && agree (dynamic_of place) (dynamic_of other)
+
+-- They have a window in common for a fault on one channel. This takes a window to open at each minislot, and a dynamic
+-- slot to open at each of them.
 abbrev pub places_meet : FaultPlace → FaultPlace → Bool
-places_meet EverySlot EverySlot = true
-places_meet EverySlot (Slot other) = true
-places_meet EverySlot (Minislot other) = false
-places_meet (Slot number) EverySlot = true
-places_meet (Slot number) (Slot other) = number == other
-places_meet (Slot number) (Minislot other) = false
-places_meet (Minislot number) EverySlot = false
-places_meet (Minislot number) (Slot other) = false
-places_meet (Minislot number) (Minislot other) = number == other
+places_meet place other =
+    has_static place && has_static other && slots_meet place other
+    || has_dynamic place && has_dynamic other && minislots_meet place other
 
 -- both name a common window for the same kind, node and channel
 abbrev pub lines_meet : FaultLine → FaultLine → Bool
 lines_meet line other =
-    are_alike line.fault other.fault && cycles_meet line.cycles other.cycles && places_meet line.place other.place
+    are_alike line.fault other.fault && places_meet line.place other.place && cycles_meet line.cycles other.cycles
 
 -- the line fits, and no earlier line names a window that it names
 pub record IsFaultAfter (d : Description) (cycles : ℕ) (before : List FaultLine) (line : FaultLine) : Type 0 where

@@ -109,10 +109,12 @@ fn full_node(cluster: &Cluster, scripts: &[Script], cycles: u16) -> Option<NodeI
 ///   - a line reads a buffer that isn't a receive buffer of the node, or pops while the node has no receive FIFO.
 /// - `BadFault`, for a fault line:
 ///   - its node isn't in the cluster;
-///   - its cycle, static slot or minislot isn't in the run;
+///   - its cycle isn't in the run; the first cycle of its span isn't, or is after the last, or the step is 0;
+///   - a static slot or minislot isn't in a cycle; a first static slot is after the last; or a dynamic slot is at most
+///     the number of static slots, or above the number of static slots and minislots together;
 ///   - it names a window that an earlier line names for the same kind, node and channel; for a corruption, for the same
-///     channel. `Every` names every cycle and `EverySlot` every static slot. A line names the window at its minislot
-///     even if none opens there.
+///     channel. A line names the window at its minislot even if none opens there, and its dynamic slot is taken to open
+///     at each minislot. Two dynamic slots have no window in common.
 /// - `NoRoom`: a node's scripts together have more lines than its journal has room for host entries. Or its journal
 ///   doesn't have room for two slot entries for each static slot and each minislot of each cycle.
 ///

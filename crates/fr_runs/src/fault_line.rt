@@ -2,32 +2,34 @@
 
 ghost use Rattle.std.specs.Prelude.{◌≡◌, OnOk};
 ghost use Rattle.fr_runs.specs.Faulted.{lines_of_cycle};
-ghost use Rattle.fr_runs.specs.Striking.{opens};
+ghost use Rattle.fr_runs.specs.Striking.{opens, opens_one, channel_of};
 
+use crate::cycles::RunCycles;
 use fr_bus::fault::Fault;
+use fr_slots::channel::Channel;
 use fr_slots::numbers::SlotId;
 use fr_slots::window::Window;
 use std::alloc::AllocError;
 
-/// The cycles of a run in which a fault occurs (project-defined).
-#[derive(Clone, Copy, PartialEq, Eq)]
-pub enum FaultCycles {
-    /// Every cycle of the run.
-    Every,
-    /// The cycle of this number, counted from 0 over the whole run.
-    Only(u16),
-}
-
 /// The windows of a cycle in which a fault occurs (project-defined).
 #[derive(Clone, Copy, PartialEq, Eq)]
 pub enum FaultPlace {
+    /// Every window, of the static and the dynamic segment.
+    EveryWindow,
     /// Every static slot.
     EverySlot,
     /// The static slot of this number, counted from 1.
     Slot(u16),
+    /// Each static slot from `first` to `last`, counted from 1.
+    Slots { first: u16, last: u16 },
+    /// Every window of the dynamic segment.
+    EveryMinislot,
     /// The window that opens at the minislot of this number, counted from 1. If none opens there, the fault doesn't
     /// occur.
     Minislot(u16),
+    /// The window in which the fault's channel opens the dynamic slot of this number, at any minislot. If the channel
+    /// doesn't open the slot in a cycle, the fault doesn't occur in it.
+    Dynamic(u16),
 }
 
 /// A fault, and the windows of a run in which it occurs (project-defined).
@@ -36,7 +38,7 @@ pub struct FaultLine {
     /// The fault.
     pub fault: Fault,
     /// The cycles.
-    pub cycles: FaultCycles,
+    pub cycles: RunCycles,
     /// The windows of such a cycle.
     pub place: FaultPlace,
 }
@@ -71,18 +73,24 @@ fn opens(number: u16, slot: Option<SlotId>) -> bool
     }
 }
 
-impl FaultCycles {
-    ghost use Rattle.std.specs.Prelude.{◌≡◌};
-    ghost use Rattle.fr_runs.specs.Striking.{names_cycle};
+/// Returns whether the channel opens one of the slots from the first to the last.
+fn opens_one(first: u16, last: u16, slot: Option<SlotId>) -> bool
+    ensures { result ≡ opens_one first last slot }
+{
+    match slot {
+        Some(slot) => first <= slot.number() && slot.number() <= last,
+        None => false,
+    }
+}
 
-    /// Returns whether this cycle of the run is named.
-    pub(crate) fn names(self, cycle: u16) -> bool
-        ensures { result ≡ names_cycle self cycle }
-    {
-        match self {
-            FaultCycles::Every => true,
-            FaultCycles::Only(only) => only == cycle,
-        }
+/// Returns the channel of the fault.
+fn channel_of(fault: &Fault) -> Channel
+    ensures { result ≡ channel_of fault.now }
+{
+    match fault {
+        Fault::Babble { channel, .. }
+        | Fault::Mute { channel, .. }
+        | Fault::Corrupt { channel, .. } => *channel,
     }
 }
 
@@ -90,14 +98,20 @@ impl FaultPlace {
     ghost use Rattle.std.specs.Prelude.{◌≡◌};
     ghost use Rattle.fr_runs.specs.Striking.{names_window};
 
-    /// Returns whether the window is named.
-    fn names(self, window: &Window) -> bool
-        ensures { result ≡ names_window self window.now }
+    /// Returns whether the window is named for a fault on this channel.
+    fn names(self, channel: Channel, window: &Window) -> bool
+        ensures { result ≡ names_window self channel window.now }
     {
         match self {
+            FaultPlace::EveryWindow => true,
             FaultPlace::EverySlot => window.is_static(),
             FaultPlace::Slot(number) => window.is_static() && opens(number, window.a),
+            FaultPlace::Slots { first, last } => window.is_static()
+                && opens_one(first, last, window.a),
+            FaultPlace::EveryMinislot => !window.is_static(),
             FaultPlace::Minislot(number) => !window.is_static() && window.minislot == number,
+            FaultPlace::Dynamic(number) => !window.is_static()
+                && opens(number, window.slot(channel)),
         }
     }
 }
@@ -107,7 +121,7 @@ impl FaultLine {
     ghost use Rattle.fr_runs.specs.Striking.{strikes};
 
     /// Returns a copy of the line.
-    fn duplicate(&self) -> FaultLine
+    pub fn duplicate(&self) -> FaultLine
         ensures { result ≡ self.now }
     {
         FaultLine {
@@ -122,6 +136,6 @@ impl FaultLine {
     pub fn strikes(&self, cycle: u16, window: &Window) -> bool
         ensures { result ≡ strikes self.now cycle window.now }
     {
-        self.cycles.names(cycle) && self.place.names(window)
+        self.cycles.names(cycle) && self.place.names(channel_of(&self.fault), window)
     }
 }

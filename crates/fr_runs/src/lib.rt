@@ -14,6 +14,7 @@
 //!
 //! # Definitions
 //!
+//! - `Cycles`: the cycles that a line names.
 //! - `Striking`, `Suiting`, `Refusing`, `Apart`: the windows of a fault line; scripts and faults that fit a cluster;
 //!   refusals of a run; at most one fault of a kind, node and channel in a window.
 //! - `Faulted`, `Stepping`: the faults of a record; execution of each line in its cycle.
@@ -28,6 +29,7 @@
 #![tactic(auto)]
 
 pub mod check;
+pub mod cycles;
 pub mod fault_line;
 pub mod faulted;
 pub mod faults;

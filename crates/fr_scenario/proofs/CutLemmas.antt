@@ -6,10 +6,10 @@ use Rattle.std.proofs.lemmas.List.Splits.{slice_split_first, slice_split-cons_no
 use Rattle.std.specs.List.{position, position_or_len, slice_split, onto_first}
 use Rattle.memchr.specs.Find.{IsFirstByte, is_byte}
 use Rattle.std.proofs.lemmas.Bool.Decides.{nat_tests}
-use Rattle.std.specs.Prelude.{Option}
+use Rattle.std.specs.Prelude.{Bool, Ok, Option}
+use Rattle.fr_scenario.specs.declared.error.ScenarioError.{ScenarioError}
 use Rattle.fr_scenario.specs.declared.error.ScenarioError.TheVariants.{BadLine, TooManyLines, Truncated}
-use Rattle.fr_scenario.specs.declared.version.Version.{Version}
-use Rattle.fr_scenario.specs.Reading.{lines_in, read_from, whole_line, is_at_end}
+use Rattle.fr_scenario.specs.Reading.{lines_in, next_line, read_from, whole_line, is_at_end}
 use Rattle.fr_text.specs.Plain.{is_feed}
 
 split_none : (xs : List ℕ) → length xs ≤ position_or_len is_feed xs → slice_split is_feed xs ≡ xs ∷ []
@@ -130,55 +130,81 @@ at_within text at found =
       | inr fail ↦ cc (rw fail at found)
     ]
 
-module _ (version : Version) where
-  line_long : (n : ℕ) (line next : List ℕ) (more : List (List ℕ)) → n ≤ 4096 → 1200 < length line
-      → read_from version n (line ∷ next ∷ more) ≡ Err (BadLine n)
-  line_long n line next more few long = rw (le-ltb 4096 n few, lt-ltb 1200 (length line) long) refl
+-- a line that ends with a line feed at this place
+next_is : (n : ℕ) (line : List ℕ) (rest : List (List ℕ)) (other : List ℕ) (more : List (List ℕ)) → rest ≡ other ∷ more
+    → length line ≤ 1200 → next_line n (line ∷ rest) ≡ Ok line
+next_is n line rest other more is short = ap (λ lines. next_line n (line ∷ lines)) is
+    ∙ rw (le-ltb 1200 (length line) short) refl
 
-  line_whole : (n : ℕ) (line next : List ℕ) (more : List (List ℕ)) → n ≤ 4096 → length line ≤ 1200
-      → read_from version n (line ∷ next ∷ more) ≡ whole_line version n line (next ∷ more)
-      (read_from version (n + 1) (next ∷ more))
-  line_whole n line next more few short = rw (le-ltb 4096 n few, le-ltb 1200 (length line) short) refl
+next_is_long : (n : ℕ) (line : List ℕ) (rest : List (List ℕ)) → 1200 < length line
+    → next_line n (line ∷ rest) ≡ Err (BadLine n)
+next_is_long n line [] long = rw (lt-ltb 1200 (length line) long) refl
+next_is_long n line (other ∷ more) long = rw (lt-ltb 1200 (length line) long) refl
 
-  pub read_long : (n : ℕ) (text : List ℕ) (at : ℕ) → n ≤ 4096 → position is_feed text ≡ Some at → 1200 < at
-      → read_from version n (lines_in text) ≡ Err (BadLine n)
-  read_long n text at few found long =
-      let (next, more, is) = some_line (drop (at + 1) text) in
-      let within = at_within text at found in
-      let len = length-take at text in
-      ap (read_from version n) (cut_at text at found ∙ ap (λ lines. take at text ∷ lines) is) ∙ line_long n
-      (take at text) next more few (omega arith)
+pub next_long : (n : ℕ) (text : List ℕ) (at : ℕ) → position is_feed text ≡ Some at → 1200 < at
+    → next_line n (lines_in text) ≡ Err (BadLine n)
+next_long n text at found long =
+    let within = at_within text at found in
+    let len = length-take at text in
+    ap (next_line n) (cut_at text at found) ∙ next_is_long n (take at text) _ (omega arith)
 
-  pub read_whole : (n : ℕ) (text : List ℕ) (at : ℕ) → n ≤ 4096 → position is_feed text ≡ Some at → at ≤ 1200
-      → read_from version n (lines_in text) ≡ whole_line version n (take at text) (lines_in (drop (at + 1) text))
-      (read_from version (n + 1) (lines_in (drop (at + 1) text)))
-  read_whole n text at few found short =
-      let (next, more, is) = some_line (drop (at + 1) text) in
-      let len = length-take at text in
-      ap (read_from version n) (cut_at text at found ∙ ap (λ lines. take at text ∷ lines) is)
-      ∙ line_whole n (take at text) next more few (omega arith)
-      ∙ ap (λ lines. whole_line version n (take at text) lines (read_from version (n + 1) lines)) (sym is)
+pub next_whole : (n : ℕ) (text : List ℕ) (at : ℕ) → position is_feed text ≡ Some at → at ≤ 1200
+    → next_line n (lines_in text) ≡ Ok (take at text)
+next_whole n text at found short =
+    let (other, more, is) = some_line (drop (at + 1) text) in
+    let len = length-take at text in
+    ap (next_line n) (cut_at text at found) ∙ next_is n (take at text) _ other more is (omega arith)
 
-  last_long : (n : ℕ) (text : List ℕ) → n ≤ 4096 → 1200 < length text
-      → read_from version n (text ∷ []) ≡ Err (BadLine n)
-  last_long n [] few long = absurd (omega arith)
-  last_long n (b ∷ text) few long = rw (le-ltb 4096 n few, lt-ltb 1200 (length (b ∷ text)) long) refl
+pub next_left : (text : List ℕ) (at : ℕ) → position is_feed text ≡ Some at
+    → lines_in (drop (at + 1) text) ≡ drop 1 (lines_in text)
+next_left text at found = sym (ap (drop 1) (cut_at text at found))
 
-  last_short : (n : ℕ) (text : List ℕ) → n ≤ 4096 → length text ≤ 1200 → read_from version n (text ∷ []) ≡ Err Truncated
-  last_short n [] few short = refl
-  last_short n (b ∷ text) few short = rw (le-ltb 4096 n few, le-ltb 1200 (length (b ∷ text)) short) refl
+pub next_last_long : (n : ℕ) (text : List ℕ) → position is_feed text ≡ None → 1200 < length text
+    → next_line n (lines_in text) ≡ Err (BadLine n)
+next_last_long n text none long = ap (next_line n) (cut_none text none) ∙ next_is_long n text [] long
 
-  pub read_last_long : (n : ℕ) (text : List ℕ) → n ≤ 4096 → position is_feed text ≡ None → 1200 < length text
-      → read_from version n (lines_in text) ≡ Err (BadLine n)
-  read_last_long n text few none long = ap (read_from version n) (cut_none text none) ∙ last_long n text few long
+pub next_last : (n : ℕ) (text : List ℕ) → position is_feed text ≡ None → length text ≤ 1200
+    → next_line n (lines_in text) ≡ Err Truncated
+next_last n text none short =
+    ap (next_line n) (cut_none text none) ∙ rw (le-ltb 1200 (length text) short) refl
 
-  pub read_last : (n : ℕ) (text : List ℕ) → n ≤ 4096 → position is_feed text ≡ None → length text ≤ 1200
-      → read_from version n (lines_in text) ≡ Err Truncated
-  read_last n text few none short = ap (read_from version n) (cut_none text none) ∙ last_short n text few short
+-- ---- the lines of a version, after one line
+
+module _ {V : Type 0} (is_last : List ℕ → Bool) (value : List ℕ → Option V) where
+  pub read_next : (n : ℕ) (lines : List (List ℕ)) (line : List ℕ) → n ≤ 4096 → next_line n lines ≡ Ok line
+      → read_from is_last value n lines
+      ≡ whole_line is_last value n line (drop 1 lines) (read_from is_last value (n + 1) (drop 1 lines))
+  read_next n [] line few h = cc h
+  read_next n (last ∷ []) line few h =
+      elim (cases_Bool (ltb 1200 (length last))) [ inl long ↦ cc (rw long at h) | inr short ↦ cc (rw short at h) ]
+  read_next n (first ∷ other ∷ rest) line few h =
+      elim (cases_Bool (ltb 1200 (length first))) [
+        | inl long ↦ cc (rw long at h)
+        | inr short ↦
+            let is : first ≡ line = cc (rw short at h) in
+            rw (le-ltb 4096 n few, short) (ap (λ l. whole_line is_last value n l (other ∷ rest)
+            (read_from is_last value (n + 1) (other ∷ rest))) is)
+      ]
+
+  pub read_refused : (n : ℕ) (lines : List (List ℕ)) (e : ScenarioError) → n ≤ 4096 → next_line n lines ≡ Err e
+      → read_from is_last value n lines ≡ Err e
+  read_refused n [] e few h = let same : Truncated ≡ e = cc h in rw same refl
+  read_refused n ([] ∷ []) e few h = let same : Truncated ≡ e = cc h in rw same refl
+  read_refused n ((b ∷ line) ∷ []) e few h =
+      elim (cases_Bool (ltb 1200 (length (b ∷ line)))) [
+        | inl long ↦ let same : BadLine n ≡ e = cc (rw long at h) in rw (le-ltb 4096 n few, long, same) refl
+        | inr short ↦ let same : Truncated ≡ e = cc (rw short at h) in rw (le-ltb 4096 n few, short, same) refl
+      ]
+  read_refused n (first ∷ other ∷ rest) e few h =
+      elim (cases_Bool (ltb 1200 (length first))) [
+        | inl long ↦ let same : BadLine n ≡ e = cc (rw long at h) in rw (le-ltb 4096 n few, long, same) refl
+        | inr short ↦ cc (rw short at h)
+      ]
 
   -- ---- after the last line of the largest text
 
-  pub read_past_end : (lines : List (List ℕ)) → is_at_end lines ≡ true → read_from version 4097 lines ≡ Err Truncated
+  pub read_past_end : (lines : List (List ℕ)) → is_at_end lines ≡ true
+      → read_from is_last value 4097 lines ≡ Err Truncated
   read_past_end [] h = refl
   read_past_end ([] ∷ []) h = refl
   read_past_end ((b ∷ line) ∷ []) h = cc h
@@ -186,7 +212,7 @@ module _ (version : Version) where
   read_past_end ((b ∷ line) ∷ next ∷ more) h = cc h
 
   pub read_past_more : (lines : List (List ℕ)) → is_at_end lines ≡ false
-      → read_from version 4097 lines ≡ Err TooManyLines
+      → read_from is_last value 4097 lines ≡ Err TooManyLines
   read_past_more [] h = cc h
   read_past_more ([] ∷ []) h = cc h
   read_past_more ((b ∷ line) ∷ []) h = refl

@@ -4,3 +4,7 @@ pub mod LineLemmas
 pub mod CutLemmas
 pub mod TaskLemmas
 pub mod TextLemmas
+pub mod BlankLemmas
+pub mod AnyLemmas
+pub mod StatementLemmas
+pub mod RunLemmas

@@ -12,7 +12,7 @@ use Rattle.fr_lines.proofs.PartLemmas.{word_or}
 use Rattle.fr_lines.proofs.WordLemmas.{IsWord, number_word, payload_word}
 use Rattle.fr_lines.specs.PartReading.{channel_in}
 use Rattle.fr_lines.specs.Spelling.{end_line}
-use Rattle.fr_runs.specs.declared.fault_line.FaultCycles.{FaultCycles}
+use Rattle.fr_runs.specs.declared.cycles.RunCycles.{RunCycles}
 use Rattle.fr_runs.specs.declared.fault_line.FaultPlace.{FaultPlace}
 use Rattle.fr_scenario.proofs.CallLemmas.{told_takes, told_again}
 use Rattle.fr_scenario.proofs.PartLemmas.{channel_takes, channel_again, channel_plain, run_cycle_takes, run_cycle_again}
@@ -194,7 +194,7 @@ action_again version node task cycle (Read buffer) n t c fits =
     placed_again version node task cycle (Read buffer) n t c fits
 action_again version node task cycle Pop n t c fits = placed_again version node task cycle Pop n t c fits
 
-again_fault : (version : Version) (fault : Fault) (cycles : FaultCycles) (place : FaultPlace) → IsSpelledFault fault
+again_fault : (version : Version) (fault : Fault) (cycles : RunCycles) (place : FaultPlace) → IsSpelledFault fault
     → AreSpelledCycles cycles → IsSpelledPlace place
     → line_in version (fault_words (cycles_word cycles) (place_word place) fault) ≡ Some (fault_line fault cycles place)
 unfolding line_in babble_in mute_in corrupt_in
@@ -283,7 +283,7 @@ action_spelled version node task cycle Pop node_fits task_fits cycle_fits fits =
     spelled_so (codes "pop") (decimal node ∷ decimal task ∷ decimal cycle ∷ [])
     (refl, (n.plain, (t.plain, (y.plain, tt)))) (omega (arith, n.short, t.short, y.short))
 
-fault_spelled : (fault : Fault) (cycles : FaultCycles) (place : FaultPlace) → IsSpelledFault fault
+fault_spelled : (fault : Fault) (cycles : RunCycles) (place : FaultPlace) → IsSpelledFault fault
     → AreSpelledCycles cycles → IsSpelledPlace place
     → IsSpelledSo (fault_words (cycles_word cycles) (place_word place) fault)
 fault_spelled (Babble node channel bytes) cycles place fault cycles_fit place_fits =

@@ -6,10 +6,11 @@ use Rattle.std.proofs.lemmas.Bool.Decides.{nat_tests}
 use Rattle.std.specs.Fmt.{decimal}
 use Rattle.fr_lines.proofs.PartLemmas.{word_or}
 use Rattle.fr_lines.proofs.WordLemmas.{IsWord, number_word}
-use Rattle.fr_runs.specs.declared.fault_line.FaultCycles.{FaultCycles}
-use Rattle.fr_runs.specs.declared.fault_line.FaultCycles.TheVariants.{Every, Only}
+use Rattle.fr_runs.specs.declared.cycles.RunCycles.{RunCycles}
+use Rattle.fr_runs.specs.declared.cycles.RunCycles.TheVariants.{Every, Only, Span}
 use Rattle.fr_runs.specs.declared.fault_line.FaultPlace.{FaultPlace}
-use Rattle.fr_runs.specs.declared.fault_line.FaultPlace.TheVariants.{EverySlot, Slot, Minislot}
+use Rattle.fr_runs.specs.declared.fault_line.FaultPlace.TheVariants.{EveryWindow, EverySlot, Slot, Slots}
+use Rattle.fr_runs.specs.declared.fault_line.FaultPlace.TheVariants.{EveryMinislot, Minislot, Dynamic}
 use Rattle.fr_lines.specs.PartReading.{channel_in}
 use Rattle.fr_scenario.specs.PartReading.{run_cycle_in, cycles_in, counted_in, slots_in, minislot_in, place_in}
 use Rattle.fr_scenario.specs.Parts.{star, channel_word, cycles_word, place_word}
@@ -62,7 +63,7 @@ run_cycle_again n fits = rw (number_again 1024 n fits (omega arith)) refl
 pub run_cycle_plain : (n : ℕ) → IsRunCycle n → IsWord 4 (decimal n)
 run_cycle_plain n fits = number_word 4 n (omega arith) (omega arith) (omega arith)
 
-pub cycles_takes : (word : List ℕ) (c : FaultCycles) → cycles_in word ≡ Some c
+pub cycles_takes : (word : List ℕ) (c : RunCycles) → cycles_in word ≡ Some c
     → (word ≡ cycles_word c) × AreSpelledCycles c
 unfolding cycles_in
 cycles_takes word c h =
@@ -75,16 +76,18 @@ cycles_takes word c h =
           rw (← is) taken
     ]
 
-pub cycles_again : (c : FaultCycles) → AreSpelledCycles c → cycles_in (cycles_word c) ≡ Some c
+pub cycles_again : (c : RunCycles) → AreSpelledCycles c → cycles_in (cycles_word c) ≡ Some c
 unfolding cycles_in
 cycles_again Every fits = refl
 cycles_again (Only n) fits =
     let small : n < 2 ^ 64 = omega arith in
     rw (decimal_other n star small refl, run_cycle_again n fits) refl
+cycles_again (Span first last step) fits = absurd fits
 
-pub cycles_plain : (c : FaultCycles) → AreSpelledCycles c → IsWord 4 (cycles_word c)
+pub cycles_plain : (c : RunCycles) → AreSpelledCycles c → IsWord 4 (cycles_word c)
 cycles_plain Every fits = record { plain = refl; short = omega arith }
 cycles_plain (Only n) fits = run_cycle_plain n fits
+cycles_plain (Span first last step) fits = absurd fits
 
 -- ---- places
 
@@ -164,6 +167,10 @@ place_again (Slot n) fits =
     let small : n < 2 ^ 64 = omega arith in
     rw (decimal_other n star small refl, counted_again n fits) refl
 place_again (Minislot n) fits = rw (counted_again n fits) refl
+place_again EveryWindow fits = absurd fits
+place_again (Slots first last) fits = absurd fits
+place_again EveryMinislot fits = absurd fits
+place_again (Dynamic n) fits = absurd fits
 
 marked : (mark n : ℕ) → IsPlain (mark ∷ []) → IsCounted n → IsWord 5 (mark ∷ decimal n)
 marked mark n plain fits =
@@ -175,3 +182,7 @@ pub place_plain : (p : FaultPlace) → IsSpelledPlace p → IsWord 5 (place_word
 place_plain EverySlot fits = record { plain = refl; short = omega arith }
 place_plain (Slot n) fits = marked 115 n refl fits
 place_plain (Minislot n) fits = marked 109 n refl fits
+place_plain EveryWindow fits = absurd fits
+place_plain (Slots first last) fits = absurd fits
+place_plain EveryMinislot fits = absurd fits
+place_plain (Dynamic n) fits = absurd fits

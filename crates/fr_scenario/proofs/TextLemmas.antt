@@ -1,6 +1,6 @@
 -- A text that is read is spelled by its lines, and a text that is spelled is read again.
 use Rattle.std.proofs.Common.{◌≡◌, ℕ, ◌+◌, ◌≤◌, ◌==◌, ◌⊎◌, true, false, not, ◌&&◌, inl, inr, List, [], ◌∷◌, ◌++◌}
-use Rattle.std.proofs.Common.{length, take, Option, Some, None, Result, Ok, Err, refl, sym, ap, subst, ◌∙◌, arith}
+use Rattle.std.proofs.Common.{length, take, drop, Option, Some, None, Result, Ok, Err, refl, sym, ap, subst, ◌∙◌, arith}
 use Rattle.std.proofs.Common.{ltb, append_assoc}
 use Rattle.std.proofs.lemmas.Bool.{and_parts, cases_Bool, le-ltb, ltb-false}
 use Rattle.std.proofs.lemmas.Bool.Decides.{nat_tests}
@@ -12,7 +12,7 @@ use Rattle.std.specs.Prelude.{IfOk, IfErr}
 use Rattle.std.specs.Result.{result_err}
 use Rattle.std.specs.Str.{bytes_eq}
 use Rattle.fr_lines.specs.Spelling.{line_feed, end_line}
-use Rattle.fr_scenario.proofs.CutLemmas.{some_line}
+use Rattle.fr_scenario.proofs.CutLemmas.{some_line, read_next}
 use Rattle.fr_scenario.proofs.LineLemmas.{line_takes, line_again, line_short, line_no_feed, line_not_end}
 use Rattle.fr_core.specs.Answers.{IsUnanswered, AreUnanswered}
 use Rattle.fr_core.specs.declared.script.Line.{Line}
@@ -21,7 +21,7 @@ use Rattle.fr_runs.specs.declared.fault_line.FaultLine.{FaultLine}
 use Rattle.fr_scenario.proofs.TaskLemmas.{scripts_kept, faults_kept, numbers_kept}
 use Rattle.fr_scenario.specs.Contents.{Contents, contents_of, task_lines, fault_lines, script_of, node_at, task_at}
 use Rattle.fr_scenario.specs.Contents.{fault_numbers, scripts_of}
-use Rattle.fr_scenario.specs.Gathering.{Kept, none_yet, with_lines, kept_from, scripts_from}
+use Rattle.fr_scenario.specs.Gathering.{Kept, none_yet, with_line, with_lines, kept_from, scripts_from}
 use Rattle.fr_scenario.specs.declared.error.ScenarioError.{ScenarioError}
 use Rattle.fr_scenario.specs.declared.error.ScenarioError.TheVariants.{BadMagic, BadLine, TooManyLines, Truncated}
 use Rattle.fr_scenario.specs.declared.error.ScenarioError.TheVariants.{Memory}
@@ -30,10 +30,11 @@ use Rattle.fr_scenario.specs.declared.spelled.SpelledLine.TheVariants.{Host, Fau
 use Rattle.fr_scenario.specs.declared.version.Version.{Version}
 use Rattle.fr_scenario.specs.declared.version.Version.TheVariants.{One, Two}
 use Rattle.fr_scenario.specs.LineReading.{line_in}
+use Rattle.fr_scenario.specs.Reading.{next_line}
 use Rattle.fr_scenario.specs.Reading.{lines_in, Read, unfinished, is_at_end, after_end, put_before, said, whole_line}
-use Rattle.fr_scenario.specs.Reading.{read_from, version_in, read_after, read_lines}
-use Rattle.fr_scenario.specs.Reading.{read_text, with_contents, scenario_in, first_fault}
-use Rattle.fr_scenario.specs.ScenarioText.{first_line, spelled_line, body_text, scenario_text, IsScenarioText}
+use Rattle.fr_scenario.specs.Reading.{is_end_line, told_line, told_from, version_in, read_after, read_lines}
+use Rattle.fr_scenario.specs.Reading.{read_text, with_contents, old_scenario_in}
+use Rattle.fr_scenario.specs.ScenarioText.{first_line, spelled_line, body_text, scenario_text, IsOldText}
 use Rattle.fr_scenario.specs.Spelled.{IsSpelledLine}
 use Rattle.fr_scenario.specs.Spelling.{line_words}
 use Rattle.fr_slots.specs.Plans.{Each}
@@ -108,7 +109,7 @@ module _ (version : Version) where
 
   whole : (n : ℕ) (line next : List ℕ) (more : List (List ℕ)) (r : Read) (ls : List SpelledLine) → n ≤ 4096
       → ((rest : List SpelledLine) → r ≡ Ok rest → AreLines (n + 1) (next ∷ more) rest)
-      → whole_line version n line (next ∷ more) r ≡ Ok ls → AreLines n (line ∷ next ∷ more) ls
+      → whole_line is_end_line (told_line version) n line (next ∷ more) r ≡ Ok ls → AreLines n (line ∷ next ∷ more) ls
   whole n line next more r ls few after h =
       elim (cases_Bool (bytes_eq line end_line)) [
         | inl pass ↦ ended n line next more ls few ((bytes_eq-Decides line end_line).0 pass) (rw pass at h)
@@ -117,7 +118,7 @@ module _ (version : Version) where
             subst (AreLines n (line ∷ next ∷ more)) same (line_more n line next more l rest few is (after rest read))
       ]
 
-  lines_found : (n : ℕ) (lines : List (List ℕ)) (ls : List SpelledLine) → read_from version n lines ≡ Ok ls
+  lines_found : (n : ℕ) (lines : List (List ℕ)) (ls : List SpelledLine) → told_from version n lines ≡ Ok ls
       → AreLines n lines ls
   lines_found n [] ls h = cc h
   lines_found n (line ∷ []) ls h = absurd (unfinished_none n line ls h)
@@ -129,13 +130,13 @@ module _ (version : Version) where
             elim (cases_Bool (ltb 1200 (length line))) [
               | inl long ↦ cc (rw long at h1)
               | inr short ↦
-                  whole n line next more (read_from version (n + 1) (next ∷ more)) ls (ltb-false 4096 n early)
+                  whole n line next more (told_from version (n + 1) (next ∷ more)) ls (ltb-false 4096 n early)
                   (λ rest read. lines_found (n + 1) (next ∷ more) rest read) (rw short at h1)
             ]
       ]
 
   -- the lines after the first one, as they are read from a text
-  pub body_found : (text : List ℕ) (ls : List SpelledLine) → read_from version 2 (lines_in text) ≡ Ok ls
+  pub body_found : (text : List ℕ) (ls : List SpelledLine) → told_from version 2 (lines_in text) ≡ Ok ls
       → (text ≡ body_text ls) × Each (IsSpelledLine version) ls × (2 + length ls ≤ 4096)
   body_found text ls h =
       let are = lines_found 2 (lines_in text) ls h in
@@ -156,7 +157,7 @@ cut_line line rest plain = ap lines_in (append_assoc line line_feed rest) ∙ sl
 
 module _ (version : Version) where
   lines_again : (ls : List SpelledLine) (n : ℕ) → Each (IsSpelledLine version) ls → n + length ls ≤ 4096
-      → read_from version n (lines_in (body_text ls)) ≡ Ok ls
+      → told_from version n (lines_in (body_text ls)) ≡ Ok ls
   lines_again [] n fit few = rw (le-ltb 4096 n (omega arith)) refl
   lines_again (l ∷ ls) n fit few =
       let line = line_of (line_words l) in
@@ -164,9 +165,9 @@ module _ (version : Version) where
       let cut : lines_in (body_text (l ∷ ls)) ≡ line ∷ next ∷ more =
       ap lines_in (append_assoc (spelled_line l) (flat_map spelled_line ls) (end_line ++ line_feed)) ∙ cut_line line
       (body_text ls) (line_no_feed version l fit.0) ∙ ap (λ lines. line ∷ lines) is in
-      let after : read_from version (n + 1) (next ∷ more) ≡ Ok ls =
-      ap (read_from version (n + 1)) (sym is) ∙ lines_again ls (n + 1) fit.1 (omega arith) in
-      ap (read_from version n) cut ∙ rw (
+      let after : told_from version (n + 1) (next ∷ more) ≡ Ok ls =
+      ap (told_from version (n + 1)) (sym is) ∙ lines_again ls (n + 1) fit.1 (omega arith) in
+      ap (told_from version n) cut ∙ rw (
         le-ltb 4096 n (omega arith),
         le-ltb 1200 (length line) (line_short version l fit.0),
         line_not_end l,
@@ -193,22 +194,22 @@ read_scenario version ls fit few =
     let cut : lines_in (scenario_text version ls) ≡ first_line version ∷ next ∷ more =
     cut_line (first_line version) (body_text ls) (plain_first version) ∙ ap
     (λ lines. first_line version ∷ lines) is in
-    ap read_lines cut ∙ ap (λ v. read_after v (next ∷ more)) (first_again version) ∙ ap (read_from version 2) (sym is)
+    ap read_lines cut ∙ ap (λ v. read_after v (next ∷ more)) (first_again version) ∙ ap (told_from version 2) (sym is)
     ∙ lines_again version ls 2 fit (omega arith)
 
-pub scenario_again : (text : List ℕ) (s : Contents) → IsScenarioText text s → scenario_in text ≡ Ok s
+pub scenario_again : (text : List ℕ) (s : Contents) → IsOldText text s → old_scenario_in text ≡ Ok s
 scenario_again text s is =
-    ap scenario_in is.spelled ∙ ap with_contents (read_scenario is.version is.lines is.fit is.few) ∙ ap Ok
+    ap old_scenario_in is.spelled ∙ ap with_contents (read_scenario is.version is.lines is.fit is.few) ∙ ap Ok
     (sym is.contents_are)
 
 -- a text that begins with a first line has the content of the rest
 pub after_first : (version : Version) (rest : List ℕ) → read_text ((first_line version ++ line_feed) ++ rest) ≡
-    read_from version 2 (lines_in rest)
+    told_from version 2 (lines_in rest)
 after_first version rest =
     let (next, more, is) = some_line rest in
     ap read_lines (cut_line (first_line version) rest (plain_first version) ∙ ap
     (λ lines. first_line version ∷ lines) is)
-    ∙ ap (λ v. read_after v (next ∷ more)) (first_again version) ∙ ap (read_from version 2) (sym is)
+    ∙ ap (λ v. read_after v (next ∷ more)) (first_again version) ∙ ap (told_from version 2) (sym is)
 
 -- a text that is read, as its version and its lines
 record IsTextOf (text : List ℕ) (ls : List SpelledLine) : Type 0 where
@@ -231,7 +232,7 @@ named first =
     ]
 
 version_found : (version : Version) (first next : List ℕ) (rest : List (List ℕ)) (ls : List SpelledLine)
-    → first ≡ first_line version → read_from version 2 (next ∷ rest) ≡ Ok ls
+    → first ≡ first_line version → told_from version 2 (next ∷ rest) ≡ Ok ls
     → IsTextOf (join_with_byte 10 (first ∷ next ∷ rest)) ls
 version_found version first next rest ls is h =
     let are = lines_found version 2 (next ∷ rest) ls h in
@@ -261,13 +262,13 @@ text_found text ls h = subst (λ t. IsTextOf t ls) (join_with_byte-slice_split 1
     (whole_found (lines_in text) ls h)
 
 contents_found : (text : List ℕ) (s : Contents) (r : Read) → read_text text ≡ r → with_contents r ≡ Ok s
-    → IsScenarioText text s
+    → IsOldText text s
 contents_found text s (Err e) is h = cc h
 contents_found text s (Ok ls) is h =
     let of = text_found text ls is in
     record { version = of.version; lines = ls; spelled = of.spelled; fit = of.fit; few = of.few; contents_are = cc h }
 
-pub scenario_found : (text : List ℕ) (s : Contents) → scenario_in text ≡ Ok s → IsScenarioText text s
+pub scenario_found : (text : List ℕ) (s : Contents) → old_scenario_in text ≡ Ok s → IsOldText text s
 scenario_found text s h = contents_found text s (read_text text) refl h
 
 -- ---- another first line
@@ -312,12 +313,8 @@ pub not_there : (text prefix first : List ℕ) → prefix ≡ first → bytes_eq
     → bytes_eq (take (length first) text) first ≡ false
 not_there text prefix first is other = ap (λ p. bytes_eq (take (length p) text) p) (sym is) ∙ other
 
-pub begun_first : (version : Version) (text bytes rest : List ℕ) → bytes ≡ text
-    → bytes ≡ (first_line version ++ line_feed) ++ rest → text ≡ (first_line version ++ line_feed) ++ rest
-begun_first version text bytes rest is first = sym is ∙ first
-
-pub no_first : (text bytes : List ℕ) → bytes ≡ text → read_text bytes ≡ Err BadMagic → Err BadMagic ≡ scenario_in text
-no_first text bytes is bad = sym (ap with_contents (ap read_text (sym is) ∙ bad))
+pub no_first : (text : List ℕ) → read_text text ≡ Err BadMagic → Err BadMagic ≡ old_scenario_in text
+no_first text bad = sym (ap with_contents bad)
 
 -- ---- the state that is kept of a text
 
@@ -331,30 +328,31 @@ kept_refused n g (Ok ls) e h = cc h
 kept_refused n g (Err f) e h = cc h
 
 pub made : (version : Version) (text rest : List ℕ) (k : Kept) (scripts : List Scripted) (faults : List FaultLine)
-    (numbers : List ℕ)
-    → text ≡ (first_line version ++ line_feed) ++ rest → kept_from 2 none_yet (read_from version 2 (lines_in rest)) ≡ Ok
+    (numbers skipped : List ℕ)
+    → text ≡ (first_line version ++ line_feed) ++ rest → kept_from 2 none_yet (told_from version 2 (lines_in rest)) ≡ Ok
     k → scripts ≡ scripts_from 0 k.tasks
-    → faults ≡ k.faults → numbers ≡ k.numbers → Ok (record { scripts = scripts; faults = faults; numbers = numbers }) ≡
-    scenario_in text
-made version text rest k scripts faults numbers is kept ss fs ns =
-    let (ls, read, same) = kept_ok 2 none_yet k (read_from version 2 (lines_in rest)) kept in
+    → faults ≡ k.faults → numbers ≡ k.numbers → skipped ≡ []
+    → Ok (record { scripts = scripts; faults = faults; numbers = numbers; skipped = skipped }) ≡
+    old_scenario_in text
+made version text rest k scripts faults numbers skipped is kept ss fs ns none =
+    let (ls, read, same) = kept_ok 2 none_yet k (told_from version 2 (lines_in rest)) kept in
     let are = lines_found version 2 (lines_in rest) ls read in
     let scripts_are : scripts ≡ scripts_of ls = ss ∙ ap (λ (g : Kept). scripts_from 0 g.tasks) (sym same) ∙ scripts_kept
     version ls are.fit in
     let faults_are : faults ≡ fault_lines ls = fs ∙ ap (λ (g : Kept). g.faults) (sym same) ∙ faults_kept ls in
     let numbers_are : numbers ≡ fault_numbers 2 ls = ns ∙ ap (λ (g : Kept). g.numbers) (sym same) ∙ numbers_kept ls in
-    let value : contents_of ls ≡ record { scripts = scripts; faults = faults; numbers = numbers } =
-    rw (scripts_are, faults_are, numbers_are) refl in
-    sym (ap scenario_in is ∙ ap with_contents (after_first version rest ∙ read) ∙ ap Ok value)
+    let value : contents_of ls ≡ record { scripts = scripts; faults = faults; numbers = numbers; skipped = skipped } =
+    rw (scripts_are, faults_are, numbers_are, none) refl in
+    sym (ap old_scenario_in is ∙ ap with_contents (after_first version rest ∙ read) ∙ ap Ok value)
 
 pub refused : (version : Version) (text rest : List ℕ) (e : ScenarioError)
-    → text ≡ (first_line version ++ line_feed) ++ rest → read_from version 2 (lines_in rest) ≡ Err e
-    → Err e ≡ scenario_in text
-refused version text rest e is read = sym (ap scenario_in is ∙ ap with_contents (after_first version rest ∙ read))
+    → text ≡ (first_line version ++ line_feed) ++ rest → told_from version 2 (lines_in rest) ≡ Err e
+    → Err e ≡ old_scenario_in text
+refused version text rest e is read = sym (ap old_scenario_in is ∙ ap with_contents (after_first version rest ∙ read))
 
 -- ---- no line has an answer
 
-Each-append : {X : Type 0} (P : X → Type 0) (xs ys : List X) → Each P xs → Each P ys → Each P (xs ++ ys)
+pub Each-append : {X : Type 0} (P : X → Type 0) (xs ys : List X) → Each P xs → Each P ys → Each P (xs ++ ys)
 Each-append P [] ys hx hy = hy
 Each-append P (x ∷ xs) ys hx hy = (hx.0, Each-append P xs ys hx.1 hy)
 
@@ -369,7 +367,7 @@ lines_unanswered version n t (Host node task line ∷ ls) fit =
     ]
 lines_unanswered version n t (FaultOf f ∷ ls) fit = lines_unanswered version n t ls fit.1
 
-script_unanswered : (n t : ℕ) (lines : List Line) → Each IsUnanswered lines → AreUnanswered (script_of n t lines)
+pub script_unanswered : (n t : ℕ) (lines : List Line) → Each IsUnanswered lines → AreUnanswered (script_of n t lines)
 script_unanswered n t [] all = tt
 script_unanswered n t (line ∷ lines) all = (all, tt)
 
@@ -383,58 +381,30 @@ scripts_unanswered version ls (k ∷ places) fit =
     (scripts_unanswered version ls places fit)
 
 pub made_unanswered : (version : Version) (rest : List ℕ) (k : Kept) (scripts : List Scripted)
-    → kept_from 2 none_yet (read_from version 2 (lines_in rest)) ≡ Ok k
+    → kept_from 2 none_yet (told_from version 2 (lines_in rest)) ≡ Ok k
     → scripts ≡ scripts_from 0 k.tasks → AreUnanswered scripts
 made_unanswered version rest k scripts kept ss =
-    let (ls, read, same) = kept_ok 2 none_yet k (read_from version 2 (lines_in rest)) kept in
+    let (ls, read, same) = kept_ok 2 none_yet k (told_from version 2 (lines_in rest)) kept in
     let are = lines_found version 2 (lines_in rest) ls read in
     let scripts_are : scripts ≡ scripts_of ls = ss ∙ ap (λ (g : Kept). scripts_from 0 g.tasks) (sym same) ∙ scripts_kept
     version ls are.fit in
     subst AreUnanswered (sym scripts_are) (scripts_unanswered version ls (range_with_len 0 128) are.fit)
 
--- ---- the meaning of a result
+-- ---- one line more
 
-memory_or_not : (e : ScenarioError) → (e ≡ Memory) ⊎ (e ≡ Memory → ⊥)
-memory_or_not BadMagic = inr (λ h. cc h)
-memory_or_not (BadLine n) = inr (λ h. cc h)
-memory_or_not TooManyLines = inr (λ h. cc h)
-memory_or_not Truncated = inr (λ h. cc h)
-memory_or_not Memory = inl refl
-
-pub told_found : (text : List ℕ) (r : Result Contents ScenarioError) → ((r ≡ Err Memory → ⊥) → r ≡ scenario_in text)
-    → IfOk r (IsScenarioText text)
-told_found text (Err e) told = tt
-told_found text (Ok s) told = scenario_found text s (sym (told (λ e. cc e)))
-
-pub told_only : (text : List ℕ) (r : Result Contents ScenarioError) (s : Contents)
-    → ((r ≡ Err Memory → ⊥) → r ≡ scenario_in text) → IsScenarioText text s
-    → (r ≡ Ok s) ⊎ (r ≡ Err Memory)
-told_only text (Ok found) s told is = inl (told (λ e. cc e) ∙ scenario_again text s is)
-told_only text (Err e) s told is =
-    elim (memory_or_not e) [
-      | inl out ↦ inr (ap Err out)
-      | inr other ↦ inl (told (λ same. other (cc same)) ∙ scenario_again text s is)
-    ]
-
-first_of_fault : (text : List ℕ) (e : ScenarioError) (r : Read) → read_text text ≡ r → with_contents r ≡ Err e
-    → first_fault text ≡ Some e
-first_of_fault text e (Ok ls) is h = cc h
-first_of_fault text e (Err f) is h = let same : f ≡ e = cc h in ap result_err is ∙ ap Some same
-
-pub told_refused : (text : List ℕ) (r : Result Contents ScenarioError) → ((r ≡ Err Memory → ⊥) → r ≡ scenario_in text)
-    → IfErr r (λ e. (e ≡ Memory) ⊎ (first_fault text ≡ Some e))
-told_refused text (Ok s) told = tt
-told_refused text (Err e) told =
-    elim (memory_or_not e) [
-      | inl out ↦ inl out
-      | inr other ↦ inr (first_of_fault text e (read_text text) refl (sym (told (λ same. other (cc same)))))
-    ]
-
-pub told_hopeless : (text : List ℕ) (r : Result Contents ScenarioError) → ((r ≡ Err Memory → ⊥) → r ≡ scenario_in text)
-    → IfErr r (λ e. (e ≡ Memory) ⊎ ((s : Contents) → IsScenarioText text s → ⊥))
-told_hopeless text (Ok s) told = tt
-told_hopeless text (Err e) told =
-    elim (memory_or_not e) [
-      | inl out ↦ inl out
-      | inr other ↦ inr (λ s is. let same = told (λ same. other (cc same)) ∙ scenario_again text s is in cc same)
-    ]
+pub body_more : (version : Version) (n : ℕ) (g k : Kept) (lines left : List (List ℕ)) (line : List ℕ) (l : SpelledLine)
+    → n ≤ 4096 → next_line n lines ≡ Ok line → left ≡ drop 1 lines → bytes_eq line end_line ≡ false
+    → line_in version (words_of line) ≡ Some l → k ≡ with_line n g l
+    → kept_from (n + 1) k (told_from version (n + 1) left) ≡ kept_from n g (told_from version n lines)
+body_more version n g k lines left line l few next rest other some kept =
+    let after = told_from version (n + 1) (drop 1 lines) in
+    let is : told_from version n lines ≡ put_before l after =
+    read_next is_end_line (told_line version) n lines line few next ∙ rw (other, some) refl in
+    ap (λ (x : Kept). kept_from (n + 1) x (told_from version (n + 1) left)) kept
+    ∙ ap (λ (ls : List (List ℕ)). kept_from (n + 1) (with_line n g l) (told_from version (n + 1) ls)) rest
+    ∙ before_kept n g l after ∙ sym (ap (kept_from n g) is)
+  where
+    before_kept : (n : ℕ) (g : Kept) (l : SpelledLine) (r : Read)
+        → kept_from (n + 1) (with_line n g l) r ≡ kept_from n g (put_before l r)
+    before_kept n g l (Ok ls) = refl
+    before_kept n g l (Err e) = refl

@@ -1,4 +1,4 @@
--- The contents of a scenario: a script for each task that has lines, and fault lines, each with its number in the text.
+-- The contents of a scenario: a script for each task that has calls, and fault lines, each with its number in the text.
 use Rattle.std.specs.Prelude.{ℕ, ◌+◌, ◌/◌, ◌%◌, ◌==◌, ◌&&◌, List, [], ◌∷◌, if◌then◌else◌}
 use Rattle.std.specs.List.{flat_map, range_with_len}
 use Rattle.fr_core.specs.declared.script.Line.{Line}
@@ -13,6 +13,8 @@ pub record Contents : Type 0 where
   pub faults : List FaultLine
   -- the number of each fault line among all lines of the text, counted from 1
   pub numbers : List ℕ
+  -- the numbers of the lines of version 3 that name cycles, but none of the run
+  pub skipped : List ℕ
 
 -- ---- the contents of all lines
 
@@ -61,4 +63,4 @@ scripts_of lines = flat_map (script_at lines) (range_with_len 0 task_count)
 -- line 1 of a text names its version, so the first of these lines is line 2
 abbrev pub contents_of : List SpelledLine → Contents
 contents_of lines =
-    record { scripts = scripts_of lines; faults = fault_lines lines; numbers = fault_numbers 2 lines }
+    record { scripts = scripts_of lines; faults = fault_lines lines; numbers = fault_numbers 2 lines; skipped = [] }

@@ -9,5 +9,6 @@ abbrev pub scenario_error_text : ScenarioError → List ℕ
 scenario_error_text error.BadMagic = codes "BadMagic"
 scenario_error_text (error.BadLine n) = codes "BadLine " ++ decimal n
 scenario_error_text error.TooManyLines = codes "TooManyLines"
+scenario_error_text error.TooManyCalls = codes "TooManyCalls"
 scenario_error_text error.Truncated = codes "Truncated"
 scenario_error_text error.Memory = codes "Memory"

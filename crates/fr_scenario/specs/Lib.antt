@@ -6,7 +6,12 @@ pub mod LineReading
 pub mod Spelled
 pub mod Contents
 pub mod ScenarioText
+pub mod BlankWords
+pub mod StatementParts
+pub mod Statements
+pub mod RunContents
 pub mod Reading
+pub mod AnyText
 pub mod Gathering
 pub mod GatheredFields
 pub mod ScenarioFields

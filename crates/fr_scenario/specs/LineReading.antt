@@ -6,7 +6,7 @@ use Rattle.fr_bus.specs.declared.fault.Fault.TheVariants.{Babble, Mute, Corrupt}
 use Rattle.fr_interface.specs.declared.call.Call.{Call}
 use Rattle.fr_frame.specs.Payload.{most_frame_bytes}
 use Rattle.fr_lines.specs.PartReading.{channel_in}
-use Rattle.fr_runs.specs.declared.fault_line.FaultCycles.{FaultCycles}
+use Rattle.fr_runs.specs.declared.cycles.RunCycles.{RunCycles}
 use Rattle.fr_runs.specs.declared.fault_line.FaultLine.{FaultLine}
 use Rattle.fr_runs.specs.declared.fault_line.FaultPlace.{FaultPlace}
 use Rattle.fr_scenario.specs.declared.spelled.SpelledLine.{SpelledLine}
@@ -39,7 +39,7 @@ host_in version kind words = None
 
 -- ---- faults
 
-abbrev pub fault_line : Fault → FaultCycles → FaultPlace → SpelledLine
+abbrev pub fault_line : Fault → RunCycles → FaultPlace → SpelledLine
 fault_line fault cycles place = FaultOf (record { fault = fault; cycles = cycles; place = place })
 
 unfoldable pub babble_in : List (List ℕ) → Option SpelledLine
@@ -87,6 +87,6 @@ fault_said None = None
 fault_said (Some (Host node task line)) = None
 fault_said (Some (FaultOf fault)) = Some fault
 
--- the fault line that a line of the newest version spells
+-- the fault line that a line of version 2 spells
 abbrev pub fault_line_in : List (List ℕ) → Option FaultLine
 fault_line_in words = fault_said (line_in Two words)

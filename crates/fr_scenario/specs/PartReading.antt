@@ -1,8 +1,8 @@
 -- The parts of a scenario's line that words spell. Each has one spelling.
 use Rattle.std.specs.Prelude.{ℕ, ◌==◌, List, [], ◌∷◌, Option, Some, None, if◌then◌else◌}
 use Rattle.std.specs.Str.{bytes_eq}
-use Rattle.fr_runs.specs.declared.fault_line.FaultCycles.{FaultCycles}
-use Rattle.fr_runs.specs.declared.fault_line.FaultCycles.TheVariants.{Every, Only}
+use Rattle.fr_runs.specs.declared.cycles.RunCycles.{RunCycles}
+use Rattle.fr_runs.specs.declared.cycles.RunCycles.TheVariants.{Every, Only}
 use Rattle.fr_runs.specs.declared.fault_line.FaultPlace.{FaultPlace}
 use Rattle.fr_runs.specs.declared.fault_line.FaultPlace.TheVariants.{EverySlot, Slot, Minislot}
 use Rattle.fr_scenario.specs.Parts.{star}
@@ -15,7 +15,7 @@ run_cycle_in word = do
   n ← number_in 1024 word
   Some n
 
-unfoldable pub cycles_in : List ℕ → Option FaultCycles
+unfoldable pub cycles_in : List ℕ → Option RunCycles
 cycles_in word = if bytes_eq word star then Some Every else do
   cycle ← run_cycle_in word
   Some (Only cycle)

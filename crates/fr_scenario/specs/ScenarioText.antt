@@ -32,7 +32,7 @@ most_lines = 4096
 
 -- The text is that of some lines of its version, which have these scripts and fault lines. Other texts may have the
 -- same contents: only the order of the lines of each task, and that of the fault lines, matters.
-pub record IsScenarioText (text : List ℕ) (s : Contents) : Type 0 where
+pub record IsOldText (text : List ℕ) (s : Contents) : Type 0 where
   pub version : Version
   pub lines : List SpelledLine
   pub spelled : text ≡ scenario_text version lines

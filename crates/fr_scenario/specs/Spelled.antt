@@ -7,11 +7,12 @@ use Rattle.fr_interface.specs.declared.call.Call.TheVariants.{Commit, Withdraw, 
 use Rattle.fr_core.specs.declared.script.Line.{Line}
 use Rattle.fr_frame.specs.Payload.{IsPayload, most_frame_bytes}
 use Rattle.fr_journal.specs.Entries.{AreBytes}
-use Rattle.fr_runs.specs.declared.fault_line.FaultCycles.{FaultCycles}
-use Rattle.fr_runs.specs.declared.fault_line.FaultCycles.TheVariants.{Every, Only}
+use Rattle.fr_runs.specs.declared.cycles.RunCycles.{RunCycles}
+use Rattle.fr_runs.specs.declared.cycles.RunCycles.TheVariants.{Every, Only, Span}
 use Rattle.fr_runs.specs.declared.fault_line.FaultLine.{FaultLine}
 use Rattle.fr_runs.specs.declared.fault_line.FaultPlace.{FaultPlace}
-use Rattle.fr_runs.specs.declared.fault_line.FaultPlace.TheVariants.{EverySlot, Slot, Minislot}
+use Rattle.fr_runs.specs.declared.fault_line.FaultPlace.TheVariants.{EveryWindow, EverySlot, Slot, Slots}
+use Rattle.fr_runs.specs.declared.fault_line.FaultPlace.TheVariants.{EveryMinislot, Minislot, Dynamic}
 use Rattle.fr_scenario.specs.declared.spelled.SpelledLine.{SpelledLine}
 use Rattle.fr_scenario.specs.declared.spelled.SpelledLine.TheVariants.{Host, Fault as FaultOf}
 use Rattle.fr_scenario.specs.declared.version.Version.{Version}
@@ -50,19 +51,26 @@ IsSpelledFault (Babble node channel bytes) =
 IsSpelledFault (Mute node channel) = node < 16
 IsSpelledFault (Corrupt channel bit) = bit < 2 ^ 16
 
-abbrev pub AreSpelledCycles : FaultCycles → Type 0
+-- versions 1 and 2 spell one cycle, or all
+abbrev pub AreSpelledCycles : RunCycles → Type 0
 AreSpelledCycles Every = Unit {0}
 AreSpelledCycles (Only cycle) = IsRunCycle cycle
+AreSpelledCycles (Span first last step) = ⊥
 
 -- slots and minislots are counted from 1
 pub record IsCounted (n : ℕ) : Type 0 where
   pub from_one : 1 ≤ n
   pub at_most : n ≤ 8000
 
+-- versions 1 and 2 spell one static slot, all of them, or one minislot
 abbrev pub IsSpelledPlace : FaultPlace → Type 0
+IsSpelledPlace EveryWindow = ⊥
 IsSpelledPlace EverySlot = Unit {0}
 IsSpelledPlace (Slot slot) = IsCounted slot
+IsSpelledPlace (Slots first last) = ⊥
+IsSpelledPlace EveryMinislot = ⊥
 IsSpelledPlace (Minislot minislot) = IsCounted minislot
+IsSpelledPlace (Dynamic slot) = ⊥
 
 pub record IsSpelledFaultLine (f : FaultLine) : Type 0 where
   pub fault_fits : IsSpelledFault f.fault

@@ -10,16 +10,18 @@ use std::fmt;
 /// Reasons to reject a text as a scenario. A number is that of the line at fault, counted from 1.
 #[derive(Clone, Copy, Debug, PartialEq, Eq)]
 pub enum ScenarioError {
-    /// The first line isn't `frscenario 1` or `frscenario 2` with its line feed.
+    /// The first line isn't `frscenario 1`, `frscenario 2` or `frscenario 3` with its line feed.
     BadMagic,
-    /// The line has no form of the version, a number out of its range, or too many bytes.
+    /// The line has no form of the version, a number out of its range, a name that can't be used, or too many bytes.
     ///
-    /// It may have 1200 bytes before its line feed. A line after the line `end` also gives this error.
+    /// It may have 1200 bytes before its line feed. Any byte after the last line also gives this error.
     BadLine(u32),
-    /// Line 4097 begins, and no line before it is `end`.
+    /// Line 4097 begins, and no line before it is the last one.
     TooManyLines,
-    /// The text ends before the line feed of `end`.
+    /// The text ends before the line feed of its last line.
     Truncated,
+    /// The calls of a text of version 3 are more than 262,144 in the cycles of the run.
+    TooManyCalls,
     /// An allocation failed.
     Memory,
 }
@@ -36,6 +38,7 @@ impl fmt::Display for ScenarioError {
             ScenarioError::BadMagic => write!(f, "BadMagic"),
             ScenarioError::BadLine(line) => write!(f, "BadLine {line}"),
             ScenarioError::TooManyLines => write!(f, "TooManyLines"),
+            ScenarioError::TooManyCalls => write!(f, "TooManyCalls"),
             ScenarioError::Truncated => write!(f, "Truncated"),
             ScenarioError::Memory => write!(f, "Memory"),
         }

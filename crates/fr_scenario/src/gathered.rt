@@ -15,7 +15,7 @@ use std::mem;
 const TASKS_OF_NODE: usize = TASKS as usize;
 
 /// The largest number of tasks of all nodes.
-const TASK_COUNT: usize = NODES as usize * TASKS_OF_NODE;
+pub(crate) const TASK_COUNT: usize = NODES as usize * TASKS_OF_NODE;
 
 // Lines of different tasks may come in any order. Their order isn't kept.
 /// The lines of each task, by node and then task, and the fault lines with their numbers.
@@ -47,7 +47,7 @@ fn place_of(node: NodeId, task: TaskId) -> usize
 }
 
 /// Returns the node of the task at this place.
-fn node_at(place: usize) -> NodeId
+pub(crate) fn node_at(place: usize) -> NodeId
     requires { place < task_count }
     ensures { result ≡ node_at place }
 {
@@ -58,7 +58,7 @@ fn node_at(place: usize) -> NodeId
 }
 
 /// Returns the number of the task at this place within its node.
-fn task_at(place: usize) -> TaskId
+pub(crate) fn task_at(place: usize) -> TaskId
     requires { place < task_count }
     ensures { result ≡ task_at place }
 {

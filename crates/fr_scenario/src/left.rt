@@ -37,9 +37,8 @@ fn feed_in(text: &[u8]) -> Option<usize>
 }
 
 impl<'a> Left<'a> {
-    ghost use Rattle.std.specs.Prelude.{◌≡◌, ◌+◌, ◌≤◌, Err, IfOk, IfErr};
-    ghost use Rattle.fr_scenario.specs.Reading.{lines_in, read_from, whole_line, is_at_end};
-    ghost use Rattle.fr_scenario.specs.declared.version.Version.{Version};
+    ghost use Rattle.std.specs.Prelude.{◌≡◌, Ok, Err, IfOk, IfErr, OnOk, drop};
+    ghost use Rattle.fr_scenario.specs.Reading.{lines_in, next_line, is_at_end};
 
     /// Returns the lines of a text.
     pub(crate) fn new(text: &'a [u8]) -> Left<'a>
@@ -60,10 +59,9 @@ impl<'a> Left<'a> {
     /// Returns `BadLine` if it has too many bytes, with or without a line feed, and otherwise `Truncated` if it has no
     /// line feed.
     pub(crate) fn next_line(&mut self, number: u32) -> Result<&'a [u8], ScenarioError>
-        requires { number ≤ LAST_LINE }
-        ensures line { (version : Version) → IfOk result (λ line. read_from version number self.old
-            ≡ whole_line version number line.now self.new (read_from version (number + 1) self.new)) }
-        ensures refused { (version : Version) → IfErr result (λ e. read_from version number self.old ≡ Err e) }
+        ensures line { IfOk result (λ line. next_line number self.old ≡ Ok line.now) }
+        ensures left { OnOk result (self.new ≡ drop 1 self.old) }
+        ensures refused { IfErr result (λ e. next_line number self.old ≡ Err e) }
     {
         let rest = self.rest;
         match feed_in(rest) {

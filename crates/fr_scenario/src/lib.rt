@@ -1,10 +1,12 @@
 //! Scenarios: the calls of a cluster's tasks in a run and the faults of the run, as a text (project-defined).
 //!
 //! ```text
-//! let scenario = Scenario::from_text(alloc, "frscenario 2\npop 0 1 2\nmute 2 A * s*\nend\n")?;
+//! let text = "frscenario 3\npop 0 1 0-7/2\nlost 2 *  # each offer of node 2\nend\n";
+//! let scenario = Scenario::for_run(alloc, text, &names, 8)?;
 //! scenario.scripts(); // the calls of each task, by node and then task
 //! scenario.faults(); // the fault lines, in their order
-//! scenario.fault_numbers(); // the line number of each fault line: the `mute` line is line 3
+//! scenario.fault_numbers(); // the line number of each fault line: 3 twice, for both channels
+//! scenario.skipped(); // the lines that name cycles, but none of the run
 //! let line = fault_line_of(b"mute 2 A * s*"); // one fault line alone
 //! ```
 //!
@@ -13,8 +15,11 @@
 //!
 //! # Definitions
 //!
-//! - `Contents`, `ScenarioText`, `Spelling`, `Parts`, `Spelled`, `LineReading`, `CallReading`, `PartReading`,
-//!   `Reading`: the contents of a scenario, with the number of each fault line; its text, lines and first fault.
+//! - `AnyText`, `Reading`: the texts of a scenario, of any version; the first fault of a text.
+//! - `Contents`, `ScenarioText`, `Spelling`, `Parts`, `Spelled`, `LineReading`, `CallReading`, `PartReading`: in
+//!   versions 1 and 2, the contents of a scenario, with the number of each fault line; its text and lines.
+//! - `BlankWords`, `Statements`, `StatementParts`, `RunContents`: in version 3, the words of a line, and what they say;
+//!   the contents in a run of so many cycles.
 //! - `ErrorNames`: the printed text of an error.
 //!
 //! Modules that follow the steps of the code, for private functions, with the module that has the meaning:
@@ -26,12 +31,17 @@
 //! The crate isn't part of `fr_trace`, which would have to wait for the bus and the world.
 #![tactic(auto)]
 
+mod blanks;
 pub mod calls;
 pub mod error;
 mod gathered;
 mod left;
 pub mod lines;
 mod parts;
+mod run_contents;
 pub mod scenario;
 mod spelled;
+mod statement;
+mod statement_parts;
+mod statements;
 mod version;

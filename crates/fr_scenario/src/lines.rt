@@ -138,7 +138,7 @@ pub(crate) fn line_of(version: Version, line: &[u8]) -> Option<SpelledLine>
     host_of(version, kind, &mut words)
 }
 
-/// Returns the fault line that a line of the newest version spells (project-defined).
+/// Returns the fault line that a line of version 2 spells (project-defined).
 ///
 /// The line is given without its line feed. `None` if it spells none: it is the line of a task, has no form of a line,
 /// or has a number out of its range. The line may have any length.

@@ -2,7 +2,8 @@
 ghost use Rattle.std.specs.Prelude.{◌≡◌};
 ghost use Rattle.fr_scenario.specs.PartReading.{run_cycle_in, cycles_in, counted_in, slots_in, minislot_in, place_in};
 
-use fr_runs::fault_line::{FaultCycles, FaultPlace};
+use fr_runs::cycles::RunCycles;
+use fr_runs::fault_line::FaultPlace;
 use fr_text::numbers::number_of;
 
 /// Returns the cycle of a run that the word spells, 0 to 1023.
@@ -16,21 +17,21 @@ pub(crate) fn run_cycle_of(word: &[u8]) -> Option<u16>
 
 /// Returns the cycles that the word spells: one, or each of the run for `*`.
 #[tactic(auto, unfolding(crate::specs::PartReading::cycles_in))]
-pub(crate) fn cycles_of(word: &[u8]) -> Option<FaultCycles>
+pub(crate) fn cycles_of(word: &[u8]) -> Option<RunCycles>
     ensures { result ≡ cycles_in word.now }
 {
     match word {
-        b"*" => Some(FaultCycles::Every),
+        b"*" => Some(RunCycles::Every),
         _ => {
             let cycle = run_cycle_of(word)?;
-            Some(FaultCycles::Only(cycle))
+            Some(RunCycles::Only(cycle))
         }
     }
 }
 
 /// Returns the number that the word spells, 1 to 8000.
 #[tactic(auto, unfolding(crate::specs::PartReading::counted_in))]
-fn place_number(word: &[u8]) -> Option<u16>
+pub(crate) fn place_number(word: &[u8]) -> Option<u16>
     ensures { result ≡ counted_in word.now }
 {
     let number = number_of(word, 8001)?;

@@ -1,19 +1,24 @@
 //! A scenario, and the text that spells it.
-ghost use Rattle.std.specs.Prelude.{◌≡◌, ◌++◌, None, Ok, Err, IfOk, IfErr, IfSome};
+ghost use Rattle.std.specs.Prelude.{◌≡◌, ◌++◌, ◌≤◌, None, Ok, Err, IfOk, IfErr, IfSome, length};
 ghost use Rattle.fr_scenario.specs.declared.error.ScenarioError.TheVariants as error;
 ghost use Rattle.fr_scenario.specs.Gathering.{none_yet, kept_from};
-ghost use Rattle.fr_scenario.specs.Reading.{lines_in, read_from, read_text};
-ghost use Rattle.fr_scenario.specs.ScenarioText.{first_line};
+ghost use Rattle.fr_scenario.specs.Reading.{lines_in, read_text, statements_in, told_from};
+ghost use Rattle.fr_scenario.specs.ScenarioText.{first_line, most_lines};
 ghost use Rattle.fr_lines.specs.Spelling.{line_feed};
 
+use crate::blanks::words_in;
 use crate::error::ScenarioError;
 use crate::gathered::Gathered;
 use crate::left::{LAST_LINE, Left};
 use crate::lines::line_of;
+use crate::run_contents::{faults_in_run, has_too_many_calls, scripts_in_run, skipped_in_run};
+use crate::statement::Statement;
+use crate::statements::{are_end, statement_of};
 use crate::version::Version;
 use fr_core::script::Script;
+use fr_names::names::Names;
 use fr_runs::fault_line::FaultLine;
-use std::alloc::Global;
+use std::alloc::{AllocError, Global};
 use std::marker::Model;
 
 /// The calls of a cluster's tasks in a run, and the faults of the run (project-defined).
@@ -22,6 +27,7 @@ pub struct Scenario {
     scripts: Vec<Script>,
     faults: Vec<FaultLine>,
     numbers: Vec<u32>,
+    skipped: Vec<u32>,
 }
 
 impl Model for Scenario {
@@ -51,8 +57,8 @@ fn begun(text: &[u8]) -> Option<(Version, &[u8])>
 /// Returns the lines after the first one, in this version.
 fn body_of(alloc: Global, version: Version, text: &[u8]) -> Result<Gathered, ScenarioError>
     ensures found { IfOk result
-        (λ gathered. kept_from 2 none_yet (read_from version 2 (lines_in text.now)) ≡ Ok gathered) }
-    ensures refused { IfErr result (λ e. ¬ (e ≡ error.Memory) → read_from version 2 (lines_in text.now) ≡ Err e) }
+        (λ gathered. kept_from 2 none_yet (told_from version 2 (lines_in text.now)) ≡ Ok gathered) }
+    ensures refused { IfErr result (λ e. ¬ (e ≡ error.Memory) → told_from version 2 (lines_in text.now) ≡ Err e) }
 {
     let mut gathered = Gathered::new(alloc)?;
     let mut left = Left::new(text);
@@ -78,19 +84,57 @@ fn body_of(alloc: Global, version: Version, text: &[u8]) -> Result<Gathered, Sce
     }
 }
 
+/// Returns the statements of version 3 after the first line.
+fn statements_of(alloc: Global, names: &Names, text: &[u8]) -> Result<Vec<Statement>, ScenarioError>
+    ensures found { IfOk result (λ statements. statements_in names.now text.now ≡ Ok statements.items) }
+    ensures few { IfOk result (λ statements. length statements.items ≤ most_lines) }
+    ensures refused { IfErr result (λ e. ¬ (e ≡ error.Memory) → statements_in names.now text.now ≡ Err e) }
+{
+    let mut statements = Vec::new(alloc);
+    let mut left = Left::new(text);
+    for number in 2..LAST_LINE + 1 {
+        let line = left.next_line(number)?;
+        let Some(words) = words_in(line) else {
+            return Err(ScenarioError::BadLine(number));
+        };
+        if are_end(words.as_slice()) {
+            return if left.is_empty() {
+                Ok(statements)
+            } else {
+                Err(ScenarioError::BadLine(number + 1))
+            };
+        }
+        let Some(statement) = statement_of(names, words.as_slice()) else {
+            return Err(ScenarioError::BadLine(number));
+        };
+        if statements.push(statement).is_err() {
+            return Err(ScenarioError::Memory);
+        }
+    }
+    // As in versions 1 and 2.
+    if left.is_empty() {
+        Err(ScenarioError::Truncated)
+    } else {
+        Err(ScenarioError::TooManyLines)
+    }
+}
+
 impl Scenario {
-    ghost use Rattle.std.specs.Prelude.{◌≡◌, Ok, Err, Some, IfOk, IfErr, ◌⊎◌};
+    ghost use Rattle.std.specs.Prelude.{◌≡◌, ◌≤◌, [], Ok, Err, Some, IfOk, IfErr, ◌⊎◌, length};
     ghost use Rattle.fr_core.specs.Answers.{AreUnanswered};
+    ghost use Rattle.fr_names.specs.Names.{NamesOfNode};
+    ghost use Rattle.fr_scenario.specs.AnyText.{IsScenarioText};
     ghost use Rattle.fr_scenario.specs.Contents.{Contents};
     ghost use Rattle.fr_scenario.specs.declared.error.ScenarioError.TheVariants as error;
-    ghost use Rattle.fr_scenario.specs.Reading.{scenario_in, first_fault};
-    ghost use Rattle.fr_scenario.specs.ScenarioText.{IsScenarioText};
+    ghost use Rattle.fr_scenario.specs.Reading.{scenario_in, old_scenario_in, statements_in, first_fault};
+    ghost use Rattle.fr_scenario.specs.RunContents.{with_run_contents, run_contents};
+    ghost use Rattle.fr_scenario.specs.ScenarioText.{most_lines};
 
-    /// Returns the scenario that a text spells.
-    fn read(alloc: Global, text: &str) -> Result<Scenario, ScenarioError>
-        ensures { ¬ (result ≡ Err error.Memory) → result ≡ scenario_in text.now }
+    /// Returns the scenario that a text of version 1 or 2 spells.
+    fn read_old(alloc: Global, text: &[u8]) -> Result<Scenario, ScenarioError>
+        ensures { ¬ (result ≡ Err error.Memory) → result ≡ old_scenario_in text.now }
     {
-        let Some((version, rest)) = begun(text.as_bytes()) else {
+        let Some((version, rest)) = begun(text) else {
             return Err(ScenarioError::BadMagic);
         };
         let gathered = body_of(alloc, version, rest)?;
@@ -99,14 +143,69 @@ impl Scenario {
             scripts,
             faults,
             numbers,
+            skipped: Vec::new(alloc),
         })
     }
 
-    /// Returns the scenario that a text spells (project-defined).
+    /// Returns the scenario of these statements in a run of so many cycles.
+    fn of_statements(
+        alloc: Global,
+        cycles: u16,
+        statements: &[Statement],
+    ) -> Result<Scenario, AllocError>
+        requires { length statements.now ≤ most_lines }
+        ensures { IfOk result (λ scenario. scenario ≡ run_contents cycles statements.now) }
+    {
+        let scripts = scripts_in_run(alloc, cycles, statements)?;
+        let (faults, numbers) = faults_in_run(alloc, cycles, statements)?;
+        Ok(Scenario {
+            scripts,
+            faults,
+            numbers,
+            skipped: skipped_in_run(alloc, cycles, statements)?,
+        })
+    }
+
+    /// Returns the scenario that the lines after the first one of a text of version 3 spell.
+    fn read_new(
+        alloc: Global,
+        text: &[u8],
+        names: &Names,
+        cycles: u16,
+    ) -> Result<Scenario, ScenarioError>
+        ensures { ¬ (result ≡ Err error.Memory) → result ≡ with_run_contents cycles (statements_in names.now text.now) }
+    {
+        let statements = statements_of(alloc, names, text)?;
+        if has_too_many_calls(cycles, statements.as_slice()) {
+            return Err(ScenarioError::TooManyCalls);
+        }
+        let scenario = Scenario::of_statements(alloc, cycles, statements.as_slice())?;
+        Ok(scenario)
+    }
+
+    /// Returns the scenario that a text spells.
+    fn read(
+        alloc: Global,
+        text: &str,
+        names: &Names,
+        cycles: u16,
+    ) -> Result<Scenario, ScenarioError>
+        ensures { ¬ (result ≡ Err error.Memory) → result ≡ scenario_in names.now cycles text.now }
+    {
+        let bytes = text.as_bytes();
+        match bytes.strip_prefix(b"frscenario 3\n".as_slice()) {
+            Some(rest) => Scenario::read_new(alloc, rest, names, cycles),
+            None => Scenario::read_old(alloc, bytes),
+        }
+    }
+
+    /// Returns the scenario that a text spells, in a cluster with these names and a run of so many cycles
+    /// (project-defined).
     ///
-    /// The first line is `frscenario 1` or `frscenario 2`, and the last one `end`. Each line ends with a line feed and
-    /// has at most 1200 bytes before it, and there are at most 4096 lines. Between the first and the last line stand,
-    /// in any order:
+    /// The first line is `frscenario 1`, `frscenario 2` or `frscenario 3`. Each line ends with a line feed and has at
+    /// most 1200 bytes before it, and there are at most 4096 lines. The last line is `end`.
+    ///
+    /// In versions 1 and 2 there stand between the first and the last line, in any order:
     ///
     /// ```text
     /// commit NODE TASK CYCLE BUFFER HEX
@@ -124,28 +223,62 @@ impl Scenario {
     /// slot N or `mN` for the minislot N, each 1 to 8000. HEX is `x` and two lower-case digits for each byte: an even
     /// number of bytes for a commit, at most 254, and at most 262 bytes for a babble.
     ///
+    /// Version 3 has these lines and `lost NODE CYCLES`, which mutes both channels of the node in every window. Words
+    /// are separated by spaces and tabs, and `#` begins a comment. A line may have no words. A call line names CYCLES.
+    /// CYCLES is also `C-D`, or `C-D/STEP` for each STEPth cycle from C on up to D. C is at most D, and STEP is 1 to
+    /// 1023. CHANNEL is also `AB`, for the line of A and that of B. PLACE is also `*` for every window, `sN-M` for
+    /// static slots with N at most M, `m*` for every window of the dynamic segment, and `dN` for the window in which
+    /// the channel opens the dynamic slot N; all numbers are 1 to 8000. NODE and BUFFER are numbers, or otherwise names
+    /// of the cluster.
+    ///
+    /// The calls of a task in version 3 are ordered by cycle, and within a cycle by line. For a call `*` names each of
+    /// the given number of cycles. Calls in other cycles are left out, and so are faults that begin in another cycle.
+    ///
     /// Returns the error of the first line at fault:
     /// - `BadMagic` if the first line is another or isn't whole;
-    /// - `BadLine` for a line of no form, for a number out of its range, for a line that is too long, and for any byte
-    ///   after `end`;
+    /// - `BadLine` for a line of no form, for a number out of its range, for a name that no node or buffer has alone,
+    ///   for a line that is too long, and for any byte after the last line;
     /// - `TooManyLines` at the first byte of line 4097, whatever follows;
-    /// - `Truncated` if the text ends before the line feed of `end`;
+    /// - `Truncated` if the text ends before the line feed of its last line;
+    /// - `TooManyCalls`, after all others, if a text of version 3 has more than 262,144 calls in the run;
     /// - `Memory` if an allocation fails.
-    pub fn from_text(alloc: Global, text: &str) -> Result<Scenario, ScenarioError>
+    pub fn for_run(
+        alloc: Global,
+        text: &str,
+        names: &Names,
+        cycles: u16,
+    ) -> Result<Scenario, ScenarioError>
         // An accepted text is a spelling of the scenario, and has these scripts and fault lines.
-        ensures found { IfOk result (IsScenarioText text.now) }
+        ensures found { IfOk result (IsScenarioText names.now cycles text.now) }
         // A spelling of a scenario is accepted as it, unless memory runs out.
-        ensures only { (s : Contents) → IsScenarioText text.now s → (result ≡ Ok s) ⊎ (result ≡ Err error.Memory) }
+        ensures only { (s : Contents) → IsScenarioText names.now cycles text.now s
+            → (result ≡ Ok s) ⊎ (result ≡ Err error.Memory) }
         // A refusal is the first fault of the text,
-        ensures refused { IfErr result (λ e. (e ≡ error.Memory) ⊎ (first_fault text.now ≡ Some e)) }
+        ensures refused { IfErr result (λ e. (e ≡ error.Memory)
+            ⊎ (first_fault names.now cycles text.now ≡ Some e)) }
         // which is the text of no scenario.
         ensures hopeless { IfErr result (λ e. (e ≡ error.Memory)
-            ⊎ ((s : Contents) → ¬ IsScenarioText text.now s)) }
+            ⊎ ((s : Contents) → ¬ IsScenarioText names.now cycles text.now s)) }
     {
-        Scenario::read(alloc, text)
+        Scenario::read(alloc, text, names, cycles)
     }
 
-    /// Returns the script of each task that has lines, by node and then task. No line has an answer.
+    /// Returns the scenario that a text spells, in a cluster without names and a run of 1,024 cycles (project-defined).
+    ///
+    /// Returns the errors of `for_run`.
+    pub fn from_text(alloc: Global, text: &str) -> Result<Scenario, ScenarioError>
+        ensures found { IfOk result (IsScenarioText [] 1024 text.now) }
+        ensures only { (s : Contents) → IsScenarioText [] 1024 text.now s
+            → (result ≡ Ok s) ⊎ (result ≡ Err error.Memory) }
+        ensures refused { IfErr result (λ e. (e ≡ error.Memory) ⊎ (first_fault [] 1024 text.now ≡ Some e)) }
+        ensures hopeless { IfErr result (λ e. (e ≡ error.Memory)
+            ⊎ ((s : Contents) → ¬ IsScenarioText [] 1024 text.now s)) }
+    {
+        Scenario::read(alloc, text, &Names::none(alloc), 1024)
+    }
+
+    /// Returns the script of each task that has calls, by node and then task. No line has an answer. Calls that are
+    /// left out don't count.
     pub fn scripts(&self) -> &[Script]
         ensures value { result.now ≡ self.now.scripts }
         ensures unanswered { AreUnanswered result.now }
@@ -153,18 +286,27 @@ impl Scenario {
         self.scripts.as_slice()
     }
 
-    /// Returns the fault lines, in the order of the text.
+    /// Returns the fault lines that aren't left out, in the order of the text.
     pub fn faults(&self) -> &[FaultLine]
         ensures { result.now ≡ self.now.faults }
     {
         self.faults.as_slice()
     }
 
-    /// Returns the number of each fault line in the text, in the order of the text (project-defined). A line feed ends
-    /// each line, and the first line, which names the version, is line 1.
+    /// Returns the number of each of these fault lines in the text, in the order of the text (project-defined). A line
+    /// feed ends each line, and the first line, which names the version, is line 1. The two fault lines of a line for
+    /// both channels have its number.
     pub fn fault_numbers(&self) -> &[u32]
         ensures { result.now ≡ self.now.numbers }
     {
         self.numbers.as_slice()
+    }
+
+    /// Returns the numbers of the lines of a text of version 3 that name cycles, but none that the run has
+    /// (project-defined). Their calls and faults are left out.
+    pub fn skipped(&self) -> &[u32]
+        ensures { result.now ≡ self.now.skipped }
+    {
+        self.skipped.as_slice()
     }
 }

@@ -1,6 +1,6 @@
-//! The versions of a scenario's format.
+//! The versions 1 and 2 of a scenario's format.
 
-/// A version of the format, which the first line of a text names (project-defined).
+/// Version 1 or 2 of the format, which the first line of a text names (project-defined).
 #[derive(Clone, Copy, PartialEq, Eq)]
 pub(crate) enum Version {
     /// Version 1, which has no line for a withdraw.

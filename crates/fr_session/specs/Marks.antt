@@ -1,15 +1,16 @@
 -- Marks of the windows that fault lines name, by which a line is compared with all others at once (project-defined).
-use Rattle.std.specs.Prelude.{◌≡◌, ◌==◌, Bool, true, false, ◌&&◌, ◌||◌, List}
+use Rattle.std.specs.Prelude.{◌≡◌, ◌==◌, Bool, true, false, ◌&&◌, ◌||◌, List, Option, Some, None, if◌then◌else◌}
 use Rattle.std.specs.HashSet.{HashSet, contains}
-use Rattle.std.specs.List.{list_any}
+use Rattle.std.specs.List.{list_all, list_any}
 use Rattle.fr_slots.specs.declared.channel.Channel.{Channel}
 use Rattle.fr_slots.specs.declared.channel.Channel.TheVariants.{A, B}
 use Rattle.fr_bus.specs.declared.fault.Fault.{Fault}
 use Rattle.fr_bus.specs.declared.fault.Fault.TheVariants.{Babble, Mute, Corrupt}
-use Rattle.fr_runs.specs.declared.fault_line.FaultCycles.{FaultCycles}
-use Rattle.fr_runs.specs.declared.fault_line.FaultCycles.TheVariants as cycles
+use Rattle.fr_runs.specs.declared.cycles.RunCycles.{RunCycles}
+use Rattle.fr_runs.specs.declared.cycles.RunCycles.TheVariants as cycles
 use Rattle.fr_runs.specs.declared.fault_line.FaultPlace.{FaultPlace}
-use Rattle.fr_runs.specs.declared.fault_line.FaultPlace.TheVariants.{EverySlot, Slot, Minislot}
+use Rattle.fr_runs.specs.declared.fault_line.FaultPlace.TheVariants.{EveryWindow, EverySlot, Slot, Slots}
+use Rattle.fr_runs.specs.declared.fault_line.FaultPlace.TheVariants.{EveryMinislot, Minislot, Dynamic}
 use Rattle.fr_runs.specs.declared.fault_line.FaultLine.{FaultLine}
 use Rattle.fr_session.specs.declared.marks.Mark.{Mark}
 use Rattle.fr_session.specs.declared.marks.Target.{Target}
@@ -52,7 +53,27 @@ mark_eq a b =
     target_eq a.target b.target
     && (is_same a.in_static b.in_static && (reach_eq a.cycles b.cycles && reach_eq a.places b.places))
 
--- ---- the mark of a line
+-- ---- plain lines
+
+abbrev pub are_plain_cycles : RunCycles → Bool
+are_plain_cycles cycles.Every = true
+are_plain_cycles (cycles.Only cycle) = true
+are_plain_cycles (cycles.Span first last step) = false
+
+abbrev pub is_plain_place : FaultPlace → Bool
+is_plain_place EveryWindow = false
+is_plain_place EverySlot = true
+is_plain_place (Slot number) = true
+is_plain_place (Slots first last) = false
+is_plain_place EveryMinislot = true
+is_plain_place (Minislot number) = true
+is_plain_place (Dynamic number) = false
+
+-- the line names one cycle or all, and one static slot, one minislot, or all of a segment
+abbrev pub is_plain : FaultLine → Bool
+is_plain line = are_plain_cycles line.cycles && is_plain_place line.place
+
+-- ---- the mark of a plain line
 
 abbrev pub is_b : Channel → Bool
 is_b A = false
@@ -63,19 +84,22 @@ target_of (Babble node channel bytes) = target.Babble node (is_b channel)
 target_of (Mute node channel) = target.Mute node (is_b channel)
 target_of (Corrupt channel bit) = target.Corrupt (is_b channel)
 
-abbrev pub cycles_of : FaultCycles → Reach
+abbrev pub cycles_of : RunCycles → Reach
 cycles_of cycles.Every = reach.Every
 cycles_of (cycles.Only cycle) = reach.Only cycle
+cycles_of (cycles.Span first last step) = reach.Any
 
 abbrev pub in_static : FaultPlace → Bool
 in_static EverySlot = true
 in_static (Slot number) = true
-in_static (Minislot number) = false
+in_static other = false
 
 abbrev pub places_of : FaultPlace → Reach
 places_of EverySlot = reach.Every
 places_of (Slot number) = reach.Only number
+places_of EveryMinislot = reach.Every
 places_of (Minislot number) = reach.Only number
+places_of other = reach.Any
 
 abbrev pub mark_of : FaultLine → Mark
 mark_of line = record {
@@ -84,6 +108,9 @@ mark_of line = record {
   cycles = cycles_of line.cycles;
   places = places_of line.place;
 }
+
+abbrev pub plain_mark_of : FaultLine → Option Mark
+plain_mark_of line = if is_plain line then Some (mark_of line) else None
 
 abbrev pub at : Mark → Reach → Reach → Mark
 at m cycles places = record { target = m.target; in_static = m.in_static; cycles = cycles; places = places }
@@ -119,9 +146,10 @@ finds has own =
 abbrev pub is_left_by : Mark → FaultLine → Bool
 is_left_by m line = leaves (mark_of line) m
 
--- the marks of the set are exactly those that these lines leave
-abbrev pub AreMarksOf : {S : Type 0} → List FaultLine → HashSet Mark S → Type 0
-AreMarksOf lines set = (m : Mark) → contains mark_eq set m ≡ list_any (is_left_by m) lines
+-- these lines are plain, and the marks of the set are exactly those that they leave
+pub record AreMarksOf {S : Type 0} (lines : List FaultLine) (set : HashSet Mark S) : Type 0 where
+  pub plain : list_all is_plain lines ≡ true
+  pub each : (m : Mark) → contains mark_eq set m ≡ list_any (is_left_by m) lines
 
 -- the set has one mark more
 abbrev pub AddsMark : {S : Type 0} → HashSet Mark S → Mark → HashSet Mark S → Type 0

@@ -3,9 +3,9 @@
 ghost use Rattle.std.specs.Prelude.{◌≡◌, ◌++◌, ◌∷◌, [], List};
 ghost use Rattle.std.specs.Option.{ForSome};
 ghost use Rattle.fr_runs.specs.declared.fault_line.FaultLine.{FaultLine as Line};
-ghost use Rattle.fr_session.specs.Marks.{mark_of, AreMarksOf};
+ghost use Rattle.fr_session.specs.Marks.{plain_mark_of, AreMarksOf};
 
-use crate::marks::{Mark, Marks, add_all, is_met, mark_of};
+use crate::marks::{Mark, Marks, add_all, is_met, plain_mark_of};
 use fr_runs::fault_line::FaultLine;
 use fr_runs::faults::suits_after;
 use fr_schedule::cluster::Cluster;
@@ -15,11 +15,14 @@ use std::marker::Model;
 
 /// Fault lines in their order, and marks of the windows that they name.
 ///
-/// Each further line is checked in constant time. In contracts, this is the list of lines.
+/// As long as all lines are plain, each further plain line is checked in constant time. In contracts, this is the list
+/// of lines.
 #[derive(Drop)]
 pub struct KeptLines {
+    alloc: Global,
     lines: Vec<FaultLine>,
-    /// The marks, or none once an allocation for them has failed. Each line is then compared with all others.
+    /// The marks, or none once a line isn't plain or an allocation for them has failed. Each line is then compared with
+    /// all others.
     marks: Option<Marks>,
     ghost marked: { ForSome marks (AreMarksOf lines.items) },
 }
@@ -33,14 +36,15 @@ impl Model for KeptLines {
     ghost view = { λ k. k.lines.items };
 }
 
-/// Returns the marks with those of one more line, or none if an allocation fails.
+/// Returns the marks with those of one more line, or none if the line isn't plain or an allocation fails.
 ///
-/// The own mark of the line is given.
-fn marks_with(marks: Option<Marks>, own: Mark) -> Option<Marks>
-    ensures { (lines : List Line) (line : Line) → own ≡ mark_of line → ForSome marks (AreMarksOf lines)
+/// The own mark of the line is given, if the line is plain.
+fn marks_with(marks: Option<Marks>, own: Option<Mark>) -> Option<Marks>
+    ensures { (lines : List Line) (line : Line) → own ≡ plain_mark_of line → ForSome marks (AreMarksOf lines)
         → ForSome result (AreMarksOf (lines ++ line ∷ [])) }
 {
     let mut marks = marks?;
+    let own = own?;
     match add_all(&mut marks, own) {
         Ok(()) => Some(marks),
         Err(_) => None,
@@ -56,6 +60,7 @@ impl KeptLines {
         ensures { result ≡ [] }
     {
         KeptLines {
+            alloc,
             lines: Vec::new(alloc),
             marks: Some(HashSet::new(alloc)),
         }
@@ -79,11 +84,16 @@ impl KeptLines {
     pub fn clear(&mut self)
         ensures { self.new ≡ [] }
     {
-        let KeptLines { lines, marks, .. } = self;
+        let KeptLines {
+            alloc,
+            lines,
+            marks,
+            ..
+        } = self;
         lines.clear();
         match marks {
             Some(marks) => marks.clear(),
-            None => {}
+            None => *marks = Some(HashSet::new(*alloc)),
         }
     }
 
@@ -91,9 +101,10 @@ impl KeptLines {
     pub fn suit(&self, cluster: &Cluster, cycles: u16, line: &FaultLine) -> bool
         ensures { IsTrue result ↔ IsFaultAfter cluster.now cycles self.now line.now }
     {
-        match &self.marks {
-            Some(marks) => suits_after(cluster, cycles, &[], line) && !is_met(marks, mark_of(line)),
-            None => suits_after(cluster, cycles, self.lines.as_slice(), line),
+        match (&self.marks, plain_mark_of(line)) {
+            (Some(marks), Some(own)) => suits_after(cluster, cycles, &[], line)
+                && !is_met(marks, own),
+            _ => suits_after(cluster, cycles, self.lines.as_slice(), line),
         }
     }
 
@@ -102,7 +113,7 @@ impl KeptLines {
         ensures kept { OnOk result (self.new ≡ self.old ++ line ∷ []) }
         ensures same { OnErr result (self.new ≡ self.old) }
     {
-        let own = mark_of(&line);
+        let own = plain_mark_of(&line);
         let KeptLines { lines, marks, .. } = self;
         lines.push(line)?;
         *marks = marks_with(marks.take(), own);

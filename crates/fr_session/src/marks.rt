@@ -2,11 +2,12 @@
 
 ghost use Rattle.std.specs.HashSet.{contains};
 ghost use Rattle.std.specs.Prelude.{◌≡◌, ◌||◌, OnOk};
-ghost use Rattle.fr_session.specs.Marks.{cycles_of, finds, in_static, mark_eq, mark_of, places_of, target_of};
-ghost use Rattle.fr_session.specs.Marks.{AddsMark, AddsMarks};
+ghost use Rattle.fr_session.specs.Marks.{are_plain_cycles, cycles_of, finds, in_static, is_plain, is_plain_place};
+ghost use Rattle.fr_session.specs.Marks.{mark_eq, mark_of, places_of, plain_mark_of, target_of, AddsMark, AddsMarks};
 
 use fr_bus::fault::Fault;
-use fr_runs::fault_line::{FaultCycles, FaultLine, FaultPlace};
+use fr_runs::cycles::RunCycles;
+use fr_runs::fault_line::{FaultLine, FaultPlace};
 use fr_slots::channel::Channel;
 use std::alloc::{AllocFailed, Global};
 use std::collections::HashSet;
@@ -34,9 +35,10 @@ pub(crate) enum Reach {
     Any,
 }
 
-/// A key under which lines are looked up.
+/// A key under which plain lines are looked up.
 ///
-/// Each line leaves four marks: its own, and those with `Any` in place of its cycles, of its slots or minislots, and of
+/// A line is plain if it names one cycle or all, and one static slot, one minislot, or all of a segment. Each plain
+/// line leaves four marks: its own, and those with `Any` in place of its cycles, of its slots or minislots, and of
 /// both.
 #[derive(Clone, Copy, PartialEq, Eq, Hash, Drop)]
 pub(crate) struct Mark {
@@ -68,38 +70,70 @@ fn target_of(fault: &Fault) -> Target
     }
 }
 
-/// Returns the cycles that a line names.
-fn cycles_of(cycles: FaultCycles) -> Reach
-    ensures { result ≡ cycles_of cycles }
+/// Returns whether a plain line may name these cycles.
+fn are_plain_cycles(cycles: RunCycles) -> bool
+    ensures { result ≡ are_plain_cycles cycles }
 {
     match cycles {
-        FaultCycles::Every => Reach::Every,
-        FaultCycles::Only(cycle) => Reach::Only(cycle),
+        RunCycles::Every | RunCycles::Only(_) => true,
+        RunCycles::Span { .. } => false,
     }
 }
 
-/// Returns whether a line names static slots.
+/// Returns whether a plain line may name this place.
+fn is_plain_place(place: FaultPlace) -> bool
+    ensures { result ≡ is_plain_place place }
+{
+    match place {
+        FaultPlace::EverySlot
+        | FaultPlace::Slot(_)
+        | FaultPlace::EveryMinislot
+        | FaultPlace::Minislot(_) => true,
+        FaultPlace::EveryWindow | FaultPlace::Slots { .. } | FaultPlace::Dynamic(_) => false,
+    }
+}
+
+/// Returns whether the line is plain.
+fn is_plain(line: &FaultLine) -> bool
+    ensures { result ≡ is_plain line.now }
+{
+    are_plain_cycles(line.cycles) && is_plain_place(line.place)
+}
+
+/// Returns the cycles that a plain line names.
+fn cycles_of(cycles: RunCycles) -> Reach
+    ensures { result ≡ cycles_of cycles }
+{
+    match cycles {
+        RunCycles::Every => Reach::Every,
+        RunCycles::Only(cycle) => Reach::Only(cycle),
+        RunCycles::Span { .. } => Reach::Any,
+    }
+}
+
+/// Returns whether a plain line names static slots.
 fn in_static(place: FaultPlace) -> bool
     ensures { result ≡ in_static place }
 {
     match place {
         FaultPlace::EverySlot | FaultPlace::Slot(_) => true,
-        FaultPlace::Minislot(_) => false,
+        _ => false,
     }
 }
 
-/// Returns the slots or the minislot that a line names.
+/// Returns the slots or minislots that a plain line names.
 fn places_of(place: FaultPlace) -> Reach
     ensures { result ≡ places_of place }
 {
     match place {
-        FaultPlace::EverySlot => Reach::Every,
+        FaultPlace::EverySlot | FaultPlace::EveryMinislot => Reach::Every,
         FaultPlace::Slot(number) | FaultPlace::Minislot(number) => Reach::Only(number),
+        _ => Reach::Any,
     }
 }
 
-/// Returns the line's own mark.
-pub(crate) fn mark_of(line: &FaultLine) -> Mark
+/// Returns the own mark of a plain line.
+fn mark_of(line: &FaultLine) -> Mark
     ensures { result ≡ mark_of line.now }
 {
     Mark {
@@ -107,6 +141,17 @@ pub(crate) fn mark_of(line: &FaultLine) -> Mark
         in_static: in_static(line.place),
         cycles: cycles_of(line.cycles),
         places: places_of(line.place),
+    }
+}
+
+/// Returns the line's own mark, if the line is plain.
+pub(crate) fn plain_mark_of(line: &FaultLine) -> Option<Mark>
+    ensures { result ≡ plain_mark_of line.now }
+{
+    if is_plain(line) {
+        Some(mark_of(line))
+    } else {
+        None
     }
 }
 
@@ -169,7 +214,7 @@ fn add(marks: &mut Marks, mark: Mark) -> Result<(), AllocFailed<Mark>>
     Ok(())
 }
 
-/// Returns whether a line of this mark meets one of the lines that left the marks.
+/// Returns whether a plain line of this mark meets one of the plain lines that left the marks.
 pub(crate) fn is_met(marks: &Marks, own: Mark) -> bool
     ensures { result ≡ finds (contains mark_eq marks.now) own }
 {
@@ -180,7 +225,7 @@ pub(crate) fn is_met(marks: &Marks, own: Mark) -> bool
         || has(marks, own.at(cycles.other(), places.other()))
 }
 
-/// Adds the four marks of a line of this mark. If an allocation fails, some of them may be present.
+/// Adds the four marks of a plain line of this mark. If an allocation fails, some of them may be present.
 pub(crate) fn add_all(marks: &mut Marks, own: Mark) -> Result<(), AllocFailed<Mark>>
     ensures { OnOk result (AddsMarks marks.old own marks.new) }
 {

@@ -1,6 +1,7 @@
 -- The fault lines of a scenario that had no effect in a run (project-defined).
-use Rattle.std.specs.Prelude.{ℕ, ◌-◌, Bool, true, false, ◌&&◌, ◌||◌, List, [], ◌∷◌, ◌++◌, if◌then◌else◌}
-use Rattle.std.specs.List.{list_any}
+use Rattle.std.specs.Prelude.{ℕ, ◌-◌, ◌==◌, Bool, true, false, ◌&&◌, ◌||◌, List, [], ◌∷◌, ◌++◌, count_by, Option}
+use Rattle.std.specs.Prelude.{Some, None, if◌then◌else◌}
+use Rattle.std.specs.List.{list_any, filter}
 use Rattle.fr_bus.specs.declared.fault.Fault.{Fault}
 use Rattle.fr_bus.specs.declared.outcome.Sent.{Sent}
 use Rattle.fr_bus.specs.Record.{Recorded}
@@ -55,8 +56,34 @@ idle_numbers p rs (line ∷ lines) [] = []
 idle_numbers p rs (line ∷ lines) (n ∷ numbers) =
     if has_struck p rs line then idle_numbers p rs lines numbers else n ∷ idle_numbers p rs lines numbers
 
+-- ---- the lines of the text
+
+-- A line of a text may stand for a fault line of each channel. It has an effect if one of the two has.
+
+-- without the numbers that repeat the one before, which is this one for the first
+abbrev pub repeats : Option ℕ → ℕ → Bool
+repeats None n = false
+repeats (Some last) n = last == n
+
+abbrev pub each_once : Option ℕ → List ℕ → List ℕ
+each_once last [] = []
+each_once last (n ∷ numbers) =
+    if repeats last n then each_once (Some n) numbers else n ∷ each_once (Some n) numbers
+
+abbrev pub times : ℕ → List ℕ → ℕ
+times n numbers = count_by (λ m. m == n) numbers
+
+-- each fault line of this number is among the idle ones
+abbrev pub is_wholly_idle : List ℕ → List ℕ → ℕ → Bool
+is_wholly_idle numbers idle n = times n idle == times n numbers
+
+-- the numbers of all fault lines, then of those without effect
+abbrev pub wholly_idle : List ℕ → List ℕ → List ℕ
+wholly_idle numbers idle = filter (is_wholly_idle numbers idle) (each_once None idle)
+
 -- the lines without effect, of the scenario of an executed run
 abbrev pub idle_lines : PlayedFile → List ℕ
 idle_lines file =
-    idle_numbers file.played.world.bus.cluster.params file.played.world.bus.sealed file.scenario.faults
-    file.scenario.numbers
+    wholly_idle file.scenario.numbers
+    (idle_numbers file.played.world.bus.cluster.params file.played.world.bus.sealed file.scenario.faults
+    file.scenario.numbers)

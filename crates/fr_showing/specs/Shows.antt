@@ -1,7 +1,6 @@
 -- The views of a run (project-defined).
 use Rattle.std.specs.Prelude.{⊤, ◌≡◌, ℕ, List, length, slice_get, Option, Some, None, option_map, IsSome}
 use Rattle.std.specs.Prelude.{Result, Ok, Err}
-use Rattle.std.specs.Global.{Vec}
 use Rattle.std.specs.Io.KnownBytes.{Appends}
 use Rattle.std.specs.List.{flat_map}
 use Rattle.fr_files.specs.declared.error.BenchError.TheVariants as bench
@@ -10,6 +9,7 @@ use Rattle.fr_files.specs.Outputs.{FallsShort}
 use Rattle.fr_core.specs.Worlds.{WorldState}
 use Rattle.fr_lines.specs.declared.versions.Version.TheVariants.{Three}
 use Rattle.fr_matrix.specs.Cells.{IsMatrix}
+use Rattle.fr_names.specs.Names.{NamesOfNode}
 use Rattle.fr_outcome.specs.OutcomeText.{outcome_text}
 use Rattle.fr_outcome.specs.ScenarioFiles.{RunIsRefused}
 use Rattle.fr_playing.specs.Files.{IsPlayIn, IsPlayOf}
@@ -19,6 +19,7 @@ use Rattle.fr_playing.specs.declared.file.PlayedFile.{PlayedFile}
 use Rattle.fr_schedule.specs.Descriptions.{Description}
 use Rattle.fr_showing.specs.AnswerText.{answer_line}
 use Rattle.fr_showing.specs.CommitText.{commit_line, commits}
+use Rattle.fr_showing.specs.declared.show.Notes.{Notes}
 use Rattle.fr_showing.specs.declared.shown.Shown.TheVariants.{Outcome, Answers, Commits, Record, Heard, Matrix, Trace}
 use Rattle.fr_showing.specs.declared.shown.Shown.{Shown}
 use Rattle.fr_showing.specs.Idle.{idle_lines}
@@ -64,33 +65,40 @@ LacksNode (Trace node) file = slice_get file.played.world.interfaces node ≡ No
 
 -- ---- the output
 
--- the text of a run with that scenario was written, and nothing else, and these fault lines had no effect in the run
-abbrev pub Adds : Description → ℕ → Shown → Option (List ℕ) → Option (List ℕ) → List ℕ → List ℕ → Type 0
-Adds d cycles shown old new idle text =
-    (file : PlayedFile) × (written : List ℕ) × IsPlayIn d cycles text file × IsShown shown file written
-    × Appends old new written × (idle ≡ idle_lines file)
+-- the fault lines that had no effect in the run, and the lines that name cycles, but none of the run
+pub record AreNotes (file : PlayedFile) (notes : Notes) : Type 0 where
+  pub idle : notes.idle.items ≡ idle_lines file
+  pub skipped : notes.skipped.items ≡ file.scenario.skipped
+
+-- the text of a run with that scenario was written, and nothing else, and these are the notes on its lines
+abbrev pub Adds : Description → List NamesOfNode → ℕ → Shown → Option (List ℕ) → Option (List ℕ) → Notes → List ℕ
+    → Type 0
+Adds d names cycles shown old new notes text =
+    (file : PlayedFile) × (written : List ℕ) × IsPlayIn d names cycles text file × IsShown shown file written
+    × Appends old new written × AreNotes file notes
 
 -- a front of the text of a run with that scenario was written, and nothing else
-abbrev pub AddsFront : Description → ℕ → Shown → Option (List ℕ) → Option (List ℕ) → List ℕ → Type 0
-AddsFront d cycles shown old new text =
-    (file : PlayedFile) × (written : List ℕ) × IsPlayIn d cycles text file × IsShown shown file written
+abbrev pub AddsFront : Description → List NamesOfNode → ℕ → Shown → Option (List ℕ) → Option (List ℕ) → List ℕ → Type 0
+AddsFront d names cycles shown old new text =
+    (file : PlayedFile) × (written : List ℕ) × IsPlayIn d names cycles text file × IsShown shown file written
     × FallsShort old new written
 
--- The view of a run with the text of the scenario was written, and the lines without effect are returned. After `Write`
+-- The view of a run with the text of the scenario was written, and notes on its lines are returned. After `Write`
 -- a front of such a view was written. Every other refusal leaves the writer unchanged.
-abbrev pub Prints : Description → ℕ → Shown → Option (List ℕ) → Option (List ℕ) → Option (List ℕ)
-    → Result (Vec ℕ) PlayError
+abbrev pub Prints : Description → List NamesOfNode → ℕ → Shown → Option (List ℕ) → Option (List ℕ) → Option (List ℕ)
+    → Result Notes PlayError
     → Type 0
-Prints d cycles shown text old new (Ok idle) = ForText text (Adds d cycles shown old new idle.items)
-Prints d cycles shown text old new (Err (refusal.Text bench.Write)) = ForText text (AddsFront d cycles shown old new)
-Prints d cycles shown text old new (Err e) = new ≡ old
+Prints d names cycles shown text old new (Ok notes) = ForText text (Adds d names cycles shown old new notes)
+Prints d names cycles shown text old new (Err (refusal.Text bench.Write)) =
+    ForText text (AddsFront d names cycles shown old new)
+Prints d names cycles shown text old new (Err e) = new ≡ old
 
 -- ---- the reason why no view was written
 
 -- The run is refused with this error, or the cluster doesn't have the node, or only the writer failed.
-abbrev pub Tells : Description → ℕ → Shown → List ℕ → Result (Vec ℕ) PlayError → Type 0
-Tells d cycles shown text (Ok idle) = RunIsRefused d cycles text None
-Tells d cycles shown text (Err refusal.UnknownNode) =
-    (file : PlayedFile) × IsPlayIn d cycles text file × LacksNode shown file
-Tells d cycles shown text (Err (refusal.Text bench.Write)) = RunIsRefused d cycles text None
-Tells d cycles shown text (Err e) = IsPlayOf d cycles text (Err e)
+abbrev pub Tells : Description → List NamesOfNode → ℕ → Shown → List ℕ → Result Notes PlayError → Type 0
+Tells d names cycles shown text (Ok notes) = RunIsRefused d names cycles text None
+Tells d names cycles shown text (Err refusal.UnknownNode) =
+    (file : PlayedFile) × IsPlayIn d names cycles text file × LacksNode shown file
+Tells d names cycles shown text (Err (refusal.Text bench.Write)) = RunIsRefused d names cycles text None
+Tells d names cycles shown text (Err e) = IsPlayOf d names cycles text (Err e)

@@ -2,6 +2,7 @@
 ghost use Rattle.std.specs.Prelude.{◌≡◌, IfOk};
 ghost use Rattle.std.specs.List.{list_any};
 ghost use Rattle.fr_showing.specs.Idle.{has_struck, has_struck_in, idle_lines, idle_numbers, is_turned_end, shows};
+ghost use Rattle.fr_showing.specs.Idle.{repeats, times, wholly_idle};
 
 use crate::ends::{End, end_of, sent_in};
 use crate::origins::{brings, strikes, turns};
@@ -79,12 +80,46 @@ fn idle_numbers(
     Ok(idle)
 }
 
-/// Returns the numbers of the scenario's fault lines without effect, in order (project-defined).
+/// Returns how often the number is among these.
+fn times(number: u32, numbers: &[u32]) -> usize
+    ensures { result ≡ times number numbers.now }
+{
+    numbers.iter().filter(|other| **other == number).count()
+}
+
+/// Returns whether the number is the one before it.
+fn repeats(last: Option<u32>, number: u32) -> bool
+    ensures { result ≡ repeats last number }
+{
+    match last {
+        Some(last) => last == number,
+        None => false,
+    }
+}
+
+/// Returns the numbers of the lines all of whose fault lines had no effect, each once.
+fn wholly_idle(alloc: Global, numbers: &[u32], idle: &[u32]) -> Result<Vec<u32>, AllocError>
+    ensures { IfOk result (λ told. told.items ≡ wholly_idle numbers.now idle.now) }
+{
+    let mut told = Vec::new(alloc);
+    let mut last = None;
+    for number in idle {
+        if !repeats(last, *number) && times(*number, idle) == times(*number, numbers) {
+            told.push(*number)?;
+        }
+        last = Some(*number);
+    }
+    Ok(told)
+}
+
+/// Returns the numbers of the scenario's lines of faults without effect, in order (project-defined).
 ///
-/// A line had an effect if a transmission shows it, in a window in which the fault of the line comes:
+/// A fault line had an effect if a transmission shows it, in a window in which the fault of the line comes:
 /// - a babble line by a babble of its node on its channel;
 /// - a mute line by a muted offer of its node on its channel;
 /// - a corrupt line by a transmission that passed alone on its channel with a flipped bit.
+///
+/// A line of the text for both channels had an effect if one of its two fault lines had.
 ///
 /// Fails if an allocation fails.
 pub fn idle_lines(alloc: Global, file: &PlayedFile) -> Result<Vec<u32>, AllocError>
@@ -93,5 +128,6 @@ pub fn idle_lines(alloc: Global, file: &PlayedFile) -> Result<Vec<u32>, AllocErr
     let (world, scenario) = (&file.played.world, &file.scenario);
     let (lines, numbers) = (scenario.faults(), scenario.fault_numbers());
     let windows = world.bus().record();
-    idle_numbers(alloc, params_of(world), windows, lines, numbers)
+    let idle = idle_numbers(alloc, params_of(world), windows, lines, numbers)?;
+    wholly_idle(alloc, numbers, idle.as_slice())
 }

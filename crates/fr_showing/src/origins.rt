@@ -6,7 +6,8 @@ ghost use Rattle.fr_showing.specs.Origins.{turns};
 
 use fr_bus::fault::Fault;
 use fr_bus::outcome::{Sent, SentFate};
-use fr_runs::fault_line::{FaultCycles, FaultLine};
+use fr_runs::cycles::RunCycles;
+use fr_runs::fault_line::FaultLine;
 use fr_scenario::scenario::Scenario;
 use fr_slots::channel::Channel;
 use fr_slots::numbers::NodeId;
@@ -20,8 +21,11 @@ pub(crate) fn strikes(line: &FaultLine, cycle: usize, window: &Window) -> bool
 {
     match line.cycles {
         // In this case the number of the cycle doesn't matter.
-        FaultCycles::Every => line.strikes(0, window),
-        FaultCycles::Only(only) => usize::from(only) == cycle && line.strikes(only, window),
+        RunCycles::Every => line.strikes(0, window),
+        RunCycles::Only(only) => usize::from(only) == cycle && line.strikes(only, window),
+        RunCycles::Span { last, .. } => {
+            cycle <= usize::from(last) && line.strikes(cycle as u16, window)
+        }
     }
 }
 

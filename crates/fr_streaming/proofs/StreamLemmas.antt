@@ -21,6 +21,7 @@ use Rattle.fr_files.specs.declared.error.BenchError.TheVariants as bench
 use Rattle.fr_files.specs.Inputs.{ForText}
 use Rattle.fr_files.specs.Outputs.{FallsShort}
 use Rattle.fr_live.specs.LiveWorlds.{Entries, LiveState, ForEachWorld, IsWorldHistory, OpensLiveWorld}
+use Rattle.fr_names.specs.Names.{NamesOfNode}
 use Rattle.fr_outcome.specs.declared.file_error.FileError.{FileError}
 use Rattle.fr_outcome.specs.declared.file_error.FileError.TheVariants as file
 use Rattle.fr_outcome.specs.ScenarioFiles.{IsScenarioOf}
@@ -44,7 +45,8 @@ use Rattle.fr_streaming.specs.declared.hindrance.Hindrance.{Hindrance}
 use Rattle.fr_streaming.specs.declared.hindrance.Hindrance.TheVariants as hindrance
 use Rattle.fr_streaming.specs.declared.telling.Streamed.{Streamed}
 use Rattle.fr_streaming.specs.Runs.{error_of, kept_refusal, most_entries, opening, AddsStream, ChecksStream, Cuts}
-use Rattle.fr_streaming.specs.Runs.{CutsRun, CutsStream, CutsText, OpensStream, RefusesStream, StreamIsRefused}
+use Rattle.fr_streaming.specs.Runs.{cycles_named, CutsRun, CutsStream, CutsText, OpensStream, RefusesStream}
+use Rattle.fr_streaming.specs.Runs.{StreamIsRefused}
 use Rattle.fr_streaming.specs.Runs.{Streams, TellsRun, TellsStream}
 use Rattle.fr_streaming.specs.Streams.{told, told_last, told_opening, Breaks, Goes, MakesCycles}
 
@@ -238,9 +240,9 @@ module _ (d : Description) (s : Contents) (cycles : ℕ) (streamed : Streamed) w
 
 -- ---- the file
 
-module _ (d : Description) (cycles : ℕ) where
-  not_read : (text : List ℕ) (e : FileError) → IsScenarioOf text (Err e)
-      → TellsStream d cycles text (Err (failure_of_file e))
+module _ (d : Description) (names : List NamesOfNode) (cycles : ℕ) where
+  not_read : (text : List ℕ) (e : FileError) → IsScenarioOf names (cycles_named cycles) text (Err e)
+      → TellsStream d names cycles text (Err (failure_of_file e))
   not_read text (file.Scenario e) is = is
   not_read text (file.Text bench.TooLong) is = is
   not_read text (file.Text bench.Read) is = tt
@@ -250,14 +252,17 @@ module _ (d : Description) (cycles : ℕ) where
   not_read text (file.Text (bench.Config e)) is = absurd is
   not_read text (file.Text (bench.Midpoint e)) is = absurd is
 
-  pub file_refused : (text : Option (List ℕ)) (e : FileError) → ForText text (λ t. IsScenarioOf t (Err e))
-      → ForText text (λ t. TellsStream d cycles t (Err (failure_of_file e)))
+  pub file_refused : (text : Option (List ℕ)) (e : FileError)
+      → ForText text (λ t. IsScenarioOf names (cycles_named cycles) t (Err e))
+      → ForText text (λ t. TellsStream d names cycles t (Err (failure_of_file e)))
   file_refused text e is =
-      for_text_map text (λ t. IsScenarioOf t (Err e)) (λ t. TellsStream d cycles t (Err (failure_of_file e)))
+      for_text_map text (λ t. IsScenarioOf names (cycles_named cycles) t (Err e)) (λ t. TellsStream d names cycles t
+      (Err (failure_of_file e)))
       (λ t here. not_read t e here) is
 
-  told_of : (s : Contents) (text : List ℕ) (r : Result (Unit {0}) PlayError) → IsScenarioOf text (Ok s)
-      → TellsRun d s cycles r → TellsStream d cycles text r
+  told_of : (s : Contents) (text : List ℕ) (r : Result (Unit {0}) PlayError)
+      → IsScenarioOf names (cycles_named cycles) text (Ok s)
+      → TellsRun d s cycles r → TellsStream d names cycles text r
   told_of s text (Ok done) read tells_run = (read.0, (s, read.1, tells_run))
   told_of s text (Err (refusal.Run e)) read tells_run = (read.0, (s, read.1, tells_run))
   told_of s text (Err (refusal.Step e)) read tells_run = (read.0, (s, read.1, tells_run))
@@ -273,53 +278,56 @@ module _ (d : Description) (cycles : ℕ) where
   told_of s text (Err (refusal.Text (bench.Midpoint e))) read tells_run = absurd tells_run
 
   pub file_told : (s : Contents) (text : Option (List ℕ)) (r : Result (Unit {0}) PlayError)
-      → ForText text (λ t. IsScenarioOf t (Ok s)) → TellsRun d s cycles r
-      → ForText text (λ t. TellsStream d cycles t r)
+      → ForText text (λ t. IsScenarioOf names (cycles_named cycles) t (Ok s)) → TellsRun d s cycles r
+      → ForText text (λ t. TellsStream d names cycles t r)
   file_told s text r read tells_run =
-      for_text_map text (λ t. IsScenarioOf t (Ok s)) (λ t. TellsStream d cycles t r)
+      for_text_map text (λ t. IsScenarioOf names (cycles_named cycles) t (Ok s)) (λ t. TellsStream d names cycles t r)
       (λ t here. told_of s t r here tells_run) read
 
   pub file_streamed : (streamed : Streamed) (s : Contents) (text a b : Option (List ℕ))
-      (r : Result (Unit {0}) PlayError) → ForText text (λ t. IsScenarioOf t (Ok s))
-      → OnOk r (AddsStream d cycles streamed s a b) → OnOk r (ForText text (Streams d cycles streamed a b))
+      (r : Result (Unit {0}) PlayError) → ForText text (λ t. IsScenarioOf names (cycles_named cycles) t (Ok s))
+      → OnOk r (AddsStream d cycles streamed s a b) → OnOk r (ForText text (Streams d names cycles streamed a b))
   file_streamed streamed s text a b (Ok x) read adds =
-      for_text_map text (λ t. IsScenarioOf t (Ok s)) (Streams d cycles streamed a b) (λ t here. (s, here.1, adds)) read
+      for_text_map text (λ t. IsScenarioOf names (cycles_named cycles) t (Ok s)) (Streams d names cycles streamed a b)
+      (λ t here. (s, here.1, adds)) read
   file_streamed streamed s text a b (Err e) read adds = tt
 
   -- ---- what was written before its error
 
   pub file_cut : (streamed : Streamed) (text a : Option (List ℕ)) (e : FileError)
-      → ForText text (λ t. IsScenarioOf t (Err e)) → CutsStream d cycles streamed text a a (failure_of_file e)
+      → ForText text (λ t. IsScenarioOf names (cycles_named cycles) t (Err e))
+      → CutsStream d names cycles streamed text a a (failure_of_file e)
   file_cut streamed text a (file.Scenario e) is = Keeps-refl a
   file_cut streamed text a (file.Text bench.TooLong) is = Keeps-refl a
   file_cut streamed text a (file.Text bench.Read) is = Keeps-refl a
   file_cut streamed text a (file.Text bench.Memory) is = inl (Keeps-refl a)
   file_cut streamed text a (file.Text bench.Write) is =
-      for_text_map text (λ t. IsScenarioOf t (Err (file.Text bench.Write)))
-      (CutsText d cycles streamed a a (refusal.Text bench.Write)) (λ t here. absurd here) is
+      for_text_map text (λ t. IsScenarioOf names (cycles_named cycles) t (Err (file.Text bench.Write)))
+      (CutsText d names cycles streamed a a (refusal.Text bench.Write)) (λ t here. absurd here) is
   file_cut streamed text a (file.Text bench.BadNumber) is =
-      for_text_map text (λ t. IsScenarioOf t (Err (file.Text bench.BadNumber)))
-      (CutsText d cycles streamed a a (refusal.Text bench.BadNumber)) (λ t here. absurd here) is
+      for_text_map text (λ t. IsScenarioOf names (cycles_named cycles) t (Err (file.Text bench.BadNumber)))
+      (CutsText d names cycles streamed a a (refusal.Text bench.BadNumber)) (λ t here. absurd here) is
   file_cut streamed text a (file.Text (bench.Config e)) is =
-      for_text_map text (λ t. IsScenarioOf t (Err (file.Text (bench.Config e))))
-      (CutsText d cycles streamed a a (refusal.Text (bench.Config e))) (λ t here. absurd here) is
+      for_text_map text (λ t. IsScenarioOf names (cycles_named cycles) t (Err (file.Text (bench.Config e))))
+      (CutsText d names cycles streamed a a (refusal.Text (bench.Config e))) (λ t here. absurd here) is
   file_cut streamed text a (file.Text (bench.Midpoint e)) is =
-      for_text_map text (λ t. IsScenarioOf t (Err (file.Text (bench.Midpoint e))))
-      (CutsText d cycles streamed a a (refusal.Text (bench.Midpoint e))) (λ t here. absurd here) is
+      for_text_map text (λ t. IsScenarioOf names (cycles_named cycles) t (Err (file.Text (bench.Midpoint e))))
+      (CutsText d names cycles streamed a a (refusal.Text (bench.Midpoint e))) (λ t here. absurd here) is
 
   module _ (streamed : Streamed) (s : Contents) (text a b : Option (List ℕ))
-      (read : ForText text (λ t. IsScenarioOf t (Ok s))) where
-    cut_in : (e : PlayError) → CutsRun d s cycles streamed a b e → ForText text (CutsText d cycles streamed a b e)
+      (read : ForText text (λ t. IsScenarioOf names (cycles_named cycles) t (Ok s))) where
+    cut_in : (e : PlayError) → CutsRun d s cycles streamed a b e → ForText text (CutsText d names cycles streamed a b e)
     cut_in e cuts =
-        for_text_map text (λ t. IsScenarioOf t (Ok s)) (CutsText d cycles streamed a b e)
+        for_text_map text (λ t. IsScenarioOf names (cycles_named cycles) t (Ok s))
+        (CutsText d names cycles streamed a b e)
         (λ t here. (s, here.1, cuts)) read
 
     cut_by_memory : CutsRun d s cycles streamed a b (refusal.Text bench.Memory)
-        → CutsStream d cycles streamed text a b (refusal.Text bench.Memory)
+        → CutsStream d names cycles streamed text a b (refusal.Text bench.Memory)
     cut_by_memory (inl keeps) = inl keeps
     cut_by_memory (inr cuts) = inr (cut_in (refusal.Text bench.Memory) (inr cuts))
 
-    cut_of : (e : PlayError) → CutsRun d s cycles streamed a b e → CutsStream d cycles streamed text a b e
+    cut_of : (e : PlayError) → CutsRun d s cycles streamed a b e → CutsStream d names cycles streamed text a b e
     cut_of (refusal.Scenario e) cuts = cuts
     cut_of (refusal.Text bench.Read) cuts = cuts
     cut_of (refusal.Text bench.TooLong) cuts = cuts
@@ -334,6 +342,6 @@ module _ (d : Description) (cycles : ℕ) where
     cut_of refusal.UnknownNode cuts = cut_in refusal.UnknownNode cuts
 
     pub run_cut : (r : Result (Unit {0}) PlayError) → IfErr r (CutsRun d s cycles streamed a b)
-        → IfErr r (CutsStream d cycles streamed text a b)
+        → IfErr r (CutsStream d names cycles streamed text a b)
     run_cut (Ok x) cuts = tt
     run_cut (Err e) cuts = cut_of e cuts

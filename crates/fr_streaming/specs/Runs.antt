@@ -14,6 +14,7 @@ use Rattle.fr_files.specs.declared.error.BenchError.TheVariants as bench
 use Rattle.fr_bus.specs.States.{cycles_fit}
 use Rattle.fr_files.specs.Inputs.{ForText}
 use Rattle.fr_live.specs.LiveWorlds.{Entries, LiveState, IsWorldHistory, with_room}
+use Rattle.fr_names.specs.Names.{NamesOfNode}
 use Rattle.fr_outcome.specs.ScenarioFiles.{IsShort, IsRefused}
 use Rattle.fr_playing.specs.declared.error.PlayError.{PlayError}
 use Rattle.fr_playing.specs.declared.error.PlayError.TheVariants as refusal
@@ -24,7 +25,7 @@ use Rattle.fr_runs.specs.declared.check.RunRefusal.TheVariants.{BadCycles, BadSc
 use Rattle.fr_runs.specs.Refusing.{EachFaultSuits, EachScriptSuits}
 use Rattle.fr_runs.specs.Suiting.{FaultSuits, ScriptSuits}
 use Rattle.fr_scenario.specs.Contents.{Contents}
-use Rattle.fr_scenario.specs.ScenarioText.{IsScenarioText}
+use Rattle.fr_scenario.specs.AnyText.{IsScenarioText}
 use Rattle.fr_schedule.specs.Descriptions.{Description}
 use Rattle.fr_slots.specs.Numbers.{last_host_limit, last_slot_limit}
 use Rattle.fr_streaming.specs.declared.hindrance.Hindrance.{Hindrance}
@@ -51,7 +52,8 @@ kept_refusal (Ok done) = Ok tt
 kept_refusal (Err (NoRoom n)) = Ok tt
 kept_refusal (Err e) = Err (refusal.Run e)
 
--- the number of the run's cycles that a scenario can name, since it names cycles 0 to 1023
+-- The number of the run's cycles for which the scenario is read. Its calls are in cycles 0 to 1023, also those of `*`,
+-- and a fault line of `*` is for every cycle of the run.
 abbrev pub cycles_named : ℕ → ℕ
 cycles_named cycles = min cycles 1024
 
@@ -69,9 +71,10 @@ RefusesStream d s cycles (Some (BadFault i)) =
     × IsFirst (FaultSuits d (cycles_named cycles) s.faults) i
 RefusesStream d s cycles (Some (NoRoom n)) = ⊥
 
-abbrev pub StreamIsRefused : Description → ℕ → List ℕ → Option RunRefusal → Type 0
-StreamIsRefused d cycles text refused =
-    IsShort text × ((s : Contents) × IsScenarioText text s × RefusesStream d s cycles refused)
+abbrev pub StreamIsRefused : Description → List NamesOfNode → ℕ → List ℕ → Option RunRefusal → Type 0
+StreamIsRefused d names cycles text refused =
+    IsShort text × ((s : Contents) × IsScenarioText names (cycles_named cycles) text s
+    × RefusesStream d s cycles refused)
 
 -- the scenario suits a run of this many cycles, at most 1,024, but for the room of journals, or it doesn't
 abbrev pub ChecksStream : Description → Contents → ℕ → Result (Unit {0}) PlayError → Type 0
@@ -114,25 +117,25 @@ AddsStream d cycles streamed s before after =
     (w : WorldState) × IsStreamed d s cycles w × Appends before after (told streamed s d.params w.bus.sealed)
 
 -- the same with the scenario that the text spells
-abbrev pub Streams : Description → ℕ → Streamed → Option (List ℕ) → Option (List ℕ) → List ℕ → Type 0
-Streams d cycles streamed before after text =
-    (s : Contents) × IsScenarioText text s × AddsStream d cycles streamed s before after
+abbrev pub Streams : Description → List NamesOfNode → ℕ → Streamed → Option (List ℕ) → Option (List ℕ) → List ℕ → Type 0
+Streams d names cycles streamed before after text =
+    (s : Contents) × IsScenarioText names (cycles_named cycles) text s × AddsStream d cycles streamed s before after
 
 -- ---- the reason why there is none
 
 -- the error of a run that isn't refused, or of a refused one
-abbrev pub TellsStream : Description → ℕ → List ℕ → Result (Unit {0}) PlayError → Type 0
-TellsStream d cycles text (Ok done) = StreamIsRefused d cycles text None
-TellsStream d cycles text (Err (refusal.Run e)) = StreamIsRefused d cycles text (Some e)
-TellsStream d cycles text (Err (refusal.Step e)) = StreamIsRefused d cycles text None
-TellsStream d cycles text (Err refusal.Unfinished) = StreamIsRefused d cycles text None
-TellsStream d cycles text (Err refusal.UnknownNode) = ⊥
-TellsStream d cycles text (Err (refusal.Scenario e)) = IsShort text × IsRefused text e
-TellsStream d cycles text (Err (refusal.Text bench.TooLong)) = 1048576 < length text
-TellsStream d cycles text (Err (refusal.Text bench.Write)) = StreamIsRefused d cycles text None
-TellsStream d cycles text (Err (refusal.Text bench.Read)) = ⊤
-TellsStream d cycles text (Err (refusal.Text bench.Memory)) = ⊤
-TellsStream d cycles text (Err (refusal.Text e)) = ⊥
+abbrev pub TellsStream : Description → List NamesOfNode → ℕ → List ℕ → Result (Unit {0}) PlayError → Type 0
+TellsStream d names cycles text (Ok done) = StreamIsRefused d names cycles text None
+TellsStream d names cycles text (Err (refusal.Run e)) = StreamIsRefused d names cycles text (Some e)
+TellsStream d names cycles text (Err (refusal.Step e)) = StreamIsRefused d names cycles text None
+TellsStream d names cycles text (Err refusal.Unfinished) = StreamIsRefused d names cycles text None
+TellsStream d names cycles text (Err refusal.UnknownNode) = ⊥
+TellsStream d names cycles text (Err (refusal.Scenario e)) = IsShort text × IsRefused names (cycles_named cycles) text e
+TellsStream d names cycles text (Err (refusal.Text bench.TooLong)) = 1048576 < length text
+TellsStream d names cycles text (Err (refusal.Text bench.Write)) = StreamIsRefused d names cycles text None
+TellsStream d names cycles text (Err (refusal.Text bench.Read)) = ⊤
+TellsStream d names cycles text (Err (refusal.Text bench.Memory)) = ⊤
+TellsStream d names cycles text (Err (refusal.Text e)) = ⊥
 
 -- the same for a run whose scenario was read
 abbrev pub TellsRun : Description → Contents → ℕ → Result (Unit {0}) PlayError → Type 0
@@ -162,16 +165,18 @@ CutsRun d s cycles streamed before after (refusal.Text bench.Memory) =
 CutsRun d s cycles streamed before after e = Keeps before after
 
 -- the same with the scenario that the text spells
-abbrev pub CutsText : Description → ℕ → Streamed → Option (List ℕ) → Option (List ℕ) → PlayError → List ℕ → Type 0
-CutsText d cycles streamed before after e text =
-    (s : Contents) × IsScenarioText text s × CutsRun d s cycles streamed before after e
+abbrev pub CutsText : Description → List NamesOfNode → ℕ → Streamed → Option (List ℕ) → Option (List ℕ) → PlayError
+    → List ℕ → Type 0
+CutsText d names cycles streamed before after e text =
+    (s : Contents) × IsScenarioText names (cycles_named cycles) text s × CutsRun d s cycles streamed before after e
 
 -- An error of the file leaves the output unchanged.
-abbrev pub CutsStream : Description → ℕ → Streamed → Option (List ℕ) → Option (List ℕ) → Option (List ℕ) → PlayError
+abbrev pub CutsStream : Description → List NamesOfNode → ℕ → Streamed → Option (List ℕ) → Option (List ℕ)
+    → Option (List ℕ) → PlayError
     → Type 0
-CutsStream d cycles streamed text before after (refusal.Scenario e) = Keeps before after
-CutsStream d cycles streamed text before after (refusal.Text bench.Read) = Keeps before after
-CutsStream d cycles streamed text before after (refusal.Text bench.TooLong) = Keeps before after
-CutsStream d cycles streamed text before after (refusal.Text bench.Memory) =
-    Keeps before after ⊎ ForText text (CutsText d cycles streamed before after (refusal.Text bench.Memory))
-CutsStream d cycles streamed text before after e = ForText text (CutsText d cycles streamed before after e)
+CutsStream d names cycles streamed text before after (refusal.Scenario e) = Keeps before after
+CutsStream d names cycles streamed text before after (refusal.Text bench.Read) = Keeps before after
+CutsStream d names cycles streamed text before after (refusal.Text bench.TooLong) = Keeps before after
+CutsStream d names cycles streamed text before after (refusal.Text bench.Memory) =
+    Keeps before after ⊎ ForText text (CutsText d names cycles streamed before after (refusal.Text bench.Memory))
+CutsStream d names cycles streamed text before after e = ForText text (CutsText d names cycles streamed before after e)

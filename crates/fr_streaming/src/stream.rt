@@ -13,6 +13,7 @@ use fr_endless::world::EndlessWorld;
 use fr_files::error::BenchError;
 use fr_files::output::write_whole;
 use fr_live::room::Room;
+use fr_names::names::Names;
 use fr_outcome::scenario_file::scenario_of;
 use fr_playing::error::PlayError;
 use fr_playing::moving::whole_window;
@@ -99,7 +100,8 @@ fn stream_scenario<W: Write>(
 ///
 /// A run has 1 to 4,000,000 cycles, and the number of cycles, multiplied by the static slots and minislots of a cycle,
 /// fits in 32 bits. It needs the memory of one cycle. The events are those of `fr_playing::play::play`, and the text is
-/// that of `fr_showing::show::show_run`. The file is read to its end first. It names cycles 0 to 1023 at most.
+/// that of `fr_showing::show::show_run`. The file is read to its end first. It names cycles 0 to 1023 at most: calls of
+/// `*` are made in these alone, and faults of `*` in every cycle.
 ///
 /// Returns the error of `scenario_of`. Then comes `Run` with `BadCycles`, or with the `BadScript` or `BadFault` of a
 /// run of at most 1,024 cycles; journals keep nothing, so there is no `NoRoom`. Returns `Write` if the writer fails,
@@ -109,18 +111,20 @@ fn stream_scenario<W: Write>(
 pub fn stream_run<R: Read, W: Write>(
     alloc: Global,
     cluster: &Cluster,
+    names: &Names,
     reader: &mut R,
     cycles: u32,
     streamed: Streamed,
     writer: &mut W,
 ) -> Result<(), PlayError>
-    ensures written { OnOk result (ForText (R.remaining reader.old) (Streams cluster.now cycles streamed
+    ensures written { OnOk result (ForText (R.remaining reader.old) (Streams cluster.now names.now cycles streamed
         (W.contents writer.old) (W.contents writer.new))) }
-    ensures refused { ForText (R.remaining reader.old) (λ text. TellsStream cluster.now cycles text result) }
+    ensures refused { ForText (R.remaining reader.old) (λ text. TellsStream cluster.now names.now cycles text result) }
     // After an error of the run itself a front of the view of some accepted events is written, and otherwise nothing.
-    ensures early { IfErr result (CutsStream cluster.now cycles streamed (R.remaining reader.old)
+    ensures early { IfErr result (CutsStream cluster.now names.now cycles streamed (R.remaining reader.old)
         (W.contents writer.old) (W.contents writer.new)) }
 {
-    let scenario = scenario_of(alloc, reader)?;
+    let named = cycles.min(NAMED_CYCLES) as u16;
+    let scenario = scenario_of(alloc, reader, names, named)?;
     stream_scenario(alloc, cluster, &scenario, cycles, streamed, writer)
 }

@@ -1,11 +1,14 @@
 -- The effect of `run` on the text of a scenario (project-defined).
 use Rattle.std.specs.Prelude.{⊤, ◌≡◌, ◌<◌, ℕ, Bool, not, List, length, Option, None, Result, Ok, Err}
+use Rattle.std.specs.Global.{Vec}
 use Rattle.std.specs.Io.KnownBytes.{Appends}
 use Rattle.fr_files.specs.ClusterFiles.{IsClusterOf}
 use Rattle.fr_files.specs.Inputs.{ForText}
 use Rattle.fr_files.specs.Outputs.{FallsShort}
 use Rattle.fr_files.specs.declared.error.BenchError.{BenchError}
 use Rattle.fr_files.specs.declared.error.BenchError.TheVariants as bench
+use Rattle.fr_names.specs.NamedFiles.{IsNamedClusterOf}
+use Rattle.fr_names.specs.Names.{NamesOfNode}
 use Rattle.fr_outcome.specs.declared.file_error.FileError.{FileError}
 use Rattle.fr_outcome.specs.declared.file_error.FileError.TheVariants as file
 use Rattle.fr_outcome.specs.OutcomeText.{outcome_text}
@@ -13,7 +16,7 @@ use Rattle.fr_outcome.specs.ScenarioFiles.{IsShort, IsRefused, RunIsRefused}
 use Rattle.fr_threads.specs.declared.outcome_error.OutcomeError.{OutcomeError}
 use Rattle.fr_threads.specs.declared.outcome_error.OutcomeError.TheVariants as refusal
 use Rattle.fr_scenario.specs.Contents.{Contents}
-use Rattle.fr_scenario.specs.ScenarioText.{IsScenarioText}
+use Rattle.fr_scenario.specs.AnyText.{IsScenarioText}
 use Rattle.fr_schedule.specs.Descriptions.{Description}
 use Rattle.fr_threads.specs.declared.run.Run.{Run}
 use Rattle.fr_threads.specs.Running.{IsRunOf, refusal_of}
@@ -28,62 +31,69 @@ file_failure (file.Scenario e) = refusal.Scenario e
 -- ---- the outcome
 
 -- This is the outcome of a run of the cluster for this number of cycles, free-running or in lockstep, with the scenario
--- that the text spells. The run has the scenario's scripts, and exactly its faults.
-pub record IsOutcome (d : Description) (cycles : ℕ) (free : Bool) (text outcome : List ℕ) : Type 0 where
+-- that the text spells for a cluster with these names. The run has the scenario's scripts, and exactly its faults.
+pub record IsOutcome (d : Description) (names : List NamesOfNode) (cycles : ℕ) (free : Bool) (text outcome : List ℕ)
+    : Type 0 where
   pub contents : Contents
-  pub spelled : IsScenarioText text contents
+  pub spelled : IsScenarioText names cycles text contents
   pub run : Run
   pub is_run : IsRunOf d contents.scripts contents.faults cycles (not free) run
   pub outcome_is : outcome ≡ outcome_text run.interfaces.items run.settled.windows
 
--- such an outcome was written, and nothing else
-abbrev pub Adds : Description → ℕ → Bool → Option (List ℕ) → Option (List ℕ) → List ℕ → Type 0
-Adds d cycles free old new text = (outcome : List ℕ) × IsOutcome d cycles free text outcome × Appends old new outcome
+-- Such an outcome was written, and nothing else. These are the numbers of the scenario's lines that name cycles, but
+-- none of the run.
+abbrev pub Adds : Description → List NamesOfNode → ℕ → Bool → Option (List ℕ) → Option (List ℕ) → List ℕ → List ℕ
+    → Type 0
+Adds d names cycles free old new skipped text =
+    (outcome : List ℕ) × (is : IsOutcome d names cycles free text outcome) × Appends old new outcome
+    × (skipped ≡ is.contents.skipped)
 
 -- a front of such an outcome was written, and at least one byte of it is missing
-abbrev pub AddsFront : Description → ℕ → Bool → Option (List ℕ) → Option (List ℕ) → List ℕ → Type 0
-AddsFront d cycles free old new text =
-    (outcome : List ℕ) × IsOutcome d cycles free text outcome × FallsShort old new outcome
+abbrev pub AddsFront : Description → List NamesOfNode → ℕ → Bool → Option (List ℕ) → Option (List ℕ) → List ℕ → Type 0
+AddsFront d names cycles free old new text =
+    (outcome : List ℕ) × IsOutcome d names cycles free text outcome × FallsShort old new outcome
 
--- The outcome of a run with the text of the scenario was written. After `Write` a front of such an outcome was written.
--- Every other refusal leaves the writer unchanged.
-abbrev pub Prints : Description → ℕ → Bool → Option (List ℕ) → Option (List ℕ) → Option (List ℕ)
-    → Result (Unit {0}) OutcomeError
+-- The outcome of a run with the text of the scenario was written, and the skipped lines are returned. After `Write` a
+-- front of such an outcome was written. Every other refusal leaves the writer unchanged.
+abbrev pub Prints : Description → List NamesOfNode → ℕ → Bool → Option (List ℕ) → Option (List ℕ) → Option (List ℕ)
+    → Result (Vec ℕ) OutcomeError
     → Type 0
-Prints d cycles free text old new (Ok done) = ForText text (Adds d cycles free old new)
-Prints d cycles free text old new (Err (refusal.Text bench.Write)) = ForText text (AddsFront d cycles free old new)
-Prints d cycles free text old new (Err e) = new ≡ old
+Prints d names cycles free text old new (Ok skipped) = ForText text (Adds d names cycles free old new skipped.items)
+Prints d names cycles free text old new (Err (refusal.Text bench.Write)) =
+    ForText text (AddsFront d names cycles free old new)
+Prints d names cycles free text old new (Err e) = new ≡ old
 
 -- ---- the reason why no outcome was written
 
 -- The text of the scenario is rejected with this error, or the run with it, or the cluster accepts the run. Nothing is
 -- stated for a failing reader, a failed allocation, or a failure of threads in a run that the cluster accepts.
-abbrev pub Answers : Description → ℕ → List ℕ → Result (Unit {0}) OutcomeError → Type 0
-Answers d cycles text (Ok done) = RunIsRefused d cycles text None
-Answers d cycles text (Err (refusal.Run e)) = RunIsRefused d cycles text (refusal_of e)
-Answers d cycles text (Err (refusal.Scenario e)) = IsShort text × IsRefused text e
-Answers d cycles text (Err (refusal.Text bench.TooLong)) = 1048576 < length text
-Answers d cycles text (Err (refusal.Text bench.Write)) = RunIsRefused d cycles text None
-Answers d cycles text (Err (refusal.Text bench.Read)) = ⊤
-Answers d cycles text (Err (refusal.Text bench.Memory)) = ⊤
-Answers d cycles text (Err e) = ⊥
+abbrev pub Answers : Description → List NamesOfNode → ℕ → List ℕ → Result (Vec ℕ) OutcomeError → Type 0
+Answers d names cycles text (Ok done) = RunIsRefused d names cycles text None
+Answers d names cycles text (Err (refusal.Run e)) = RunIsRefused d names cycles text (refusal_of e)
+Answers d names cycles text (Err (refusal.Scenario e)) = IsShort text × IsRefused names cycles text e
+Answers d names cycles text (Err (refusal.Text bench.TooLong)) = 1048576 < length text
+Answers d names cycles text (Err (refusal.Text bench.Write)) = RunIsRefused d names cycles text None
+Answers d names cycles text (Err (refusal.Text bench.Read)) = ⊤
+Answers d names cycles text (Err (refusal.Text bench.Memory)) = ⊤
+Answers d names cycles text (Err e) = ⊥
 
 -- ---- a cluster file and a scenario
 
 -- The cluster file is rejected with this error, no byte of the scenario is read, and nothing is written.
 pub record IsFileRefused (file text rest old new : Option (List ℕ))
-    (answer : Result (Unit {0}) OutcomeError) : Type 0 where
+    (answer : Result (Vec ℕ) OutcomeError) : Type 0 where
   pub error : BenchError
   pub refused : ForText file (λ bytes. IsClusterOf bytes (Err error))
   pub answer_is : answer ≡ Err (refusal.Text error)
   pub unread : rest ≡ text
   pub unwritten : new ≡ old
 
--- The cluster file describes a cluster, and this is the effect of `run` with it.
+-- The cluster file describes a cluster with names, and this is the effect of `run` with them.
 pub record IsFileRun (file : Option (List ℕ)) (cycles : ℕ) (free : Bool) (text old new : Option (List ℕ))
-    (answer : Result (Unit {0}) OutcomeError)
+    (answer : Result (Vec ℕ) OutcomeError)
     : Type 0 where
   pub cluster : Description
-  pub described : ForText file (λ bytes. IsClusterOf bytes (Ok cluster))
-  pub printed : Prints cluster cycles free text old new answer
-  pub answered : ForText text (λ bytes. Answers cluster cycles bytes answer)
+  pub names : List NamesOfNode
+  pub described : ForText file (λ bytes. IsNamedClusterOf bytes (Ok (cluster, names)))
+  pub printed : Prints cluster names cycles free text old new answer
+  pub answered : ForText text (λ bytes. Answers cluster names cycles bytes answer)

@@ -7,9 +7,10 @@ use crate::outcome_error::OutcomeError;
 use crate::run::run_threads;
 use crate::workload::Workload;
 use fr_desks::gate::OpenGate;
-use fr_files::cluster_file::cluster_of;
 use fr_files::error::BenchError;
 use fr_files::output::write_whole;
+use fr_names::cluster_file::named_cluster_of;
+use fr_names::names::Names;
 use fr_outcome::outcome_text::write_outcome;
 use fr_outcome::scenario_file::scenario_of;
 use fr_schedule::cluster::Cluster;
@@ -30,10 +31,12 @@ pub struct RunOptions {
 
 /// Runs the cluster with the scenario of a file, and writes the outcome (project-defined).
 ///
-/// The scenario file is read to its end.
+/// The scenario file is read to its end. It may name nodes and buffers by these names.
 ///
 /// The outcome is each node's report, the number of windows and `settled`. In a free-running run a task's lines are
 /// executed at any moment, in a lockstep run each in its cycle.
+///
+/// It returns the numbers of the scenario's lines that name cycles, but none of the run.
 ///
 /// Returns the error of the scenario's file, then that of the run. Nothing is written on an error other than `Write`,
 /// after which a front of the outcome may have been written.
@@ -42,21 +45,24 @@ pub fn run_cluster<T: Threads + Wait + Clock + Sync, R: Read, W: Write>(
     rt: &T,
     alloc: Global,
     cluster: &Cluster,
+    names: &Names,
     reader: &mut R,
     options: RunOptions,
     writer: &mut W,
-) -> Result<(), OutcomeError>
+) -> Result<Vec<u32>, OutcomeError>
     ensures written { Prints
         cluster.now
+        names.now
         options.cycles
         options.free
         (R.remaining reader.old)
         (W.contents writer.old)
         (W.contents writer.new)
         result }
-    ensures refused { ForText (R.remaining reader.old) (λ text. Answers cluster.now options.cycles text result) }
+    ensures refused { ForText (R.remaining reader.old)
+        (λ text. Answers cluster.now names.now options.cycles text result) }
 {
-    let scenario = scenario_of(alloc, reader)?;
+    let scenario = scenario_of(alloc, reader, names, options.cycles)?;
     let workload = Workload {
         scripts: scenario.scripts(),
         faults: scenario.faults(),
@@ -64,10 +70,16 @@ pub fn run_cluster<T: Threads + Wait + Clock + Sync, R: Read, W: Write>(
         stepped: !options.free,
     };
     let run = run_threads(rt, alloc, cluster, &workload, &OpenGate)?;
+    let Ok(skipped) = Vec::from_slice(alloc, scenario.skipped()) else {
+        return Err(OutcomeError::Text(BenchError::Memory));
+    };
     let mut text = Vec::new(alloc);
     let windows = run.settled.windows as usize;
     match write_outcome(&mut text, run.interfaces.as_slice(), windows) {
-        Ok(()) => Ok(write_whole(writer, text.as_slice())?),
+        Ok(()) => {
+            write_whole(writer, text.as_slice())?;
+            Ok(skipped)
+        }
         // A list of bytes fails to grow only if an allocation fails.
         Err(_) => Err(OutcomeError::Text(BenchError::Memory)),
     }
@@ -83,7 +95,7 @@ pub fn run_text<T: Threads + Wait + Clock + Sync, F: Read, R: Read, W: Write>(
     reader: &mut R,
     options: RunOptions,
     writer: &mut W,
-) -> Result<(), OutcomeError>
+) -> Result<Vec<u32>, OutcomeError>
     ensures { IsFileRefused
         (F.remaining file.old)
         (R.remaining reader.old)
@@ -100,6 +112,6 @@ pub fn run_text<T: Threads + Wait + Clock + Sync, F: Read, R: Read, W: Write>(
         (W.contents writer.new)
         result }
 {
-    let cluster = cluster_of(alloc, file)?;
-    run_cluster(rt, alloc, &cluster, reader, options, writer)
+    let (cluster, names) = named_cluster_of(alloc, file)?;
+    run_cluster(rt, alloc, &cluster, &names, reader, options, writer)
 }

@@ -39,12 +39,12 @@ use fr_cli::error::OrderError;
 use fr_cli::view::order;
 use fr_cli::waiting::{WaitingReader, WaitingWriter};
 use fr_cli::words::{texts_of, words_given};
-use fr_files::cluster_file::cluster_of;
 use fr_files::named::file_named;
 use fr_latency::text::show_latencies;
 use fr_latency::way_text::show_way;
+use fr_names::cluster_file::named_cluster_of;
 use fr_picture::picture::show_schedule;
-use fr_showing::show::show_run;
+use fr_showing::show::{Notes, show_run};
 use fr_showing::shown::Shown;
 use fr_slots::channel::Channel;
 use fr_slots::numbers::{Cycle, SlotId};
@@ -88,9 +88,12 @@ fr_view --help
     these lines
 ";
 
-/// Writes a line on standard error for each fault line without effect. All output is written by then.
-fn tell_idle<R: Eprint>(rt: &R, idle: &[u32]) {
-    for number in idle {
+/// Writes a line on standard error for each line without effect. All output is written by then.
+fn tell_notes<R: Eprint>(rt: &R, notes: &Notes) {
+    for number in &notes.skipped {
+        let _ = eprintln!(rt; "line {number} names no cycle of the run");
+    }
+    for number in &notes.idle {
         let _ = eprintln!(rt; "line {number} struck nothing");
     }
 }
@@ -106,11 +109,19 @@ fn show_files<R: Files + Print + Eprint + AllocGlobal + Clock>(
     cycles: u16,
 ) -> Result<(), ViewFailure> {
     let alloc = rt.alloc();
-    let cluster = cluster_of(alloc, &mut file_named(rt, cluster)?)?;
+    let (cluster, names) = named_cluster_of(alloc, &mut file_named(rt, cluster)?)?;
     let mut file = file_named(rt, scenario)?;
     let mut output = WaitingWriter::new(rt, io::writer(rt));
-    let idle = show_run(alloc, &cluster, &mut file, cycles, shown, &mut output)?;
-    tell_idle(rt, idle.as_slice());
+    let notes = show_run(
+        alloc,
+        &cluster,
+        &names,
+        &mut file,
+        cycles,
+        shown,
+        &mut output,
+    )?;
+    tell_notes(rt, &notes);
     Ok(())
 }
 
@@ -123,10 +134,18 @@ fn stream_files<R: Files + Print + AllocGlobal + Clock>(
     cycles: u32,
 ) -> Result<(), ViewFailure> {
     let alloc = rt.alloc();
-    let cluster = cluster_of(alloc, &mut file_named(rt, cluster)?)?;
+    let (cluster, names) = named_cluster_of(alloc, &mut file_named(rt, cluster)?)?;
     let mut file = file_named(rt, scenario)?;
     let mut output = WaitingWriter::new(rt, io::writer(rt));
-    Ok(stream_run(alloc, &cluster, &mut file, cycles, streamed, &mut output)?)
+    Ok(stream_run(
+        alloc,
+        &cluster,
+        &names,
+        &mut file,
+        cycles,
+        streamed,
+        &mut output,
+    )?)
 }
 
 /// Writes the observations of a controller, from its trace on standard input.

@@ -119,7 +119,7 @@ def means_of(given: argparse.Namespace) -> Means:
 
 def selected(given: argparse.Namespace, cluster: Cluster) -> Selection:
     """Returns the faults to list. Ends with status 2 if the cluster doesn't have what they are for."""
-    selection = Selection(given.kinds, given.nodes, given.slots, given.in_cycle)
+    selection = Selection(given.kinds, given.nodes, given.slots, given.in_cycles)
     missing = selection.missing(cluster)
     if missing:
         arguments().error(f"the cluster has no {missing}")

@@ -69,9 +69,8 @@ class Calendar:
         self.begins: dict[int, list[int]] = {}
         """The entry with which the windows of each cycle begin, by node."""
         calls: dict[int, list[int]] = {}
-        for (node, _), lines in scenario.numbered():
-            for line in lines:
-                calls.setdefault(node, [0] * len(starts))[line.value("CYCLE")] += 1
+        for cycle, line in scenario.calls(len(starts)):
+            calls.setdefault(line.value("NODE"), [0] * len(starts))[cycle] += 1
         self.usual = [2 * start for start in starts]
         for node, counts in calls.items():
             before = 0

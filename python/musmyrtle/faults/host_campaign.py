@@ -12,7 +12,8 @@ from musmyrtle.faults.log import Log
 from musmyrtle.faults.played import Begun, Occasion
 from musmyrtle.faults.table import Done
 from musmyrtle.outcomes import Known, read_outcome
-from musmyrtle.scenario import Line, Scenario
+from musmyrtle.scenario import Scenario
+from musmyrtle.scenario_lines import Line
 
 
 class HostCampaign:

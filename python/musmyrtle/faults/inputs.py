@@ -14,6 +14,7 @@ from musmyrtle.faults.runs import CLUSTER_FILE, SCENARIO_FILE, outcome_words
 from musmyrtle.faults.whole_files import write_file
 from musmyrtle.lint.command import REFUSED, USAGE, is_bold_on, told
 from musmyrtle.lint.lint import Lint, Task, lint, read_bytes
+from musmyrtle.names import Names
 from musmyrtle.output import Stop, write
 from musmyrtle.program import Answer as Asked
 from musmyrtle.program import ask
@@ -53,7 +54,8 @@ def accepted(given: argparse.Namespace, folder: Path, children: Children) -> Inp
     cluster = ClusterReading(read_text(given.cluster, files_read[0]).document).cluster
     # Otherwise `found` has a refusal.
     assert cluster is not None
-    return Inputs(cluster, ScenarioReading(given.scenario, files_read[1]).scenario, files_read)
+    scenario = ScenarioReading(given.scenario, files_read[1], given.cycles, Names.of(files_read[0])).scenario
+    return Inputs(cluster, scenario, files_read)
 
 
 def accepted_host(given: argparse.Namespace, folder: Path) -> Inputs:

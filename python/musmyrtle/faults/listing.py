@@ -1,7 +1,7 @@
 """The single faults that a network can have: each node lost or babbling, each frame disturbed, on one channel or both.
 
-A fault is some fault lines beside those of a scenario. If the scenario has a fault of the same kind in a window
-already, the window is left out, since it takes one of a kind; a fault that has no window left isn't listed.
+A fault is some fault lines of version 3 beside those of a scenario. If the scenario has a fault of the same kind in a
+window already, the window is left out, since it takes one of a kind; a fault that has no window left isn't listed.
 """
 from collections.abc import Collection, Iterable, Iterator
 from dataclasses import dataclass, field
@@ -10,7 +10,10 @@ from typing import Protocol
 from musmyrtle.cluster import CYCLES, Cluster, Node
 from musmyrtle.faults.frames import data_frame
 from musmyrtle.faults.played import FORGED_WORD, Begun, Occasion, forged_babble
-from musmyrtle.scenario import EVERY, FaultLine, FaultLines, Scenario
+from musmyrtle.named_windows import EVERY, EVERY_DYNAMIC, EVERY_STATIC, RunCycles, spelled
+from musmyrtle.scenario import Scenario
+from musmyrtle.scenario_lines import LOST, FaultLine, FaultLines
+from musmyrtle.scenario_words import fault_lines_of
 
 KINDS = {
     "lost": "all that a node sends is lost, in the static and in the dynamic segment",
@@ -30,15 +33,15 @@ NOISE = b"\xff"
 HEADER_BIT = 15
 """The lowest bit of the frame ID (chapter 4)."""
 HEADER_BITS = 40
-ALL_STATIC, ALL = "s*", "all"
+ALL_STATIC, ALL = EVERY_STATIC, "all"
 
 
 @dataclass(frozen=True)
 class SingleFault:
-    """One fault: its kind, node, channel, cycle and place.
+    """One fault: its kind, node, channel, cycles and place.
 
-    Its node is none for a disturbed frame. Its cycle is `*` for all. Its place is `sN` for a static slot, `s*` for all
-    of them, `mN` for a minislot, and `all` for all that a node sends.
+    Its node is none for a disturbed frame. Its cycles are `*`, `C`, `C-D` or `C-D/STEP`. Its place is `sN` for a static
+    slot, `s*` for all of them, `mN` for a minislot, and `all` for all that a node sends.
     """
 
     kind: str
@@ -83,7 +86,7 @@ class SingleFault:
     @property
     def is_dynamic(self) -> bool:
         """Returns whether it comes in the dynamic segment too, so that slots may open at other minislots there."""
-        return any(FaultLine(0, tuple(it.split(" "))).is_static is False for it in self.lines)
+        return any(it.place.has_dynamic for it in fault_lines_of(self.lines))
 
 
 @dataclass(frozen=True)
@@ -94,7 +97,8 @@ class Selection:
     nodes: frozenset[int] | None = None
     places: frozenset[str] | None = None
     """Places, in the spelling of those of a fault."""
-    cycle: int | None = None
+    cycles: RunCycles | None = None
+    """The cycles that all faults are in."""
 
     def wants(self, kind: str, nodes: Iterable[int], place: str) -> bool:
         is_node = self.nodes is None or any(it in self.nodes for it in nodes)
@@ -155,17 +159,12 @@ class Listing:
         self.opened: dict[tuple[int, frozenset[Occasion]], dict[Occasion, int]] = {}
 
     @property
-    def is_all_cycles(self) -> bool:
-        return self.selection.cycle is None
-
-    @property
     def word(self) -> str:
-        return EVERY if self.is_all_cycles else str(self.selection.cycle)
+        return str(self.selection.cycles or EVERY)
 
     def each_cycle(self) -> range:
         """Returns the cycles of the run that the faults are in."""
-        cycle = self.selection.cycle
-        return range(self.cycles) if cycle is None else range(cycle, cycle + 1)
+        return (self.selection.cycles or RunCycles()).within(self.cycles)
 
     def faults(self) -> list[SingleFault]:
         return [fault for kind in KINDS if kind in self.selection.kinds
@@ -198,18 +197,17 @@ class Listing:
         """
         if not self.selection.wants(kind, [node.number], ALL):
             return
-        lines: list[str] = []
-        static = [it for it in channels if self.slots_of(node, it)]
-        for channel in static:
-            lines += self.spread(f"mute {node.number} {channel}", ALL_STATIC)
+        static = "".join(it for it in channels if self.slots_of(node, it))
         dynamic = "".join(it for it in channels if self.may_send_dynamic(node, it))
         begun = self.lost_by(node.number, dynamic) if dynamic else []
-        for it in begun:
-            lines += self.free(f"mute {node.number} {it.channel}", it.cycle, f"m{it.minislot}")
-        if static or begun:
-            yield from self.listed(ALL, lines)
-        else:
+        if not static and not begun:
             yield ALL, []
+        elif not begun:
+            yield from self.listed(ALL, self.on(static, f"mute {node.number}", ALL_STATIC))
+        else:
+            lines = self.on(channels, f"mute {node.number}", EVERY)
+            is_whole = lines == [f"mute {node.number} {BOTH} {self.word} {EVERY}"]
+            yield from self.listed(ALL, [f"{LOST} {node.number} {self.word}"] if is_whole else lines)
 
     def lost_by(self, node: int, channels: str) -> list[Begun]:
         # In the run with the loss later frames move up, so the run without a fault would leave some of them sent.
@@ -235,14 +233,13 @@ class Listing:
         for place in [*static, ALL_STATIC]:
             if self.selection.wants(kind, [node.number], place):
                 made = self.forged if kind == "forged" else self.noisy
-                yield from self.listed(place, [line for it in channels for line in made(node, it, place)])
+                yield from self.listed(place, made(node, channels, place))
         for minislot in self.minislots(channels):
             if self.selection.wants(kind, [node.number], f"m{minislot}"):
                 if kind == "forged":
                     yield from self.forged_at(node, channels, minislot)
                 else:
-                    lines = [line for it in channels for line in self.noisy(node, it, f"m{minislot}")]
-                    yield from self.listed(f"m{minislot}", lines)
+                    yield from self.listed(f"m{minislot}", self.noisy(node, channels, f"m{minislot}"))
 
     def minislots(self, channels: str) -> list[int]:
         """Returns the minislots to disturb.
@@ -259,25 +256,27 @@ class Listing:
         return sorted({1} | {it.minislot for it in self.plays.recorded()
                              if it.channel in channels and it.cycle in cycles and it.fate == "passed"})
 
-    def noisy(self, node: Node, channel: str, place: str) -> list[str]:
-        return self.spread(f"babble {node.number} {channel}", place, NOISE)
+    def noisy(self, node: Node, channels: str, place: str) -> list[str]:
+        return self.on(channels, f"babble {node.number}", place, NOISE)
 
-    def forged(self, node: Node, channel: str, place: str) -> list[str]:
-        """Returns a line for each static window, since a frame names its slot and its cycle."""
-        lines = []
-        front, payload = f"babble {node.number} {channel}", FORGED_WORD * self.cluster.parameters.static_words
+    def forged(self, node: Node, channels: str, place: str) -> list[str]:
+        """Returns the lines for each channel, static slot and cycle count, all of which are in a frame."""
+        payload, cycles = FORGED_WORD * self.cluster.parameters.static_words, list(self.each_cycle())
         slots = range(1, self.cluster.parameters.static_slots + 1) if place == ALL_STATIC else [int(place[1:])]
-        for cycle in self.each_cycle():
-            for slot in slots:
-                frame = data_frame(slot, cycle % len(CYCLES), payload, channel)
-                lines += self.free(front, cycle, f"s{slot}", frame)
+        lines = []
+        for channel in channels:
+            for count in dict.fromkeys(cycle % len(CYCLES) for cycle in cycles):
+                for slot in slots:
+                    frame = data_frame(slot, count, payload, channel)
+                    its = [cycle for cycle in cycles if cycle % len(CYCLES) == count]
+                    lines += self.free(f"babble {node.number} {channel}", its, f"s{slot}", frame)
         return lines
 
     def forged_at(self, node: Node, channels: str, minislot: int) -> Iterator[tuple[str, list[str]]]:
         """Yields a line for each cycle and channel with an open slot at the minislot in the run with the fault."""
         place = f"m{minislot}"
         free = frozenset((cycle, channel) for cycle in self.each_cycle() for channel in channels
-                         if self.free(f"babble {node.number} {channel}", cycle, place, NOISE))
+                         if self.free(f"babble {node.number} {channel}", [cycle], place, NOISE))
         if not free:
             self.left_out.taken += 1
             return
@@ -320,24 +319,49 @@ class Listing:
 
     # ---- lines
 
+    def on(self, channels: str, front: str, place: str, last: bytes | int | None = None) -> list[str]:
+        """Returns the lines of each channel, or those of both at once where they are the same."""
+        lines = [self.spread(f"{front} {channel}", place, last) for channel in channels]
+        both = [f"{front} {BOTH}{line.removeprefix(f'{front} A')}" for line in lines[0]]
+        if len(lines) == 2 and both == [f"{front} {BOTH}{line.removeprefix(f'{front} B')}" for line in lines[1]]:
+            return both
+        return [line for of_channel in lines for line in of_channel]
+
     def spread(self, front: str, place: str, last: bytes | int | None = None) -> list[str]:
         """Returns the fewest lines for a place, or for all static slots, in the windows that the scenario leaves."""
         whole = worded(front, self.word, place, last)
         if self.taken.meeting(whole) is None:
             return [" ".join(whole.words)]
-        lines = []
-        for cycle in self.each_cycle():
-            of_cycle = self.free(front, cycle, place, last)
-            if not of_cycle and place == ALL_STATIC:
-                for slot in range(1, self.cluster.parameters.static_slots + 1):
-                    of_cycle += self.free(front, cycle, f"s{slot}", last)
-            lines += of_cycle
+        cycles = list(self.each_cycle())
+        lines = self.free(front, cycles, place, last)
+        for cycle in cycles:
+            if not self.is_free(front, cycle, place, last):
+                lines += self.parts(front, cycle, place, last)
         return lines
 
-    def free(self, front: str, cycle: int, place: str, last: bytes | int | None = None) -> list[str]:
-        """Returns the line for a place in a cycle, if the scenario has none that meets it."""
-        line = worded(front, str(cycle), place, last)
-        return [] if self.taken.meeting(line) else [" ".join(line.words)]
+    def parts(self, front: str, cycle: int, place: str, last: bytes | int | None) -> list[str]:
+        """Returns the lines for the parts of a place that the scenario leaves in a cycle."""
+        if place == EVERY:
+            static = self.free(front, [cycle], ALL_STATIC, last) or self.parts(front, cycle, ALL_STATIC, last)
+            return static + (self.free(front, [cycle], EVERY_DYNAMIC, last) or self.begun_parts(front, cycle))
+        slots = range(1, self.cluster.parameters.static_slots + 1) if place == ALL_STATIC else ()
+        return [line for slot in slots for line in self.free(front, [cycle], f"s{slot}", last)]
+
+    def begun_parts(self, front: str, cycle: int) -> list[str]:
+        """Returns the lines for the minislots at which a lost node sends in a cycle, and that the scenario leaves."""
+        _, node, channel = front.split(" ")
+        begun = sorted({it.minislot for (number, _), its in self.lost.items() if number == int(node) for it in its
+                        if it.cycle == cycle and it.channel == channel})
+        return [line for minislot in begun for line in self.free(front, [cycle], f"m{minislot}")]
+
+    def is_free(self, front: str, cycle: int, place: str, last: bytes | int | None) -> bool:
+        """Returns whether the scenario has no line that meets that of a place in a cycle."""
+        return self.taken.meeting(worded(front, str(cycle), place, last)) is None
+
+    def free(self, front: str, cycles: list[int], place: str, last: bytes | int | None = None) -> list[str]:
+        """Returns the lines for a place in those of the cycles in which the scenario has none that meets it."""
+        free = [cycle for cycle in cycles if self.is_free(front, cycle, place, last)]
+        return [" ".join(worded(front, word, place, last).words) for word in spelled(free)]
 
 
 def worded(front: str, cycles: str, place: str, last: bytes | int | None) -> FaultLine:
@@ -355,5 +379,5 @@ def is_stopped(fault: SingleFault, cluster: Cluster, cycles: int) -> bool:
     if not fault.is_babble or fault.node is None or slot is None or not set(fault.channels) <= set(cluster.guard):
         return False
     node = cluster.nodes[fault.node]
-    named = range(cycles) if fault.cycles == EVERY else [int(fault.cycles)]
+    named = (RunCycles.of(fault.cycles) or RunCycles()).within(cycles)
     return not any(node.owns(slot, it, cycle % len(CYCLES)) for cycle in named for it in fault.channels)

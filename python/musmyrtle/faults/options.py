@@ -9,6 +9,7 @@ from musmyrtle.faults.listing import ALL, ALL_STATIC, KINDS
 from musmyrtle.faults.runs import OUTCOME
 from musmyrtle.findings import counted
 from musmyrtle.lint.command import Parser, add_forms, cycles_of, shown_examples
+from musmyrtle.named_windows import RunCycles
 from musmyrtle.program import by_option, usual_program
 
 COMMAND = "musmyrtle faults"
@@ -60,10 +61,11 @@ def words_of(known: tuple[str, ...]) -> Callable[[str], frozenset[str]]:
     return read
 
 
-def cycle_of(word: str) -> int:
-    if not re.fullmatch(r"0|[1-9][0-9]{0,3}", word):
-        raise argparse.ArgumentTypeError(f"{word!r} is no cycle")
-    return int(word)
+def cycles_word(word: str) -> RunCycles:
+    found = RunCycles.of(word)
+    if found is None or found.last is None:
+        raise argparse.ArgumentTypeError(f"{word!r} is no cycle, and no range as 8-16 or 0-14/2")
+    return found
 
 
 def cores_of(word: str) -> int:
@@ -87,7 +89,8 @@ def arguments() -> argparse.ArgumentParser:
     add("--nodes", metavar="N,..", type=numbers_of, help="only faults of these nodes, as 0,3-5, and of their frames")
     add("--slots", metavar="PLACE,..", type=places_of,
         help="only faults at these places: static slots as 1,3-5, minislots as m7, s* for all static slots, and all")
-    add("--in-cycle", metavar="C", type=cycle_of, help="in this cycle of the run, instead of in every one")
+    add("--in-cycle", "--in-cycles", metavar="C[-D[/STEP]]", type=cycles_word, dest="in_cycles",
+        help="in this cycle of the run, or in these, as 8-16 or 0-14/2, instead of in every one")
     add("--html", metavar="FILE", help="write a page with the matrix of nodes as well")
     add("--fail-on", metavar="WORD,..", type=words_of(FAIL_ON), default=frozenset(),
         help="end with status 3 where a fault costs this: lost (also not comparable), older, changed, or worse "
@@ -109,8 +112,8 @@ def arguments() -> argparse.ArgumentParser:
 def parsed(words: list[str]) -> argparse.Namespace:
     parser = arguments()
     given = parser.parse_args(words)
-    if given.in_cycle is not None and given.in_cycle >= given.cycles:
-        parser.error(f"the run has no cycle {given.in_cycle}: it has {counted(given.cycles, 'cycle')}")
+    if given.in_cycles is not None and given.in_cycles.last >= given.cycles:
+        parser.error(f"the run has no cycle {given.in_cycles.last}: it has {counted(given.cycles, 'cycle')}")
     if (given.scenario is None) == (given.host is None):
         parser.error("it takes either a SCENARIO, or a host program by --host MODULE:FUNCTION")
     if given.host is not None and given.parallel:

@@ -9,6 +9,7 @@ from typing import TypeVar
 from musmyrtle.faults.answers import Answer
 from musmyrtle.faults.children import Children
 from musmyrtle.faults.whole_files import unusable, write_file
+from musmyrtle.scenario_words import NEWEST
 
 OUTCOME = ("fr_view", "outcome")
 """The program and its command that print the outcome of a run."""
@@ -26,7 +27,8 @@ def outcome_words(cluster: str, scenario: str, cycles: int) -> list[str]:
 class Folder:
     """The files of all runs, in a folder of their own.
 
-    These are the cluster file and the scenario as they were read, and a scenario for each run while that lasts.
+    These are the cluster file as it was read, the scenario in version 3, whose lines those of all faults are, and a
+    scenario for each run while that lasts.
     """
 
     def __init__(self, path: Path, cluster: bytes, scenario: bytes, cycles: int,
@@ -34,8 +36,8 @@ class Folder:
         self.path, self.cycles = path, cycles
         self.children = children or Children()
         write_file(path / CLUSTER_FILE, cluster)
-        write_file(path / SCENARIO_FILE, scenario)
-        self.head = scenario.removesuffix(b"end\n").decode()
+        self.head = head_of(scenario.decode())
+        write_file(path / SCENARIO_FILE, self.with_lines(()).encode())
 
     @property
     def cluster(self) -> Path:
@@ -64,6 +66,12 @@ class Folder:
             raise unusable(f"the temporary folder {self.path} can't be written", error) from None
         write_file(Path(name), scenario)
         return name
+
+
+def head_of(scenario: str) -> str:
+    """Returns an accepted scenario as one of version 3, without its last line, in which all mean the same."""
+    _, *lines, _, _ = scenario.split("\n")
+    return "".join(f"{line}\n" for line in (f"frscenario {NEWEST}", *lines))
 
 
 def pooled(work: Callable[[Item], Result], items: Iterable[Item], cores: int,

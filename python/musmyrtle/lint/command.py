@@ -24,6 +24,8 @@ from musmyrtle.version import version
 from musmyrtle.visible import cut, visible
 
 COMMAND = "musmyrtle lint"
+LEFT_OUT = re.compile("line [0-9]+ names no cycle of the run")
+"""A message of the program, in whose place there is a note."""
 FINE, REFUSED, USAGE, WARNED, BROKEN_OFF = 0, 1, 2, 4, 130
 MOST_WARNINGS, MOST_REPEATED = 40, 200
 ABOUT = """Explains the faults of a cluster file, and of a scenario for it: place, reason, and expected form.
@@ -272,7 +274,8 @@ def linted(given: argparse.Namespace) -> int:
         try:
             overwritten = Overwritten()
             # `run` itself decides whether a scenario fits the cluster. Its outcome is dropped.
-            answer = ask(given.program, words_for(task), listen=overwritten.read if given.scenario else None)
+            answer = ask(given.program, words_for(task), listen=overwritten.read if given.scenario else None,
+                         known=LEFT_OUT)
         except OSError as error:
             raise Stop(USAGE, f"{given.program} can't be run: {error.strerror}") from None
         if not answer.is_one:

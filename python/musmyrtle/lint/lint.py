@@ -11,9 +11,10 @@ from musmyrtle.lint.allows import NOTES, Allows
 from musmyrtle.lint.clashes import clashes
 from musmyrtle.lint.guarantees import Guarantees
 from musmyrtle.lint.overwriting import overwriting_fifos
-from musmyrtle.lint.runs import Run
+from musmyrtle.lint.runs import Run, skipped_lines
 from musmyrtle.lint.strikes import Strikes, small_journals
 from musmyrtle.lint.trace_why import is_trace
+from musmyrtle.names import named_in
 from musmyrtle.scenario import Reading as ScenarioReading
 from musmyrtle.texts import FILE_LIMIT, NoText, Text, read_text
 
@@ -157,8 +158,9 @@ def lint_scenario(task: Task, cluster: Cluster, text: Text, found: Lint, overwri
     if data is None:
         found.refuse("Read", unreadable(name, "the scenario"))
         return
-    scenario = ScenarioReading(name, data).scenario
+    scenario = ScenarioReading(name, data, cycles, named_in(text.document)).scenario
     found.refusals += scenario.refusals or Run(cluster, text, scenario, cycles).refusals()
     if not found.refusals:
+        found.warn("skipped-line", skipped_lines(scenario, cycles))
         found.warn("idle-fault", Strikes(cluster, scenario, cycles).findings())
         found.warn("fifo-overwrites", overwriting_fifos(cluster, text, scenario, overwritten))

@@ -28,6 +28,12 @@ class Offers:
                 for channel in buffer.channels:
                     begun = first_minislot(cluster, buffer.slot), buffer.cycles.bits
                     self.dynamic[buffer.node, channel].append(begun)
+        self.by_slot: dict[tuple[int, str, int | None], int] = defaultdict(int)
+        for buffer in cluster.buffers():
+            if buffer.transmits and not cluster.is_static(buffer.slot):
+                for channel in buffer.channels:
+                    for slot in (buffer.slot, None):
+                        self.by_slot[buffer.node, channel, slot] |= buffer.cycles.bits
         self.first = cache(self.first_of)
 
     def is_in_slot(self, node: int, channel: str, slot: int | None, cycles: int) -> bool:
@@ -38,6 +44,16 @@ class Offers:
         """Returns whether the node may begin something at the minislot in one of the cycles."""
         latest = self.cluster.nodes[node].latest[channel]
         return minislot <= latest and self.first(node, channel, cycles) <= minislot
+
+    def is_in_dynamic_slot(self, node: int, channel: str, slot: int | None, cycles: int) -> bool:
+        """Returns whether the node may begin something in the dynamic slot, or in any one, in one of the cycles.
+
+        No slot opens later in a cycle than at the last minislot at which the node may begin.
+        """
+        if not self.by_slot.get((node, channel, slot), 0) & cycles:
+            return False
+        first = self.first(node, channel, cycles) if slot is None else first_minislot(self.cluster, slot)
+        return first <= self.cluster.nodes[node].latest[channel]
 
     def first_of(self, node: int, channel: str, cycles: int) -> int:
         """Returns the first minislot at which the node may begin something in one of the cycles, or one past all."""

@@ -3,8 +3,11 @@ from collections.abc import Iterator
 
 from musmyrtle.cluster import Buffer, Cluster, Node
 from musmyrtle.findings import MOST_NOTES, Finding, Note, counted, joined
+from musmyrtle.named_windows import FaultPlace
 from musmyrtle.places import Path, Place
-from musmyrtle.scenario import FaultLine, FaultLines, Line, Scenario
+from musmyrtle.scenario import Scenario
+from musmyrtle.scenario_lines import FaultLine, FaultLines, Line
+from musmyrtle.scenario_words import NEWEST
 from musmyrtle.texts import Text
 
 MOST_CYCLES = 1024
@@ -44,7 +47,9 @@ class Run:
             return
         before = None
         for line in lines:
-            found = self.bad_cycle(line, before) or self.bad_action(nodes[node], line)
+            # Version 3 has no order of cycles, and leaves out the lines of cycles that the run doesn't have.
+            cycle = None if self.scenario.version == NEWEST else self.bad_cycle(line, before)
+            found = cycle or self.bad_action(nodes[node], line)
             if found:
                 yield found
             before = line
@@ -104,29 +109,55 @@ class Run:
         if line.kind != "corrupt" and line.value("NODE") >= nodes:
             reason = f"The cluster has {counted(nodes, 'node')}, and the first is node 0."
             return Finding(f"there is no node {line.word('NODE')}", reason, scenario.place_of(line, "NODE"))
-        if line.cycle is not None and line.cycle >= self.cycles:
+        if line.cycles.first >= self.cycles:
             reason = f"It has {counted(self.cycles, 'cycle')}, and the first is cycle 0."
-            return Finding(f"the run has no cycle {line.cycle}", reason, scenario.place_of(line, "CYCLES"))
-        name, key = ("static slot", "static_slots") if line.is_static else ("minislot", "minislots")
-        most = getattr(parameters, key)
-        if line.place is None or line.place <= most:
+            return Finding(f"the run has no cycle {line.cycles.first}", reason, scenario.place_of(line, "CYCLES"))
+        if line.place.segment == "d":
+            return self.bad_dynamic(line, line.place.first or 0)
+        name, key = ("static slot", "static_slots") if line.place.segment == "s" else ("minislot", "minislots")
+        most, last = getattr(parameters, key), line.place.last
+        if last is None or last <= most:
             return None
         reason = f"The cluster has {counted(most, name)}."
-        if line.is_static and line.place - most <= parameters.minislots:
-            reason += (f" Slot {line.place} is a dynamic slot, and `sN` is for static slots. Expected `mN` for the "
-                       f"minislot at which it opens: `m{line.place - most}` if nothing is sent in the slots before it.")
+        if line.place.segment == "s" and last - most <= parameters.minislots:
+            reason += f" Slot {last} is a dynamic slot, and `sN` is for static slots. {self.right_dynamic(last)}"
         note = self.note(("params", key), f"`{key}`")
-        return Finding(f"there is no {name} {line.place}", reason, scenario.place_of(line, "PLACE"), (note,))
+        return Finding(f"there is no {name} {last}", reason, scenario.place_of(line, "PLACE"), (note,))
+
+    def right_dynamic(self, slot: int) -> str:
+        """Returns the place that is expected for a dynamic slot."""
+        minislot = slot - self.cluster.parameters.static_slots
+        if self.scenario.version == NEWEST:
+            return f"Expected `d{slot}` for the window in which it opens."
+        return (f"Expected `mN` for the minislot at which it opens: `m{minislot}` if nothing is sent in the slots "
+                f"before it. Version {NEWEST} has `d{slot}`.")
+
+    def bad_dynamic(self, line: FaultLine, slot: int) -> Finding | None:
+        """Returns why there is no dynamic slot of this number: each slot takes a minislot at least."""
+        static, minislots = self.cluster.parameters.static_slots, self.cluster.parameters.minislots
+        if static < slot <= static + minislots:
+            return None
+        reason = f"The slots 1 to {static} are static, and {counted(minislots, 'minislot')} can open "
+        reason += f"the dynamic slots {static + 1} to {static + minislots}." if minislots else "no dynamic slot."
+        if slot <= static:
+            reason += f" Expected `s{slot}` for the static slot."
+        note = self.note(("params", "static_slots"), "`static_slots`")
+        return Finding(f"there is no dynamic slot {slot}", reason, self.scenario.place_of(line, "PLACE"), (note,))
 
     def met_fault(self, line: FaultLine, other: FaultLine | None) -> Finding | None:
         if other is None:
             return None
         whose = "" if line.kind == "corrupt" else f" of node {line.word('NODE')}"
-        cycle = next((it.cycle for it in (line, other) if it.cycle is not None), None)
-        place = next((it.word("PLACE") for it in (line, other) if it.place is not None), "s*")
-        when = "in every cycle" if cycle is None else f"in cycle {cycle}"
+        common = line.cycles.bits & other.cycles.bits
+        is_all = line.cycles.last is None and other.cycles.last is None
+        when = "in every cycle" if is_all else f"in cycle {(common & -common).bit_length() - 1}"
+        place = common_place(line.place, other.place)
         headline = f"two lines {line.kind}{whose} on {line.word('CHANNEL')} at {place} {when}"
         reason = "A window takes one fault of a kind for each node and channel. Expected another cycle or place."
+        if line.is_lost or other.is_lost:
+            reason += " A line `lost` is `mute` on both channels in every window."
+        if {line.place.segment, other.place.segment} == {"m", "d"} and place.first is not None:
+            reason += " A dynamic slot may open at any minislot."
         note = Note(f"line {other.number} names it too", self.scenario.place_of(other, "PLACE"))
         return Finding(headline, reason, self.scenario.place_of(line, "PLACE"), (note,))
 
@@ -137,11 +168,13 @@ class Run:
         return [(f"NoRoom {node.number}", it) for node, it in sorted(found, key=lambda it: it[0].number)]
 
     def no_host_room(self, node: Node) -> Iterator[Finding]:
-        lines = sum(len(it) for (number, _), it in self.scenario.scripts.items() if number == node.number)
-        if lines > node.host_entries:
-            has = counted(lines, "line")
+        its = (line for (number, _), lines in self.scenario.scripts.items() if number == node.number for line in lines)
+        calls = sum(self.scenario.count_of(line, self.cycles) for line in its)
+        if calls > node.host_entries:
+            thing = "call" if self.scenario.version == NEWEST else "line"
+            has = counted(calls, thing)
             headline = f"node {node.number} has {has} in the scenario, and room for {node.host_entries}"
-            right = f"`host_entries = {lines}` or more" if lines <= MOST_HOST_ENTRIES else "fewer lines"
+            right = f"`host_entries = {calls}` or more" if calls <= MOST_HOST_ENTRIES else f"fewer {thing}s"
             reason = f"Each `commit`, `withdraw`, `read` and `pop` is an entry of its journal. Expected {right}."
             yield Finding(headline, reason, self.place_of(node, "host_entries"))
 
@@ -150,6 +183,26 @@ class Run:
 
     def note(self, path: Path, text: str) -> Note:
         return Note(text, self.text.place_of(path))
+
+
+def skipped_lines(scenario: Scenario, cycles: int) -> Iterator[Finding]:
+    """Yields one finding for all lines that are left out, since they name only cycles that the run doesn't have."""
+    if scenario.skipped:
+        first, *others = scenario.skipped
+        headline = f"{counted(len(scenario.skipped), 'line')} of the scenario left out"
+        reason = f"The run has {counted(cycles, 'cycle')} from cycle 0 on. Each of these lines names only later ones."
+        notes = [Note(f"line {it} is left out too", scenario.place(it)) for it in others[:MOST_NOTES]]
+        yield Finding(headline, reason, scenario.place(first), tuple(notes))
+
+
+def common_place(one: FaultPlace, other: FaultPlace) -> FaultPlace:
+    """Returns the windows that two places share, as far as a place can name them."""
+    if one.first is None or other.first is None:
+        whole, part = (one, other) if one.first is None else (other, one)
+        return part if whole.segment == "*" or part.first is not None else whole
+    if one.segment != other.segment:
+        return one if one.segment == "m" else other
+    return FaultPlace(one.segment, max(one.first, other.first), min(one.last or 0, other.last or 0))
 
 
 def slot_rooms(cluster: Cluster, text: Text, cycles: int) -> list[tuple[Node, Finding]]:

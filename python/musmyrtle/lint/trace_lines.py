@@ -4,7 +4,7 @@ from collections.abc import Callable
 
 from musmyrtle.cluster import CHANNELS, PARAMETERS, REPETITIONS
 from musmyrtle.findings import counted, joined, nearest
-from musmyrtle.scenario import columns, odd_spaces
+from musmyrtle.scenario_words import columns, odd_spaces
 from musmyrtle.visible import cut
 
 Fault = tuple[str, str, int]
@@ -58,7 +58,7 @@ def spelled(kind: str, version: int) -> str:
 
 def bad_trace_line(text: str, version: int, may_stand: tuple[str, ...]) -> Fault | None:
     """Returns the fault of a trace line, where the lines MAY_STAND would be accepted."""
-    odd = odd_spaces(text, "A trace")
+    odd = odd_spaces(text, "a trace")
     if odd:
         return odd
     words = tuple(text.split(" "))

@@ -7,7 +7,8 @@ from musmyrtle.cluster import PARAMETERS
 from musmyrtle.findings import Finding
 from musmyrtle.lint.trace_lines import ENTRIES, PLAN, Fault, bad_trace_line
 from musmyrtle.places import Place
-from musmyrtle.scenario import LONGEST_LINE, columns, truncated
+from musmyrtle.scenario import LONGEST_LINE, truncated
+from musmyrtle.scenario_words import columns
 from musmyrtle.visible import cut
 
 MAGIC = b"frtrace"
@@ -123,7 +124,7 @@ def fault_of(why: Why, trace: TraceFile) -> Fault:
     if name == "BadMagic":
         return bad_magic(trace)
     if name == "Truncated":
-        return *truncated(["", trace.text]), len(trace.text) + 1
+        return *truncated(["", trace.text], trace.text == "end"), len(trace.text) + 1
     if name == "LineTooLong":
         return f"the line has more than {LONGEST_LINE} bytes", f"Expected at most {LONGEST_LINE}.", LONGEST_LINE + 1
     if why.due:

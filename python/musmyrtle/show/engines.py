@@ -36,6 +36,8 @@ class Inputs:
     def __init__(self, task: Task) -> None:
         self.task, self.children = task, Children()
         self.programs: dict[str, str] = {}
+        self.passed_on: set[str] = set()
+        """The messages that were passed on. Each run of a command has the same ones."""
 
     @cached_property
     def network(self) -> Network:
@@ -89,7 +91,8 @@ class Inputs:
             self.stop(program, words, status, lines)
         idle = [it for it in lines if it.startswith(IDLE_FRONT) and it.endswith(IDLE_BACK)]
         for line in lines:
-            if line not in idle:
+            if line not in idle and line not in self.passed_on:
+                self.passed_on.add(line)
                 pass_on(line)
         numbers = (it.removeprefix(IDLE_FRONT).removesuffix(IDLE_BACK) for it in idle)
         return Printed(output.decode(errors="replace").splitlines(), tuple(int(it) for it in numbers if it.isdecimal()))

@@ -1,12 +1,16 @@
 """The facts of a run, as `fr_view` prints them: commits, answers, the record of the bus, and the outcome."""
-from collections.abc import Iterable
+from collections import Counter
+from collections.abc import Iterable, Iterator
 from dataclasses import dataclass
 from functools import cache, cached_property
 
 from musmyrtle.faults.fifos import TABLE, Fifo, Unread, read_fifo
 from musmyrtle.lint.command import USAGE
+from musmyrtle.lint.lint import read_bytes
+from musmyrtle.names import Names
 from musmyrtle.outcomes import BadOutcome, Outcome, read_outcome
 from musmyrtle.output import Stop
+from musmyrtle.scenario import Reading, Scenario
 from musmyrtle.show.engines import Inputs
 from musmyrtle.show.network import Network
 
@@ -161,9 +165,31 @@ class Facts:
         """Returns the outcome, and the lines of the scenario whose faults had no effect."""
         printed = self.inputs.of_run("outcome")
         try:
-            return read_outcome("".join(f"{it}\n" for it in printed.lines), self.network.cluster), printed.idle
+            outcome = read_outcome("".join(f"{it}\n" for it in printed.lines), self.network.cluster)
+            return outcome, tuple(self.without_effect(printed.idle))
         except BadOutcome as error:
             raise Stop(USAGE, f"{self.inputs.program('fr_view')} prints no outcome: {error}") from None
+
+    def without_effect(self, lines: Iterable[int]) -> Iterator[int]:
+        """Yields each of the lines once, but for those of two channels that had an effect on one of them."""
+        counts = Counter(it.number for it in self.scenario.faults)
+        for number in dict.fromkeys(lines):
+            if counts[number] < 2 or number not in self.effective:
+                yield number
+
+    @cached_property
+    def effective(self) -> set[int]:
+        """Returns the lines of the scenario whose faults had an effect: a bit is flipped only in one transmission."""
+        flipped = {(it.window, it.channel) for it in self.record if it.end == "turned"}
+        return {it.line for it in self.record if it.line is not None
+                and (it.what != "corrupt" or (it.window, it.channel) in flipped)}
+
+    @cached_property
+    def scenario(self) -> Scenario:
+        """Returns the scenario, which a program has accepted."""
+        task = self.inputs.task
+        name, cluster = task.scenario or "", read_bytes(task.file(task.cluster)) or b""
+        return Reading(name, read_bytes(task.file(name)) or b"", self.inputs.cycles, Names.of(cluster)).scenario
 
     @cached_property
     def minislots(self) -> dict[tuple[int, int, str], int | None]:

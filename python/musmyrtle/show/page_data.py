@@ -2,9 +2,6 @@
 from collections.abc import Iterator
 from typing import Any
 
-from musmyrtle.lint.lint import read_bytes
-from musmyrtle.scenario import Reading
-from musmyrtle.show.engines import Inputs
 from musmyrtle.show.facts import ARRIVED, Facts, call_of, commit_of, number, text
 from musmyrtle.show.log import ENDS
 from musmyrtle.show.page_columns import Columns
@@ -44,7 +41,7 @@ def header_of(facts: Facts) -> dict[str, Any]:
         "cycles": inputs.cycles, "macrotick_us": network.macrotick, "params": vars(network.cluster.parameters),
         "nodes": [{**node_of(facts, it), "outcome": outcomes[it]} for it in range(len(network.cluster.nodes))],
         "plan": [it.split(" ") for it in inputs.of_cluster("fr_bench", "plan").lines if not it.startswith("guard ")],
-        "faults": fault_lines(inputs), "idle": list(ended.idle), "arrived": ARRIVED,
+        "faults": fault_lines(facts), "idle": list(facts.without_effect(ended.idle)), "arrived": ARRIVED,
         "ends": {**ENDS, "collided": "collided", ARRIVED: "arrived"}, "errors": {it: list(ERRORS[it]) for it in ERRORS},
     }
 
@@ -75,11 +72,20 @@ def outcomes_of(lines: list[str]) -> list[list[str]]:
     return found
 
 
-def fault_lines(inputs: Inputs) -> list[dict[str, Any]]:
-    """Returns the fault lines of the scenario: their numbers in the file and their words."""
-    name = inputs.task.scenario or ""
-    scenario = Reading(name, read_bytes(inputs.task.file(name)) or b"").scenario
-    return [{"line": it.number, "words": list(it.words)} for it in scenario.faults]
+def fault_lines(facts: Facts) -> list[dict[str, Any]]:
+    """Returns the fault lines of the scenario: their numbers in the file and their words.
+
+    A line for two channels is one of them. Its words are those of the file, with the numbers of nodes.
+    """
+    found: dict[int, list[str]] = {}
+    for it in facts.scenario.faults:
+        if it.is_lost:
+            found[it.number] = [it.written, it.word("NODE"), it.word("CYCLES")]
+        elif it.number in found:
+            found[it.number][1 if it.kind == "corrupt" else 2] = "AB"
+        else:
+            found[it.number] = list(it.words)
+    return [{"line": number, "words": words} for number, words in found.items()]
 
 
 # ---- windows

@@ -4,7 +4,7 @@ from collections.abc import Callable
 from typing import SupportsIndex
 
 from musmyrtle.findings import counted
-from musmyrtle.scenario import GREATEST, MOST_BYTES
+from musmyrtle.scenario_words import GREATEST, MOST_BYTES
 from musmyrtle.world.replies import Channel, channel_of
 
 MOST_CYCLES, MOST_ENDLESS = 1024, 4_000_000

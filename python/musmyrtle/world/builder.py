@@ -15,19 +15,16 @@ from pathlib import Path
 from typing import Any
 
 from musmyrtle.cluster_file import document_of, payload_length
+from musmyrtle.named_windows import EVERY, EVERY_STATIC, MOST_PLACE, FaultPlace, spelled
 from musmyrtle.names import Names
+from musmyrtle.scenario_words import NEWEST
 from musmyrtle.world.bounds import (
-    babble_hex, bit_number, buffer_number, node_number, payload_hex, run_cycles, task_number,
+    babble_hex, bit_number, buffer_number, node_number, payload_hex, run_cycles, task_number, within,
 )
 from musmyrtle.world.refusals import BadName
 from musmyrtle.world.session import FileName
 
 Cycles = Iterable[int] | int | None
-MOST_PLACE = 8000
-
-
-class NotInAScenario(ValueError):
-    """A request that no lines of a scenario can express. The message has the reason."""
 
 
 class ScenarioText(str):
@@ -56,10 +53,10 @@ class Task:
     def every(self, step: int, first: int = 0) -> "Task":
         """Returns the same task, in the cycle FIRST of its cycles and in each one STEP cycles after that.
 
-        Raises `NotInAScenario` for a step below 1 or a first cycle below 0.
+        Raises `ValueError` for a step below 1 or a first cycle below 0.
         """
         if step < 1 or first < 0:
-            raise NotInAScenario(f"every {step} cycles from cycle {first}: 1 cycle is the least, and cycle 0 the first")
+            raise ValueError(f"every {step} cycles from cycle {first}: 1 cycle is the least, and cycle 0 the first")
         return Task(self.scenario, self.node, self.number, self.cycles[first::step])
 
     def at(self, cycles: Cycles) -> "Task":
@@ -69,34 +66,48 @@ class Task:
     def commit(self, buffer: str | int, payload: bytes | Iterable[bytes]) -> None:
         """Commits a payload in each of the cycles: this one, or one after another of these.
 
-        Raises `ValueError` for a payload that isn't 0 to 127 two-byte words, and `NotInAScenario` where there are fewer
-        payloads than cycles.
+        Raises `ValueError` for a payload that isn't 0 to 127 two-byte words, and where there are fewer payloads than
+        cycles.
         """
-        payloads = [payload] * len(self.cycles) if isinstance(payload, bytes) else list(payload)
+        number = self.scenario.buffer(self.node, buffer)
+        if isinstance(payload, bytes):
+            self._lines("commit", self.cycles, number, self._hex(number, payload))
+            return
+        payloads = list(payload)
         if len(payloads) < len(self.cycles):
-            raise NotInAScenario(f"{len(payloads)} payloads for {len(self.cycles)} cycles")
-        for cycle, data in zip(self.cycles, payloads):
-            number = self.scenario.buffer(self.node, buffer)
-            payload_word = payload_hex(data, lambda: payload_length(self.scenario.data, self.node, number))
-            self._line("commit", cycle, number, payload_word)
+            raise ValueError(f"{len(payloads)} payloads for {len(self.cycles)} cycles")
+        for word, cycles in alike(zip(self.cycles, (self._hex(number, it) for it in payloads))):
+            self._lines("commit", cycles, number, word)
+
+    def _hex(self, buffer: int, payload: bytes) -> str:
+        return payload_hex(payload, lambda: payload_length(self.scenario.data, self.node, buffer))
 
     def withdraw(self, buffer: str | int) -> None:
         """Takes the last commit of the buffer back in each of the cycles."""
-        for cycle in self.cycles:
-            self._line("withdraw", cycle, self.scenario.buffer(self.node, buffer))
+        self._lines("withdraw", self.cycles, self.scenario.buffer(self.node, buffer))
 
     def read(self, buffer: str | int) -> None:
         """Reads the receive buffer in each of the cycles."""
-        for cycle in self.cycles:
-            self._line("read", cycle, self.scenario.buffer(self.node, buffer))
+        self._lines("read", self.cycles, self.scenario.buffer(self.node, buffer))
 
     def pop(self) -> None:
         """Takes a frame out of the receive FIFO in each of the cycles."""
-        for cycle in self.cycles:
-            self._line("pop", cycle)
+        self._lines("pop", self.cycles)
 
-    def _line(self, kind: str, cycle: int, *words: object) -> None:
-        self.scenario.scripts.setdefault((self.node, self.number), []).append((cycle, (kind, *words)))
+    def _lines(self, kind: str, cycles: Iterable[int], *words: object) -> None:
+        lines = self.scenario.scripts.setdefault((self.node, self.number), [])
+        lines += [(kind, self.node, self.number, named, *words) for named in self.scenario.spelled(cycles)]
+
+
+def alike(payloads: Iterable[tuple[int, str]]) -> list[tuple[str, list[int]]]:
+    """Returns the payloads of cycles, those of neighbours that are the same once, with their cycles."""
+    found: list[tuple[str, list[int]]] = []
+    for cycle, word in payloads:
+        if found and found[-1][0] == word:
+            found[-1][1].append(cycle)
+        else:
+            found.append((word, [cycle]))
+    return found
 
 
 class Scenario:
@@ -117,7 +128,7 @@ class Scenario:
         if self.names.wrong:
             raise BadName(self.names.wrong)
         self.cluster: dict[str, Any] = document_of(self.data)
-        self.scripts: dict[tuple[int, int], list[tuple[int, tuple[object, ...]]]] = {}
+        self.scripts: dict[tuple[int, int], list[tuple[object, ...]]] = {}
         self.faults: list[tuple[object, ...]] = []
 
     def node(self, node: str | int) -> int:
@@ -135,103 +146,89 @@ class Scenario:
     def cycles_of(self, cycles: Cycles) -> tuple[int, ...]:
         """Returns these cycles of the run in order, or all for None. Those after its last one are left out.
 
-        Raises `NotInAScenario` for a cycle below 0.
+        Raises `ValueError` for a cycle below 0.
         """
         if cycles is None:
             return tuple(range(self.cycle_count))
         named = sorted({cycles} if isinstance(cycles, int) else set(cycles))
         if named and named[0] < 0:
-            raise NotInAScenario(f"there is no cycle {named[0]}: the first one is cycle 0")
+            raise ValueError(f"there is no cycle {named[0]}: the first one is cycle 0")
         return tuple(cycle for cycle in named if cycle < self.cycle_count)
+
+    def spelled(self, cycles: Iterable[int]) -> list[str]:
+        """Returns the words that name these rising cycles of the run: `*` for all, and ranges where there are some."""
+        named = list(cycles)
+        return [EVERY] if len(named) == self.cycle_count else spelled(named)
 
     # ---- faults
 
     def babble(self, node: str | int, data: bytes, *, slot: int | None = None, minislot: int | None = None,
-               channels: str = "AB", cycles: Cycles = None) -> None:
-        """Has the node send these bytes too, 262 at most: in a static slot, in every static slot, or at a minislot.
+               place: str | None = None, channels: str = "AB", cycles: Cycles = None) -> None:
+        """Has the node send these bytes too, 262 at most, in the windows of a place.
 
-        Raises `NotInAScenario` for a slot and a minislot, and for other channels than `A`, `B` and `AB`.
+        SLOT is a static or a dynamic slot, and MINISLOT the window that opens there. PLACE is written as in a fault
+        line, as `s2-4`, `m*` or `*`. Without any of these three it is every static slot. CHANNELS are `A`, `B` or
+        `AB`. Raises `ValueError` for several of the three, for numbers out of 1 to 8000, and for other channels.
         """
-        self._fault("babble", channels, cycles, place_of(slot, minislot), self.node(node), babble_hex(data))
+        self._fault("babble", channels, cycles, self.place_of(slot, minislot, place), self.node(node), babble_hex(data))
 
-    def mute(self, node: str | int, *, slot: int | None = None, minislot: int | None = None, channels: str = "AB",
-             cycles: Cycles = None) -> None:
-        """Has the node's offers lost in a static slot, in every static slot, or at a minislot. Raises as `babble`."""
-        self._fault("mute", channels, cycles, place_of(slot, minislot), self.node(node))
+    def mute(self, node: str | int, *, slot: int | None = None, minislot: int | None = None, place: str | None = None,
+             channels: str = "AB", cycles: Cycles = None) -> None:
+        """Has the node's offers lost in the windows of a place, as in `babble`, which has the errors too."""
+        self._fault("mute", channels, cycles, self.place_of(slot, minislot, place), self.node(node))
 
-    def corrupt(self, bit: int, *, slot: int | None = None, minislot: int | None = None, channels: str = "AB",
-                cycles: Cycles = None) -> None:
-        """Has a bit of the only transmission there flipped, 0 to 65535. Raises as `babble`."""
-        self._fault("corrupt", channels, cycles, place_of(slot, minislot), None, bit_number(bit))
+    def corrupt(self, bit: int, *, slot: int | None = None, minislot: int | None = None, place: str | None = None,
+                channels: str = "AB", cycles: Cycles = None) -> None:
+        """Has a bit of the only transmission there flipped, 0 to 65535, in the windows of a place, as in `babble`."""
+        self._fault("corrupt", channels, cycles, self.place_of(slot, minislot, place), None, bit_number(bit))
 
     def lose(self, node: str | int, *, cycles: Cycles = None) -> None:
-        """Has everything lost that the node sends in these cycles, as if it were silent.
-
-        In static slots that is a line for each channel. In the dynamic segment a line names a minislot, and the
-        minislot at which the node sends is known beforehand only where no other node sends before it. Raises
-        `NotInAScenario` otherwise, with nothing added.
-        """
+        """Has everything lost that the node sends in these cycles, as if it were silent."""
         number = self.node(node)
-        dynamic = self._dynamic(number)
-        self.mute(number, cycles=cycles)
-        for channel, minislot in dynamic:
-            self.mute(number, minislot=minislot, channels=channel, cycles=cycles)
+        self.faults += [("lost", number, named) for named in self.spelled(self.cycles_of(cycles))]
 
-    def _dynamic(self, node: int) -> list[tuple[str, int]]:
-        """Returns the channel and the minislot of each dynamic slot of the node."""
-        static_slots = self.cluster["params"]["static_slots"]
-        slots = [(channel, buffer["slot"], number) for number, table in enumerate(self.cluster["node"])
-                 for buffer in table.get("buffer", [])
-                 if buffer.get("kind") != "receive" and buffer["slot"] > static_slots
-                 for channel in buffer.get("channels", "AB")]
-        found: list[tuple[str, int]] = []
-        for channel, slot, number in slots:
-            if number != node:
-                continue
-            before = sorted({other for name, other, _ in slots if name == channel and other < slot})
-            if before:
-                raise NotInAScenario(f"node {node} sends in slot {slot} on {channel}, and the minislot depends on "
-                                     f"whether anything is sent in slot {before[0]} before it")
-            found.append((channel, slot - static_slots))
-        return found
+    def place_of(self, slot: int | None, minislot: int | None, place: str | None) -> str:
+        """Returns the word for the windows of a fault line, of which at most one of the three is given.
+
+        A slot after the static ones is a dynamic slot. Raises `ValueError` for several, and for what is no place.
+        """
+        if sum(it is not None for it in (slot, minislot, place)) > 1:
+            raise ValueError("a fault is at one place: a slot, a minislot or a place, and not several of these")
+        if place is not None:
+            if FaultPlace.of(place) is None:
+                raise ValueError(f"the place is {place!r}, and has to be '*', 's*', 's3', 's3-5', 'm*', 'm7' or 'd70', "
+                                 f"with numbers from 1 to {MOST_PLACE}")
+            return place
+        if minislot is not None:
+            return f"m{within('the minislot', minislot, 1, MOST_PLACE)}"
+        if slot is None:
+            return EVERY_STATIC
+        number = within("the slot", slot, 1, MOST_PLACE)
+        parameters = self.cluster.get("params")
+        static_slots = parameters.get("static_slots") if isinstance(parameters, dict) else None
+        return f"d{number}" if isinstance(static_slots, int) and number > static_slots else f"s{number}"
 
     def _fault(self, kind: str, channels: str, cycles: Cycles, place: str, node: int | None, *words: object) -> None:
         if channels not in ("A", "B", "AB"):
-            raise NotInAScenario(f"the channels are {channels!r}, and have to be 'A', 'B' or 'AB'")
-        named = self.cycles_of(cycles)
-        lines: Iterable[object] = ["*"] if len(named) == self.cycle_count else named
+            raise ValueError(f"the channels are {channels!r}, and have to be 'A', 'B' or 'AB'")
         who = () if node is None else (node,)
-        self.faults += [(kind, *who, channel, cycle, place, *words) for channel in channels for cycle in lines]
+        named = self.spelled(self.cycles_of(cycles))
+        self.faults += [(kind, *who, channels, cycle, place, *words) for cycle in named]
 
     # ---- the text
 
     def text(self) -> ScenarioText:
-        """Returns the text, as `fr_bench run` reads it: the lines of each task by cycle, then the fault lines.
+        """Returns the text, of version 3: the lines of each task in the order of the calls, then the fault lines.
 
-        It can be printed and written to a file. Both make a scenario that is accepted.
+        Cycles with one step are one line, and so are both channels. It can be printed and written to a file. Both make
+        a scenario that is accepted.
         """
-        lines = ["frscenario 2"]
-        for (node, task), calls in sorted(self.scripts.items()):
-            for cycle, (kind, *words) in sorted(calls, key=lambda call: call[0]):
-                lines.append(" ".join(map(str, (kind, node, task, cycle, *words))))
+        lines = [f"frscenario {NEWEST}"]
+        for _, calls in sorted(self.scripts.items()):
+            lines += [" ".join(map(str, words)) for words in calls]
         lines += [" ".join(map(str, words)) for words in self.faults]
         return ScenarioText("".join(f"{line}\n" for line in [*lines, "end"]))
 
     def __str__(self) -> str:
         """Returns the text, so that `file.write(str(scenario))` writes it whole."""
         return self.text()
-
-
-def place_of(slot: int | None, minislot: int | None) -> str:
-    """Returns the place of a fault line: a static slot, a minislot, or every static slot where both are None.
-
-    Raises `NotInAScenario` for both, and for a number out of 1 to 8000.
-    """
-    if slot is not None and minislot is not None:
-        raise NotInAScenario("a fault is in a static slot or at a minislot, and not both")
-    number = slot if minislot is None else minislot
-    if number is not None and not 1 <= number <= MOST_PLACE:
-        raise NotInAScenario(f"the slot or minislot is {number}, and has to be 1 to {MOST_PLACE}")
-    if minislot is not None:
-        return f"m{minislot}"
-    return "s*" if slot is None else f"s{slot}"

@@ -1,7 +1,9 @@
 """Faults that a test brings into windows of a world."""
 from dataclasses import dataclass
 
-from musmyrtle.scenario import bad_words
+from musmyrtle.names import LineNames, Names
+from musmyrtle.scenario_lines import FAULTS, LOST, FaultLine
+from musmyrtle.scenario_words import NEWEST, Size, Words
 from musmyrtle.world.bounds import babble_hex, bit_number, channel_name, node_number
 from musmyrtle.world.replies import Channel
 
@@ -67,20 +69,24 @@ Fault = Babble | Mute | Corrupt
 
 def is_fault_line(text: str) -> bool:
     """Returns whether the text is meant as a fault line, which has more words than the fault of one window."""
-    kind, *words = text.split(" ")
-    return kind in ("babble", "mute", "corrupt") and len(words) > 3
+    kind, *words = text.split() or [""]
+    return kind in FAULTS and len(words) > 3 or kind == LOST
 
 
-def fault_line(text: str) -> str:
-    """Returns a fault line of a scenario, without the line feed at its end.
+def fault_lines(text: str, names: Names | None = None, size: Size | None = None) -> list[str]:
+    """Returns the requests for a fault line of a scenario, which may end with a line feed: one for each channel.
 
-    Raises `ValueError`, with the expected form, for any other text.
+    They have numbers in the place of NAMES, and the form of version 2 if the SIZE of the world is known. Raises
+    `ValueError`, with the expected form, for any other text, and for a dynamic slot, which version 2 can't name.
     """
     line = text.removesuffix("\n")
-    found = bad_words(tuple(line.split(" ")), line, version=2)
+    words = Words.of(line, NEWEST, LineNames(names))
+    found = words.wrong() if words.words else ("the line is empty", "Expected a fault line of a scenario.", 1)
     if found:
         headline, right, _ = found
         raise ValueError(f"no fault line: {headline}. {right}")
     if not is_fault_line(line):
-        raise ValueError(f"no fault line: `{line[:60]}`. It begins with `babble`, `mute` or `corrupt`")
-    return line
+        kinds = "`babble`, `mute`, `corrupt` or `lost`"
+        raise ValueError(f"no fault line: `{line[:60]}`. It begins with {kinds}")
+    lines = (it for it in words.lines(0) if isinstance(it, FaultLine))
+    return [request for it in lines for request in (size.requests(it) if size else [" ".join(it.words)])]

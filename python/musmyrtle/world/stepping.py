@@ -1,43 +1,50 @@
 """The requests that do a scenario in a world, cycle by cycle, in the order of a lockstep run."""
 from musmyrtle.findings import Finding, counted
-from musmyrtle.scenario import FaultLine, Line, Reading
+from musmyrtle.names import Names
+from musmyrtle.scenario import Reading, Scenario
+from musmyrtle.scenario_lines import Line
+from musmyrtle.scenario_words import NEWEST
 
 
-def requests_of(text: str, cycles: int) -> tuple[list[str], list[list[str]]]:
+def requests_of(text: str, cycles: int, names: Names | None = None) -> tuple[list[str], list[list[str]]]:
     """Returns the fault lines of a scenario, and for each of the cycles the requests of the tasks.
 
-    In a cycle these are in the order of nodes and then tasks. Raises `ValueError` with the line number and the expected
-    text, where the text is no scenario or a line names a cycle that isn't one of these.
+    In a cycle these are in the order of nodes and then tasks. Lines of version 3 may have NAMES, and those of later
+    cycles alone are left out. Raises `ValueError` with the line number and the expected text, where the text is no
+    scenario or a line of version 1 or 2 names a cycle that isn't one of these.
     """
-    scenario = Reading("scenario", text.encode()).scenario
+    scenario = Reading("scenario", text.encode(), cycles, names).scenario
     if scenario.refusals:
         raise ValueError(told(scenario.refusals[0][1]))
+    if scenario.version < NEWEST:
+        check_cycles(scenario, cycles)
     requests: list[list[str]] = [[] for _ in range(cycles)]
+    for cycle, line in scenario.calls(cycles):
+        requests[cycle].append(" ".join((line.kind, *line.words[1:3], *line.words[4:])))
+    return [" ".join(line.words) for line in scenario.faults], requests
+
+
+def check_cycles(scenario: Scenario, cycles: int) -> None:
+    """Raises `ValueError` where a line names another cycle than these, or one before that of the task's last line."""
     for _, lines in scenario.numbered():
         before = 0
         for line in lines:
-            cycle = cycle_of(line, line.value("CYCLE"), cycles)
+            cycle = cycle_of(line, cycles)
             if cycle < before:
                 raise ValueError(f"scenario line {line.number}: cycle {cycle} comes after cycle {before} of the same "
                                  "task. The lines of one task stand in the order of their cycles.")
             before = cycle
-            requests[cycle].append(" ".join((line.kind, *line.words[1:3], *line.words[4:])))
-    return [fault_of(line, cycles) for line in scenario.faults], requests
+    for fault in scenario.faults:
+        cycle_of(fault, cycles)
 
 
-def cycle_of(line: Line, cycle: int, cycles: int) -> int:
-    """Returns the cycle of a line. Raises `ValueError` where it isn't one of the cycles."""
-    if cycle >= cycles:
+def cycle_of(line: Line, cycles: int) -> int:
+    """Returns the first cycle of a line. Raises `ValueError` where it isn't one of the cycles."""
+    cycle = line.cycles.first
+    if cycle >= cycles and line.cycles.last is not None:
         raise ValueError(f"scenario line {line.number}: there is no cycle {cycle} in {counted(cycles, 'cycle')}. The "
                          "first one is cycle 0.")
     return cycle
-
-
-def fault_of(line: FaultLine, cycles: int) -> str:
-    """Returns a fault line as a request. Raises `ValueError` where its cycle isn't one of the cycles."""
-    if line.cycle is not None:
-        cycle_of(line, line.cycle, cycles)
-    return " ".join(line.words)
 
 
 def told(finding: Finding) -> str:

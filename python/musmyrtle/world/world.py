@@ -9,17 +9,18 @@ from collections.abc import Callable, Iterable, Iterator
 from contextlib import AbstractContextManager, contextmanager, suppress
 from functools import partial
 
-from musmyrtle.cluster_file import payload_length
+from musmyrtle.cluster_file import document_of, payload_length
 from musmyrtle.names import Names, UnknownName
+from musmyrtle.scenario_words import Size
 from musmyrtle.texts import FILE_LIMIT
 from musmyrtle.world.bounds import (
     MOST_CYCLES, MOST_ENDLESS, endless_cycles, run_cycles, some_cycles, window_number,
 )
 from musmyrtle.world.capture import captured, listener, only_bytes
-from musmyrtle.world.faults import Fault, fault_line
+from musmyrtle.world.faults import Fault, fault_lines
 from musmyrtle.world.node import Buffer, Node
 from musmyrtle.world.playing import Host, Play
-from musmyrtle.world.refusals import BadCycles, BadName, TooManyFaults, UnknownNode, WrongLength, refusal
+from musmyrtle.world.refusals import BadCycles, BadName, Refused, TooManyFaults, UnknownNode, WrongLength, refusal
 from musmyrtle.world.replies import Channel, Counters, Moment, Record, Window, record_of, window_of
 from musmyrtle.world.session import CLOSE_SECONDS, FileName, Session
 from musmyrtle.world.stepping import requests_of
@@ -72,6 +73,7 @@ class World:
         self._session = Session(program or usual_world(), cluster, cycles, timeout, endless=self._is_endless)
         try:
             self._names = self._read_names(self._data)
+            self._size = size_of(self._data, cycles or MOST_CYCLES)
         except BaseException:
             self._session.close()
             raise
@@ -296,10 +298,11 @@ class World:
         """Does a scenario in a world that has just been opened, for so many cycles, as a lockstep run does it.
 
         Its fault lines are kept. In each cycle the lines of the tasks come first, by node and then task. Returns each
-        request of a task with its reply. Raises `ValueError`, with the line number and nothing sent, for a text that
-        is no scenario of so many cycles; a refusal by its name; and what `cycle` raises.
+        request of a task with its reply. Lines of version 3 that name only later cycles are left out. Raises
+        `ValueError`, with the line number and nothing sent, for a text that is no scenario of so many cycles; a
+        refusal by its name; and what `cycle` raises.
         """
-        faults, requests = requests_of(text, some_cycles(cycles))
+        faults, requests = requests_of(text, some_cycles(cycles), self._names)
         answers: list[tuple[str, str]] = []
         with self._session.lock:
             for line in faults:
@@ -330,7 +333,7 @@ class World:
         by a request for each window. A window that has one of this kind, node and channel keeps that one. WHEN is
         called while the world is locked: it must not wait for a thread that uses the world.
 
-        A fault line of a scenario, as `"mute 2 A * s*"`, says itself where it comes. Raises `ValueError` for a line
+        A fault line of a scenario, as `"lost gateway 8-15"`, says itself where it comes. Raises `ValueError` for a line
         beside WHEN and for a text that is no fault line; the block raises `BadFault` as `keep` does. An exception of
         the block is never replaced.
         """
@@ -338,25 +341,35 @@ class World:
             if when is not None:
                 raise ValueError("a fault line says itself where it comes: give it no `when`, or give a Babble, Mute "
                                  "or Corrupt")
-            return self._kept_in_block(fault_line(fault))
+            return self._kept_in_block(fault_lines(fault, self._names, self._size))
         return self._injected_in_block(fault, when or every_window)
 
     def keep(self, line: str) -> None:
         """Has the world bring the fault of a scenario's fault line into each window that it names from now on.
 
-        The line may end with a line feed. Raises `ValueError` for a text that is no fault line, with nothing sent, and
-        `BadFault` where no run of the cluster can have it beside those that are kept.
+        It is a line of version 3, and may end with a line feed. A line for both channels is two requests, and `lost`
+        too: one for A and one for B. Raises `ValueError` for a text that is no fault line, with nothing sent, and
+        `BadFault` where no run of the cluster can have it beside those that are kept. Then nothing of it is kept.
         """
-        self.ask(fault_line(line))
+        self._keep(fault_lines(line, self._names, self._size))
+
+    def _keep(self, lines: list[str]) -> None:
+        with self._session.lock:
+            for number, line in enumerate(lines):
+                try:
+                    self.ask(line)
+                except Refused:
+                    self._drop(lines[:number])
+                    raise
 
     def forget(self) -> None:
         """Ends all fault lines. The faults that they brought into the open window stay there."""
         self.ask("forget")
 
     @contextmanager
-    def _kept_in_block(self, line: str) -> Iterator[None]:
-        self.keep(line)
-        yield from self._block(partial(self._drop, line))
+    def _kept_in_block(self, lines: list[str]) -> Iterator[None]:
+        self._keep(lines)
+        yield from self._block(partial(self._drop, lines))
 
     @contextmanager
     def _injected_in_block(self, fault: Fault, when: Callable[[Window], bool]) -> Iterator[None]:
@@ -380,11 +393,13 @@ class World:
             if not self._session.is_closed:
                 ending()
 
-    def _drop(self, line: str) -> None:
-        """Ends one fault line. The others are kept again in the same exchange, so that none is lost between."""
+    def _drop(self, lines: list[str]) -> None:
+        """Ends some fault lines. The others are kept again in the same exchange, so that none is lost between."""
         others = list(self._session.kept)
-        if line in others:
+        ended = [line for line in lines if line in others]
+        for line in ended:
             others.remove(line)
+        if ended:
             requests = ["forget", *others]
             for request, reply in zip(requests, self.send(requests)):
                 if reply != "done":
@@ -404,6 +419,15 @@ class World:
             if when(window):
                 with suppress(TooManyFaults):
                     self.inject(fault)
+
+
+def size_of(data: bytes | None, cycles: int) -> Size | None:
+    """Returns the size of a world by its cluster file, which the program has accepted, or None."""
+    try:
+        parameters = document_of(data)["params"] if data is not None else None
+        return parameters and Size(parameters["static_slots"], parameters["minislots"], min(cycles, MOST_CYCLES))
+    except (ValueError, KeyError, TypeError):
+        return None
 
 
 def every_window(_: Window) -> bool:

@@ -1,14 +1,32 @@
-use Rattle.fr_scenario.proofs.TextLemmas.{told_found, told_only, told_refused, told_hopeless}
+use Rattle.std.proofs.Common.{◌≡◌, [], List, Result, Err, subst}
+use Rattle.fr_names.specs.Names.{NamesOfNode}
+use Rattle.fr_scenario.proofs.AnyLemmas.{Tells, told_found, told_only, told_refused, told_hopeless}
 use Rattle.fr_scenario.proofs.scenario.Scenario.from_text.Goals as goal
 
 pub returns-clause-found : goal.returns-clause-found
-returns-clause-found c = told_found c.args.text.now c.read.result c.read.ensures
+returns-clause-found c =
+    let text = c.args.text.now in
+    let told = subst (λ (names : List NamesOfNode). Tells names 1024 text c.read-2.result) c.none.ensures
+    c.read-2.ensures in
+    told_found [] 1024 text c.read-2.result told
 
 pub returns-clause-only : goal.returns-clause-only
-returns-clause-only c s is = told_only c.args.text.now c.read.result s c.read.ensures is
+returns-clause-only c s is =
+    let text = c.args.text.now in
+    let told = subst (λ (names : List NamesOfNode). Tells names 1024 text c.read-2.result) c.none.ensures
+    c.read-2.ensures in
+    told_only [] 1024 text c.read-2.result s told is
 
 pub returns-clause-refused : goal.returns-clause-refused
-returns-clause-refused c = told_refused c.args.text.now c.read.result c.read.ensures
+returns-clause-refused c =
+    let text = c.args.text.now in
+    let told = subst (λ (names : List NamesOfNode). Tells names 1024 text c.read-2.result) c.none.ensures
+    c.read-2.ensures in
+    told_refused [] 1024 text c.read-2.result told
 
 pub returns-clause-hopeless : goal.returns-clause-hopeless
-returns-clause-hopeless c = told_hopeless c.args.text.now c.read.result c.read.ensures
+returns-clause-hopeless c =
+    let text = c.args.text.now in
+    let told = subst (λ (names : List NamesOfNode). Tells names 1024 text c.read-2.result) c.none.ensures
+    c.read-2.ensures in
+    told_hopeless [] 1024 text c.read-2.result told

@@ -1,23 +1,20 @@
-use Rattle.std.proofs.Common.{◌≡◌, Result, Err, rules, ap, ◌∙◌}
-use Rattle.fr_scenario.proofs.TextLemmas.{no_first, begun_first, made, made_unanswered, refused}
+use Rattle.std.proofs.Common.{◌≡◌, Result, Err, rules, ap, refl, ◌∙◌}
+use Rattle.fr_scenario.proofs.TextLemmas.{no_first, made, made_unanswered, refused}
 use Rattle.fr_scenario.specs.Contents.{Contents}
 use Rattle.fr_scenario.specs.declared.error.ScenarioError.{ScenarioError}
-use Rattle.fr_scenario.proofs.scenario.Scenario.read.Goals as goal
+use Rattle.fr_scenario.proofs.scenario.Scenario.read_old.Goals as goal
 
 pub returns-in_default : goal.returns-in_default
-returns-in_default c = λ other. no_first c.args.text.now c.as_bytes.result.now c.as_bytes.ensures.value
-    (c.begun.ensures.other c.in_default.is)
+returns-in_default c = λ other. no_first c.args.text.now (c.begun.ensures.other c.in_default.is)
 
 pub returns-in_err-gathered : goal.returns-in_err-gathered
 returns-in_err-gathered c =
     let version = c.in-Some.version in
     let rest = c.in-Some.rest.now in
-    let text = begun_first version c.args.text.now c.as_bytes.result.now rest c.as_bytes.ensures.value
-    c.in-Some.ensures.first in
     let gone : c.from_residual.result ≡ Err c.in_err-gathered.field-0.0 = search rules in
     λ other.
     gone
-    ∙ refused version c.args.text.now rest c.in_err-gathered.field-0.0 text
+    ∙ refused version c.args.text.now rest c.in_err-gathered.field-0.0 c.in-Some.ensures.first
     (c.in_err-gathered.ensures.refused (λ memory. other (gone ∙ ap
     (λ (e : ScenarioError). let r : Result Contents ScenarioError = Err e in r) memory)))
 
@@ -28,12 +25,8 @@ invariant_of-result c =
 
 pub returns : goal.returns
 returns c =
-    let version = c.in-Some.version in
-    let rest = c.in-Some.rest.now in
-    let text = begun_first version c.args.text.now c.as_bytes.result.now rest c.as_bytes.ensures.value
-    c.in-Some.ensures.first in
     λ other.
-    made version c.args.text.now rest c.in_ok-gathered.gathered c.in_ok-scripts.scripts.items
-    c.in_ok-scripts.faults.items c.in_ok-scripts.numbers.items text
+    made c.in-Some.version c.args.text.now c.in-Some.rest.now c.in_ok-gathered.gathered c.in_ok-scripts.scripts.items
+    c.in_ok-scripts.faults.items c.in_ok-scripts.numbers.items c.new.result.items c.in-Some.ensures.first
     c.in_ok-gathered.ensures.found c.in_ok-scripts.ensures.scripts c.in_ok-scripts.ensures.faults
-    c.in_ok-scripts.ensures.numbers
+    c.in_ok-scripts.ensures.numbers c.new.ensures.items

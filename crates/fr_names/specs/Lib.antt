@@ -1,0 +1,3 @@
+pub mod Names
+pub mod FileNames
+pub mod NamedFiles

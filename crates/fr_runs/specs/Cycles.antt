@@ -1,0 +1,12 @@
+-- The cycles of a run that a line names (project-defined).
+use Rattle.std.specs.Prelude.{ℕ, ◌-◌, ◌%◌, ◌==◌, nat_le, not, Bool, true, ◌&&◌}
+use Rattle.fr_runs.specs.declared.cycles.RunCycles.{RunCycles}
+use Rattle.fr_runs.specs.declared.cycles.RunCycles.TheVariants.{Every, Only, Span}
+
+-- This cycle of the run is named. A span names each `step`th cycle from its first on, up to its last, and none if the
+-- step is 0.
+abbrev pub names_cycle : RunCycles → ℕ → Bool
+names_cycle Every cycle = true
+names_cycle (Only only) cycle = only == cycle
+names_cycle (Span first last step) cycle =
+    not (step == 0) && nat_le first cycle && nat_le cycle last && (cycle - first) % step == 0

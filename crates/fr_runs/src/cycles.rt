@@ -1,0 +1,31 @@
+//! The cycles of a run that a line names.
+
+/// The cycles of a run in which a fault occurs or a call is made (project-defined). They are counted from 0 over the
+/// whole run, without a wrap after 63.
+#[derive(Clone, Copy, PartialEq, Eq)]
+pub enum RunCycles {
+    /// Every cycle of the run.
+    Every,
+    /// The cycle of this number.
+    Only(u16),
+    /// Each `step`th cycle from `first` on, up to `last`. A step of 0 names no cycle.
+    Span { first: u16, last: u16, step: u16 },
+}
+
+impl RunCycles {
+    ghost use Rattle.std.specs.Prelude.{◌≡◌};
+    ghost use Rattle.fr_runs.specs.Cycles.{names_cycle};
+
+    /// Returns whether this cycle of the run is named (project-defined).
+    pub fn names(self, cycle: u16) -> bool
+        ensures { result ≡ names_cycle self cycle }
+    {
+        match self {
+            RunCycles::Every => true,
+            RunCycles::Only(only) => only == cycle,
+            RunCycles::Span { first, last, step } => {
+                step != 0 && first <= cycle && cycle <= last && (cycle - first) % step == 0
+            }
+        }
+    }
+}

@@ -1,0 +1,151 @@
+-- The lines of a text of version 3, as they are read one after another.
+use Rattle.std.proofs.Common.{◌≡◌, ℕ, ◌+◌, ◌≤◌, ◌<◌, Bool, true, false, inl, inr, List, [], ◌∷◌, ◌++◌, length, drop}
+use Rattle.std.proofs.Common.{Option, Some, None, Ok, Err, refl, sym, ap, ◌∙◌, arith, append_assoc, codes}
+use Rattle.std.proofs.lemmas.Bool.{cases_Bool}
+use Rattle.std.proofs.lemmas.List.{append-nil}
+use Rattle.std.specs.Str.{bytes_eq}
+use Rattle.fr_names.specs.Names.{NamesOfNode}
+use Rattle.fr_scenario.proofs.CutLemmas.{read_next}
+use Rattle.fr_scenario.specs.BlankWords.{blank_words}
+use Rattle.fr_scenario.specs.declared.error.ScenarioError.TheVariants.{BadLine}
+use Rattle.fr_interface.specs.declared.call.Call.{Call}
+use Rattle.fr_scenario.specs.declared.statement.Statement.{Statement}
+use Rattle.fr_scenario.specs.declared.statement.Statement.TheVariants.{Calls}
+use Rattle.fr_scenario.specs.StatementParts.{node_said, cycles_said}
+use Rattle.fr_scenario.specs.Reading.{ReadOf, next_line, is_at_end, put_before, read_from, whole_line}
+use Rattle.fr_scenario.specs.Statements.{are_end, is_last, statement_said, statement_in, calls_said, call_said}
+use Rattle.fr_scenario.specs.Statements.{babble_said, mute_said, corrupt_said, lost_said, commit_said, withdraw_said}
+use Rattle.fr_scenario.specs.Statements.{read_said, pop_said}
+use Rattle.fr_text.specs.Reading.{◌>>=◌, number_in}
+
+-- ---- statements that are kept, with those that follow
+
+abbrev pub put_all : List Statement → ReadOf Statement → ReadOf Statement
+put_all before (Ok after) = Ok (before ++ after)
+put_all before (Err e) = Err e
+
+pub put_none : (r : ReadOf Statement) → put_all [] r ≡ r
+put_none (Ok after) = refl
+put_none (Err e) = refl
+
+put_one : (before : List Statement) (one : Statement) (r : ReadOf Statement)
+    → put_all (before ++ one ∷ []) r ≡ put_all before (put_before one r)
+put_one before one (Ok after) = ap Ok (append_assoc before (one ∷ []) after)
+put_one before one (Err e) = refl
+
+-- ---- more words than a line has
+
+bind_none : {A B : Type 0} (o : Option A) (f : A → Option B) → ((x : A) → f x ≡ None) → (o >>= f) ≡ None
+bind_none None f none = refl
+bind_none (Some x) f none = none x
+
+many_call : (names : List NamesOfNode) (kind : List ℕ) (n : ℕ) (a b c : List ℕ) (more : List (List ℕ))
+    → call_said names kind n (a ∷ b ∷ c ∷ more) ≡ None
+unfolding call_said commit_said withdraw_said read_said pop_said
+many_call names kind n a b c more =
+    elim (cases_Bool (bytes_eq kind (codes "commit"))) [
+      | inl commit ↦ rw commit refl
+      | inr not_commit ↦
+          elim (cases_Bool (bytes_eq kind (codes "withdraw"))) [
+            | inl withdraw ↦ rw (not_commit, withdraw) refl
+            | inr not_withdraw ↦
+                elim (cases_Bool (bytes_eq kind (codes "read"))) [
+                  | inl read ↦ rw (not_commit, not_withdraw, read) refl
+                  | inr not_read ↦
+                      elim (cases_Bool (bytes_eq kind (codes "pop"))) [
+                        | inl pop ↦ rw (not_commit, not_withdraw, not_read, pop) refl
+                        | inr not_pop ↦ rw (not_commit, not_withdraw, not_read, not_pop) refl
+                      ]
+                ]
+          ]
+    ]
+
+unspoken : (names : List NamesOfNode) (kind : List ℕ) (n : ℕ) (a b c : List ℕ) (more : List (List ℕ))
+    (f : Call → Option Statement) → (call_said names kind n (a ∷ b ∷ c ∷ more) >>= f) ≡ None
+unspoken names kind n a b c more f = ap (λ (o : Option Call). o >>= f) (many_call names kind n a b c more)
+
+many_calls : (names : List NamesOfNode) (kind a b c d e f : List ℕ) (more : List (List ℕ))
+    → calls_said names kind (a ∷ b ∷ c ∷ d ∷ e ∷ f ∷ more) ≡ None
+unfolding calls_said
+many_calls names kind a b c d e f more =
+    bind_none (node_said names a) _ (λ n. bind_none (number_in 8 b) _ (λ t. bind_none (cycles_said c) _ (λ y.
+    unspoken names kind n d e f more (λ call. Some (Calls n t y call)))))
+
+many_said : (names : List NamesOfNode) (kind a b c d e f : List ℕ) (more : List (List ℕ))
+    → statement_said names (kind ∷ a ∷ b ∷ c ∷ d ∷ e ∷ f ∷ more) ≡ None
+unfolding statement_said babble_said mute_said corrupt_said lost_said
+many_said names kind a b c d e f more =
+    elim (cases_Bool (bytes_eq kind (codes "babble"))) [
+      | inl babble ↦ rw babble refl
+      | inr not_babble ↦
+          elim (cases_Bool (bytes_eq kind (codes "mute"))) [
+            | inl mute ↦ rw (not_babble, mute) refl
+            | inr not_mute ↦
+                elim (cases_Bool (bytes_eq kind (codes "corrupt"))) [
+                  | inl corrupt ↦ rw (not_babble, not_mute, corrupt) refl
+                  | inr not_corrupt ↦
+                      elim (cases_Bool (bytes_eq kind (codes "lost"))) [
+                        | inl lost ↦ rw (not_babble, not_mute, not_corrupt, lost) refl
+                        | inr not_lost ↦ rw (not_babble, not_mute, not_corrupt, not_lost)
+                            (many_calls names kind a b c d e f more)
+                      ]
+                ]
+          ]
+    ]
+
+pub many_words : (names : List NamesOfNode) (words : List (List ℕ)) → 6 < length words
+    → statement_said names words ≡ None
+many_words names [] many = absurd (omega arith)
+many_words names (k ∷ []) many = absurd (omega arith)
+many_words names (k ∷ a ∷ []) many = absurd (omega arith)
+many_words names (k ∷ a ∷ b ∷ []) many = absurd (omega arith)
+many_words names (k ∷ a ∷ b ∷ c ∷ []) many = absurd (omega arith)
+many_words names (k ∷ a ∷ b ∷ c ∷ d ∷ []) many = absurd (omega arith)
+many_words names (k ∷ a ∷ b ∷ c ∷ d ∷ e ∷ []) many = absurd (omega arith)
+many_words names (k ∷ a ∷ b ∷ c ∷ d ∷ e ∷ f ∷ more) many = many_said names k a b c d e f more
+
+pub many_not_end : (words : List (List ℕ)) → 6 < length words → are_end words ≡ false
+many_not_end [] many = refl
+many_not_end (k ∷ []) many = absurd (omega arith)
+many_not_end (k ∷ a ∷ more) many = refl
+
+-- ---- one line
+
+module _ (names : List NamesOfNode) (before : List Statement) (n : ℕ) (lines : List (List ℕ)) (line : List ℕ)
+    (few : n ≤ 4096) (next : next_line n lines ≡ Ok line) where
+  abbrev after : ReadOf Statement
+  after = read_from is_last (statement_in names) (n + 1) (drop 1 lines)
+
+  here : read_from is_last (statement_in names) n lines
+      ≡ whole_line is_last (statement_in names) n line (drop 1 lines) after
+  here = read_next is_last (statement_in names) n lines line few next
+
+  -- the last line, at the end of the text
+  pub ended : are_end (blank_words line) ≡ true → is_at_end (drop 1 lines) ≡ true
+      → put_all before (read_from is_last (statement_in names) n lines) ≡ Ok before
+  ended last empty =
+      let is : read_from is_last (statement_in names) n lines ≡ Ok [] = here ∙ rw (last, empty) refl in
+      ap (put_all before) is ∙ ap Ok (append-nil before)
+
+  -- the last line, and bytes after it
+  pub more_follows : are_end (blank_words line) ≡ true → is_at_end (drop 1 lines) ≡ false
+      → put_all before (read_from is_last (statement_in names) n lines) ≡ Err (BadLine (n + 1))
+  more_follows last more =
+      let is : read_from is_last (statement_in names) n lines ≡ Err (BadLine (n + 1)) = here ∙ rw (last, more) refl in
+      ap (put_all before) is
+
+  -- another line without a statement
+  pub nothing_said : are_end (blank_words line) ≡ false → statement_said names (blank_words line) ≡ None
+      → put_all before (read_from is_last (statement_in names) n lines) ≡ Err (BadLine n)
+  nothing_said other none =
+      let is : read_from is_last (statement_in names) n lines ≡ Err (BadLine n) = here ∙ rw (other, none) refl in
+      ap (put_all before) is
+
+  -- another line with a statement
+  pub one_said : (one : Statement) → are_end (blank_words line) ≡ false
+      → statement_said names (blank_words line) ≡ Some one
+      → put_all (before ++ one ∷ []) after ≡ put_all before (read_from is_last (statement_in names) n lines)
+  one_said one other some =
+      let is : read_from is_last (statement_in names) n lines ≡ put_before one after =
+      here ∙ rw (other, some) refl in
+      put_one before one after ∙ sym (ap (put_all before) is)

@@ -1,0 +1,118 @@
+-- The contents of a scenario of version 3 in a run of so many cycles.
+use Rattle.std.specs.Prelude.{ℕ, ◌+◌, ◌==◌, ◌&&◌, not, Bool, false, nat_lt, List, [], ◌∷◌, ◌++◌, map, count_by}
+use Rattle.std.specs.Prelude.{None, Result, Ok, Err, if◌then◌else◌}
+use Rattle.std.specs.List.{flat_map, range_with_len, sum_by}
+use Rattle.fr_core.specs.declared.script.Line.{Line}
+use Rattle.fr_core.specs.Scripts.{Scripted}
+use Rattle.fr_interface.specs.declared.call.Call.{Call}
+use Rattle.fr_runs.specs.Cycles.{names_cycle}
+use Rattle.fr_runs.specs.declared.cycles.RunCycles.{RunCycles}
+use Rattle.fr_runs.specs.declared.fault_line.FaultLine.{FaultLine}
+use Rattle.fr_runs.specs.Suiting.{has_cycle}
+use Rattle.fr_scenario.specs.Contents.{Contents, script_of, node_at, task_at, task_count}
+use Rattle.fr_scenario.specs.declared.error.ScenarioError.{ScenarioError}
+use Rattle.fr_scenario.specs.declared.error.ScenarioError.TheVariants.{TooManyCalls}
+use Rattle.fr_scenario.specs.declared.statement.Statement.{Statement}
+use Rattle.fr_scenario.specs.declared.statement.Statement.TheVariants.{Nothing, Calls, Fault, Faults}
+
+-- ---- the calls of a task
+
+-- a call and the cycles in which it is made
+abbrev pub Planned : Type 0
+Planned = RunCycles × Call
+
+-- the calls of the lines of a task of a node, in their order
+abbrev pub planned : ℕ → ℕ → List Statement → List Planned
+planned n t [] = []
+planned n t (Nothing ∷ statements) = planned n t statements
+planned n t (Calls node task cycles call ∷ statements) =
+    if node == n && task == t then (cycles, call) ∷ planned n t statements else planned n t statements
+planned n t (Fault f ∷ statements) = planned n t statements
+planned n t (Faults a b ∷ statements) = planned n t statements
+
+-- the line of a call in this cycle; its answer isn't known
+abbrev pub line_at : ℕ → Call → Line
+line_at cycle call = record { cycle = cycle; action = call; answer = None }
+
+-- the calls that name this cycle, in the order of their lines
+abbrev pub lines_at : List Planned → ℕ → List Line
+lines_at [] cycle = []
+lines_at ((cycles, call) ∷ more) cycle =
+    if names_cycle cycles cycle then line_at cycle call ∷ lines_at more cycle else lines_at more cycle
+
+-- cycle after cycle, so the order of lines matters only within a cycle
+abbrev pub lines_in_run : ℕ → List Planned → List Line
+lines_in_run cycles plans = flat_map (lines_at plans) (range_with_len 0 cycles)
+
+abbrev pub script_in_run : ℕ → List Statement → ℕ → List Scripted
+script_in_run cycles statements k =
+    script_of (node_at k) (task_at k) (lines_in_run cycles (planned (node_at k) (task_at k) statements))
+
+-- the scripts, by node and then task
+unfoldable pub scripts_in_run : ℕ → List Statement → List Scripted
+scripts_in_run cycles statements = flat_map (script_in_run cycles statements) (range_with_len 0 task_count)
+
+-- ---- the calls of all tasks, counted
+
+abbrev pub calls_of : ℕ → Statement → ℕ
+calls_of cycles Nothing = 0
+calls_of cycles (Calls node task named call) = count_by (names_cycle named) (range_with_len 0 cycles)
+calls_of cycles (Fault f) = 0
+calls_of cycles (Faults a b) = 0
+
+-- a call counts once for each cycle of the run that its line names
+abbrev pub calls_in_run : ℕ → List Statement → ℕ
+calls_in_run cycles statements = sum_by (calls_of cycles) statements
+
+abbrev pub most_calls : ℕ
+most_calls = 262144
+
+-- ---- fault lines
+
+abbrev pub faults_of : Statement → List FaultLine
+faults_of Nothing = []
+faults_of (Calls node task cycles call) = []
+faults_of (Fault f) = f ∷ []
+faults_of (Faults a b) = a ∷ b ∷ []
+
+-- the line names cycles, but none that the run has
+abbrev pub is_skipped : ℕ → Statement → Bool
+is_skipped cycles Nothing = false
+is_skipped cycles (Calls node task named call) = not (has_cycle cycles named)
+is_skipped cycles (Fault f) = not (has_cycle cycles f.cycles)
+is_skipped cycles (Faults a b) = not (has_cycle cycles a.cycles)
+
+abbrev pub faults_left : ℕ → Statement → List FaultLine
+faults_left cycles statement = if is_skipped cycles statement then [] else faults_of statement
+
+abbrev pub faults_in_run : ℕ → List Statement → List FaultLine
+faults_in_run cycles statements = flat_map (faults_left cycles) statements
+
+-- the number of each fault line, if the first of these lines has number n
+abbrev pub numbers_in_run : ℕ → ℕ → List Statement → List ℕ
+numbers_in_run cycles n [] = []
+numbers_in_run cycles n (statement ∷ statements) =
+    map (λ f. n) (faults_left cycles statement) ++ numbers_in_run cycles (n + 1) statements
+
+-- the numbers of the lines that are skipped, if the first of these lines has number n
+abbrev pub skipped_in_run : ℕ → ℕ → List Statement → List ℕ
+skipped_in_run cycles n [] = []
+skipped_in_run cycles n (statement ∷ statements) =
+    if is_skipped cycles statement then n ∷ skipped_in_run cycles (n + 1) statements
+    else skipped_in_run cycles (n + 1) statements
+
+-- ---- the contents
+
+abbrev pub run_contents : ℕ → List Statement → Contents
+run_contents cycles statements = record {
+  scripts = scripts_in_run cycles statements;
+  faults = faults_in_run cycles statements;
+  numbers = numbers_in_run cycles 2 statements;
+  skipped = skipped_in_run cycles 2 statements;
+}
+
+-- too many calls are refused once all lines are read
+abbrev pub with_run_contents : ℕ → Result (List Statement) ScenarioError → Result Contents ScenarioError
+with_run_contents cycles (Err e) = Err e
+with_run_contents cycles (Ok statements) =
+    if nat_lt most_calls (calls_in_run cycles statements) then Err TooManyCalls else Ok (run_contents cycles statements)

@@ -1,0 +1,136 @@
+"""The lines of a scenario: calls of tasks, and fault lines with those that they meet."""
+from dataclasses import dataclass
+from functools import cached_property
+
+from musmyrtle.named_windows import MOST_CYCLE, FaultPlace, RunCycles
+
+FORMS = {
+    "commit": ("NODE", "TASK", "CYCLE", "BUFFER", "HEX"),
+    "withdraw": ("NODE", "TASK", "CYCLE", "BUFFER"),
+    "read": ("NODE", "TASK", "CYCLE", "BUFFER"),
+    "pop": ("NODE", "TASK", "CYCLE"),
+    "babble": ("NODE", "CHANNEL", "CYCLES", "PLACE", "HEX"),
+    "mute": ("NODE", "CHANNEL", "CYCLES", "PLACE"),
+    "corrupt": ("CHANNEL", "CYCLES", "PLACE", "BIT"),
+    "end": (),
+}
+"""The words of a line after its kind, in versions 1 and 2."""
+FAULTS = ("babble", "mute", "corrupt")
+LOST = "lost"
+
+
+@dataclass(frozen=True)
+class Line:
+    """A line of the scenario: its number from 1, and its words.
+
+    The words are those of version 2, but for cycles and places: the number of a node or buffer is in the place of its
+    name. A line of version 3 for two channels is two of these, and `lost` is two lines `mute`.
+    """
+
+    number: int
+    words: tuple[str, ...]
+    begins: tuple[int, ...] = ()
+    """The column in the text for each of the words, or nothing where they are those of the text."""
+    is_lost: bool = False
+
+    @property
+    def kind(self) -> str:
+        return self.words[0]
+
+    @property
+    def written(self) -> str:
+        """Returns the kind that the text has."""
+        return LOST if self.is_lost else self.kind
+
+    def word(self, name: str) -> str:
+        return self.words[1 + FORMS[self.kind].index(name)]
+
+    def column(self, name: str) -> int:
+        """Returns the column where the word of this name begins."""
+        at = 1 + FORMS[self.kind].index(name)
+        return self.begins[at] if self.begins else sum(len(it) + 1 for it in self.words[:at]) + 1
+
+    def value(self, name: str) -> int:
+        return int(self.word(name))
+
+    @cached_property
+    def cycles(self) -> RunCycles:
+        """Returns the cycles that it names."""
+        found = RunCycles.of(self.word("CYCLE" if "CYCLE" in FORMS[self.kind] else "CYCLES"))
+        assert found is not None
+        return found
+
+    @property
+    def size(self) -> int:
+        """Returns the number of its bytes."""
+        return (len(self.word("HEX")) - 1) // 2
+
+
+@dataclass(frozen=True)
+class FaultLine(Line):
+    @cached_property
+    def place(self) -> FaultPlace:
+        """Returns the windows of a cycle that it names."""
+        found = FaultPlace.of(self.word("PLACE"))
+        assert found is not None
+        return found
+
+    @property
+    def sort(self) -> "Sort":
+        return self.kind, "" if self.kind == "corrupt" else self.word("NODE"), self.word("CHANNEL")
+
+
+Sort = tuple[str, str, str]
+"""The kind, node and channel of a fault line."""
+
+
+class FaultLines:
+    """The fault lines so far, found by the windows that they name."""
+
+    def __init__(self) -> None:
+        self.sorts: dict[Sort, LinesOfSort] = {}
+
+    def add(self, line: FaultLine) -> None:
+        self.sorts.setdefault(line.sort, LinesOfSort()).add(line)
+
+    def meeting(self, line: FaultLine) -> FaultLine | None:
+        """Returns the first line so far that is the same sort of fault for a common window."""
+        found = self.sorts.get(line.sort)
+        return found.meeting(line) if found and found.has_meeting(line) else None
+
+
+class LinesOfSort:
+    """Fault lines of one kind, node and channel.
+
+    For each cycle the windows that any of them claims are kept, and those of lines for every cycle apart, so that most
+    lines are looked up in no list.
+    """
+
+    def __init__(self) -> None:
+        self.lines: list[FaultLine] = []
+        self.by_cycle: dict[int, int] = {}
+        self.in_every = self.in_any = 0
+
+    def add(self, line: FaultLine) -> None:
+        self.lines.append(line)
+        claims = line.place.claims
+        self.in_any |= claims
+        if line.cycles.last is None:
+            self.in_every |= claims
+            return
+        for cycle in line.cycles.within(MOST_CYCLE + 1):
+            self.by_cycle[cycle] = self.by_cycle.get(cycle, 0) | claims
+
+    def has_meeting(self, line: FaultLine) -> bool:
+        """Returns whether a line is for a common window."""
+        asks = line.place.asks
+        if not asks & self.in_any:
+            return False
+        if line.cycles.last is None or asks & self.in_every:
+            return True
+        return any(asks & self.by_cycle.get(cycle, 0) for cycle in line.cycles.within(MOST_CYCLE + 1))
+
+    def meeting(self, line: FaultLine) -> FaultLine | None:
+        """Returns the first line that is for a common window."""
+        bits, asks = line.cycles.bits, line.place.asks
+        return next((it for it in self.lines if bits & it.cycles.bits and asks & it.place.claims), None)

@@ -1,0 +1,266 @@
+"""The words of a line of a scenario: what is wrong with one, and the form that is right."""
+import re
+from collections.abc import Iterable
+from dataclasses import dataclass
+
+from musmyrtle.findings import nearest
+from musmyrtle.named_windows import MOST_CYCLE, MOST_PLACE, FaultPlace, RunCycles
+from musmyrtle.names import LineNames
+from musmyrtle.scenario_lines import FAULTS, FORMS, LOST, FaultLine, Line
+from musmyrtle.visible import cut
+
+NEWEST = 3
+RANGED = {"CYCLE": "CYCLES", "CHANNEL": "CHANNELS"}
+"""Words of one cycle or channel, and those of several in version 3."""
+FORMS_BY_VERSION = {
+    1: {kind: form for kind, form in FORMS.items() if kind != "withdraw"},
+    2: FORMS,
+    3: {**{kind: tuple(RANGED.get(name, name) for name in form) for kind, form in FORMS.items() if kind != "end"},
+        LOST: ("NODE", "CYCLES"), "end": ()},
+}
+GREATEST = {"NODE": 15, "TASK": 7, "BUFFER": 63, "CYCLE": MOST_CYCLE, "CYCLES": MOST_CYCLE, "BIT": 65535}
+MOST_BYTES = {"commit": 254, "babble": 262}
+NUMBER = re.compile(r"0|[1-9][0-9]*")
+HEX = re.compile(r"x(?:[0-9a-f]{2})*")
+WORD = re.compile(r"[^ \t]+")
+OLD_PLACE = re.compile(r"s\*|[sm][1-9][0-9]*")
+
+Wrong = tuple[str, str, int]
+"""The fault of a line, what is expected, and the column."""
+
+
+@dataclass(frozen=True)
+class Words:
+    """The words of a line of a version, each with its column from 1."""
+
+    version: int
+    text: str
+    words: tuple[str, ...]
+    columns: tuple[int, ...]
+    names: LineNames
+
+    @classmethod
+    def of(cls, text: str, version: int, names: LineNames = LineNames()) -> "Words":
+        """Splits a line. In version 3 spaces and tabs are free, and a comment begins with `#`."""
+        if version < NEWEST:
+            words = tuple(text.split(" "))
+            return cls(version, text, words, (1, *columns(words)), names)
+        found = list(WORD.finditer(text.partition("#")[0]))
+        return cls(version, text, tuple(it[0] for it in found), tuple(it.start() + 1 for it in found), names)
+
+    @property
+    def kind(self) -> str:
+        return self.words[0]
+
+    @property
+    def form(self) -> tuple[str, ...]:
+        """Returns the names of the words after the kind."""
+        return FORMS_BY_VERSION[self.version][self.kind]
+
+    def wrong(self) -> Wrong | None:
+        """Returns the fault of the line, what is expected, and the column; or nothing if it is right."""
+        odd = odd_return(self.text) if self.version == NEWEST else self.odd_spaces()
+        return odd or self.wrong_kind() or self.wrong_count() or self.wrong_word()
+
+    def odd_spaces(self) -> Wrong | None:
+        """Returns the fault of a line of an earlier version that isn't words with single spaces between them."""
+        return odd_spaces(self.text, f"version {self.version}", f" `frscenario {NEWEST}` in the first line has them.")
+
+    def wrong_kind(self) -> Wrong | None:
+        forms = FORMS_BY_VERSION[self.version]
+        if self.kind in forms:
+            return None
+        if self.kind in FORMS_BY_VERSION[NEWEST]:
+            since = 2 if self.kind in FORMS else NEWEST
+            headline = f"version {self.version} has no line `{self.kind}`"
+            return headline, f"Expected `frscenario {since}` as the first line.", 1
+        meant = nearest(self.kind, tuple(forms))
+        hint = f"Is `{meant}` meant? " if meant else ""
+        return f"no line begins with `{cut(self.kind)}`", f"{hint}Expected one of {', '.join(forms)}.", self.columns[0]
+
+    def wrong_count(self) -> Wrong | None:
+        right = 1 + len(self.form)
+        if len(self.words) == right:
+            return None
+        headline = f"the line has {len(self.words)} words, and `{self.kind}` has {right}"
+        end = self.columns[-1] + len(self.words[-1])
+        return headline, f"Expected `{' '.join([self.kind, *self.form])}`.", end
+
+    def wrong_word(self) -> Wrong | None:
+        for at, name in enumerate(self.form, 1):
+            right = self.right_for(name, self.words[at])
+            if right:
+                whole = " ".join([self.kind, *self.form])
+                newer = self.newer(name, self.words[at])
+                return f"{name} is `{cut(self.words[at])}`", f"{right}, in `{whole}`.{newer}", self.columns[at]
+        return None
+
+    def newer(self, name: str, word: str) -> str:
+        """Returns a hint for a word that only a later version has."""
+        if self.version == NEWEST:
+            return ""
+        later = Words(NEWEST, self.text, self.words, self.columns, self.names)
+        return "" if later.right_for(RANGED.get(name, name), word) else f" `frscenario {NEWEST}` has this form."
+
+    def right_for(self, name: str, word: str) -> str | None:
+        """Returns what is expected instead of a word, or nothing where it is right."""
+        if name in ("NODE", "BUFFER") and self.version == NEWEST and not is_number(name, word):
+            return self.right_name(name, word)
+        if self.version == NEWEST and name == "CYCLES":
+            return None if RunCycles.of(word) else RIGHT_CYCLES
+        if name == "PLACE":
+            return right_place(word, self.version)
+        if name in ("CHANNEL", "CHANNELS"):
+            known = ("A", "B") if name == "CHANNEL" else ("A", "B", "AB")
+            right = "`A` or `B`" if name == "CHANNEL" else "`A`, `B` or `AB`"
+            return None if word in known else f"Expected {right}"
+        if name == "HEX":
+            return right_hex(self.kind, word)
+        return right_number(name, word)
+
+    def right_name(self, name: str, word: str) -> str | None:
+        """Returns what is expected instead of a name, or nothing where the cluster file has it."""
+        if name == "NODE":
+            if self.names.node(word) is not None:
+                return None
+            why = self.names.why_no_node(word)
+        else:
+            node = self.node()
+            if node is None or self.names.buffer(node, word) is not None:
+                return None
+            why = self.names.why_no_buffer(node, word)
+        thing = "a node" if name == "NODE" else "a buffer of the node"
+        return f"{why} Expected a number from 0 to {GREATEST[name]} without leading zeros or the name of {thing}"
+
+    def node(self) -> int | None:
+        """Returns the number of the node that a line names."""
+        word = self.words[1 + self.form.index("NODE")]
+        return int(word) if is_number("NODE", word) else self.names.node(word)
+
+    # ---- lines of a right line
+
+    def lines(self, number: int) -> list[Line]:
+        """Returns the lines that a right line of this number stands for: two of them for a fault on two channels."""
+        words = [self.kind, *map(self.numbered, self.form, self.words[1:])]
+        if self.kind == LOST:
+            one, node, cycles = self.columns
+            return [FaultLine(number, ("mute", words[1], channel, words[2], "*"), (one, node, one, cycles, one), True)
+                    for channel in "AB"]
+        if self.kind not in FAULTS:
+            return [Line(number, tuple(words), self.columns)]
+        at = 1 if self.kind == "corrupt" else 2
+        return [FaultLine(number, (*words[:at], channel, *words[at + 1:]), self.columns) for channel in words[at]]
+
+    def numbered(self, name: str, word: str) -> str:
+        """Returns the number in the place of a name."""
+        if name == "NODE":
+            return str(self.node())
+        node = self.node() if name == "BUFFER" and not is_number(name, word) else None
+        return word if node is None else str(self.names.buffer(node, word))
+
+
+def fault_lines_of(lines: Iterable[str]) -> list[FaultLine]:
+    """Returns the fault lines of some right lines of version 3 with numbers: those of one channel each."""
+    found = (it for line in lines for it in Words.of(line, NEWEST).lines(0))
+    return [it for it in found if isinstance(it, FaultLine)]
+
+
+@dataclass(frozen=True)
+class Size:
+    """The static slots, the minislots, and the cycles of a run, for which lines are spelled in version 2."""
+
+    static_slots: int
+    minislots: int
+    cycles: int
+
+    def requests(self, line: FaultLine) -> list[str]:
+        """Returns the lines of version 2 that say the same. Raises `ValueError` for a dynamic slot, which has none."""
+        if line.place.segment == "d":
+            raise ValueError(f"no fault line of fr_world is for the dynamic slot {line.place.first}: inject the fault "
+                             "by a function `when`")
+        at = 1 + FORMS[line.kind].index("CYCLES")
+        cycles = ["*"] if line.cycles.last is None else line.cycles.within(self.cycles)
+        return [" ".join([*line.words[:at], str(cycle), place, *line.words[at + 2:]]) for cycle in cycles
+                for place in self.places(line.place)]
+
+    def places(self, place: FaultPlace) -> list[str]:
+        """Returns the places of version 2 for a place."""
+        if place.first is not None and place.first != place.last:
+            return [f"s{slot}" for slot in range(place.first, (place.last or 0) + 1)]
+        static = ["s*"] if place.segment == "*" else []
+        if place.segment in "*m" and place.first is None:
+            return static + [f"m{minislot}" for minislot in range(1, self.minislots + 1)]
+        return [str(place)]
+
+
+RIGHT_CYCLES = (f"Expected `*` for every cycle, `C`, `C-D`, or `C-D/STEP` for each STEPth cycle from C on up to D, "
+                f"with numbers up to {MOST_CYCLE} without leading zeros and C not above D")
+
+
+def right_place(word: str, version: int) -> str | None:
+    """Returns the expected form of a place, or nothing where it is right."""
+    if FaultPlace.of(word) and (version == NEWEST or OLD_PLACE.fullmatch(word)):
+        return None
+    if version < NEWEST:
+        return (f"Expected `sN` for static slot N, `s*` for every one, or `mN` for minislot N, N from 1 to "
+                f"{MOST_PLACE}")
+    return (f"Expected `sN` for static slot N, `sN-M` for N up to M, `s*` for every one, `mN` for minislot N, `m*` for "
+            f"every one, `dN` for dynamic slot N, or `*` for every window, N from 1 to {MOST_PLACE}")
+
+
+def right_hex(kind: str, word: str) -> str | None:
+    """Returns the expected form of bytes, or nothing where they are right."""
+    most, even = MOST_BYTES[kind], "an even number of bytes, " if kind == "commit" else ""
+    is_right = HEX.fullmatch(word) and len(word) // 2 <= most and not (even and len(word) // 2 % 2)
+    right = f"Expected `x` and two lower-case hexadecimal digits for each byte, {even}{most} at most"
+    return None if is_right else right
+
+
+def is_number(name: str, word: str) -> bool:
+    """Returns whether a word is a number in the range of its name."""
+    return bool(NUMBER.fullmatch(word)) and len(word) < 10 and int(word) <= GREATEST[name]
+
+
+def right_number(name: str, word: str) -> str | None:
+    """Returns the expected form of a number, or of the cycles of a fault line, or nothing where it is right."""
+    if name == "CYCLES" and word == "*":
+        return None
+    if is_number(name, word):
+        return None
+    more = " or `*`" if name == "CYCLES" else ""
+    return f"Expected a number from 0 to {GREATEST[name]} without leading zeros{more}"
+
+
+def columns(words: tuple[str, ...]) -> list[int]:
+    """Returns the columns of the words after the first, where single spaces separate them."""
+    found, column = [], 1
+    for word in words[:-1]:
+        column += len(word) + 1
+        found.append(column)
+    return found
+
+
+def odd_return(text: str) -> Wrong | None:
+    """Returns the fault of a line of version 3 with a carriage return before its comment."""
+    at = text.partition("#")[0].find("\r")
+    return None if at < 0 else ("a carriage return stands in the line", "Lines end with a line feed alone.", at + 1)
+
+
+def odd_spaces(text: str, what: str, more: str = "") -> Wrong | None:
+    """Returns the fault of a line with a surplus space, tab or carriage return, an empty line, or a comment.
+
+    WHAT names the format, for which only single spaces are right. MORE ends the reason for an empty line or a comment.
+    """
+    for odd, name in (("\r", "a carriage return"), ("\t", "a tab")):
+        if odd in text:
+            reason = "Expected a line feed alone at the end, and single spaces."
+            return f"{name} stands in the line", reason, text.index(odd) + 1
+    if not text:
+        return "the line is empty", f"{what[0].upper()}{what[1:]} has no empty lines.{more}", 1
+    if text.lstrip(" ").startswith("#"):
+        return "the line is a comment", f"{what[0].upper()}{what[1:]} has no comments.{more}", 1
+    if "  " in text or text.startswith(" ") or text.endswith(" "):
+        column = 1 if text.startswith(" ") else text.index("  ") + 2 if "  " in text else len(text)
+        reason = "Expected one space between two words, and none at the ends."
+        return "a space too many stands in the line", reason, column
+    return None
