@@ -21,6 +21,8 @@ REST = rf"[ \t]*+(?:{COMMENT})?"
 LINE_END = re.compile(rf"{REST}(?:\r?\n|\Z)")
 BARE = re.compile(r"([-_0-9A-Za-z]++)[ \t]*+(\.)?[ \t]*+")
 """A part of a key without quotes, and the point after it."""
+DOTTED = re.compile(rf"([-_0-9A-Za-z]++(?:\.[-_0-9A-Za-z]++){{0,{DEEPEST - 1}}}+)[ \t]*+(?=[\]=])")
+"""A whole key of parts without quotes, with points alone between them. In a long key, each part is read much faster."""
 SIMPLE = re.compile(r"([-_0-9A-Za-z]++)[ \t]*+=[ \t]*+")
 """A key of one part without quotes, as most are, and what comes between it and its value."""
 COMMA = re.compile(rf"{GAPS}(,)?{GAPS}")
@@ -70,6 +72,13 @@ class Reader:
         """Returns the parts of a key, each with its offset."""
         parts: list[tuple[str, int]] = []
         self.skip(BLANK)
+        dotted_key = DOTTED.match(self.text, self.at)
+        if dotted_key:
+            for name in dotted_key[1].split("."):
+                parts.append((name, self.at))
+                self.at += len(name) + 1
+            self.at = dotted_key.end()
+            return parts
         has_more = True
         while has_more:
             begin = self.at
@@ -208,6 +217,7 @@ def on_the_way(table: Table, name: str, at: int, begin: int) -> Table:
     if held is None:
         held = table[name] = Table(ON_THE_WAY)
         table.begins[name] = begin
+        return held
     if isinstance(held, Array) and held.is_of_headers:
         held = held[-1]
     if isinstance(held, Table) and held.made is not INLINE:
@@ -251,6 +261,7 @@ def dotted(table: Table, name: str, at: int) -> Table:
     if held is None:
         held = table[name] = Table(BY_DOTS)
         table.begins[name] = at
+        return held
     if not isinstance(held, Table) or held.made not in (BY_DOTS, ON_THE_WAY):
         raise twice(table, name, at)
     held.made = BY_DOTS

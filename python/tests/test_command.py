@@ -144,7 +144,7 @@ class Command(Cases):
     def test_a_signal(self):
         """An interrupt ends the command without a traceback."""
         words = [*LINT, self.written("cluster.toml", CLUSTER), "--program",
-                 self.failing("echo begun >&2; exec sleep 3")]
+                 self.failing("echo begun >&2; exec sleep 60")]
         with subprocess.Popen(words, stdout=subprocess.PIPE, stderr=subprocess.PIPE, process_group=0) as running:
             self.assertEqual(running.stderr.readline(), b"begun\n")
             os.killpg(running.pid, signal.SIGINT)

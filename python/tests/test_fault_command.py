@@ -21,7 +21,10 @@ from tests.two_nodes import SCENE, TWO_NODES
 
 TOP = Path(__file__).resolve().parents[2]
 FAULTS = [sys.executable, "-B", str(TOP / "musmyrtle"), "faults"]
-SECONDS = 20
+SECONDS = 60
+"""The limit for what takes a second or two."""
+LONG = 600
+"""The seconds that a program sleeps which has to be ended."""
 FAULTY = "grep -q '^mute' \"$last\" &&"
 """The front of words for a run with a fault alone."""
 
@@ -112,10 +115,10 @@ class TestFiles(Command):
 
     def test_a_session_that_hangs(self):
         world = self.folder / "world"
-        world.write_text(f"#!/bin/sh\necho 'frworld 1'\nexec sleep {SECONDS}\n")
+        world.write_text(f"#!/bin/sh\necho 'frworld 1'\nexec sleep {LONG}\n")
         world.chmod(0o755)
-        with patch.object(played, "REQUEST_SECONDS", 0.1):
-            self.stopped(f"{world}: no reply to `now` within 0.1 s", 4, "--world", str(world))
+        with patch.object(played, "REQUEST_SECONDS", 1.0):
+            self.stopped(f"{world}: no reply to `now` within 1 s", 4, "--world", str(world))
 
     def test_a_launcher_is_not_sent(self):
         """A launcher with no note of its program runs on this machine alone."""
@@ -248,7 +251,7 @@ class TestSignals(Command):
 
     def broken_off(self, number: int, does: str, *more: str) -> None:
         noted = self.folder / "noted"
-        waits = f"sleep {SECONDS} & echo $! $$ >>'{noted}'; wait"
+        waits = f"sleep {LONG} & echo $! $$ >>'{noted}'; wait"
         program = self.program(does.replace("WAIT", waits))
         words = [*FAULTS, *self.words("--program", program, *more)]
         path = f"{self.folder}{os.pathsep}{os.environ['PATH']}"
@@ -290,7 +293,7 @@ class TestSignals(Command):
 
     def test_in_a_job_of_parallel(self):
         file = self.folder / "parallel"
-        file.write_text(f"#!/bin/sh\nsleep {SECONDS} & echo $! $$ >>'{self.folder / 'noted'}'; wait\n")
+        file.write_text(f"#!/bin/sh\nsleep {LONG} & echo $! $$ >>'{self.folder / 'noted'}'; wait\n")
         file.chmod(0o755)
         self.broken_off(signal.SIGTERM, "", "--parallel")
 

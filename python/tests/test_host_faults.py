@@ -57,14 +57,14 @@ def dies(world):
 def forks_and_dies(world):
     if not os.fork():
         os.close(2)
-        end = time.monotonic() + 60
+        end = time.monotonic() + 300
         while os.path.exists("hosts_of_test.py") and time.monotonic() < end:
             time.sleep(0.1)
         os._exit(0)
     dies(world)
 
 def leaves_a_thread(world):
-    threading.Thread(target=time.sleep, args=(60,)).start()
+    threading.Thread(target=time.sleep, args=(300,)).start()
     calls(world)
 
 def remembers(world):
@@ -78,7 +78,7 @@ def random(world):
 
 def slow(world):
     open(os.environ["BEGUN"], "w").close()
-    time.sleep(60)
+    time.sleep(300)
 
 number = 1
 """
@@ -145,7 +145,7 @@ class HostFaults(Shows):
         words = "--kinds", "lost", "--nodes", "0", "--cores", "3"
         self.assertEqual(self.host("forks_and_dies", *words), self.host("dies", *words))
         self.assertEqual(self.host("leaves_a_thread", *words), self.host("calls", *words))
-        self.assertLess(time.monotonic() - began, 40)
+        self.assertLess(time.monotonic() - began, 120)
 
     def test_each_run_has_its_own_variables(self) -> None:
         status, output, _ = self.host("remembers", "--kinds", "noise", "--nodes", "1", "--cores", "1")
@@ -193,11 +193,11 @@ class HostFaults(Shows):
         command = [sys.executable, "-B", str(TOP / "musmyrtle"), "faults", self.cluster, "--host", "hosts_of_test:slow"]
         with subprocess.Popen([*command, *self.words], cwd=self.folder, stdout=subprocess.PIPE, stderr=subprocess.PIPE,
                               text=True, process_group=0, env={**os.environ, "BEGUN": str(begun)}) as running:
-            limit = time.monotonic() + 20
+            limit = time.monotonic() + 60
             while not begun.exists() and time.monotonic() < limit:
                 time.sleep(0.05)
             running.send_signal(signal.SIGTERM)
-            output, told = running.communicate(timeout=20)
+            output, told = running.communicate(timeout=60)
             self.assertEqual((running.returncode, output, told), (143, "", "musmyrtle faults: broken off\n"))
         self.assertEqual(self.left(running.pid), [])
 

@@ -1,6 +1,8 @@
-"""Tests of the slowest files of up to 1 MiB: each takes at most two seconds of the processor, and little is printed.
+"""Tests of the slowest files of up to 1 MiB: each is checked in a second or so, and little is printed.
 
-Other work on the machine makes the same work take half as long again. So of five tries the fastest counts.
+The time is counted in loops: the processor time of a fixed loop, measured just before and after. So the limit doesn't
+depend on the machine. It guards against work that grows with the square of a file's length, which takes minutes. The
+slowest file takes some 20 loops.
 """
 import time
 from pathlib import Path
@@ -11,9 +13,8 @@ from musmyrtle.program import Answer
 from musmyrtle.texts import FILE_LIMIT
 from tests.cases import CLUSTER, Cases
 
-MOST_SECONDS = 2.0
+MOST_LOOPS = 150
 MOST_BYTES = 100_000
-TRIES = 5
 LEVELS = "a." * 79
 PARAMETERS = """[params]
 static_slots = 1023
@@ -103,18 +104,22 @@ FAULTS_3 = {
 """The same in version 3."""
 
 
+def loop() -> float:
+    """Returns the processor time of a loop that makes many small objects, as a reader does."""
+    begun = time.process_time()
+    kept = {f"{number}": [number] for number in range(50_000)}
+    return time.process_time() - begun if kept else 0.0
+
+
 class Times(Cases):
     def held(self, wanted: str | None, *given) -> None:
         """Asserts that a file is checked in time, and that its findings are short."""
-        for tries_left in reversed(range(TRIES)):
-            begun = time.process_time()
-            found = lint(Task(*given))
-            refusal = found.refusals[0][0] if found.refusals else None
-            text = "\n".join(told(Answer(1 if refusal else 0, refusal), found))
-            seconds = time.process_time() - begun
-            if seconds < MOST_SECONDS or not tries_left:
-                break
-        self.assertLess(seconds, MOST_SECONDS)
+        beside, begun = loop(), time.process_time()
+        found = lint(Task(*given))
+        refusal = found.refusals[0][0] if found.refusals else None
+        text = "\n".join(told(Answer(1 if refusal else 0, refusal), found))
+        loops = (time.process_time() - begun) / max(beside, loop())
+        self.assertLess(loops, MOST_LOOPS)
         self.assertLess(len(text.encode()), MOST_BYTES)
         self.assertEqual(refusal, wanted)
 

@@ -22,6 +22,8 @@ from tests import fakes
 TOP = Path(__file__).resolve().parents[2]
 THREE_NODES = TOP / "examples/three-nodes/cluster.toml"
 NODES = 8
+SOON = 30
+"""The seconds for what takes less than one on an idle machine, where a mistake waits for a minute or for ever."""
 ROOMY = "[[node]]\nhost_entries = 16384\nslot_entries = 65536\n"
 
 
@@ -136,7 +138,7 @@ class TestThreads(Sessions):
             begun = time.monotonic()
             world.close(0.05)
             self.over("the world is closed", SessionOver, asked.result)
-        self.assertLess(time.monotonic() - begun, 1)
+        self.assertLess(time.monotonic() - begun, SOON)
 
 
 class TestInterrupted(Sessions):
@@ -262,7 +264,7 @@ class TestWrongPrograms(Sessions):
             said = f"no reply to `{request}` within 0.05 s"
             begun = time.monotonic()
             self.over(said, TimedOut, world.ask, request, 0.05)
-            self.assertLess(time.monotonic() - begun, 1)
+            self.assertLess(time.monotonic() - begun, SOON)
             self.over(said, SessionOver, world.now)
         self.assertTrue(issubclass(TimedOut, TimeoutError))
 
@@ -270,10 +272,10 @@ class TestWrongPrograms(Sessions):
         begun = time.monotonic()
         with self.assertRaisesRegex(TimedOut, "no first line within 0.05 s"):
             self.fake(fakes.NEVER_GREETS, timeout=0.05)
-        world = self.fake(fakes.SLOW, timeout=0.5)
+        world = self.fake(fakes.SLOW, timeout=SOON)
         self.assertEqual([world.now() for _ in range(3)], [None] * 3)
         self.over("no reply to `now` within 0.12 s", TimedOut, lambda: world.send(["now"] * 4, timeout=0.12))
-        self.assertLess(time.monotonic() - begun, 2)
+        self.assertLess(time.monotonic() - begun, SOON)
 
     def test_one_that_goes_on_without_a_line_feed(self):
         self.over("a line of more than 65536 bytes", SessionOver, self.fake(fakes.GOES_ON_WITHOUT_A_LINE_FEED).now)
@@ -282,7 +284,7 @@ class TestWrongPrograms(Sessions):
         self.over("answers with `lines many`", SessionOver, self.fake(fakes.COUNTS_WRONG).block, "report 0")
 
     def test_one_that_floods_standard_error(self):
-        world = self.fake(fakes.FLOODS_STANDARD_ERROR, timeout=20)
+        world = self.fake(fakes.FLOODS_STANDARD_ERROR, timeout=SOON)
         self.assertEqual([world.now() for _ in range(3)], [None] * 3)
 
     def test_one_whose_child_holds_the_pipes(self):
@@ -290,7 +292,7 @@ class TestWrongPrograms(Sessions):
         begun = time.monotonic()
         self.over("^the last words$", SessionOver, world.now)
         world.close()
-        self.assertLess(time.monotonic() - begun, 5)
+        self.assertLess(time.monotonic() - begun, SOON)
 
 
 class TestTheEnd(Sessions):
@@ -299,7 +301,7 @@ class TestTheEnd(Sessions):
         begun = time.monotonic()
         world.close(0.05)
         self.assertFalse(is_running(self.process(world)))
-        self.assertLess(time.monotonic() - begun, 2)
+        self.assertLess(time.monotonic() - begun, SOON)
 
     def test_a_world_that_is_dropped_ends_its_program(self):
         world = World(THREE_NODES, 8)
@@ -335,11 +337,11 @@ class TestTheEnd(Sessions):
         forked = multiprocessing.get_context("fork").Process(target=child)
         forked.start()
         try:
-            self.assertIn("forked", found.get(timeout=10))
+            self.assertIn("forked", found.get(timeout=SOON))
             self.assertEqual(world.ask("now"), "open 0 0 0 1 1")
             begun = time.monotonic()
-            world.close(10)
-            self.assertLess(time.monotonic() - begun, 5)
+            world.close(2 * SOON)
+            self.assertLess(time.monotonic() - begun, SOON)
             self.assertFalse(is_running(process))
         finally:
             forked.kill()
@@ -355,9 +357,10 @@ class TestTheEnd(Sessions):
             if number == 0:
                 try:
                     begun = time.monotonic()
-                    with self.assertRaises(SessionOver), world:
+                    with self.assertRaises(SessionOver):
                         world.now()
-                    os._exit(7 if time.monotonic() - begun < 0.5 else 8)
+                    world.close(2 * SOON)
+                    os._exit(7 if time.monotonic() - begun < SOON else 8)
                 finally:
                     os._exit(1)
             self.assertEqual(os.waitstatus_to_exitcode(os.waitpid(number, 0)[1]), 7)

@@ -269,7 +269,7 @@ class Terminals(Shows):
     def test_signals(self) -> None:
         """A signal ends the command and the program that it waits for."""
         stub, begun = self.folder / "stub", self.folder / "begun"
-        stub.write_text(f"#!/bin/sh\necho $$ > '{begun}.new'\nmv '{begun}.new' '{begun}'\nexec sleep 60\n")
+        stub.write_text(f"#!/bin/sh\necho $$ > '{begun}.new'\nmv '{begun}.new' '{begun}'\nexec sleep 300\n")
         stub.chmod(0o755)
         for number, status in ((signal.SIGINT, 130), (signal.SIGTERM, 143), (signal.SIGHUP, 129)):
             with self.subTest(number):
@@ -277,11 +277,11 @@ class Terminals(Shows):
                 words = [sys.executable, "-B", str(TOP / "musmyrtle"), "log", *THREE]
                 with subprocess.Popen(words, env={**os.environ, "MUSMYRTLE_VIEW": str(stub)}, stdout=subprocess.PIPE,
                                       stderr=subprocess.PIPE, preexec_fn=usual_signals) as running:
-                    limit = time.monotonic() + 20
+                    limit = time.monotonic() + 60
                     while not begun.exists() and time.monotonic() < limit:
                         time.sleep(0.02)
                     running.send_signal(number)
-                    self.assertEqual((running.communicate(timeout=20), running.returncode), ((b"", b""), status))
+                    self.assertEqual((running.communicate(timeout=60), running.returncode), ((b"", b""), status))
                 with self.assertRaises(ProcessLookupError):
                     os.kill(int(begun.read_text()), 0)
 

@@ -20,7 +20,7 @@ KILLED_AT = "#!/bin/sh\nfor last; do :; done\nif grep -q 'mute 0 A \\* s1$' \"$l
 NOTING = "#!/bin/sh\necho >>'{}'\n"
 """A program that notes each run, and prints nothing."""
 
-SLOW = "#!/bin/sh\nsleep 0.02\nexec '{}' \"$@\"\n"
+SLOW = "#!/bin/sh\nsleep 0.05\nexec '{}' \"$@\"\n"
 """A program slow enough that its list can be broken off."""
 
 
