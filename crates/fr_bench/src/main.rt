@@ -1,8 +1,9 @@
 //! The program of the bench. It reads its command from the words after its name, and executes it. The exit status is 0
-//! if the command is executed, 1 if an input is rejected, and 2 if the words are no command.
+//! if the command is executed, 1 if an input is rejected, 2 if the words are no command, and 3 if a run missed an
+//! expectation of its scenario.
 //!
 //! Standard output has the output of one command, and only once that command has accepted all its input. A refusal is
-//! one line on standard error.
+//! one line on standard error. After a run, each expectation that it missed has a line there.
 //!
 //! ```text
 //! fr_bench audit < node.trace      the report of a trace, or the first line at fault
@@ -27,40 +28,69 @@ mod audit;
 mod command;
 mod failure;
 
+use arrayvec::ArrayVec;
 use command::{Source, Task, TextCommand, print_text, task_of};
 use failure::BenchFailure;
 use fr_cli::bench::order;
 use fr_cli::waiting::{WaitingReader, WaitingWriter};
 use fr_cli::words::{texts_of, words_given};
+use fr_expecting::missed::{Missed, write_missed};
 use fr_files::named::file_named;
 use fr_names::cluster_file::named_cluster_of;
-use fr_threads::outcome::{RunOptions, run_cluster};
+use fr_threads::outcome::{RunNotes, RunOptions, run_cluster};
 use fr_threads::outcome_error::OutcomeError;
-use std::io;
 use std::process::ExitCode;
 use std::rt::{Env, Files};
 use std::sync::Wait;
 use std::thread::Threads;
 use std::time::Clock;
+use std::{io, str};
 
-/// Writes a line on standard error for each line of the scenario that names cycles, but none of the run.
-fn tell_skipped<R: Eprint>(rt: &R, skipped: &[u32]) {
-    for number in skipped {
-        let _ = eprintln!(rt; "line {number} names no cycle of the run");
+/// The exit status if a run missed an expectation.
+const MISSED: u8 = 3;
+
+/// Room for the line of a missed expectation: two payloads of 254 bytes take 1,018 of them.
+const MOST_BYTES: usize = 1_280;
+
+/// Writes the line of a missed expectation on standard error.
+fn tell_missed<R: Eprint>(rt: &R, missed: &Missed) {
+    let mut text = ArrayVec::<u8, MOST_BYTES>::new();
+    if write_missed(&mut text, missed).is_err() {
+        return;
+    }
+    if let Ok(line) = str::from_utf8(text.as_slice()) {
+        let _ = eprintln!(rt; "{line}");
     }
 }
 
-/// Runs the cluster of one file with the scenario of the other. The scenario is opened once the cluster is accepted.
+/// Writes a line on standard error for each line of the scenario that names cycles, but none of the run, and for each
+/// expectation that the run missed. Returns the exit status.
+fn tell_notes<R: Eprint>(rt: &R, notes: &RunNotes) -> ExitCode {
+    for number in &notes.skipped {
+        let _ = eprintln!(rt; "line {number} names no cycle of the run");
+    }
+    for missed in &notes.missed {
+        tell_missed(rt, missed);
+    }
+    if notes.missed.is_empty() {
+        ExitCode::SUCCESS
+    } else {
+        ExitCode::from(MISSED)
+    }
+}
+
+/// Runs the cluster of one file with the scenario of the other, and returns the exit status. The scenario is opened
+/// once the cluster is accepted.
 fn run_files<R: Files + Print + Eprint + AllocGlobal + Threads + Wait + Clock + Sync>(
     rt: &R,
     cluster: &str,
     scenario: &str,
     options: RunOptions,
-) -> Result<(), OutcomeError> {
+) -> Result<ExitCode, OutcomeError> {
     let alloc = rt.alloc();
     let (cluster, names) = named_cluster_of(alloc, &mut file_named(rt, cluster)?)?;
     let mut file = file_named(rt, scenario)?;
-    let skipped = run_cluster(
+    let notes = run_cluster(
         rt,
         alloc,
         &cluster,
@@ -69,8 +99,7 @@ fn run_files<R: Files + Print + Eprint + AllocGlobal + Threads + Wait + Clock + 
         options,
         &mut WaitingWriter::new(rt, io::writer(rt)),
     )?;
-    tell_skipped(rt, skipped.as_slice());
-    Ok(())
+    Ok(tell_notes(rt, &notes))
 }
 
 /// Executes the command on the text of its source.
@@ -89,21 +118,24 @@ fn print_from<R: Files + Input + Print + AllocGlobal + Clock>(
     }
 }
 
-/// Executes the task.
+/// Executes the task, and returns the exit status.
 fn carry_out<R: Files + Input + Print + Eprint + AllocGlobal + Threads + Wait + Clock + Sync>(
     rt: &R,
     task: &Task<'_>,
-) -> Result<(), BenchFailure> {
+) -> Result<ExitCode, BenchFailure> {
     match task {
-        Task::Text(command, source) => print_from(rt, *command, *source),
+        Task::Text(command, source) => {
+            print_from(rt, *command, *source)?;
+            Ok(ExitCode::SUCCESS)
+        }
         Task::Run(cluster, scenario, options) => { Ok(run_files(rt, cluster, scenario, *options)?) }
     }
 }
 
-/// Reads the words and executes their command.
+/// Reads the words and executes their command. Returns the exit status.
 fn run<R: Env + Files + Input + Print + Eprint + AllocGlobal + Threads + Wait + Clock + Sync>(
     rt: &R,
-) -> Result<(), BenchFailure> {
+) -> Result<ExitCode, BenchFailure> {
     let words = words_given(rt)?;
     let texts: Vec<&str> = texts_of(rt.alloc(), words.as_slice())?;
     carry_out(rt, &task_of(&order(rt.alloc(), texts.as_slice())?))
@@ -111,7 +143,7 @@ fn run<R: Env + Files + Input + Print + Eprint + AllocGlobal + Threads + Wait + 
 
 fn main(rt: HostRuntime) -> ExitCode {
     match run(&rt) {
-        Ok(()) => ExitCode::SUCCESS,
+        Ok(status) => status,
         Err(failure) => {
             let _ = eprintln!(rt; "{failure}");
             ExitCode::from(failure.status())

@@ -38,7 +38,7 @@ use Rattle.fr_playing.specs.Windows.{played_events, PlaysWindow, PlaysWithin, Pl
 use Rattle.fr_runs.specs.declared.fault_line.FaultLine.{FaultLine}
 use Rattle.fr_runs.specs.Striking.{strikes}
 use Rattle.fr_runs.specs.Suiting.{IsFaultAfter}
-use Rattle.fr_scenario.specs.Spelled.{IsSpelledFaultLine}
+use Rattle.fr_scenario.specs.Spelled.{IsSaidFaultLine}
 use Rattle.fr_schedule.specs.Descriptions.{Description}
 use Rattle.fr_session.specs.declared.request.Request.{Request}
 use Rattle.fr_session.specs.declared.request.Request.TheVariants as request
@@ -377,13 +377,13 @@ module _ (d : Description) (cycles : ℕ) where
     serves : ServesFreely (terms_of d cycles) (state_of w faults) number rest replies new
 
   keeps : (suits : Bool) (old : List FaultLine) (line : FaultLine) (reply : List ℕ) (new : List FaultLine)
-      → suits ≡ true → KeepsIf suits old line reply new → reply ≢ memory_text → new ≡ old ++ line ∷ []
+      → suits ≡ true → KeepsIf suits old (line ∷ []) reply new → reply ≢ memory_text → new ≡ old ++ line ∷ []
   keeps true old line reply new is (inl kept) memory = kept.1
   keeps true old line reply new is (inr starved) memory = absurd (memory starved.0)
   keeps false old line reply new is kept memory = absurd (let none : ⊥ = cc is in none)
 
   line_kept : (w : WorldState) (kept : List FaultLine) (line : FaultLine) (number : ℕ) (reply : List ℕ)
-      (between : SessionState) → IsSpelledFaultLine line → IsFaultAfter d cycles kept line
+      (between : SessionState) → IsSaidFaultLine line → IsFaultAfter d cycles kept line
       → DoesFreely (terms_of d cycles) (state_of w kept) number (fault_text line) reply between
       → between ≡ state_of w (kept ++ line ∷ [])
   line_kept w kept line number reply between fits suits does =
@@ -398,7 +398,7 @@ module _ (d : Description) (cycles : ℕ) where
       ap (λ (v : WorldState). state_of v between.faults) same ∙ ap (state_of w) faults
 
   lines_kept : (w : WorldState) (kept faults : List FaultLine) (rest : List (List ℕ)) (number : ℕ) (replies : List ℕ)
-      (new : SessionState) → Each IsSpelledFaultLine faults → AllAfter (IsFaultAfter d cycles) kept faults
+      (new : SessionState) → Each IsSaidFaultLine faults → AllAfter (IsFaultAfter d cycles) kept faults
       → ServesFreely (terms_of d cycles) (state_of w kept) number (map fault_text faults ++ rest) replies new
       → Kept w (kept ++ faults) rest new
   unfolding ServesFreely AllAfter

@@ -237,11 +237,11 @@ moved_line (Some e) b = refusal_line e
 memory_line : IsOneLine memory_text
 memory_line = one_line (codes "refused" ∷ codes "Memory" ∷ []) (refl, (refl, tt)) refl
 
-kept_line : (suits : Bool) (old new : List FaultLine) (line : FaultLine) (text : List ℕ)
-    → KeepsIf suits old line text new → IsOneLine text
-kept_line true old new line text (inl kept) = same_line done_words text kept.0 (refl, tt) refl
-kept_line true old new line text (inr memory) = subst IsOneLine (sym memory.0) memory_line
-kept_line false old new line text kept =
+kept_line : (suits : Bool) (old new more : List FaultLine) (text : List ℕ)
+    → KeepsIf suits old more text new → IsOneLine text
+kept_line true old new more text (inl kept) = same_line done_words text kept.0 (refl, tt) refl
+kept_line true old new more text (inr memory) = subst IsOneLine (sym memory.0) memory_line
+kept_line false old new more text kept =
     same_line (bad_fault_words (length old)) text kept.0 (refl, (refl, (number_line (length old), tt))) refl
 
 origin_line : (s : State) → IsOneLine (origin_text s)
@@ -455,7 +455,9 @@ request_line : (terms : Terms) (old : SessionState) (asked : Request) (text : Li
     → DoesRequest terms old asked text new → IsReplyTo (Some asked) text
 request_line terms old (request.Event event) text new does = subst IsOneLine (sym does.2) (answer_line does.0)
 request_line terms old (request.Fault line) text new does =
-    kept_line does.0.0 old.faults new.faults line text does.0.2
+    kept_line does.0.0 old.faults new.faults (line ∷ []) text does.0.2
+request_line terms old (request.Faults a b) text new does =
+    kept_line does.0.0 old.faults new.faults (a ∷ b ∷ []) text does.0.2
 request_line terms old request.Forget text new does = same_line done_words text does.0 (refl, tt) refl
 request_line terms old request.Window text new does =
     subst IsOneLine (sym does.2) (moved_line does.0 new.world.bus)

@@ -18,7 +18,7 @@ use Rattle.fr_runs.specs.Suiting.{IsFaultAfter}
 use Rattle.fr_schedule.specs.Descriptions.{Description}
 use Rattle.fr_session.specs.declared.request.Request.{Request}
 use Rattle.fr_session.specs.declared.request.Request.TheVariants as request
-use Rattle.fr_session.specs.Keeping.{KeepsIf}
+use Rattle.fr_session.specs.Keeping.{AreFaultsAfter, KeepsIf}
 use Rattle.fr_session.specs.Queries.{now_text, moved_text, memory_text, IsBlock, IsBlockIf}
 use Rattle.fr_session.specs.Queries.{IsRecordOf, sealed_text}
 use Rattle.fr_session.specs.Reading.{asked_in}
@@ -57,16 +57,16 @@ event_same old event a b x y first second memory memory' =
 
 -- ---- fault lines
 
-fault_same : (suits suits' : Bool) (old new new' : List FaultLine) (line : FaultLine) (a b : List ℕ)
-    → suits ≡ suits' → KeepsIf suits old line a new → KeepsIf suits' old line b new' → a ≢ memory_text
+fault_same : (suits suits' : Bool) (old new new' more : List FaultLine) (a b : List ℕ)
+    → suits ≡ suits' → KeepsIf suits old more a new → KeepsIf suits' old more b new' → a ≢ memory_text
     → b ≢ memory_text → (a ≡ b) × (new ≡ new')
-fault_same true true old new new' line a b same (inl first) (inl second) memory memory' =
+fault_same true true old new new' more a b same (inl first) (inl second) memory memory' =
     (first.0 ∙ sym second.0, first.1 ∙ sym second.1)
-fault_same true true old new new' line a b same (inl first) (inr second) memory memory' = absurd (memory' second.0)
-fault_same true true old new new' line a b same (inr first) second memory memory' = absurd (memory first.0)
-fault_same true false old new new' line a b same first second memory memory' = absurd (let none : ⊥ = cc same in none)
-fault_same false true old new new' line a b same first second memory memory' = absurd (let none : ⊥ = cc same in none)
-fault_same false false old new new' line a b same first second memory memory' =
+fault_same true true old new new' more a b same (inl first) (inr second) memory memory' = absurd (memory' second.0)
+fault_same true true old new new' more a b same (inr first) second memory memory' = absurd (memory first.0)
+fault_same true false old new new' more a b same first second memory memory' = absurd (let none : ⊥ = cc same in none)
+fault_same false true old new new' more a b same first second memory memory' = absurd (let none : ⊥ = cc same in none)
+fault_same false false old new new' more a b same first second memory memory' =
     (first.0 ∙ sym second.0, first.1 ∙ sym second.1)
 
 one_truth : (P : Type 0) (p q : Bool) → (IsTrue p ↔ P) → (IsTrue q ↔ P) → p ≡ q
@@ -147,7 +147,14 @@ module _ (d : Description) (cycles : ℕ) where
       let (keeps, world) = first in
       let (keeps', world') = second in
       let truth = one_truth (IsFaultAfter d cycles old.faults line) keeps.0 keeps'.0 keeps.1 keeps'.1 in
-      let same = fault_same keeps.0 keeps'.0 old.faults x.faults y.faults line a b truth keeps.2 keeps'.2
+      let same = fault_same keeps.0 keeps'.0 old.faults x.faults y.faults (line ∷ []) a b truth keeps.2 keeps'.2
+      memory.of_session memory'.of_session in
+      (same.0, by_parts x y (world ∙ sym world') same.1)
+  request_same old (request.Faults one other) a b x y first second memory memory' free free' =
+      let (keeps, world) = first in
+      let (keeps', world') = second in
+      let truth = one_truth (AreFaultsAfter d cycles old.faults one other) keeps.0 keeps'.0 keeps.1 keeps'.1 in
+      let same = fault_same keeps.0 keeps'.0 old.faults x.faults y.faults (one ∷ other ∷ []) a b truth keeps.2 keeps'.2
       memory.of_session memory'.of_session in
       (same.0, by_parts x y (world ∙ sym world') same.1)
   request_same old request.Forget a b x y first second memory memory' free free' =

@@ -1,6 +1,6 @@
 -- The spelling of a request is read as this request.
 use Rattle.std.proofs.Common.{◌≡◌, ℕ, ◌<◌, ◌≤◌, false, List, [], ◌∷◌, length, codes, Some}
-use Rattle.std.proofs.Common.{None, refl, sym, ap, ◌∙◌, arith}
+use Rattle.std.proofs.Common.{None, refl, sym, ap, ap₂, ◌∙◌, arith}
 use Rattle.std.specs.Fmt.{decimal}
 use Rattle.fr_bus.specs.declared.fault.Fault.{Fault}
 use Rattle.fr_bus.specs.declared.fault.Fault.TheVariants.{Babble, Mute, Corrupt}
@@ -16,20 +16,26 @@ use Rattle.fr_runs.specs.declared.fault_line.FaultPlace.{FaultPlace}
 use Rattle.fr_frame.specs.Payload.{IsPayload}
 use Rattle.fr_journal.specs.Entries.{AreBytes}
 use Rattle.fr_lines.proofs.PlanPartLemmas.{payload_again}
-use Rattle.fr_scenario.proofs.LineLemmas.{line_again}
-use Rattle.fr_scenario.proofs.PartLemmas.{channel_again, channel_plain, cycles_plain, place_plain}
+use Rattle.fr_scenario.proofs.FaultLineLemmas.{babble_line, corrupt_line, mute_line, said_cycles_word, said_place_word}
+use Rattle.fr_scenario.proofs.FaultLineLemmas.{said_same}
+use Rattle.fr_scenario.proofs.PartLemmas.{channel_again, channel_plain}
 use Rattle.fr_scenario.specs.CallReading.{call_in, commit_in, withdraw_in, read_in, pop_in}
-use Rattle.fr_scenario.specs.LineReading.{fault_line_in, fault_said, fault_line}
+use Rattle.fr_scenario.specs.declared.fault_lines.LineFaults.TheVariants.{Both}
+use Rattle.fr_scenario.specs.FaultLines.{faults_in, faults_said}
 use Rattle.fr_scenario.specs.Parts.{channel_word, cycles_word, place_word}
-use Rattle.fr_scenario.specs.Spelled.{IsSpelledFault, AreSpelledCycles, IsSpelledPlace, IsSpelledFaultLine}
+use Rattle.fr_scenario.specs.Spelled.{IsSpelledFault, AreSaidCycles, IsSaidPlace, IsSaidFaultLine}
 use Rattle.fr_scenario.specs.Spelling.{kind_word, call_words, fault_words, fault_line_words}
+use Rattle.fr_scenario.specs.Statements.{fault_at}
+use Rattle.fr_scenario.specs.StatementText.{on_channel, AreSaidFaultLines}
 use Rattle.fr_session.specs.declared.request.Request.{Request}
 use Rattle.fr_session.specs.declared.request.Request.TheVariants as request
 use Rattle.fr_session.specs.Lines.{longest_line}
 use Rattle.fr_session.specs.Reading.{host_request, node_in, step_of, step_request, babble_in, mute_in, corrupt_in}
 use Rattle.fr_session.specs.Reading.{fault_of, fault_request, run_in, record_in, report_in, status_in, trace_in}
 use Rattle.fr_session.specs.Reading.{origin_in, query_request, other_request, event_request, request_in}
-use Rattle.fr_session.specs.Reading.{request_or_fault, with_fault}
+use Rattle.fr_session.specs.Reading.{request_or_faults, with_faults}
+use Rattle.fr_slots.specs.declared.channel.Channel.TheVariants as channel
+use Rattle.fr_slots.specs.declared.channel.Channels.TheVariants as channels
 use Rattle.fr_text.proofs.HexTextLemmas.{bytes_again, length-hex_text}
 use Rattle.fr_text.proofs.LineLemmas.{words_of-line_of, has_no_feed-line_of, length-line_of-le}
 use Rattle.fr_text.proofs.NumberLemmas.{number_again}
@@ -39,7 +45,8 @@ use Rattle.fr_text.specs.Spaces.{line_of, words_of}
 use Rattle.fr_text.specs.Spelling.{hex_text}
 use Rattle.std.proofs.lemmas.Bool.{le-ltb}
 use Rattle.std.specs.Prelude.{nat_lt}
-use Rattle.fr_concord.specs.Spelled.{injected_words, event_words, request_words, spelled, IsSpelledEvent}
+use Rattle.fr_concord.specs.Spelled.{both_line_words, both_words, injected_words, event_words}
+use Rattle.fr_concord.specs.Spelled.{request_words, spelled, IsSpelledEvent}
 use Rattle.fr_concord.specs.Spelled.{IsSpelledRequest, AreReadAgain}
 
 -- ---- the words of a request are read as it
@@ -94,29 +101,48 @@ fault_no_event cycles place (Babble n c bytes) = refl
 fault_no_event cycles place (Mute n c) = refl
 fault_no_event cycles place (Corrupt c bit) = refl
 
-fault_again : (line : FaultLine) → IsSpelledFaultLine line
-    → words_of (line_of (fault_line_words line)) ≡ fault_line_words line
-    → fault_line_in (fault_line_words line) ≡ Some line
-fault_again line fits cut =
-    sym (ap fault_line_in cut) ∙ ap fault_said (line_again _ (fault_line line.fault line.cycles line.place) fits)
+both_no_event : (cycles place : List ℕ) (f : Fault) → request_in (both_words cycles place f) ≡ None
+unfolding request_in event_request fault_request fault_of babble_in mute_in corrupt_in
+both_no_event cycles place (Babble n c bytes) = refl
+both_no_event cycles place (Mute n c) = refl
+both_no_event cycles place (Corrupt c bit) = refl
 
-request_again : (r : Request) → IsSpelledRequest r → words_of (spelled r) ≡ request_words r
-    → request_or_fault (request_in (request_words r)) (request_words r) ≡ Some r
+both_faults : (f : Fault) (y : RunCycles) (p : FaultPlace) → IsSpelledFault f → AreSaidCycles y → IsSaidPlace p
+    → faults_in (line_of (both_words (cycles_word y) (place_word p) f))
+    ≡ Some (Both (fault_at (on_channel channel.A f) y p) (fault_at (on_channel channel.B f) y p))
+both_faults (Babble n c bytes) y p fits cycles place =
+    ap faults_said (babble_line [] channels.Both y p cycles place n bytes fits)
+both_faults (Mute n c) y p fits cycles place = ap faults_said (mute_line [] channels.Both y p cycles place n fits)
+both_faults (Corrupt c bit) y p fits cycles place =
+    ap faults_said (corrupt_line [] channels.Both y p cycles place bit fits)
+
+both_again : (a b : FaultLine) → AreSaidFaultLines a b
+    → with_faults (faults_in (line_of (both_line_words a))) ≡ Some (request.Faults a b)
+both_again a b fits =
+    let one = fits.first in
+    let first = ap (λ (f : Fault). fault_at f a.cycles a.place) (sym fits.on_a) in
+    ap with_faults (both_faults a.fault a.cycles a.place one.fault_fits one.cycles_fit one.place_fits)
+    ∙ ap₂ (λ (x y : FaultLine). Some (request.Faults x y)) first (sym fits.on_b)
+
+request_again : (r : Request) → IsSpelledRequest r
+    → request_or_faults (request_in (request_words r)) (spelled r) ≡ Some r
 unfolding request_in other_request query_request run_in record_in report_in status_in trace_in origin_in
-request_again (request.Event e) fits cut = rw (event_again e fits) refl
-request_again (request.Fault line) fits cut =
+request_again (request.Event e) fits = rw (event_again e fits) refl
+request_again (request.Fault line) fits =
     rw (fault_no_event (cycles_word line.cycles) (place_word line.place) line.fault)
-    (ap with_fault (fault_again line fits cut))
-request_again request.Forget fits cut = refl
-request_again request.Window fits cut = refl
-request_again (request.Run n) fits cut = rw (number_again 1025 n (omega arith) (omega arith)) refl
-request_again request.Now fits cut = refl
-request_again request.At fits cut = refl
-request_again (request.Report n) fits cut = rw (node_again n fits) refl
-request_again (request.Status n c) fits cut = rw (number_again 16 n fits (omega arith), channel_again c) refl
-request_again (request.Trace n) fits cut = rw (node_again n fits) refl
-request_again (request.Origin n) fits cut = rw (node_again n fits) refl
-request_again (request.Record n) fits cut = rw (number_again 4294967296 n (omega arith) (omega arith)) refl
+    (ap with_faults (said_same [] line fits))
+request_again (request.Faults a b) fits =
+    rw (both_no_event (cycles_word a.cycles) (place_word a.place) a.fault) (both_again a b fits)
+request_again request.Forget fits = refl
+request_again request.Window fits = refl
+request_again (request.Run n) fits = rw (number_again 1025 n (omega arith) (omega arith)) refl
+request_again request.Now fits = refl
+request_again request.At fits = refl
+request_again (request.Report n) fits = rw (node_again n fits) refl
+request_again (request.Status n c) fits = rw (number_again 16 n fits (omega arith), channel_again c) refl
+request_again (request.Trace n) fits = rw (node_again n fits) refl
+request_again (request.Origin n) fits = rw (node_again n fits) refl
+request_again (request.Record n) fits = rw (number_again 4294967296 n (omega arith) (omega arith)) refl
 
 -- ---- the words are plain and few
 
@@ -187,13 +213,13 @@ injected_so (Corrupt c bit) fits =
     line_so (codes "corrupt") (channel_word c ∷ decimal bit ∷ [])
     (refl, (first.plain, (second.plain, tt))) (omega (arith, first.short, second.short))
 
-faulty_so : (f : Fault) (cycles : RunCycles) (place : FaultPlace) → IsSpelledFault f → AreSpelledCycles cycles
-    → IsSpelledPlace place → IsLineOf (fault_words (cycles_word cycles) (place_word place) f)
+faulty_so : (f : Fault) (cycles : RunCycles) (place : FaultPlace) → IsSpelledFault f → AreSaidCycles cycles
+    → IsSaidPlace place → IsLineOf (fault_words (cycles_word cycles) (place_word place) f)
 faulty_so (Babble n c bytes) cycles place fits cycles_fit place_fits =
     let first = node_word n fits.0 in
     let second = channel_plain c in
-    let third = cycles_plain cycles cycles_fit in
-    let fourth = place_plain place place_fits in
+    let third = said_cycles_word cycles cycles_fit in
+    let fourth = said_place_word place place_fits in
     let fifth = bytes_word bytes.items fits.1 in
     let all = length-line_of-le (fault_words (cycles_word cycles) (place_word place) (Babble n c bytes)) in
     line_so (codes "babble")
@@ -203,24 +229,58 @@ faulty_so (Babble n c bytes) cycles place fits cycles_fit place_fits =
 faulty_so (Mute n c) cycles place fits cycles_fit place_fits =
     let first = node_word n fits in
     let second = channel_plain c in
-    let third = cycles_plain cycles cycles_fit in
-    let fourth = place_plain place place_fits in
+    let third = said_cycles_word cycles cycles_fit in
+    let fourth = said_place_word place place_fits in
     let all = length-line_of-le (fault_words (cycles_word cycles) (place_word place) (Mute n c)) in
     line_so (codes "mute") (decimal n ∷ channel_word c ∷ cycles_word cycles ∷ place_word place ∷ [])
     (refl, (first.plain, (second.plain, (third.plain, (fourth.plain, tt)))))
     (omega (arith, first.short, second.short, third.short, fourth.short))
 faulty_so (Corrupt c bit) cycles place fits cycles_fit place_fits =
     let first = channel_plain c in
-    let second = cycles_plain cycles cycles_fit in
-    let third = place_plain place place_fits in
+    let second = said_cycles_word cycles cycles_fit in
+    let third = said_place_word place place_fits in
     let fourth = number_word 5 bit (omega arith) (omega arith) (omega arith) in
     let all = length-line_of-le (fault_words (cycles_word cycles) (place_word place) (Corrupt c bit)) in
     line_so (codes "corrupt") (channel_word c ∷ cycles_word cycles ∷ place_word place ∷ decimal bit ∷ [])
     (refl, (first.plain, (second.plain, (third.plain, (fourth.plain, tt)))))
     (omega (arith, first.short, second.short, third.short, fourth.short))
 
-fault_so : (line : FaultLine) → IsSpelledFaultLine line → IsLineOf (fault_line_words line)
+fault_so : (line : FaultLine) → IsSaidFaultLine line → IsLineOf (fault_line_words line)
 fault_so line fits = faulty_so line.fault line.cycles line.place fits.fault_fits fits.cycles_fit fits.place_fits
+
+on_both_so : (f : Fault) (cycles : RunCycles) (place : FaultPlace) → IsSpelledFault f → AreSaidCycles cycles
+    → IsSaidPlace place → IsLineOf (both_words (cycles_word cycles) (place_word place) f)
+on_both_so (Babble n c bytes) cycles place fits cycles_fit place_fits =
+    let first = node_word n fits.0 in
+    let third = said_cycles_word cycles cycles_fit in
+    let fourth = said_place_word place place_fits in
+    let fifth = bytes_word bytes.items fits.1 in
+    let all = length-line_of-le (both_words (cycles_word cycles) (place_word place) (Babble n c bytes)) in
+    line_so (codes "babble")
+    (decimal n ∷ codes "AB" ∷ cycles_word cycles ∷ place_word place ∷ hex_text bytes.items ∷ [])
+    (refl, (first.plain, (refl, (third.plain, (fourth.plain, (fifth.plain, tt))))))
+    (omega (arith, first.short, third.short, fourth.short, fifth.short))
+on_both_so (Mute n c) cycles place fits cycles_fit place_fits =
+    let first = node_word n fits in
+    let third = said_cycles_word cycles cycles_fit in
+    let fourth = said_place_word place place_fits in
+    let all = length-line_of-le (both_words (cycles_word cycles) (place_word place) (Mute n c)) in
+    line_so (codes "mute") (decimal n ∷ codes "AB" ∷ cycles_word cycles ∷ place_word place ∷ [])
+    (refl, (first.plain, (refl, (third.plain, (fourth.plain, tt)))))
+    (omega (arith, first.short, third.short, fourth.short))
+on_both_so (Corrupt c bit) cycles place fits cycles_fit place_fits =
+    let second = said_cycles_word cycles cycles_fit in
+    let third = said_place_word place place_fits in
+    let fourth = number_word 5 bit (omega arith) (omega arith) (omega arith) in
+    let all = length-line_of-le (both_words (cycles_word cycles) (place_word place) (Corrupt c bit)) in
+    line_so (codes "corrupt") (codes "AB" ∷ cycles_word cycles ∷ place_word place ∷ decimal bit ∷ [])
+    (refl, (refl, (second.plain, (third.plain, (fourth.plain, tt)))))
+    (omega (arith, second.short, third.short, fourth.short))
+
+both_so : (a b : FaultLine) → AreSaidFaultLines a b → IsLineOf (both_line_words a)
+both_so a b fits =
+    let one = fits.first in
+    on_both_so a.fault a.cycles a.place one.fault_fits one.cycles_fit one.place_fits
 
 event_so : (e : Event) → IsSpelledEvent e → IsLineOf (event_words e)
 event_so (event.Commit n t b p) fits =
@@ -254,6 +314,7 @@ event_so event.Advance fits = alone_so (codes "advance") (refl, tt) (omega arith
 request_so : (r : Request) → IsSpelledRequest r → IsLineOf (request_words r)
 request_so (request.Event e) fits = event_so e fits
 request_so (request.Fault line) fits = fault_so line fits
+request_so (request.Faults a b) fits = both_so a b fits
 request_so request.Forget fits = alone_so (codes "forget") (refl, tt) (omega arith)
 request_so request.Window fits = alone_so (codes "window") (refl, tt) (omega arith)
 request_so (request.Run n) fits =
@@ -288,6 +349,5 @@ read_again r fits =
       one_line = has_no_feed-line_of (request_words r) so.plain;
       short = so.short;
       read = rw (short_test (spelled r) so.short)
-          (ap (λ (ws : List (List ℕ)). request_or_fault (request_in ws) ws) so.cut
-          ∙ request_again r fits so.cut);
+          (ap (λ (ws : List (List ℕ)). request_or_faults (request_in ws) (spelled r)) so.cut ∙ request_again r fits);
     }

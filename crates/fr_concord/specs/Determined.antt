@@ -52,6 +52,7 @@ abbrev pub MovesFreely : Terms → SessionState → SessionState → Option Requ
 MovesFreely terms old new None reply = Unit {0}
 MovesFreely terms old new (Some (request.Event event)) reply = Unit {0}
 MovesFreely terms old new (Some (request.Fault line)) reply = Unit {0}
+MovesFreely terms old new (Some (request.Faults a b)) reply = Unit {0}
 MovesFreely terms old new (Some request.Forget) reply = Unit {0}
 MovesFreely terms old new (Some request.Window) reply = IsUnhindered reply ⊎ IsPastOffers new.world.bus
 MovesFreely terms old new (Some (request.Run cycles)) reply =

@@ -5,7 +5,7 @@ use Rattle.fr_playing.specs.declared.play.Played.{Played}
 use Rattle.fr_playing.specs.Playing.{IsPlayed}
 use Rattle.fr_runs.specs.declared.fault_line.FaultLine.{FaultLine}
 use Rattle.fr_runs.specs.Suiting.{IsFaultAfter}
-use Rattle.fr_scenario.specs.Spelled.{IsSpelledFaultLine}
+use Rattle.fr_scenario.specs.Spelled.{IsSaidFaultLine}
 use Rattle.fr_schedule.specs.Descriptions.{Description}
 use Rattle.fr_session.specs.declared.request.Request.TheVariants as request
 use Rattle.fr_session.specs.Sessions.{SessionState, opening, terms_of}
@@ -23,7 +23,7 @@ lines_of faults cycles = map fault_text faults ++ spelled (request.Run cycles) �
 
 -- a run accepts the lines
 pub record AreLinesOf (d : Description) (cycles : ℕ) (faults : List FaultLine) : Type 0 where
-  pub spelled : Each IsSpelledFaultLine faults
+  pub spelled : Each IsSaidFaultLine faults
   pub suit : AllAfter (IsFaultAfter d cycles) [] faults
   pub few_cycles : cycles ≤ 1024
 

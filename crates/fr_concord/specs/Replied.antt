@@ -40,6 +40,7 @@ abbrev pub IsReplyTo : Option Request → List ℕ → Type 0
 IsReplyTo None reply = IsOneLine reply
 IsReplyTo (Some (request.Event event)) reply = IsOneLine reply
 IsReplyTo (Some (request.Fault line)) reply = IsOneLine reply
+IsReplyTo (Some (request.Faults a b)) reply = IsOneLine reply
 IsReplyTo (Some request.Forget) reply = IsOneLine reply
 IsReplyTo (Some request.Window) reply = IsOneLine reply
 IsReplyTo (Some (request.Run cycles)) reply = IsOneLine reply

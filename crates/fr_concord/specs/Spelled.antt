@@ -7,13 +7,17 @@ use Rattle.fr_core.specs.declared.event.Event.{Event}
 use Rattle.fr_core.specs.declared.event.Event.TheVariants as event
 use Rattle.fr_frame.specs.Payload.{IsPayload}
 use Rattle.fr_journal.specs.Entries.{AreBytes}
-use Rattle.fr_scenario.specs.Parts.{channel_word}
-use Rattle.fr_scenario.specs.Spelled.{IsSpelledFault, IsSpelledFaultLine}
+use Rattle.fr_lines.specs.Parts.{channels_word}
+use Rattle.fr_runs.specs.declared.fault_line.FaultLine.{FaultLine}
+use Rattle.fr_scenario.specs.Parts.{channel_word, cycles_word, place_word}
+use Rattle.fr_scenario.specs.Spelled.{IsSpelledFault, IsSaidFaultLine}
 use Rattle.fr_scenario.specs.Spelling.{fault_line_words}
+use Rattle.fr_scenario.specs.StatementText.{fault_words_on, AreSaidFaultLines}
 use Rattle.fr_session.specs.declared.request.Request.{Request}
 use Rattle.fr_session.specs.declared.request.Request.TheVariants as request
 use Rattle.fr_session.specs.Lines.{IsLine, longest_line}
 use Rattle.fr_session.specs.Reading.{asked_in}
+use Rattle.fr_slots.specs.declared.channel.Channels.TheVariants as channels
 use Rattle.fr_text.specs.Spaces.{line_of}
 use Rattle.fr_text.specs.Spelling.{hex_text}
 
@@ -25,6 +29,13 @@ injected_words (Babble node channel bytes) =
     codes "babble" ∷ decimal node ∷ channel_word channel ∷ hex_text bytes.items ∷ []
 injected_words (Mute node channel) = codes "mute" ∷ decimal node ∷ channel_word channel ∷ []
 injected_words (Corrupt channel bit) = codes "corrupt" ∷ channel_word channel ∷ decimal bit ∷ []
+
+-- a fault on both channels
+abbrev pub both_words : List ℕ → List ℕ → Fault → List (List ℕ)
+both_words cycles place fault = fault_words_on (channels_word channels.Both) cycles place fault
+
+abbrev pub both_line_words : FaultLine → List (List ℕ)
+both_line_words f = both_words (cycles_word f.cycles) (place_word f.place) f.fault
 
 abbrev pub event_words : Event → List (List ℕ)
 event_words (event.Commit node task buffer payload) =
@@ -45,6 +56,7 @@ event_words event.Advance = codes "advance" ∷ []
 abbrev pub request_words : Request → List (List ℕ)
 request_words (request.Event asked) = event_words asked
 request_words (request.Fault line) = fault_line_words line
+request_words (request.Faults a b) = both_line_words a
 request_words request.Forget = codes "forget" ∷ []
 request_words request.Window = codes "window" ∷ []
 request_words (request.Run cycles) = codes "run" ∷ decimal cycles ∷ []
@@ -93,7 +105,8 @@ IsSpelledEvent event.Advance = Unit {0}
 
 abbrev pub IsSpelledRequest : Request → Type 0
 IsSpelledRequest (request.Event asked) = IsSpelledEvent asked
-IsSpelledRequest (request.Fault line) = IsSpelledFaultLine line
+IsSpelledRequest (request.Fault line) = IsSaidFaultLine line
+IsSpelledRequest (request.Faults a b) = AreSaidFaultLines a b
 IsSpelledRequest request.Forget = Unit {0}
 IsSpelledRequest request.Window = Unit {0}
 IsSpelledRequest (request.Run cycles) = cycles ≤ 1024

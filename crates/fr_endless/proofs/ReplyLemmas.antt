@@ -18,7 +18,7 @@ use Rattle.fr_playing.specs.Moving.{MovesOn, RunsCycles}
 use Rattle.fr_runs.specs.declared.fault_line.FaultLine.{FaultLine}
 use Rattle.fr_session.specs.declared.request.Request.{Request}
 use Rattle.fr_session.specs.declared.request.Request.TheVariants as request
-use Rattle.fr_session.specs.Keeping.{KeepsLine}
+use Rattle.fr_session.specs.Keeping.{KeepsLine, KeepsBoth}
 use Rattle.fr_session.specs.Queries.{now_text, moved_text, IsRecordOf, Replies}
 use Rattle.fr_session.specs.Replies.{answer_text, bad_line_words, done_words}
 use Rattle.fr_session.specs.Sessions.{Terms, state_of}
@@ -94,6 +94,11 @@ module _ (terms : Terms) (l : LiveState) (kept : List FaultLine) where
       → KeepsLine terms.cluster terms.cycles kept line reply keeps
       → DoesAlike terms l kept (request.Fault line) reply l keeps
   line_so line keeps reply does w is = (w, (does, refl), is)
+
+  pub both_so : (a b : FaultLine) (keeps : List FaultLine) (reply : List ℕ)
+      → KeepsBoth terms.cluster terms.cycles kept a b reply keeps
+      → DoesAlike terms l kept (request.Faults a b) reply l keeps
+  both_so a b keeps reply does w is = (w, (does, refl), is)
 
   pub forget_so : (keeps : List FaultLine) → keeps ≡ []
       → DoesAlike terms l kept request.Forget (line_text done_words) l keeps

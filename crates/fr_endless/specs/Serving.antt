@@ -28,6 +28,7 @@ use Rattle.fr_session.specs.Sessions.{Terms, SessionState, state_of, opening, Do
 abbrev pub DoesEndless : Terms → SessionState → Request → List ℕ → SessionState → Type 0
 DoesEndless terms old (request.Event event) reply new = DoesRequest terms old (request.Event event) reply new
 DoesEndless terms old (request.Fault line) reply new = DoesRequest terms old (request.Fault line) reply new
+DoesEndless terms old (request.Faults a b) reply new = DoesRequest terms old (request.Faults a b) reply new
 DoesEndless terms old request.Forget reply new = DoesRequest terms old request.Forget reply new
 DoesEndless terms old request.Window reply new = DoesRequest terms old request.Window reply new
 DoesEndless terms old (request.Run cycles) reply new = DoesRequest terms old (request.Run cycles) reply new

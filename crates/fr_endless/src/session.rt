@@ -18,7 +18,7 @@ use crate::world::EndlessWorld;
 use fr_playing::moving::window_events;
 use fr_schedule::cluster::Cluster;
 use fr_session::error::SessionError;
-use fr_session::keeping::keep_line;
+use fr_session::keeping::{keep_both, keep_line};
 use fr_session::kept::KeptLines;
 use fr_session::lines::{Line, next_line};
 use fr_session::prepared::{BlockWriter, Prepared};
@@ -58,6 +58,7 @@ fn do_request<W: BlockWriter>(
             write_answer(writer, &answer)
         }
         Request::Fault(line) => keep_line(terms.cluster, terms.cycles, faults, line, writer),
+        Request::Faults { a, b } => { keep_both(terms.cluster, terms.cycles, faults, a, b, writer) }
         Request::Forget => {
             faults.clear();
             write_done(writer)
@@ -92,7 +93,7 @@ fn answer_line<W: BlockWriter>(
     ensures { Replies W.contents writer.old writer.new result (λ reply. DoesAlikeIf (terms_in terms.now)
         world.old faults.old number (asked_in line.now) reply world.new faults.new) }
 {
-    match request_of(line) {
+    match request_of(terms.alloc, line) {
         Some(request) => do_request(terms, faults, world, request, writer),
         None => write_bad_line(writer, number),
     }

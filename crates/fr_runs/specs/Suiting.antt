@@ -119,7 +119,8 @@ are_alike (Corrupt c bit) (Corrupt e other) = is_channel c e
 abbrev pub names_both : RunCycles → RunCycles → ℕ → Bool
 names_both cycles others cycle = names_cycle cycles cycle && names_cycle others cycle
 
--- They have a cycle of the run in common. Two spans can share those from the greater first to the smaller last cycle.
+-- They have a cycle in common, perhaps after the end of the run. Two spans can share those from the greater first to
+-- the smaller last cycle.
 abbrev pub cycles_meet : RunCycles → RunCycles → Bool
 cycles_meet Every others = true
 cycles_meet (Only cycle) others = names_cycle others cycle
@@ -187,7 +188,8 @@ abbrev pub slots_meet : FaultPlace → FaultPlace → Bool
 slots_meet place other =
     in_order (first_static place) (last_static other) && in_order (first_static other) (last_static place)
 
--- their windows of the dynamic segment have one in common; a dynamic slot may open at any minislot
+-- Their windows of the dynamic segment have one in common. A dynamic slot may open at any minislot, and two dynamic
+-- slots have no window in common.
 abbrev pub minislots_meet : FaultPlace → FaultPlace → Bool
 minislots_meet place other =
     agree (minislot_of place) (minislot_of other) && agree (dynamic_of place) (dynamic_of other)

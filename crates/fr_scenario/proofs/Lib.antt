@@ -8,3 +8,7 @@ pub mod BlankLemmas
 pub mod AnyLemmas
 pub mod StatementLemmas
 pub mod RunLemmas
+pub mod PartedLemmas
+pub mod StatementLaws
+pub mod SaidLaws
+pub mod FaultLineLemmas

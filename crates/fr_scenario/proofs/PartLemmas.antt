@@ -105,7 +105,7 @@ counted_takes word n h =
           rw (← is) (sym taken.0, record { from_one = omega arith; at_most = omega arith })
     ]
 
-counted_again : (n : ℕ) → IsCounted n → counted_in (decimal n) ≡ Some n
+pub counted_again : (n : ℕ) → IsCounted n → counted_in (decimal n) ≡ Some n
 unfolding counted_in
 counted_again n fits =
     let low = fits.from_one in

@@ -14,7 +14,8 @@ use Rattle.fr_scenario.specs.declared.statement.Statement.TheVariants.{Calls}
 use Rattle.fr_scenario.specs.StatementParts.{node_said, cycles_said}
 use Rattle.fr_scenario.specs.Reading.{ReadOf, next_line, is_at_end, put_before, read_from, whole_line}
 use Rattle.fr_scenario.specs.Statements.{are_end, is_last, statement_said, statement_in, calls_said, call_said}
-use Rattle.fr_scenario.specs.Statements.{babble_said, mute_said, corrupt_said, lost_said, commit_said, withdraw_said}
+use Rattle.fr_scenario.specs.Statements.{babble_said, mute_said, corrupt_said, lost_said, expect_said}
+use Rattle.fr_scenario.specs.Statements.{expect_none_said, other_said, commit_said, withdraw_said}
 use Rattle.fr_scenario.specs.Statements.{read_said, pop_said}
 use Rattle.fr_text.specs.Reading.{◌>>=◌, number_in}
 
@@ -71,6 +72,19 @@ many_calls names kind a b c d e f more =
     bind_none (node_said names a) _ (λ n. bind_none (number_in 8 b) _ (λ t. bind_none (cycles_said c) _ (λ y.
     unspoken names kind n d e f more (λ call. Some (Calls n t y call)))))
 
+many_other : (names : List NamesOfNode) (kind a b c d e f : List ℕ) (more : List (List ℕ))
+    → other_said names kind (a ∷ b ∷ c ∷ d ∷ e ∷ f ∷ more) ≡ None
+unfolding other_said expect_said expect_none_said
+many_other names kind a b c d e f more =
+    elim (cases_Bool (bytes_eq kind (codes "expect"))) [
+      | inl expect ↦ rw expect refl
+      | inr not_expect ↦
+          elim (cases_Bool (bytes_eq kind (codes "expect-none"))) [
+            | inl none ↦ rw (not_expect, none) refl
+            | inr not_none ↦ rw (not_expect, not_none) (many_calls names kind a b c d e f more)
+          ]
+    ]
+
 many_said : (names : List NamesOfNode) (kind a b c d e f : List ℕ) (more : List (List ℕ))
     → statement_said names (kind ∷ a ∷ b ∷ c ∷ d ∷ e ∷ f ∷ more) ≡ None
 unfolding statement_said babble_said mute_said corrupt_said lost_said
@@ -87,7 +101,7 @@ many_said names kind a b c d e f more =
                       elim (cases_Bool (bytes_eq kind (codes "lost"))) [
                         | inl lost ↦ rw (not_babble, not_mute, not_corrupt, lost) refl
                         | inr not_lost ↦ rw (not_babble, not_mute, not_corrupt, not_lost)
-                            (many_calls names kind a b c d e f more)
+                            (many_other names kind a b c d e f more)
                       ]
                 ]
           ]

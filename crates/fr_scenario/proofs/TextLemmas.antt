@@ -17,6 +17,7 @@ use Rattle.fr_scenario.proofs.LineLemmas.{line_takes, line_again, line_short, li
 use Rattle.fr_core.specs.Answers.{IsUnanswered, AreUnanswered}
 use Rattle.fr_core.specs.declared.script.Line.{Line}
 use Rattle.fr_core.specs.Scripts.{Scripted}
+use Rattle.fr_expecting.specs.declared.expectation.Expectation.{Expectation}
 use Rattle.fr_runs.specs.declared.fault_line.FaultLine.{FaultLine}
 use Rattle.fr_scenario.proofs.TaskLemmas.{scripts_kept, faults_kept, numbers_kept}
 use Rattle.fr_scenario.specs.Contents.{Contents, contents_of, task_lines, fault_lines, script_of, node_at, task_at}
@@ -328,21 +329,22 @@ kept_refused n g (Ok ls) e h = cc h
 kept_refused n g (Err f) e h = cc h
 
 pub made : (version : Version) (text rest : List ℕ) (k : Kept) (scripts : List Scripted) (faults : List FaultLine)
-    (numbers skipped : List ℕ)
+    (numbers skipped : List ℕ) (expected : List Expectation)
     → text ≡ (first_line version ++ line_feed) ++ rest → kept_from 2 none_yet (told_from version 2 (lines_in rest)) ≡ Ok
     k → scripts ≡ scripts_from 0 k.tasks
-    → faults ≡ k.faults → numbers ≡ k.numbers → skipped ≡ []
-    → Ok (record { scripts = scripts; faults = faults; numbers = numbers; skipped = skipped }) ≡
+    → faults ≡ k.faults → numbers ≡ k.numbers → skipped ≡ [] → expected ≡ []
+    → Ok (record { scripts = scripts; faults = faults; numbers = numbers; skipped = skipped; expected = expected }) ≡
     old_scenario_in text
-made version text rest k scripts faults numbers skipped is kept ss fs ns none =
+made version text rest k scripts faults numbers skipped expected is kept ss fs ns none nothing =
     let (ls, read, same) = kept_ok 2 none_yet k (told_from version 2 (lines_in rest)) kept in
     let are = lines_found version 2 (lines_in rest) ls read in
     let scripts_are : scripts ≡ scripts_of ls = ss ∙ ap (λ (g : Kept). scripts_from 0 g.tasks) (sym same) ∙ scripts_kept
     version ls are.fit in
     let faults_are : faults ≡ fault_lines ls = fs ∙ ap (λ (g : Kept). g.faults) (sym same) ∙ faults_kept ls in
     let numbers_are : numbers ≡ fault_numbers 2 ls = ns ∙ ap (λ (g : Kept). g.numbers) (sym same) ∙ numbers_kept ls in
-    let value : contents_of ls ≡ record { scripts = scripts; faults = faults; numbers = numbers; skipped = skipped } =
-    rw (scripts_are, faults_are, numbers_are, none) refl in
+    let value : contents_of ls
+    ≡ record { scripts = scripts; faults = faults; numbers = numbers; skipped = skipped; expected = expected } =
+    rw (scripts_are, faults_are, numbers_are, none, nothing) refl in
     sym (ap old_scenario_in is ∙ ap with_contents (after_first version rest ∙ read) ∙ ap Ok value)
 
 pub refused : (version : Version) (text rest : List ℕ) (e : ScenarioError)

@@ -3,6 +3,7 @@ use Rattle.std.specs.Prelude.{ℕ, ◌+◌, ◌/◌, ◌%◌, ◌==◌, ◌&&◌
 use Rattle.std.specs.List.{flat_map, range_with_len}
 use Rattle.fr_core.specs.declared.script.Line.{Line}
 use Rattle.fr_core.specs.Scripts.{Scripted}
+use Rattle.fr_expecting.specs.declared.expectation.Expectation.{Expectation}
 use Rattle.fr_runs.specs.declared.fault_line.FaultLine.{FaultLine}
 use Rattle.fr_scenario.specs.declared.spelled.SpelledLine.{SpelledLine}
 use Rattle.fr_scenario.specs.declared.spelled.SpelledLine.TheVariants.{Host, Fault as FaultOf}
@@ -15,6 +16,8 @@ pub record Contents : Type 0 where
   pub numbers : List ℕ
   -- the numbers of the lines of version 3 that name cycles, but none of the run
   pub skipped : List ℕ
+  -- the expectations of version 3 that name a cycle of the run, in the order of their lines
+  pub expected : List Expectation
 
 -- ---- the contents of all lines
 
@@ -62,5 +65,10 @@ scripts_of lines = flat_map (script_at lines) (range_with_len 0 task_count)
 
 -- line 1 of a text names its version, so the first of these lines is line 2
 abbrev pub contents_of : List SpelledLine → Contents
-contents_of lines =
-    record { scripts = scripts_of lines; faults = fault_lines lines; numbers = fault_numbers 2 lines; skipped = [] }
+contents_of lines = record {
+  scripts = scripts_of lines;
+  faults = fault_lines lines;
+  numbers = fault_numbers 2 lines;
+  skipped = [];
+  expected = [];
+}

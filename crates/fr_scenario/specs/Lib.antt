@@ -9,6 +9,8 @@ pub mod ScenarioText
 pub mod BlankWords
 pub mod StatementParts
 pub mod Statements
+pub mod StatementText
+pub mod FaultLines
 pub mod RunContents
 pub mod Reading
 pub mod AnyText

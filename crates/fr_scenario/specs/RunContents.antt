@@ -4,6 +4,7 @@ use Rattle.std.specs.Prelude.{None, Result, Ok, Err, if◌then◌else◌}
 use Rattle.std.specs.List.{flat_map, range_with_len, sum_by}
 use Rattle.fr_core.specs.declared.script.Line.{Line}
 use Rattle.fr_core.specs.Scripts.{Scripted}
+use Rattle.fr_expecting.specs.declared.expectation.Expectation.{Expectation}
 use Rattle.fr_interface.specs.declared.call.Call.{Call}
 use Rattle.fr_runs.specs.Cycles.{names_cycle}
 use Rattle.fr_runs.specs.declared.cycles.RunCycles.{RunCycles}
@@ -13,7 +14,7 @@ use Rattle.fr_scenario.specs.Contents.{Contents, script_of, node_at, task_at, ta
 use Rattle.fr_scenario.specs.declared.error.ScenarioError.{ScenarioError}
 use Rattle.fr_scenario.specs.declared.error.ScenarioError.TheVariants.{TooManyCalls}
 use Rattle.fr_scenario.specs.declared.statement.Statement.{Statement}
-use Rattle.fr_scenario.specs.declared.statement.Statement.TheVariants.{Nothing, Calls, Fault, Faults}
+use Rattle.fr_scenario.specs.declared.statement.Statement.TheVariants.{Nothing, Calls, Fault, Faults, Expected}
 
 -- ---- the calls of a task
 
@@ -29,6 +30,7 @@ planned n t (Calls node task cycles call ∷ statements) =
     if node == n && task == t then (cycles, call) ∷ planned n t statements else planned n t statements
 planned n t (Fault f ∷ statements) = planned n t statements
 planned n t (Faults a b ∷ statements) = planned n t statements
+planned n t (Expected node cycles buffer payload ∷ statements) = planned n t statements
 
 -- the line of a call in this cycle; its answer isn't known
 abbrev pub line_at : ℕ → Call → Line
@@ -59,6 +61,7 @@ calls_of cycles Nothing = 0
 calls_of cycles (Calls node task named call) = count_by (names_cycle named) (range_with_len 0 cycles)
 calls_of cycles (Fault f) = 0
 calls_of cycles (Faults a b) = 0
+calls_of cycles (Expected node named buffer payload) = 0
 
 -- a call counts once for each cycle of the run that its line names
 abbrev pub calls_in_run : ℕ → List Statement → ℕ
@@ -74,6 +77,7 @@ faults_of Nothing = []
 faults_of (Calls node task cycles call) = []
 faults_of (Fault f) = f ∷ []
 faults_of (Faults a b) = a ∷ b ∷ []
+faults_of (Expected node cycles buffer payload) = []
 
 -- the line names cycles, but none that the run has
 abbrev pub is_skipped : ℕ → Statement → Bool
@@ -81,6 +85,7 @@ is_skipped cycles Nothing = false
 is_skipped cycles (Calls node task named call) = not (has_cycle cycles named)
 is_skipped cycles (Fault f) = not (has_cycle cycles f.cycles)
 is_skipped cycles (Faults a b) = not (has_cycle cycles a.cycles)
+is_skipped cycles (Expected node named buffer payload) = not (has_cycle cycles named)
 
 abbrev pub faults_left : ℕ → Statement → List FaultLine
 faults_left cycles statement = if is_skipped cycles statement then [] else faults_of statement
@@ -101,6 +106,26 @@ skipped_in_run cycles n (statement ∷ statements) =
     if is_skipped cycles statement then n ∷ skipped_in_run cycles (n + 1) statements
     else skipped_in_run cycles (n + 1) statements
 
+-- ---- expectations
+
+-- that of the line of this number, if it has one
+abbrev pub expected_of : ℕ → Statement → List Expectation
+expected_of n Nothing = []
+expected_of n (Calls node task cycles call) = []
+expected_of n (Fault f) = []
+expected_of n (Faults a b) = []
+expected_of n (Expected node cycles buffer payload) =
+    record { line = n; node = node; cycles = cycles; buffer = buffer; payload = payload } ∷ []
+
+abbrev pub expected_left : ℕ → ℕ → Statement → List Expectation
+expected_left cycles n statement = if is_skipped cycles statement then [] else expected_of n statement
+
+-- those of all lines, if the first of these lines has number n
+abbrev pub expected_in_run : ℕ → ℕ → List Statement → List Expectation
+expected_in_run cycles n [] = []
+expected_in_run cycles n (statement ∷ statements) =
+    expected_left cycles n statement ++ expected_in_run cycles (n + 1) statements
+
 -- ---- the contents
 
 abbrev pub run_contents : ℕ → List Statement → Contents
@@ -109,6 +134,7 @@ run_contents cycles statements = record {
   faults = faults_in_run cycles statements;
   numbers = numbers_in_run cycles 2 statements;
   skipped = skipped_in_run cycles 2 statements;
+  expected = expected_in_run cycles 2 statements;
 }
 
 -- too many calls are refused once all lines are read

@@ -9,6 +9,7 @@ contents_in s = record {
   faults = s.faults.items;
   numbers = s.numbers.items;
   skipped = s.skipped.items;
+  expected = s.expected.items;
 }
 
 abbrev pub HasNoAnswers : Inside → Type 0

@@ -77,6 +77,29 @@ pub record IsSpelledFaultLine (f : FaultLine) : Type 0 where
   pub cycles_fit : AreSpelledCycles f.cycles
   pub place_fits : IsSpelledPlace f.place
 
+-- ---- the fault lines of version 3
+
+-- also a span of cycles, whose step is at least 1
+abbrev pub AreSaidCycles : RunCycles → Type 0
+AreSaidCycles Every = Unit {0}
+AreSaidCycles (Only cycle) = IsRunCycle cycle
+AreSaidCycles (Span first last step) = (first ≤ last) × IsRunCycle last × (1 ≤ step) × (step < 1024)
+
+-- also a span of static slots, one dynamic slot, and every window of a segment or of both
+abbrev pub IsSaidPlace : FaultPlace → Type 0
+IsSaidPlace EveryWindow = Unit {0}
+IsSaidPlace EverySlot = Unit {0}
+IsSaidPlace (Slot slot) = IsCounted slot
+IsSaidPlace (Slots first last) = (first ≤ last) × IsCounted first × IsCounted last
+IsSaidPlace EveryMinislot = Unit {0}
+IsSaidPlace (Minislot minislot) = IsCounted minislot
+IsSaidPlace (Dynamic slot) = IsCounted slot
+
+pub record IsSaidFaultLine (f : FaultLine) : Type 0 where
+  pub fault_fits : IsSpelledFault f.fault
+  pub cycles_fit : AreSaidCycles f.cycles
+  pub place_fits : IsSaidPlace f.place
+
 -- ---- a line
 
 abbrev pub IsSpelledLine : Version → SpelledLine → Type 0

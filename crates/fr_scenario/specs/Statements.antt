@@ -113,7 +113,34 @@ lost_said names (node ∷ cycles ∷ []) = do
   Some (faults_on channels.Both (Mute n A) (Mute n B) y EveryWindow)
 lost_said names words = None
 
+-- ---- what a receive buffer must hold at the end of each of these cycles
+
+unfoldable pub expect_said : List NamesOfNode → List (List ℕ) → Option Statement
+expect_said names (node ∷ cycles ∷ buffer ∷ payload ∷ []) = do
+  n ← node_said names node
+  y ← cycles_said cycles
+  b ← buffer_said names n buffer
+  p ← payload_in payload
+  Some (statement.Expected n y b (Some p))
+expect_said names words = None
+
+-- no frame
+unfoldable pub expect_none_said : List NamesOfNode → List (List ℕ) → Option Statement
+expect_none_said names (node ∷ cycles ∷ buffer ∷ []) = do
+  n ← node_said names node
+  y ← cycles_said cycles
+  b ← buffer_said names n buffer
+  Some (statement.Expected n y b None)
+expect_none_said names words = None
+
 -- ---- a line, by its first word
+
+-- of a line that isn't a fault's
+unfoldable pub other_said : List NamesOfNode → List ℕ → List (List ℕ) → Option Statement
+other_said names kind words =
+    if bytes_eq kind (codes "expect") then expect_said names words
+    else if bytes_eq kind (codes "expect-none") then expect_none_said names words
+    else calls_said names kind words
 
 unfoldable pub statement_said : List NamesOfNode → List (List ℕ) → Option Statement
 statement_said names [] = Some statement.Nothing
@@ -122,7 +149,7 @@ statement_said names (kind ∷ words) =
     else if bytes_eq kind (codes "mute") then mute_said names words
     else if bytes_eq kind (codes "corrupt") then corrupt_said words
     else if bytes_eq kind (codes "lost") then lost_said names words
-    else calls_said names kind words
+    else other_said names kind words
 
 abbrev pub statement_in : List NamesOfNode → List ℕ → Option Statement
 statement_in names line = statement_said names (blank_words line)

@@ -2,7 +2,7 @@
 ghost use Rattle.std.specs.Prelude.{◌≡◌};
 ghost use Rattle.fr_text.specs.Spaces.{words_of};
 ghost use Rattle.fr_scenario.specs.LineReading.{told_call_in, host_in, babble_in, mute_in};
-ghost use Rattle.fr_scenario.specs.LineReading.{corrupt_in, host_line, line_in, fault_line_in};
+ghost use Rattle.fr_scenario.specs.LineReading.{corrupt_in, host_line, line_in};
 
 use crate::calls::call_of;
 use crate::parts::{cycles_of, place_of, run_cycle_of};
@@ -136,17 +136,4 @@ pub(crate) fn line_of(version: Version, line: &[u8]) -> Option<SpelledLine>
         return corrupt_of(&mut words);
     }
     host_of(version, kind, &mut words)
-}
-
-/// Returns the fault line that a line of version 2 spells (project-defined).
-///
-/// The line is given without its line feed. `None` if it spells none: it is the line of a task, has no form of a line,
-/// or has a number out of its range. The line may have any length.
-pub fn fault_line_of(line: &[u8]) -> Option<FaultLine>
-    ensures { result ≡ fault_line_in (words_of line.now) }
-{
-    match line_of(Version::Two, line) {
-        Some(SpelledLine::Fault(fault)) => Some(fault),
-        _ => None,
-    }
 }

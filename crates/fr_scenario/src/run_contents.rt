@@ -4,13 +4,16 @@ ghost use Rattle.std.specs.List.{flat_map, range_with_len};
 ghost use Rattle.fr_runs.specs.Cycles.{names_cycle};
 ghost use Rattle.fr_scenario.specs.Contents.{task_count};
 ghost use Rattle.fr_scenario.specs.ScenarioText.{most_lines};
-ghost use Rattle.fr_scenario.specs.RunContents.{calls_in_run, calls_of, faults_in_run, faults_left, is_skipped};
+ghost use Rattle.fr_scenario.specs.RunContents.{calls_in_run, calls_of, expected_in_run, expected_left};
+ghost use Rattle.fr_scenario.specs.RunContents.{faults_in_run, faults_left, is_skipped};
 ghost use Rattle.fr_scenario.specs.RunContents.{line_at, lines_at, lines_in_run, most_calls, numbers_in_run, planned};
 ghost use Rattle.fr_scenario.specs.RunContents.{script_in_run, scripts_in_run, skipped_in_run};
 
 use crate::gathered::{TASK_COUNT, node_at, task_at};
 use crate::statement::Statement;
 use fr_core::script::{Line, Script};
+use fr_expecting::expectation::Expectation;
+use fr_frame::payload::Payload;
 use fr_interface::call::Call;
 use fr_runs::cycles::RunCycles;
 use fr_runs::fault_line::FaultLine;
@@ -159,7 +162,10 @@ fn calls_of(cycles: u16, statement: &Statement) -> usize
 {
     match statement {
         Statement::Calls { cycles: named, .. } => cycles_named(cycles, *named),
-        Statement::Nothing | Statement::Fault(_) | Statement::Faults { .. } => 0,
+        Statement::Nothing
+        | Statement::Fault(_)
+        | Statement::Faults { .. }
+        | Statement::Expected { .. } => 0,
     }
 }
 
@@ -186,6 +192,7 @@ fn is_skipped(cycles: u16, statement: &Statement) -> bool
         Statement::Calls { cycles: named, .. } => !has_cycle(cycles, *named),
         Statement::Fault(fault) => !has_cycle(cycles, fault.cycles),
         Statement::Faults { a, .. } => !has_cycle(cycles, a.cycles),
+        Statement::Expected { cycles: named, .. } => !has_cycle(cycles, *named),
     }
 }
 
@@ -225,7 +232,7 @@ fn add_faults(
         return Ok(());
     }
     match statement {
-        Statement::Nothing | Statement::Calls { .. } => {}
+        Statement::Nothing | Statement::Calls { .. } | Statement::Expected { .. } => {}
         Statement::Fault(fault) => {
             faults.push(fault.duplicate())?;
             numbers.push(number)?;
@@ -258,4 +265,62 @@ pub(crate) fn faults_in_run(
         number += 1;
     }
     Ok((faults, numbers))
+}
+
+/// Returns a copy of the payload, if there is one.
+fn duplicate_payload(payload: &Option<Payload>) -> Option<Payload>
+    ensures { result ≡ payload.now }
+{
+    match payload {
+        Some(payload) => Some(payload.duplicate()),
+        None => None,
+    }
+}
+
+/// Adds the expectation of the statement, whose line has this number, if it has one that isn't skipped.
+fn add_expected(
+    cycles: u16,
+    statement: &Statement,
+    number: u32,
+    expected: &mut Vec<Expectation>,
+) -> Result<(), AllocError>
+    ensures { OnOk result (expected.new.items ≡ expected.old.items ++ expected_left cycles number statement.now) }
+{
+    if is_skipped(cycles, statement) {
+        return Ok(());
+    }
+    if let Statement::Expected {
+        node,
+        cycles,
+        buffer,
+        payload,
+    } = statement
+    {
+        expected.push(Expectation {
+            line: number,
+            node: *node,
+            cycles: *cycles,
+            buffer: *buffer,
+            payload: duplicate_payload(payload),
+        })?;
+    }
+    Ok(())
+}
+
+/// Returns the expectations for cycles of the run, in their order. The first statement stands in line 2.
+pub(crate) fn expected_in_run(
+    alloc: Global,
+    cycles: u16,
+    statements: &[Statement],
+) -> Result<Vec<Expectation>, AllocError>
+    requires { length statements.now ≤ most_lines }
+    ensures { IfOk result (λ expected. expected.items ≡ expected_in_run cycles 2 statements.now) }
+{
+    let mut expected = Vec::new(alloc);
+    let mut number = 2;
+    for statement in statements {
+        add_expected(cycles, statement, number, &mut expected)?;
+        number += 1;
+    }
+    Ok(expected)
 }

@@ -11,11 +11,14 @@ use crate::error::ScenarioError;
 use crate::gathered::Gathered;
 use crate::left::{LAST_LINE, Left};
 use crate::lines::line_of;
-use crate::run_contents::{faults_in_run, has_too_many_calls, scripts_in_run, skipped_in_run};
+use crate::run_contents::{
+    expected_in_run, faults_in_run, has_too_many_calls, scripts_in_run, skipped_in_run,
+};
 use crate::statement::Statement;
 use crate::statements::{are_end, statement_of};
 use crate::version::Version;
 use fr_core::script::Script;
+use fr_expecting::expectation::Expectation;
 use fr_names::names::Names;
 use fr_runs::fault_line::FaultLine;
 use std::alloc::{AllocError, Global};
@@ -28,6 +31,7 @@ pub struct Scenario {
     faults: Vec<FaultLine>,
     numbers: Vec<u32>,
     skipped: Vec<u32>,
+    expected: Vec<Expectation>,
 }
 
 impl Model for Scenario {
@@ -144,6 +148,7 @@ impl Scenario {
             faults,
             numbers,
             skipped: Vec::new(alloc),
+            expected: Vec::new(alloc),
         })
     }
 
@@ -163,6 +168,7 @@ impl Scenario {
             faults,
             numbers,
             skipped: skipped_in_run(alloc, cycles, statements)?,
+            expected: expected_in_run(alloc, cycles, statements)?,
         })
     }
 
@@ -223,16 +229,18 @@ impl Scenario {
     /// slot N or `mN` for the minislot N, each 1 to 8000. HEX is `x` and two lower-case digits for each byte: an even
     /// number of bytes for a commit, at most 254, and at most 262 bytes for a babble.
     ///
-    /// Version 3 has these lines and `lost NODE CYCLES`, which mutes both channels of the node in every window. Words
-    /// are separated by spaces and tabs, and `#` begins a comment. A line may have no words. A call line names CYCLES.
-    /// CYCLES is also `C-D`, or `C-D/STEP` for each STEPth cycle from C on up to D. C is at most D, and STEP is 1 to
-    /// 1023. CHANNEL is also `AB`, for the line of A and that of B. PLACE is also `*` for every window, `sN-M` for
-    /// static slots with N at most M, `m*` for every window of the dynamic segment, and `dN` for the window in which
-    /// the channel opens the dynamic slot N; all numbers are 1 to 8000. NODE and BUFFER are numbers, or otherwise names
-    /// of the cluster.
+    /// Version 3 has these lines and `lost NODE CYCLES`, which mutes both channels of the node in every window. It also
+    /// has `expect NODE CYCLES BUFFER HEX`, with the payload that a receive buffer must hold at the end of each of
+    /// these cycles, and `expect-none NODE CYCLES BUFFER`, for a buffer without a frame. Words are separated by spaces
+    /// and tabs, and `#` begins a comment. A line may have no words. A call line names CYCLES. CYCLES is also `C-D`, or
+    /// `C-D/STEP` for each STEPth cycle from C on up to D. C is at most D, and STEP is 1 to 1023. CHANNEL is also `AB`,
+    /// for the line of A and that of B. PLACE is also `*` for every window, `sN-M` for static slots with N at most M,
+    /// `m*` for every window of the dynamic segment, and `dN` for the window in which the channel opens the dynamic
+    /// slot N; all numbers are 1 to 8000. NODE and BUFFER are numbers, or otherwise names of the cluster.
     ///
     /// The calls of a task in version 3 are ordered by cycle, and within a cycle by line. For a call `*` names each of
-    /// the given number of cycles. Calls in other cycles are left out, and so are faults that begin in another cycle.
+    /// the given number of cycles. Calls in other cycles are left out, and so are faults that begin in another cycle,
+    /// and expectations that name none of these cycles.
     ///
     /// Returns the error of the first line at fault:
     /// - `BadMagic` if the first line is another or isn't whole;
@@ -303,10 +311,18 @@ impl Scenario {
     }
 
     /// Returns the numbers of the lines of a text of version 3 that name cycles, but none that the run has
-    /// (project-defined). Their calls and faults are left out.
+    /// (project-defined). Their calls, faults and expectations are left out.
     pub fn skipped(&self) -> &[u32]
         ensures { result.now ≡ self.now.skipped }
     {
         self.skipped.as_slice()
+    }
+
+    /// Returns the expectations that aren't left out, in the order of the text, each with the number of its line
+    /// (project-defined). Texts of versions 1 and 2 have none.
+    pub fn expected(&self) -> &[Expectation]
+        ensures { result.now ≡ self.now.expected }
+    {
+        self.expected.as_slice()
     }
 }

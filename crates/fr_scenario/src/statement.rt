@@ -1,5 +1,6 @@
 //! The value of a line of version 3.
 
+use fr_frame::payload::Payload;
 use fr_interface::call::Call;
 use fr_runs::cycles::RunCycles;
 use fr_runs::fault_line::FaultLine;
@@ -23,5 +24,13 @@ pub(crate) enum Statement {
     Faults {
         a: FaultLine,
         b: FaultLine,
+    },
+    /// What a receive buffer of the node must hold at the end of each of these cycles: a payload, or `None` for no
+    /// frame.
+    Expected {
+        node: NodeId,
+        cycles: RunCycles,
+        buffer: u8,
+        payload: Option<Payload>,
     },
 }

@@ -1,7 +1,8 @@
 //! The lines of version 3.
 ghost use Rattle.std.specs.Prelude.{◌≡◌, map};
 ghost use Rattle.fr_scenario.specs.Statements.{are_end, babble_said, call_said, calls_said, commit_said};
-ghost use Rattle.fr_scenario.specs.Statements.{corrupt_said, fault_at, faults_on, lost_said, mute_said, pop_said};
+ghost use Rattle.fr_scenario.specs.Statements.{corrupt_said, expect_none_said, expect_said, fault_at, faults_on};
+ghost use Rattle.fr_scenario.specs.Statements.{lost_said, mute_said, other_said, pop_said};
 ghost use Rattle.fr_scenario.specs.Statements.{read_said, statement_said, withdraw_said};
 ghost use Rattle.fr_bus.specs.declared.fault.Fault.TheVariants.{Babble, Mute, Corrupt};
 
@@ -242,6 +243,59 @@ fn lost_of(names: &Names, words: &[&[u8]]) -> Option<Statement>
     Some(faults_on(Channels::Both, a, b, cycles, FaultPlace::EveryWindow))
 }
 
+/// Returns the expectation of a payload that the words spell.
+#[tactic(auto, unfolding(crate::specs::Statements::expect_said))]
+fn expect_of(names: &Names, words: &[&[u8]]) -> Option<Statement>
+    ensures { result ≡ expect_said names.now (map (λ word. word.now) words.now) }
+{
+    let [node, cycles, buffer, payload] = words else {
+        return None;
+    };
+    let node = named_node(names, node)?;
+    let cycles = cycles_of(cycles)?;
+    let buffer = named_buffer(names, node, buffer)?;
+    let payload = payload_of(payload)?;
+    Some(Statement::Expected {
+        node,
+        cycles,
+        buffer,
+        payload: Some(payload),
+    })
+}
+
+/// Returns the expectation of an empty buffer that the words spell.
+#[tactic(auto, unfolding(crate::specs::Statements::expect_none_said))]
+fn expect_none_of(names: &Names, words: &[&[u8]]) -> Option<Statement>
+    ensures { result ≡ expect_none_said names.now (map (λ word. word.now) words.now) }
+{
+    let [node, cycles, buffer] = words else {
+        return None;
+    };
+    let node = named_node(names, node)?;
+    let cycles = cycles_of(cycles)?;
+    let buffer = named_buffer(names, node, buffer)?;
+    Some(Statement::Expected {
+        node,
+        cycles,
+        buffer,
+        payload: None,
+    })
+}
+
+/// Returns the statement of this kind that the words spell, other than a fault.
+#[tactic(auto, unfolding(crate::specs::Statements::other_said))]
+fn other_of(names: &Names, kind: &[u8], words: &[&[u8]]) -> Option<Statement>
+    ensures { result ≡ other_said names.now kind.now (map (λ word. word.now) words.now) }
+{
+    if kind == b"expect".as_slice() {
+        return expect_of(names, words);
+    }
+    if kind == b"expect-none".as_slice() {
+        return expect_none_of(names, words);
+    }
+    calls_of(names, kind, words)
+}
+
 /// Returns the statement that the words of a line spell.
 ///
 /// `None` if they have no form of a line, or a number out of its range, or a name that no node or buffer has.
@@ -264,5 +318,5 @@ pub(crate) fn statement_of(names: &Names, words: &[&[u8]]) -> Option<Statement>
     if *kind == b"lost".as_slice() {
         return lost_of(names, words);
     }
-    calls_of(names, kind, words)
+    other_of(names, kind, words)
 }

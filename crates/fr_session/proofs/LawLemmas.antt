@@ -9,7 +9,7 @@ use Rattle.fr_playing.specs.Laws.{IsLed}
 use Rattle.fr_session.specs.Laws.{IsServedFirst}
 use Rattle.fr_session.specs.Reading.{asked_in}
 use Rattle.fr_session.specs.Sessions.{Terms, SessionState, DoesRequest, DoesIf, Serves}
-use Rattle.fr_session.proofs.KeepingLemmas.{kept_suit}
+use Rattle.fr_session.proofs.KeepingLemmas.{kept_suit, both_suit}
 use Rattle.fr_playing.proofs.LedLemmas.{led_same, led_step, led_on, led_window, led_runs}
 
 -- ---- in order
@@ -39,6 +39,7 @@ led_request : (terms : Terms) (old : SessionState) (asked : Request) (reply : Li
     → DoesRequest terms old asked reply new → IsLed old.world new.world
 led_request terms old (request.Event event) reply new does = led_step old.world event does.0 new.world does.1
 led_request terms old (request.Fault line) reply new does = led_same old.world new.world does.1
+led_request terms old (request.Faults a b) reply new does = led_same old.world new.world does.1
 led_request terms old request.Forget reply new does = led_same old.world new.world
     (ap (λ (s : SessionState). s.world) does.1)
 led_request terms old request.Window reply new does = led_window old.faults terms.due old.world does.0 new.world does.1
@@ -89,6 +90,8 @@ module _ (terms : Terms) where
   suit_request old (request.Event event) reply new all does = suit_same old.faults new.faults all does.3
   suit_request old (request.Fault line) reply new all does =
       kept_suit terms.cluster terms.cycles old.faults line reply new.faults all does.0
+  suit_request old (request.Faults a b) reply new all does =
+      both_suit terms.cluster terms.cycles old.faults a b reply new.faults all does.0
   suit_request old request.Forget reply new all does = suit_same [] new.faults suit_none
       (ap (λ (s : SessionState). s.faults) does.1)
   suit_request old request.Window reply new all does = suit_same old.faults new.faults all does.3

@@ -8,9 +8,10 @@ use Rattle.fr_core.specs.declared.event.Event.TheVariants as event
 use Rattle.fr_core.specs.Steps.{event_of}
 use Rattle.fr_frame.specs.Payload.{most_frame_bytes}
 use Rattle.fr_lines.specs.PartReading.{channel_in}
-use Rattle.fr_runs.specs.declared.fault_line.FaultLine.{FaultLine}
 use Rattle.fr_scenario.specs.CallReading.{call_in}
-use Rattle.fr_scenario.specs.LineReading.{fault_line_in}
+use Rattle.fr_scenario.specs.declared.fault_lines.LineFaults.{LineFaults}
+use Rattle.fr_scenario.specs.declared.fault_lines.LineFaults.TheVariants.{One, Both}
+use Rattle.fr_scenario.specs.FaultLines.{faults_in}
 use Rattle.fr_session.specs.Lines.{longest_line}
 use Rattle.fr_session.specs.declared.request.Request.{Request}
 use Rattle.fr_session.specs.declared.request.Request.TheVariants as request
@@ -176,20 +177,22 @@ request_in [] = None
 request_in (kind ∷ words) =
     if begins_event kind then with_event (event_request kind words) else other_request kind words
 
--- ---- a fault line, as a scenario spells it
+-- ---- fault lines, as a line of a scenario of version 3 spells them
 
-abbrev pub with_fault : Option FaultLine → Option Request
-with_fault None = None
-with_fault (Some line) = Some (request.Fault line)
+abbrev pub with_faults : Option LineFaults → Option Request
+with_faults None = None
+with_faults (Some (One line)) = Some (request.Fault line)
+with_faults (Some (Both a b)) = Some (request.Faults a b)
 
--- a fault line that is no other request: it has more words than the event of the same name
-abbrev pub request_or_fault : Option Request → List (List ℕ) → Option Request
-request_or_fault None words = with_fault (fault_line_in words)
-request_or_fault (Some asked) words = Some asked
+-- The fault lines of a line that is no other request: it has more words than the event of the same name, and no event
+-- begins with `lost`.
+abbrev pub request_or_faults : Option Request → List ℕ → Option Request
+request_or_faults None line = with_faults (faults_in line)
+request_or_faults (Some asked) line = Some asked
 
 -- ---- a line, given without its line feed
 
 abbrev pub asked_in : List ℕ → Option Request
 asked_in line =
     if nat_lt longest_line (length line) then None
-    else request_or_fault (request_in (words_of line)) (words_of line)
+    else request_or_faults (request_in (words_of line)) line

@@ -15,7 +15,7 @@ use Rattle.fr_session.specs.declared.error.SessionError.{SessionError}
 use Rattle.fr_session.specs.declared.error.SessionError.TheVariants.{Read, Write, Memory}
 use Rattle.fr_session.specs.declared.request.Request.{Request}
 use Rattle.fr_session.specs.declared.request.Request.TheVariants as request
-use Rattle.fr_session.specs.Keeping.{KeepsLine}
+use Rattle.fr_session.specs.Keeping.{KeepsLine, KeepsBoth}
 use Rattle.fr_session.specs.Lines.{IsCut, Comes}
 use Rattle.fr_playing.specs.Moving.{window_events, MovesOn, RunsCycles}
 use Rattle.fr_session.specs.Queries.{now_text, moved_text, at_text, status_text, node_text, node_origin_text}
@@ -59,7 +59,7 @@ opening w = state_of w []
 
 -- ---- one line
 
--- An event is one step of the world, and its reply is the text of the step's answer. Only a fault line and a forget
+-- An event is one step of the world, and its reply is the text of the step's answer. Only fault lines and a forget
 -- change the lines that are kept, and they leave the world unchanged.
 abbrev pub DoesRequest : Terms → SessionState → Request → List ℕ → SessionState → Type 0
 DoesRequest terms old (request.Event event) reply new =
@@ -67,6 +67,8 @@ DoesRequest terms old (request.Event event) reply new =
     × (new.faults ≡ old.faults)
 DoesRequest terms old (request.Fault line) reply new =
     KeepsLine terms.cluster terms.cycles old.faults line reply new.faults × (new.world ≡ old.world)
+DoesRequest terms old (request.Faults a b) reply new =
+    KeepsBoth terms.cluster terms.cycles old.faults a b reply new.faults × (new.world ≡ old.world)
 DoesRequest terms old request.Forget reply new = (reply ≡ line_text done_words) × (new ≡ state_of old.world [])
 DoesRequest terms old request.Window reply new =
     (hinders : Option StepError) × MovesOn old.faults terms.due old.world hinders new.world

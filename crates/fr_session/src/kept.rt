@@ -12,6 +12,7 @@ use fr_schedule::cluster::Cluster;
 use std::alloc::{AllocError, Global};
 use std::collections::HashSet;
 use std::marker::Model;
+use std::slice;
 
 /// Fault lines in their order, and marks of the windows that they name.
 ///
@@ -54,6 +55,7 @@ fn marks_with(marks: Option<Marks>, own: Option<Mark>) -> Option<Marks>
 impl KeptLines {
     ghost use Rattle.std.specs.Prelude.{◌≡◌, ◌↔◌, ◌++◌, ◌∷◌, [], length, IsTrue, OnErr, OnOk};
     ghost use Rattle.fr_runs.specs.Suiting.{IsFaultAfter};
+    ghost use Rattle.fr_session.specs.Keeping.{AreFaultsAfter};
 
     /// Returns an empty list of lines.
     pub fn new(alloc: Global) -> KeptLines
@@ -108,6 +110,15 @@ impl KeptLines {
         }
     }
 
+    /// Returns whether a run of the cluster with these lines can have both of these too, the first before the second.
+    pub fn suit_both(&self, cluster: &Cluster, cycles: u16, a: &FaultLine, b: &FaultLine) -> bool
+        ensures { IsTrue result ↔ AreFaultsAfter cluster.now cycles self.now a.now b.now }
+    {
+        self.suit(cluster, cycles, a)
+            && self.suit(cluster, cycles, b)
+            && suits_after(cluster, cycles, slice::from_ref(a), b)
+    }
+
     /// Appends a line. If its allocation fails, the lines stay as they are.
     pub fn push(&mut self, line: FaultLine) -> Result<(), AllocError>
         ensures kept { OnOk result (self.new ≡ self.old ++ line ∷ []) }
@@ -117,6 +128,22 @@ impl KeptLines {
         let KeptLines { lines, marks, .. } = self;
         lines.push(line)?;
         *marks = marks_with(marks.take(), own);
+        Ok(())
+    }
+
+    /// Appends two lines. If an allocation for them fails, the lines stay as they are.
+    pub fn push_both(&mut self, a: FaultLine, b: FaultLine) -> Result<(), AllocError>
+        ensures kept { OnOk result (self.new ≡ self.old ++ a ∷ b ∷ []) }
+        ensures same { OnErr result (self.new ≡ self.old) }
+    {
+        let (first, second) = (plain_mark_of(&a), plain_mark_of(&b));
+        let KeptLines { lines, marks, .. } = self;
+        lines.push(a)?;
+        if lines.push(b).is_err() {
+            lines.pop();
+            return Err(AllocError);
+        }
+        *marks = marks_with(marks_with(marks.take(), first), second);
         Ok(())
     }
 }

@@ -7,7 +7,7 @@
 //! // look 0                  window 0 0 0 1 1
 //! // fetch 1                 refused WrongTurn
 //! // fetch                   refused BadLine 4
-//! // mute 0 A * s*           done
+//! // mute 0 AB 0-6/2 s*      done
 //! // cycle                   open 7 1 0 1 1
 //! ```
 //!
@@ -29,13 +29,13 @@
 //!
 //! # Inner workings
 //!
-//! 1. `serve` (`session`) writes the first line. Then it reads a line, answers it and flushes, until the reader ends. Each
-//!    reply is prepared in memory (`prepared`), and handed to the writer once it is whole.
+//! 1. `serve` (`session`) writes the first line. Then it reads a line, answers it and flushes, until the reader ends.
+//!    Each reply is prepared in memory (`prepared`), and handed to the writer once it is whole.
 //! 2. `next_line` (`lines`) takes the bytes that the reader has up to the line feed, and keeps at most 1,201.
 //! 3. `request_of` (`reading`) uses the readers of traces and scenarios (`fr_lines::parts`). A line that is no other
-//!    request is read as a fault line (`fr_scenario::lines`).
+//!    request is read as the fault lines of one line of version 3 (`fr_scenario::fault_lines`).
 //! 4. An event is one `World::step`. A fault line is checked against the kept ones (`suits_after` of `fr_runs`) and
-//!    kept (`keeping`). A query writes what the world lends (`queries`).
+//!    kept (`keeping`). Two lines are checked before either is kept. A query writes what the world lends (`queries`).
 //! 5. `window` is the injections of the kept lines (`fr_playing::striking`), then a prepared list of events
 //!    (`fr_playing::moving`), and an advance. The requests `cycle` and `run` are windows.
 //!

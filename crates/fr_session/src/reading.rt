@@ -4,9 +4,9 @@ ghost use Rattle.fr_session.specs.Reading.{babble_in, mute_in, corrupt_in, node_
 ghost use Rattle.fr_session.specs.Reading.{report_in, status_in, trace_in, origin_in, query_request};
 ghost use Rattle.fr_session.specs.Reading.{host_request, step_of, step_request};
 ghost use Rattle.fr_session.specs.Reading.{fault_of, fault_request, event_request, begins_event, is_fault_word};
-ghost use Rattle.fr_session.specs.Reading.{is_step_word, is_host_word, other_request, request_in, with_fault};
-ghost use Rattle.fr_session.specs.Reading.{request_or_fault, asked_in};
-ghost use Rattle.fr_scenario.specs.LineReading.{fault_line_in};
+ghost use Rattle.fr_session.specs.Reading.{is_step_word, is_host_word, other_request, request_in};
+ghost use Rattle.fr_session.specs.Reading.{request_or_faults, asked_in, with_faults};
+ghost use Rattle.fr_scenario.specs.FaultLines.{faults_in};
 ghost use Rattle.fr_text.specs.Spaces.{words_of};
 
 use crate::lines::LONGEST_LINE;
@@ -16,11 +16,12 @@ use fr_core::event::Event;
 use fr_frame::frame::FRAME_BYTES;
 use fr_lines::parts::{channel_of, node_of, task_of};
 use fr_scenario::calls::call_of;
-use fr_scenario::lines::fault_line_of;
+use fr_scenario::fault_lines::{LineFaults, faults_of};
 use fr_slots::numbers::NodeId;
 use fr_text::hexes::bytes_of;
 use fr_text::numbers::number_of;
 use fr_text::words::Words;
+use std::alloc::Global;
 
 /// Returns the babble that the words spell.
 #[tactic(auto, unfolding(crate::specs::Reading::babble_in))]
@@ -329,18 +330,20 @@ fn request_in(words: &mut Words<'_>) -> Option<Request>
     other_request(kind, words)
 }
 
-/// Returns the fault line that the line spells, as a request.
-fn fault_in(line: &[u8]) -> Option<Request>
-    ensures { result ≡ with_fault (fault_line_in (words_of line.now)) }
+/// Returns the fault lines that the line spells, as a request.
+fn faults_in(alloc: Global, line: &[u8]) -> Option<Request>
+    ensures { result ≡ with_faults (faults_in line.now) }
 {
-    let fault = fault_line_of(line)?;
-    Some(Request::Fault(fault))
+    match faults_of(alloc, line)? {
+        LineFaults::One(line) => Some(Request::Fault(line)),
+        LineFaults::Both { a, b } => Some(Request::Faults { a, b }),
+    }
 }
 
 /// Returns the request of the line, which is given without its line feed.
 ///
 /// `None` if it has more than 1200 bytes, no form of a request, or a number out of its range.
-pub fn request_of(line: &[u8]) -> Option<Request>
+pub fn request_of(alloc: Global, line: &[u8]) -> Option<Request>
     ensures { result ≡ asked_in line.now }
 {
     if line.len() > LONGEST_LINE {
@@ -349,6 +352,6 @@ pub fn request_of(line: &[u8]) -> Option<Request>
     let mut words = Words::new(line);
     match request_in(&mut words) {
         Some(request) => Some(request),
-        None => fault_in(line),
+        None => faults_in(alloc, line),
     }
 }

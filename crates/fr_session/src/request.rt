@@ -12,6 +12,8 @@ pub enum Request {
     Event(Event),
     /// The line of a fault, which takes effect from now on in the windows that the line names.
     Fault(FaultLine),
+    /// The lines of a fault on both channels: that of channel A, and that of channel B.
+    Faults { a: FaultLine, b: FaultLine },
     /// The end of all fault lines.
     Forget,
     /// The faults of the open window, and all events that are still due in it, up to the bus's advance.

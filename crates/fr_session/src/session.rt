@@ -9,7 +9,7 @@ ghost use Rattle.fr_session.specs.Reading.{asked_in};
 ghost use Rattle.fr_session.specs.TermsFields.{terms_in};
 
 use crate::error::SessionError;
-use crate::keeping::keep_line;
+use crate::keeping::{keep_both, keep_line};
 use crate::kept::KeptLines;
 use crate::lines::{Line, next_line};
 use crate::prepared::{BlockWriter, Prepared};
@@ -66,6 +66,7 @@ fn do_request<W: BlockWriter>(
             write_answer(writer, &answer)
         }
         Request::Fault(line) => keep_line(terms.cluster, terms.cycles, faults, line, writer),
+        Request::Faults { a, b } => { keep_both(terms.cluster, terms.cycles, faults, a, b, writer) }
         Request::Forget => {
             faults.clear();
             write_done(writer)
@@ -101,7 +102,7 @@ fn answer_line<W: BlockWriter>(
         (state_of world.old faults.old) number (asked_in line.now) reply
         (state_of world.new faults.new)) }
 {
-    match request_of(line) {
+    match request_of(terms.alloc, line) {
         Some(request) => do_request(terms, faults, world, request, writer),
         None => write_bad_line(writer, number),
     }
@@ -220,11 +221,12 @@ impl Session {
 /// request, or has more than 1200 bytes before its line feed, is answered with `refused BadLine N`, N its number from
 /// 1, and changes nothing. Text after the last line feed is no request, and is neither executed nor answered.
 ///
-/// A fault line, as a scenario spells it, is kept. Its fault takes effect in each window that the line names and that
-/// `window`, `cycle` or `run` executes from then on, if the window isn't sealed yet. The request `forget` ends all
-/// lines. A line that a run of the cluster couldn't have beside those that are kept is answered with `refused BadFault
-/// N`, N the number of those. The cluster must be the world's, and the number of cycles that of the opening of the
-/// world.
+/// A fault line, as a scenario of version 3 spells it without names, is kept. Its fault takes effect in each window
+/// that the line names and that `window`, `cycle` or `run` executes from then on, if the window isn't sealed yet. The
+/// request `forget` ends all lines. A line that a run of the cluster couldn't have beside those that are kept is
+/// answered with `refused BadFault N`, N the number of those. A line for both channels is that of A and then that of B,
+/// of which both are kept or neither is. The cluster must be the world's, and the number of cycles that of the opening
+/// of the world.
 ///
 /// Ends early with `Memory` if an allocation for the session itself fails, before anything is read or written. Ends
 /// early with `Read` if the reader fails, and with `Write` if the writer does, which may have taken a part of a reply.

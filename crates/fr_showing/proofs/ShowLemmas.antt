@@ -122,7 +122,7 @@ pub shown_of : (d : Description) (names : List NamesOfNode) (cycles : ℕ) (show
     (text old new : Option (List ℕ)) (file : PlayedFile)
     (written : List ℕ) (notes : Notes)
     → ForText text (λ t. IsPlayOf d names cycles t (Ok file)) → IsShown shown file written → Appends old new written
-    → AreNotes file notes
+    → AreNotes cycles file notes
     → ForText text (Adds d names cycles shown old new notes)
 shown_of d names cycles shown text old new file written notes is of_run added told =
     for_text_map text (λ t. IsPlayOf d names cycles t (Ok file)) (Adds d names cycles shown old new notes)

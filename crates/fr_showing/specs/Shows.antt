@@ -3,6 +3,7 @@ use Rattle.std.specs.Prelude.{⊤, ◌≡◌, ℕ, List, length, slice_get, Opti
 use Rattle.std.specs.Prelude.{Result, Ok, Err}
 use Rattle.std.specs.Io.KnownBytes.{Appends}
 use Rattle.std.specs.List.{flat_map}
+use Rattle.fr_expecting.specs.Expected.{missed_by}
 use Rattle.fr_files.specs.declared.error.BenchError.TheVariants as bench
 use Rattle.fr_files.specs.Inputs.{ForText}
 use Rattle.fr_files.specs.Outputs.{FallsShort}
@@ -65,17 +66,19 @@ LacksNode (Trace node) file = slice_get file.played.world.interfaces node ≡ No
 
 -- ---- the output
 
--- the fault lines that had no effect in the run, and the lines that name cycles, but none of the run
-pub record AreNotes (file : PlayedFile) (notes : Notes) : Type 0 where
+-- The fault lines that had no effect in the run of so many cycles, the lines that name cycles, but none of the run, and
+-- the expectations that the run missed.
+pub record AreNotes (cycles : ℕ) (file : PlayedFile) (notes : Notes) : Type 0 where
   pub idle : notes.idle.items ≡ idle_lines file
   pub skipped : notes.skipped.items ≡ file.scenario.skipped
+  pub missed : notes.missed.items ≡ missed_by cycles file.played.world.interfaces file.scenario.expected
 
 -- the text of a run with that scenario was written, and nothing else, and these are the notes on its lines
 abbrev pub Adds : Description → List NamesOfNode → ℕ → Shown → Option (List ℕ) → Option (List ℕ) → Notes → List ℕ
     → Type 0
 Adds d names cycles shown old new notes text =
     (file : PlayedFile) × (written : List ℕ) × IsPlayIn d names cycles text file × IsShown shown file written
-    × Appends old new written × AreNotes file notes
+    × Appends old new written × AreNotes cycles file notes
 
 -- a front of the text of a run with that scenario was written, and nothing else
 abbrev pub AddsFront : Description → List NamesOfNode → ℕ → Shown → Option (List ℕ) → Option (List ℕ) → List ℕ → Type 0

@@ -44,9 +44,10 @@ use Rattle.fr_streaming.proofs.TellLemmas.{goes_by, told_none, window_told}
 use Rattle.fr_streaming.specs.declared.hindrance.Hindrance.{Hindrance}
 use Rattle.fr_streaming.specs.declared.hindrance.Hindrance.TheVariants as hindrance
 use Rattle.fr_streaming.specs.declared.telling.Streamed.{Streamed}
+use Rattle.fr_streaming.specs.declared.stream.StreamNotes.{StreamNotes}
 use Rattle.fr_streaming.specs.Runs.{error_of, kept_refusal, most_entries, opening, AddsStream, ChecksStream, Cuts}
 use Rattle.fr_streaming.specs.Runs.{cycles_named, CutsRun, CutsStream, CutsText, OpensStream, RefusesStream}
-use Rattle.fr_streaming.specs.Runs.{StreamIsRefused}
+use Rattle.fr_streaming.specs.Runs.{AreNotes, StreamIsRefused}
 use Rattle.fr_streaming.specs.Runs.{Streams, TellsRun, TellsStream}
 use Rattle.fr_streaming.specs.Streams.{told, told_last, told_opening, Breaks, Goes, MakesCycles}
 
@@ -241,56 +242,61 @@ module _ (d : Description) (s : Contents) (cycles : ℕ) (streamed : Streamed) w
 -- ---- the file
 
 module _ (d : Description) (names : List NamesOfNode) (cycles : ℕ) where
-  not_read : (text : List ℕ) (e : FileError) → IsScenarioOf names (cycles_named cycles) text (Err e)
-      → TellsStream d names cycles text (Err (failure_of_file e))
-  not_read text (file.Scenario e) is = is
-  not_read text (file.Text bench.TooLong) is = is
-  not_read text (file.Text bench.Read) is = tt
-  not_read text (file.Text bench.Memory) is = tt
-  not_read text (file.Text bench.Write) is = absurd is
-  not_read text (file.Text bench.BadNumber) is = absurd is
-  not_read text (file.Text (bench.Config e)) is = absurd is
-  not_read text (file.Text (bench.Midpoint e)) is = absurd is
+  not_read : (A : Type 0) (text : List ℕ) (e : FileError) → IsScenarioOf names (cycles_named cycles) text (Err e)
+      → TellsStream {A = A} d names cycles text (Err (failure_of_file e))
+  not_read A text (file.Scenario e) is = is
+  not_read A text (file.Text bench.TooLong) is = is
+  not_read A text (file.Text bench.Read) is = tt
+  not_read A text (file.Text bench.Memory) is = tt
+  not_read A text (file.Text bench.Write) is = absurd is
+  not_read A text (file.Text bench.BadNumber) is = absurd is
+  not_read A text (file.Text (bench.Config e)) is = absurd is
+  not_read A text (file.Text (bench.Midpoint e)) is = absurd is
 
-  pub file_refused : (text : Option (List ℕ)) (e : FileError)
+  pub file_refused : (A : Type 0) (text : Option (List ℕ)) (e : FileError)
       → ForText text (λ t. IsScenarioOf names (cycles_named cycles) t (Err e))
-      → ForText text (λ t. TellsStream d names cycles t (Err (failure_of_file e)))
-  file_refused text e is =
-      for_text_map text (λ t. IsScenarioOf names (cycles_named cycles) t (Err e)) (λ t. TellsStream d names cycles t
-      (Err (failure_of_file e)))
-      (λ t here. not_read t e here) is
+      → ForText text (λ t. TellsStream {A = A} d names cycles t (Err (failure_of_file e)))
+  file_refused A text e is =
+      for_text_map text (λ t. IsScenarioOf names (cycles_named cycles) t (Err e))
+      (λ t. TellsStream {A = A} d names cycles t (Err (failure_of_file e)))
+      (λ t here. not_read A t e here) is
 
-  told_of : (s : Contents) (text : List ℕ) (r : Result (Unit {0}) PlayError)
+  told_of : (A : Type 0) (s : Contents) (text : List ℕ) (e : PlayError)
       → IsScenarioOf names (cycles_named cycles) text (Ok s)
-      → TellsRun d s cycles r → TellsStream d names cycles text r
-  told_of s text (Ok done) read tells_run = (read.0, (s, read.1, tells_run))
-  told_of s text (Err (refusal.Run e)) read tells_run = (read.0, (s, read.1, tells_run))
-  told_of s text (Err (refusal.Step e)) read tells_run = (read.0, (s, read.1, tells_run))
-  told_of s text (Err refusal.Unfinished) read tells_run = (read.0, (s, read.1, tells_run))
-  told_of s text (Err refusal.UnknownNode) read tells_run = absurd tells_run
-  told_of s text (Err (refusal.Scenario e)) read tells_run = absurd tells_run
-  told_of s text (Err (refusal.Text bench.Write)) read tells_run = (read.0, (s, read.1, tells_run))
-  told_of s text (Err (refusal.Text bench.Memory)) read tells_run = tt
-  told_of s text (Err (refusal.Text bench.Read)) read tells_run = absurd tells_run
-  told_of s text (Err (refusal.Text bench.TooLong)) read tells_run = absurd tells_run
-  told_of s text (Err (refusal.Text bench.BadNumber)) read tells_run = absurd tells_run
-  told_of s text (Err (refusal.Text (bench.Config e))) read tells_run = absurd tells_run
-  told_of s text (Err (refusal.Text (bench.Midpoint e))) read tells_run = absurd tells_run
+      → TellsRun d s cycles (Err e) → TellsStream {A = A} d names cycles text (Err e)
+  told_of A s text (refusal.Run e) read tells_run = (read.0, (s, read.1, tells_run))
+  told_of A s text (refusal.Step e) read tells_run = (read.0, (s, read.1, tells_run))
+  told_of A s text refusal.Unfinished read tells_run = (read.0, (s, read.1, tells_run))
+  told_of A s text refusal.UnknownNode read tells_run = absurd tells_run
+  told_of A s text (refusal.Scenario e) read tells_run = absurd tells_run
+  told_of A s text (refusal.Text bench.Write) read tells_run = (read.0, (s, read.1, tells_run))
+  told_of A s text (refusal.Text bench.Memory) read tells_run = tt
+  told_of A s text (refusal.Text bench.Read) read tells_run = absurd tells_run
+  told_of A s text (refusal.Text bench.TooLong) read tells_run = absurd tells_run
+  told_of A s text (refusal.Text bench.BadNumber) read tells_run = absurd tells_run
+  told_of A s text (refusal.Text (bench.Config e)) read tells_run = absurd tells_run
+  told_of A s text (refusal.Text (bench.Midpoint e)) read tells_run = absurd tells_run
 
-  pub file_told : (s : Contents) (text : Option (List ℕ)) (r : Result (Unit {0}) PlayError)
-      → ForText text (λ t. IsScenarioOf names (cycles_named cycles) t (Ok s)) → TellsRun d s cycles r
-      → ForText text (λ t. TellsStream d names cycles t r)
-  file_told s text r read tells_run =
-      for_text_map text (λ t. IsScenarioOf names (cycles_named cycles) t (Ok s)) (λ t. TellsStream d names cycles t r)
-      (λ t here. told_of s t r here tells_run) read
+  pub file_told : {A : Type 0} (s : Contents) (text : Option (List ℕ)) (x : A)
+      → ForText text (λ t. IsScenarioOf names (cycles_named cycles) t (Ok s)) → TellsRun d s cycles (Ok tt)
+      → ForText text (λ t. TellsStream d names cycles t (Ok x))
+  file_told s text x read tells_run =
+      for_text_map text (λ t. IsScenarioOf names (cycles_named cycles) t (Ok s))
+      (λ t. TellsStream d names cycles t (Ok x)) (λ t here. (here.0, (s, here.1, tells_run))) read
 
-  pub file_streamed : (streamed : Streamed) (s : Contents) (text a b : Option (List ℕ))
-      (r : Result (Unit {0}) PlayError) → ForText text (λ t. IsScenarioOf names (cycles_named cycles) t (Ok s))
-      → OnOk r (AddsStream d cycles streamed s a b) → OnOk r (ForText text (Streams d names cycles streamed a b))
-  file_streamed streamed s text a b (Ok x) read adds =
-      for_text_map text (λ t. IsScenarioOf names (cycles_named cycles) t (Ok s)) (Streams d names cycles streamed a b)
-      (λ t here. (s, here.1, adds)) read
-  file_streamed streamed s text a b (Err e) read adds = tt
+  pub file_untold : (A : Type 0) (s : Contents) (text : Option (List ℕ)) (e : PlayError)
+      → ForText text (λ t. IsScenarioOf names (cycles_named cycles) t (Ok s)) → TellsRun d s cycles (Err e)
+      → ForText text (λ t. TellsStream {A = A} d names cycles t (Err e))
+  file_untold A s text e read tells_run =
+      for_text_map text (λ t. IsScenarioOf names (cycles_named cycles) t (Ok s))
+      (λ t. TellsStream {A = A} d names cycles t (Err e)) (λ t here. told_of A s t e here tells_run) read
+
+  pub file_streamed : (streamed : Streamed) (s : Contents) (text a b : Option (List ℕ)) (notes : StreamNotes)
+      → ForText text (λ t. IsScenarioOf names (cycles_named cycles) t (Ok s)) → AddsStream d cycles streamed s a b
+      → AreNotes s notes → ForText text (Streams d names cycles streamed a b notes)
+  file_streamed streamed s text a b notes read adds are =
+      for_text_map text (λ t. IsScenarioOf names (cycles_named cycles) t (Ok s))
+      (Streams d names cycles streamed a b notes) (λ t here. (s, here.1, adds, are)) read
 
   -- ---- what was written before its error
 
@@ -327,7 +333,7 @@ module _ (d : Description) (names : List NamesOfNode) (cycles : ℕ) where
     cut_by_memory (inl keeps) = inl keeps
     cut_by_memory (inr cuts) = inr (cut_in (refusal.Text bench.Memory) (inr cuts))
 
-    cut_of : (e : PlayError) → CutsRun d s cycles streamed a b e → CutsStream d names cycles streamed text a b e
+    pub cut_of : (e : PlayError) → CutsRun d s cycles streamed a b e → CutsStream d names cycles streamed text a b e
     cut_of (refusal.Scenario e) cuts = cuts
     cut_of (refusal.Text bench.Read) cuts = cuts
     cut_of (refusal.Text bench.TooLong) cuts = cuts
@@ -340,8 +346,3 @@ module _ (d : Description) (names : List NamesOfNode) (cycles : ℕ) where
     cut_of (refusal.Step e) cuts = cut_in (refusal.Step e) cuts
     cut_of refusal.Unfinished cuts = cut_in refusal.Unfinished cuts
     cut_of refusal.UnknownNode cuts = cut_in refusal.UnknownNode cuts
-
-    pub run_cut : (r : Result (Unit {0}) PlayError) → IfErr r (CutsRun d s cycles streamed a b)
-        → IfErr r (CutsStream d names cycles streamed text a b)
-    run_cut (Ok x) cuts = tt
-    run_cut (Err e) cuts = cut_of e cuts

@@ -1,6 +1,6 @@
 -- The run of a scenario in a world without history, and the reasons why there is none (project-defined).
 use Rattle.std.specs.Prelude.{⊤, ◌≡◌, ◌⊎◌, ℕ, ◌<◌, ◌++◌, true, false, List, length, min, Option, Some, None, Result}
-use Rattle.std.specs.Prelude.{Ok, Err}
+use Rattle.std.specs.Prelude.{Ok, Err, map}
 use Rattle.std.specs.Io.KnownBytes.{Appends, Keeps}
 use Rattle.fr_bus.specs.declared.error.BusError.TheVariants as bus
 use Rattle.fr_bus.specs.Live.{cycles_suit}
@@ -30,6 +30,7 @@ use Rattle.fr_schedule.specs.Descriptions.{Description}
 use Rattle.fr_slots.specs.Numbers.{last_host_limit, last_slot_limit}
 use Rattle.fr_streaming.specs.declared.hindrance.Hindrance.{Hindrance}
 use Rattle.fr_streaming.specs.declared.hindrance.Hindrance.TheVariants as hindrance
+use Rattle.fr_streaming.specs.declared.stream.StreamNotes.{StreamNotes}
 use Rattle.fr_streaming.specs.declared.telling.Streamed.{Streamed}
 use Rattle.fr_streaming.specs.Streams.{told, MakesCycles}
 
@@ -116,15 +117,22 @@ abbrev pub AddsStream : Description → ℕ → Streamed → Contents → Option
 AddsStream d cycles streamed s before after =
     (w : WorldState) × IsStreamed d s cycles w × Appends before after (told streamed s d.params w.bus.sealed)
 
--- the same with the scenario that the text spells
-abbrev pub Streams : Description → List NamesOfNode → ℕ → Streamed → Option (List ℕ) → Option (List ℕ) → List ℕ → Type 0
-Streams d names cycles streamed before after text =
+-- the lines of the scenario that name cycles, but none that it is read for, and those of the expectations that are left
+pub record AreNotes (s : Contents) (notes : StreamNotes) : Type 0 where
+  pub skipped : notes.skipped.items ≡ s.skipped
+  pub unjudged : notes.unjudged.items ≡ map (λ x. x.line) s.expected
+
+-- the same with the scenario that the text spells, and with the notes on it
+abbrev pub Streams : Description → List NamesOfNode → ℕ → Streamed → Option (List ℕ) → Option (List ℕ) → StreamNotes
+    → List ℕ → Type 0
+Streams d names cycles streamed before after notes text =
     (s : Contents) × IsScenarioText names (cycles_named cycles) text s × AddsStream d cycles streamed s before after
+    × AreNotes s notes
 
 -- ---- the reason why there is none
 
 -- the error of a run that isn't refused, or of a refused one
-abbrev pub TellsStream : Description → List NamesOfNode → ℕ → List ℕ → Result (Unit {0}) PlayError → Type 0
+abbrev pub TellsStream : {A : Type 0} → Description → List NamesOfNode → ℕ → List ℕ → Result A PlayError → Type 0
 TellsStream d names cycles text (Ok done) = StreamIsRefused d names cycles text None
 TellsStream d names cycles text (Err (refusal.Run e)) = StreamIsRefused d names cycles text (Some e)
 TellsStream d names cycles text (Err (refusal.Step e)) = StreamIsRefused d names cycles text None

@@ -2,7 +2,7 @@
 //! of one cycle.
 //!
 //! ```text
-//! stream_run(alloc, &cluster, &mut scenario_file, cycles, Streamed::Record, &mut output)?;
+//! let notes = stream_run(alloc, &cluster, &names, &mut scenario_file, cycles, Streamed::Record, &mut output)?;
 //! ```
 //!
 //! *(project-defined)* marks a rule of this project, and makes no claim about the standard.

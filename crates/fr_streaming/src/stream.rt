@@ -1,8 +1,8 @@
 //! The run of a scenario file, shown as it goes.
-ghost use Rattle.std.specs.Prelude.{◌≡◌, IfErr, OnOk};
+ghost use Rattle.std.specs.Prelude.{◌≡◌, IfErr, IfOk, OnOk};
 ghost use Rattle.fr_files.specs.Inputs.{ForText};
-ghost use Rattle.fr_streaming.specs.Runs.{kept_refusal, AddsStream, ChecksStream, OpensStream, Streams, TellsRun};
-ghost use Rattle.fr_streaming.specs.Runs.{CutsRun, CutsStream, TellsStream};
+ghost use Rattle.fr_streaming.specs.Runs.{kept_refusal, AddsStream, AreNotes, ChecksStream, OpensStream, Streams};
+ghost use Rattle.fr_streaming.specs.Runs.{CutsRun, CutsStream, TellsRun, TellsStream};
 
 use crate::hindrance::error_of;
 pub use crate::telling::Streamed;
@@ -20,8 +20,17 @@ use fr_playing::moving::whole_window;
 use fr_runs::check::{RunRefusal, check_run};
 use fr_scenario::scenario::Scenario;
 use fr_schedule::cluster::Cluster;
-use std::alloc::Global;
+use std::alloc::{AllocError, Global};
 use std::io::{Read, Write};
+
+/// Notes on the lines of a scenario after a run without history (project-defined). Lines are counted from 1.
+#[derive(Drop)]
+pub struct StreamNotes {
+    /// The lines that name cycles, but none that the scenario is read for.
+    pub skipped: Vec<u32>,
+    /// The lines of the expectations that name a cycle of the run. None is judged.
+    pub unjudged: Vec<u32>,
+}
 
 /// The cycles that a scenario can name are 0 to 1023.
 const NAMED_CYCLES: u32 = 1_024;
@@ -96,12 +105,25 @@ fn stream_scenario<W: Write>(
     Ok(())
 }
 
+/// Returns the notes on the scenario.
+fn notes_of(alloc: Global, scenario: &Scenario) -> Result<StreamNotes, AllocError>
+    ensures { IfOk result (AreNotes scenario.now) }
+{
+    Ok(StreamNotes {
+        skipped: Vec::from_slice(alloc, scenario.skipped())?,
+        unjudged: scenario.expected().iter().map(|it| it.line).collect(alloc)?,
+    })
+}
+
 /// Runs the cluster with the scenario of a file, and writes a view of the run as it goes (project-defined).
 ///
 /// A run has 1 to 4,000,000 cycles, and the number of cycles, multiplied by the static slots and minislots of a cycle,
 /// fits in 32 bits. It needs the memory of one cycle. The events are those of `fr_playing::play::play`, and the text is
 /// that of `fr_showing::show::show_run`. The file is read to its end first. It names cycles 0 to 1023 at most: calls of
 /// `*` are made in these alone, and faults of `*` in every cycle.
+///
+/// It returns the numbers of the scenario's lines that name cycles, but none of the run. It also returns those of the
+/// expectations that name a cycle of the run, none of which is judged.
 ///
 /// Returns the error of `scenario_of`. Then comes `Run` with `BadCycles`, or with the `BadScript` or `BadFault` of a
 /// run of at most 1,024 cycles; journals keep nothing, so there is no `NoRoom`. Returns `Write` if the writer fails,
@@ -116,9 +138,9 @@ pub fn stream_run<R: Read, W: Write>(
     cycles: u32,
     streamed: Streamed,
     writer: &mut W,
-) -> Result<(), PlayError>
-    ensures written { OnOk result (ForText (R.remaining reader.old) (Streams cluster.now names.now cycles streamed
-        (W.contents writer.old) (W.contents writer.new))) }
+) -> Result<StreamNotes, PlayError>
+    ensures written { IfOk result (λ notes. ForText (R.remaining reader.old) (Streams cluster.now names.now cycles
+        streamed (W.contents writer.old) (W.contents writer.new) notes)) }
     ensures refused { ForText (R.remaining reader.old) (λ text. TellsStream cluster.now names.now cycles text result) }
     // After an error of the run itself a front of the view of some accepted events is written, and otherwise nothing.
     ensures early { IfErr result (CutsStream cluster.now names.now cycles streamed (R.remaining reader.old)
@@ -126,5 +148,9 @@ pub fn stream_run<R: Read, W: Write>(
 {
     let named = cycles.min(NAMED_CYCLES) as u16;
     let scenario = scenario_of(alloc, reader, names, named)?;
-    stream_scenario(alloc, cluster, &scenario, cycles, streamed, writer)
+    let Ok(notes) = notes_of(alloc, &scenario) else {
+        return Err(PlayError::Text(BenchError::Memory));
+    };
+    stream_scenario(alloc, cluster, &scenario, cycles, streamed, writer)?;
+    Ok(notes)
 }

@@ -12,7 +12,8 @@ use Rattle.fr_outcome.specs.declared.file_error.FileError.{FileError}
 use Rattle.fr_outcome.specs.declared.file_error.FileError.TheVariants as file
 use Rattle.fr_outcome.specs.OutcomeText.{outcome_text}
 use Rattle.fr_outcome.specs.ScenarioFiles.{IsScenarioOf, RunIsRefused}
-use Rattle.fr_threads.specs.Outcomes.{Adds, AddsFront, Answers, IsOutcome, Prints, file_failure}
+use Rattle.fr_threads.specs.declared.outcome.RunNotes.{RunNotes}
+use Rattle.fr_threads.specs.Outcomes.{Adds, AddsFront, Answers, AreNotes, IsOutcome, Prints, file_failure}
 use Rattle.fr_core.specs.Scripts.{Scripted}
 use Rattle.fr_runs.specs.declared.check.RunRefusal.{RunRefusal}
 use Rattle.fr_runs.specs.declared.fault_line.FaultLine.{FaultLine}
@@ -90,13 +91,13 @@ outcome_of d names cycles free text contents run of_text is_run =
 
 -- the written text is the outcome of a run with the scenario that the text spells
 pub printed : (d : Description) (names : List NamesOfNode) (cycles : ℕ) (free : Bool) (text old new : Option (List ℕ))
-    (contents : Contents) (run : Run) (skipped : List ℕ)
+    (contents : Contents) (run : Run) (notes : RunNotes)
     → ForText text (λ t. IsScenarioOf names cycles t (Ok contents))
     → IsRunOf d contents.scripts contents.faults cycles (not free) run
-    → Appends old new (outcome_text run.interfaces.items run.settled.windows) → skipped ≡ contents.skipped
-    → ForText text (Adds d names cycles free old new skipped)
-printed d names cycles free text old new contents run skipped of_text is_run written told =
-    for_text_map text (λ t. IsScenarioOf names cycles t (Ok contents)) (Adds d names cycles free old new skipped)
+    → Appends old new (outcome_text run.interfaces.items run.settled.windows) → AreNotes cycles contents run notes
+    → ForText text (Adds d names cycles free old new notes)
+printed d names cycles free text old new contents run notes of_text is_run written told =
+    for_text_map text (λ t. IsScenarioOf names cycles t (Ok contents)) (Adds d names cycles free old new notes)
     (λ t here. (
       outcome_text run.interfaces.items run.settled.windows,
       outcome_of d names cycles free t contents run here is_run,

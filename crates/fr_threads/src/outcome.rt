@@ -1,20 +1,23 @@
 //! `fr_bench run`.
-ghost use Rattle.std.specs.Prelude.{◌⊎◌};
+ghost use Rattle.std.specs.Prelude.{◌⊎◌, IfOk};
 ghost use Rattle.fr_files.specs.Inputs.{ForText};
-ghost use Rattle.fr_threads.specs.Outcomes.{Prints, Answers, IsFileRefused, IsFileRun};
+ghost use Rattle.fr_threads.specs.Outcomes.{AreNotes, Prints, Answers, IsFileRefused, IsFileRun};
 
 use crate::outcome_error::OutcomeError;
-use crate::run::run_threads;
+use crate::run::{Run, run_threads};
 use crate::workload::Workload;
 use fr_desks::gate::OpenGate;
+use fr_expecting::judging::missed_in;
+use fr_expecting::missed::Missed;
 use fr_files::error::BenchError;
 use fr_files::output::write_whole;
 use fr_names::cluster_file::named_cluster_of;
 use fr_names::names::Names;
 use fr_outcome::outcome_text::write_outcome;
 use fr_outcome::scenario_file::scenario_of;
+use fr_scenario::scenario::Scenario;
 use fr_schedule::cluster::Cluster;
-use std::alloc::Global;
+use std::alloc::{AllocError, Global};
 use std::io::{Read, Write};
 use std::sync::Wait;
 use std::thread::Threads;
@@ -29,6 +32,35 @@ pub struct RunOptions {
     pub free: bool,
 }
 
+/// Notes on the lines of a scenario after a run (project-defined). Lines are counted from 1.
+#[derive(Drop)]
+pub struct RunNotes {
+    /// The lines that name cycles, but none that the run has.
+    pub skipped: Vec<u32>,
+    /// The expectations that the run missed, in the order of their lines.
+    pub missed: Vec<Missed>,
+}
+
+/// Returns the notes on the scenario of a run of so many cycles.
+fn notes_of(
+    alloc: Global,
+    cycles: u16,
+    scenario: &Scenario,
+    run: &Run,
+) -> Result<RunNotes, AllocError>
+    ensures { IfOk result (λ notes. AreNotes cycles scenario.now run.now notes) }
+{
+    Ok(RunNotes {
+        skipped: Vec::from_slice(alloc, scenario.skipped())?,
+        missed: missed_in(
+            alloc,
+            cycles,
+            run.interfaces.as_slice(),
+            scenario.expected(),
+        )?,
+    })
+}
+
 /// Runs the cluster with the scenario of a file, and writes the outcome (project-defined).
 ///
 /// The scenario file is read to its end. It may name nodes and buffers by these names.
@@ -36,7 +68,8 @@ pub struct RunOptions {
 /// The outcome is each node's report, the number of windows and `settled`. In a free-running run a task's lines are
 /// executed at any moment, in a lockstep run each in its cycle.
 ///
-/// It returns the numbers of the scenario's lines that name cycles, but none of the run.
+/// It returns the numbers of the scenario's lines that name cycles, but none of the run, and the expectations that the
+/// run missed.
 ///
 /// Returns the error of the scenario's file, then that of the run. Nothing is written on an error other than `Write`,
 /// after which a front of the outcome may have been written.
@@ -49,7 +82,7 @@ pub fn run_cluster<T: Threads + Wait + Clock + Sync, R: Read, W: Write>(
     reader: &mut R,
     options: RunOptions,
     writer: &mut W,
-) -> Result<Vec<u32>, OutcomeError>
+) -> Result<RunNotes, OutcomeError>
     ensures written { Prints
         cluster.now
         names.now
@@ -70,7 +103,7 @@ pub fn run_cluster<T: Threads + Wait + Clock + Sync, R: Read, W: Write>(
         stepped: !options.free,
     };
     let run = run_threads(rt, alloc, cluster, &workload, &OpenGate)?;
-    let Ok(skipped) = Vec::from_slice(alloc, scenario.skipped()) else {
+    let Ok(notes) = notes_of(alloc, options.cycles, &scenario, &run) else {
         return Err(OutcomeError::Text(BenchError::Memory));
     };
     let mut text = Vec::new(alloc);
@@ -78,7 +111,7 @@ pub fn run_cluster<T: Threads + Wait + Clock + Sync, R: Read, W: Write>(
     match write_outcome(&mut text, run.interfaces.as_slice(), windows) {
         Ok(()) => {
             write_whole(writer, text.as_slice())?;
-            Ok(skipped)
+            Ok(notes)
         }
         // A list of bytes fails to grow only if an allocation fails.
         Err(_) => Err(OutcomeError::Text(BenchError::Memory)),
@@ -95,7 +128,7 @@ pub fn run_text<T: Threads + Wait + Clock + Sync, F: Read, R: Read, W: Write>(
     reader: &mut R,
     options: RunOptions,
     writer: &mut W,
-) -> Result<Vec<u32>, OutcomeError>
+) -> Result<RunNotes, OutcomeError>
     ensures { IsFileRefused
         (F.remaining file.old)
         (R.remaining reader.old)

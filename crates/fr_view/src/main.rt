@@ -1,9 +1,9 @@
 //! The program of the bench for views. It executes the command of the words after its name. Its exit status is 0 after
-//! success, 1 if an input is rejected, and 2 if the words are no command.
+//! success, 1 if an input is rejected, 2 if the words are no command, and 3 if a run missed an expectation.
 //!
 //! Output comes only once the command has accepted all its input, except with `--until-fault`, and for `why`, whose
-//! answer is its output. A refusal is one line on standard error. After a run, each fault line without effect also has
-//! a line there.
+//! answer is its output. A refusal is one line on standard error. After a run, each fault line without effect has a
+//! line there, and so has each expectation that the run missed.
 //!
 //! ```text
 //! fr_view schedule cluster.toml > cycle.svg          a picture of a cycle: senders, and open intervals of guardians
@@ -32,6 +32,7 @@
 mod failure;
 mod task;
 
+use arrayvec::ArrayVec;
 use failure::ViewFailure;
 use fr_capture::form::Form;
 use fr_capture::show::show_trace;
@@ -39,6 +40,7 @@ use fr_cli::error::OrderError;
 use fr_cli::view::order;
 use fr_cli::waiting::{WaitingReader, WaitingWriter};
 use fr_cli::words::{texts_of, words_given};
+use fr_expecting::missed::{Missed, write_missed};
 use fr_files::named::file_named;
 use fr_latency::text::show_latencies;
 use fr_latency::way_text::show_way;
@@ -51,10 +53,10 @@ use fr_slots::numbers::{Cycle, SlotId};
 use fr_streaming::stream::{Streamed, stream_run};
 use fr_why::explain::explain_trace;
 use fr_why::until_fault::show_until_fault;
-use std::io;
 use std::process::ExitCode;
 use std::rt::{Env, Files};
 use std::time::Clock;
+use std::{io, str};
 use task::{Task, status_told, task_of};
 
 /// The help of the program.
@@ -88,17 +90,49 @@ fr_view --help
     these lines
 ";
 
-/// Writes a line on standard error for each line without effect. All output is written by then.
-fn tell_notes<R: Eprint>(rt: &R, notes: &Notes) {
-    for number in &notes.skipped {
+/// The exit status if a run missed an expectation.
+const MISSED: u8 = 3;
+
+/// Writes a line on standard error for each line of the scenario that names cycles, but none of the run.
+fn tell_skipped<R: Eprint>(rt: &R, skipped: &[u32]) {
+    for number in skipped {
         let _ = eprintln!(rt; "line {number} names no cycle of the run");
-    }
-    for number in &notes.idle {
-        let _ = eprintln!(rt; "line {number} struck nothing");
     }
 }
 
-/// Runs the cluster of one file with the scenario of the other, and writes the view of the run.
+/// Room for the line of a missed expectation: two payloads of 254 bytes take 1,018 of them.
+const MOST_BYTES: usize = 1_280;
+
+/// Writes the line of a missed expectation on standard error.
+fn tell_missed<R: Eprint>(rt: &R, missed: &Missed) {
+    let mut text = ArrayVec::<u8, MOST_BYTES>::new();
+    if write_missed(&mut text, missed).is_err() {
+        return;
+    }
+    if let Ok(line) = str::from_utf8(text.as_slice()) {
+        let _ = eprintln!(rt; "{line}");
+    }
+}
+
+/// Writes a line on standard error for each line without effect, and for each expectation that the run missed. All
+/// output is written by then. Returns the exit status.
+fn tell_notes<R: Eprint>(rt: &R, notes: &Notes) -> ExitCode {
+    tell_skipped(rt, notes.skipped.as_slice());
+    for number in &notes.idle {
+        let _ = eprintln!(rt; "line {number} struck nothing");
+    }
+    for missed in &notes.missed {
+        tell_missed(rt, missed);
+    }
+    if notes.missed.is_empty() {
+        ExitCode::SUCCESS
+    } else {
+        ExitCode::from(MISSED)
+    }
+}
+
+/// Runs the cluster of one file with the scenario of the other, writes the view of the run, and returns the exit
+/// status.
 ///
 /// The scenario is opened once the cluster is accepted.
 fn show_files<R: Files + Print + Eprint + AllocGlobal + Clock>(
@@ -107,7 +141,7 @@ fn show_files<R: Files + Print + Eprint + AllocGlobal + Clock>(
     cluster: &str,
     scenario: &str,
     cycles: u16,
-) -> Result<(), ViewFailure> {
+) -> Result<ExitCode, ViewFailure> {
     let alloc = rt.alloc();
     let (cluster, names) = named_cluster_of(alloc, &mut file_named(rt, cluster)?)?;
     let mut file = file_named(rt, scenario)?;
@@ -121,12 +155,11 @@ fn show_files<R: Files + Print + Eprint + AllocGlobal + Clock>(
         shown,
         &mut output,
     )?;
-    tell_notes(rt, &notes);
-    Ok(())
+    Ok(tell_notes(rt, &notes))
 }
 
 /// Runs the cluster of one file with the scenario of the other without history, and writes the view as the run goes.
-fn stream_files<R: Files + Print + AllocGlobal + Clock>(
+fn stream_files<R: Files + Print + Eprint + AllocGlobal + Clock>(
     rt: &R,
     streamed: Streamed,
     cluster: &str,
@@ -137,7 +170,7 @@ fn stream_files<R: Files + Print + AllocGlobal + Clock>(
     let (cluster, names) = named_cluster_of(alloc, &mut file_named(rt, cluster)?)?;
     let mut file = file_named(rt, scenario)?;
     let mut output = WaitingWriter::new(rt, io::writer(rt));
-    Ok(stream_run(
+    let notes = stream_run(
         alloc,
         &cluster,
         &names,
@@ -145,7 +178,12 @@ fn stream_files<R: Files + Print + AllocGlobal + Clock>(
         cycles,
         streamed,
         &mut output,
-    )?)
+    )?;
+    tell_skipped(rt, notes.skipped.as_slice());
+    for number in &notes.unjudged {
+        let _ = eprintln!(rt; "line {number} is not judged in an endless run");
+    }
+    Ok(())
 }
 
 /// Writes the observations of a controller, from its trace on standard input.
@@ -243,7 +281,7 @@ fn carry_out<R: Files + Input + Print + Eprint + AllocGlobal + Clock>(
             cluster,
             scenario,
             cycles,
-        } => show_files(rt, *shown, cluster, scenario, *cycles)?,
+        } => return show_files(rt, *shown, cluster, scenario, *cycles),
         Task::Stream {
             streamed,
             cluster,

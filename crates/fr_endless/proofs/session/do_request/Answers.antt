@@ -1,5 +1,5 @@
 use Rattle.fr_endless.proofs.ReplyLemmas.{replied, replied_so, asked_so, event_so}
-use Rattle.fr_endless.proofs.ReplyLemmas.{line_so, forget_so, window_so, run_so}
+use Rattle.fr_endless.proofs.ReplyLemmas.{line_so, both_so, forget_so, window_so, run_so}
 use Rattle.fr_endless.proofs.ReplyLemmas.{now_so, at_so, report_so, status_so, trace_so, origin_so, record_so}
 use Rattle.fr_session.specs.TermsFields.{terms_in}
 use Rattle.fr_endless.proofs.session.do_request.Goals as goal
@@ -25,6 +25,16 @@ returns-in-Fault g c =
     c.keep_line.new.kept c.args.request _ c.in-Fault.is
     (replied_so g.W.Write.contents c.args.writer.now c.keep_line.new.writer c.keep_line.result _ _
     (line_so t l kept c.in-Fault.line c.keep_line.new.kept) c.keep_line.ensures)
+
+pub returns-in-Faults : goal.returns-in-Faults
+returns-in-Faults g c =
+    let t = terms_in c.args.terms.now in
+    let l = c.args.world.now in
+    let kept = c.args.faults.now in
+    asked_so g.W.Write.contents c.args.writer.now c.keep_both.new.writer c.keep_both.result t l l kept
+    c.keep_both.new.kept c.args.request _ c.in-Faults.is
+    (replied_so g.W.Write.contents c.args.writer.now c.keep_both.new.writer c.keep_both.result _ _
+    (both_so t l kept c.in-Faults.a c.in-Faults.b c.keep_both.new.kept) c.keep_both.ensures)
 
 pub returns-in-Forget : goal.returns-in-Forget
 returns-in-Forget g c =

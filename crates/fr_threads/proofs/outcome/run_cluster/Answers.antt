@@ -1,10 +1,10 @@
 use Rattle.std.proofs.Common.{◌≡◌, ◌∙◌, ℕ, List, Result, Err, None, ap, rules, subst, sym}
-use Rattle.std.specs.Global.{Vec}
 use Rattle.std.specs.Io.KnownBytes.{Appends}
 use Rattle.fr_files.specs.declared.error.BenchError.{BenchError}
 use Rattle.fr_files.specs.Inputs.{ForText}
 use Rattle.fr_files.specs.Outputs.{FallsShort}
 use Rattle.fr_threads.proofs.OutcomeLemmas.{not_read_of, printed, printed_part, refused_same, run_refused}
+use Rattle.fr_threads.specs.declared.outcome.RunNotes.{RunNotes}
 use Rattle.fr_threads.specs.declared.outcome_error.OutcomeError.{OutcomeError}
 use Rattle.fr_threads.specs.declared.outcome_error.OutcomeError.TheVariants as error
 use Rattle.fr_threads.specs.Outcomes.{Answers, Prints, file_failure}
@@ -17,7 +17,7 @@ returns-in_err-scenario-clause-refused g c =
     let remaining = g.R.Read.remaining c.args.reader.now in
     let e = c.in_err-scenario.field-0.0 in
     let gone : c.from_residual.result ≡ Err (file_failure e) = search rules in
-    subst (λ (r : Result (Vec ℕ) OutcomeError). ForText remaining
+    subst (λ (r : Result RunNotes OutcomeError). ForText remaining
     (λ text. Answers c.args.cluster.now c.args.names.now c.args.options.cycles text r)) (sym gone)
     (not_read_of c.args.cluster.now c.args.names.now c.args.options.cycles remaining e c.in_err-scenario.ensures)
 
@@ -29,7 +29,7 @@ returns-in_err-run-clause-refused g c =
     let refused_is = c.in_err-run.ensures.refused in
     let scripts_are = c.scripts.ensures in
     let faults_are = c.faults.ensures in
-    subst (λ (r : Result (Vec ℕ) OutcomeError). ForText remaining
+    subst (λ (r : Result RunNotes OutcomeError). ForText remaining
     (λ text. Answers c.args.cluster.now c.args.names.now c.args.options.cycles text r)) (sym gone)
     (run_refused c.args.cluster.now c.args.names.now c.args.options.cycles remaining
     (record {
@@ -37,6 +37,7 @@ returns-in_err-run-clause-refused g c =
       faults = c.in_ok-scenario.scenario.faults;
       numbers = c.in_ok-scenario.scenario.numbers;
       skipped = c.in_ok-scenario.scenario.skipped;
+      expected = c.in_ok-scenario.scenario.expected;
     }) (refusal_of e)
     c.in_ok-scenario.ensures (search rules))
 
@@ -45,8 +46,6 @@ returns-in-Ok-write_outcome-clause-written g c =
     let run = c.in_ok-run.run' in
     let written : Appends (g.W.Write.contents c.args.writer.now) (g.W.Write.contents c.write_whole.new.writer)
     (outcome_text run.interfaces.items run.settled.windows) = search rules in
-    let told : c.in-Ok.skipped.items ≡ c.in_ok-scenario.scenario.skipped =
-    c.in-Ok.ensures.items ∙ c.skipped.ensures in
     printed c.args.cluster.now c.args.names.now c.args.options.cycles c.args.options.free
     (g.R.Read.remaining c.args.reader.now)
     (g.W.Write.contents c.args.writer.now)
@@ -56,8 +55,9 @@ returns-in-Ok-write_outcome-clause-written g c =
       faults = c.in_ok-scenario.scenario.faults;
       numbers = c.in_ok-scenario.scenario.numbers;
       skipped = c.in_ok-scenario.scenario.skipped;
-    }) run c.in-Ok.skipped.items
-    c.in_ok-scenario.ensures (search rules) written told
+      expected = c.in_ok-scenario.scenario.expected;
+    }) run c.in-Ok.notes
+    c.in_ok-scenario.ensures (search rules) written c.in-Ok.ensures
 
 pub returns-in-Ok-write_outcome-clause-refused : goal.returns-in-Ok-write_outcome-clause-refused
 returns-in-Ok-write_outcome-clause-refused g c =
@@ -67,6 +67,7 @@ returns-in-Ok-write_outcome-clause-refused g c =
       faults = c.in_ok-scenario.scenario.faults;
       numbers = c.in_ok-scenario.scenario.numbers;
       skipped = c.in_ok-scenario.scenario.skipped;
+      expected = c.in_ok-scenario.scenario.expected;
     }) None
     c.in_ok-scenario.ensures
     (refused_same c.args.cluster.now c.scripts.result.now c.in_ok-scenario.scenario.scripts c.faults.result.now
@@ -86,7 +87,7 @@ returns-in_err-write_whole-in-Ok-write_outcome-clause-written g c =
     (error.Text x)) c.in_err-write_whole-in-Ok-write_outcome.ensures.refused in
     let text_is : c.as_slice-in-Ok-write_outcome.result.now ≡ outcome_text run.interfaces.items run.settled.windows =
     search rules in
-    subst (λ (r : Result (Vec ℕ) OutcomeError). Prints c.args.cluster.now c.args.names.now c.args.options.cycles
+    subst (λ (r : Result RunNotes OutcomeError). Prints c.args.cluster.now c.args.names.now c.args.options.cycles
     c.args.options.free
     remaining old new r) (sym named)
     (printed_part c.args.cluster.now c.args.names.now c.args.options.cycles c.args.options.free remaining old new
@@ -95,6 +96,7 @@ returns-in_err-write_whole-in-Ok-write_outcome-clause-written g c =
       faults = c.in_ok-scenario.scenario.faults;
       numbers = c.in_ok-scenario.scenario.numbers;
       skipped = c.in_ok-scenario.scenario.skipped;
+      expected = c.in_ok-scenario.scenario.expected;
     }) run
     c.in_ok-scenario.ensures (search rules)
     (subst (λ (xs : List ℕ). FallsShort old new xs) text_is c.in_err-write_whole-in-Ok-write_outcome.ensures.cut))
@@ -107,7 +109,7 @@ returns-in_err-write_whole-in-Ok-write_outcome-clause-refused g c =
     let gone : c.from_residual-in_err-write_whole-in-Ok-write_outcome.result ≡ Err (error.Text e) = search rules in
     let named = gone ∙ ap (λ (x : BenchError). Err
     (error.Text x)) c.in_err-write_whole-in-Ok-write_outcome.ensures.refused in
-    subst (λ (r : Result (Vec ℕ) OutcomeError). ForText remaining
+    subst (λ (r : Result RunNotes OutcomeError). ForText remaining
     (λ text. Answers c.args.cluster.now c.args.names.now c.args.options.cycles text r)) (sym named)
     (run_refused c.args.cluster.now c.args.names.now c.args.options.cycles remaining
     (record {
@@ -115,6 +117,7 @@ returns-in_err-write_whole-in-Ok-write_outcome-clause-refused g c =
       faults = c.in_ok-scenario.scenario.faults;
       numbers = c.in_ok-scenario.scenario.numbers;
       skipped = c.in_ok-scenario.scenario.skipped;
+      expected = c.in_ok-scenario.scenario.expected;
     }) None
     c.in_ok-scenario.ensures
     (refused_same c.args.cluster.now c.scripts.result.now c.in_ok-scenario.scenario.scripts c.faults.result.now

@@ -27,6 +27,7 @@ pub returns : goal.returns
 returns c =
     λ other.
     made c.in-Some.version c.args.text.now c.in-Some.rest.now c.in_ok-gathered.gathered c.in_ok-scripts.scripts.items
-    c.in_ok-scripts.faults.items c.in_ok-scripts.numbers.items c.new.result.items c.in-Some.ensures.first
+    c.in_ok-scripts.faults.items c.in_ok-scripts.numbers.items c.new.result.items c.new-2.result.items
+    c.in-Some.ensures.first
     c.in_ok-gathered.ensures.found c.in_ok-scripts.ensures.scripts c.in_ok-scripts.ensures.faults
-    c.in_ok-scripts.ensures.numbers c.new.ensures.items
+    c.in_ok-scripts.ensures.numbers c.new.ensures.items c.new-2.ensures.items
