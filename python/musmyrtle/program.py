@@ -12,6 +12,7 @@ from pathlib import Path
 from threading import Thread
 from typing import IO, Any
 
+from musmyrtle.missed import MISSED, Miss, misses_of
 from musmyrtle.output import pass_on
 
 CHECKOUT = Path(__file__).resolve().parents[2]
@@ -27,13 +28,16 @@ MOST_TOLD, LONGEST_TOLD, MOST_SAID = 20, 4096, 300
 class Answer:
     """The program's answer about its input.
 
-    It has no refusal if the input is accepted, and otherwise the words after `refused`.
+    It has no refusal if the input is accepted, and otherwise the words after `refused`. The status of a run that missed
+    expectations is 0 here.
     """
 
     status: int
     refusal: str | None
     is_named: bool = True
     """True for a refusal by a line `refused NAME`. Otherwise the program failed, and the refusal has its message."""
+    misses: tuple[Miss, ...] = ()
+    """The expectations of the scenario that the run missed."""
 
     @property
     def is_one(self) -> bool:
@@ -132,7 +136,7 @@ def ask(program: str, words: list[str], started: Started = subprocess.Popen,
     The lines by which a launcher explains a refusal aren't, since this package has longer reasons of its own, nor those
     of the form KNOWN. LISTEN reads what the program prints, in a thread of its own, until its end.
     """
-    refusal = None
+    refusal, misses = None, list[Miss]()
     told: deque[str] = deque(maxlen=MOST_TOLD)
     streams: dict[str, Any] = {"stdin": subprocess.DEVNULL, "stdout": subprocess.PIPE if listen else subprocess.DEVNULL,
                                "stderr": subprocess.PIPE}
@@ -145,10 +149,11 @@ def ask(program: str, words: list[str], started: Started = subprocess.Popen,
                 refusal = line.removeprefix("refused ")
             elif refusal is None or not line.startswith(f"{Path(program).name}: "):
                 told.append(line)
+                misses += misses_of(MISSED, [line])
                 if known is None or not known.fullmatch(line):
                     pass_on(line)
-    if running.returncode == 0:
-        return Answer(0, None)
+    if running.returncode == 0 or running.returncode == MISSED and misses and refusal is None:
+        return Answer(0, None, misses=tuple(misses) if running.returncode else ())
     is_named = refusal is not None
     return Answer(running.returncode, refusal or " ".join(told).strip() or f"status {running.returncode}", is_named)
 

@@ -9,7 +9,7 @@ from dataclasses import dataclass, field
 from musmyrtle.findings import Finding
 from musmyrtle.names import LineNames, Names
 from musmyrtle.places import Place
-from musmyrtle.scenario_lines import FaultLine, Line
+from musmyrtle.scenario_lines import EXPECTATIONS, FaultLine, Line
 from musmyrtle.scenario_words import NEWEST, Words
 from musmyrtle.texts import FILE_LIMIT
 
@@ -28,6 +28,8 @@ class Scenario:
     """The lines of each task, by node and task; scripts are numbered in the order of these."""
     faults: list[FaultLine] = field(default_factory=list)
     """The fault lines in their order, one for each channel."""
+    expectations: list[Line] = field(default_factory=list)
+    """The lines of version 3 that say what receive buffers hold, in their order."""
     refusals: list[tuple[str, Finding]] = field(default_factory=list)
     version: int = NEWEST
     skipped: list[int] = field(default_factory=list)
@@ -146,6 +148,8 @@ class Reading:
         for line in lines:
             if isinstance(line, FaultLine):
                 self.scenario.faults.append(line)
+            elif line.kind in EXPECTATIONS:
+                self.scenario.expectations.append(line)
             else:
                 self.scenario.scripts.setdefault((int(line.words[1]), int(line.words[2])), []).append(line)
 

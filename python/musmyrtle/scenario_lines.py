@@ -15,6 +15,11 @@ FORMS = {
     "end": (),
 }
 """The words of a line after its kind, in versions 1 and 2."""
+EXPECTATIONS = {
+    "expect": ("NODE", "CYCLES", "BUFFER", "HEX"),
+    "expect-none": ("NODE", "CYCLES", "BUFFER"),
+}
+"""The same of the lines of version 3 that say what a receive buffer holds at the end of a cycle."""
 FAULTS = ("babble", "mute", "corrupt")
 LOST = "lost"
 
@@ -38,16 +43,21 @@ class Line:
         return self.words[0]
 
     @property
+    def form(self) -> tuple[str, ...]:
+        """Returns the names of the words after the kind."""
+        return EXPECTATIONS[self.kind] if self.kind in EXPECTATIONS else FORMS[self.kind]
+
+    @property
     def written(self) -> str:
         """Returns the kind that the text has."""
         return LOST if self.is_lost else self.kind
 
     def word(self, name: str) -> str:
-        return self.words[1 + FORMS[self.kind].index(name)]
+        return self.words[1 + self.form.index(name)]
 
     def column(self, name: str) -> int:
         """Returns the column where the word of this name begins."""
-        at = 1 + FORMS[self.kind].index(name)
+        at = 1 + self.form.index(name)
         return self.begins[at] if self.begins else sum(len(it) + 1 for it in self.words[:at]) + 1
 
     def value(self, name: str) -> int:
@@ -56,7 +66,7 @@ class Line:
     @cached_property
     def cycles(self) -> RunCycles:
         """Returns the cycles that it names."""
-        found = RunCycles.of(self.word("CYCLE" if "CYCLE" in FORMS[self.kind] else "CYCLES"))
+        found = RunCycles.of(self.word("CYCLE" if "CYCLE" in self.form else "CYCLES"))
         assert found is not None
         return found
 

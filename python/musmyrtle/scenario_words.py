@@ -6,7 +6,7 @@ from dataclasses import dataclass
 from musmyrtle.findings import nearest
 from musmyrtle.named_windows import MOST_CYCLE, MOST_PLACE, FaultPlace, RunCycles
 from musmyrtle.names import LineNames
-from musmyrtle.scenario_lines import FAULTS, FORMS, LOST, FaultLine, Line
+from musmyrtle.scenario_lines import EXPECTATIONS, FAULTS, FORMS, LOST, FaultLine, Line
 from musmyrtle.visible import cut
 
 NEWEST = 3
@@ -16,10 +16,10 @@ FORMS_BY_VERSION = {
     1: {kind: form for kind, form in FORMS.items() if kind != "withdraw"},
     2: FORMS,
     3: {**{kind: tuple(RANGED.get(name, name) for name in form) for kind, form in FORMS.items() if kind != "end"},
-        LOST: ("NODE", "CYCLES"), "end": ()},
+        LOST: ("NODE", "CYCLES"), **EXPECTATIONS, "end": ()},
 }
 GREATEST = {"NODE": 15, "TASK": 7, "BUFFER": 63, "CYCLE": MOST_CYCLE, "CYCLES": MOST_CYCLE, "BIT": 65535}
-MOST_BYTES = {"commit": 254, "babble": 262}
+MOST_BYTES = {"commit": 254, "expect": 254, "babble": 262}
 NUMBER = re.compile(r"0|[1-9][0-9]*")
 HEX = re.compile(r"x(?:[0-9a-f]{2})*")
 WORD = re.compile(r"[^ \t]+")
@@ -139,9 +139,14 @@ class Words:
 
     # ---- lines of a right line
 
+    @property
+    def numbers(self) -> list[str]:
+        """Returns the words of a right line, with numbers in the place of names."""
+        return [self.kind, *map(self.numbered, self.form, self.words[1:])]
+
     def lines(self, number: int) -> list[Line]:
         """Returns the lines that a right line of this number stands for: two of them for a fault on two channels."""
-        words = [self.kind, *map(self.numbered, self.form, self.words[1:])]
+        words = self.numbers
         if self.kind == LOST:
             one, node, cycles = self.columns
             return [FaultLine(number, ("mute", words[1], channel, words[2], "*"), (one, node, one, cycles, one), True)
@@ -165,34 +170,6 @@ def fault_lines_of(lines: Iterable[str]) -> list[FaultLine]:
     return [it for it in found if isinstance(it, FaultLine)]
 
 
-@dataclass(frozen=True)
-class Size:
-    """The static slots, the minislots, and the cycles of a run, for which lines are spelled in version 2."""
-
-    static_slots: int
-    minislots: int
-    cycles: int
-
-    def requests(self, line: FaultLine) -> list[str]:
-        """Returns the lines of version 2 that say the same. Raises `ValueError` for a dynamic slot, which has none."""
-        if line.place.segment == "d":
-            raise ValueError(f"no fault line of fr_world is for the dynamic slot {line.place.first}: inject the fault "
-                             "by a function `when`")
-        at = 1 + FORMS[line.kind].index("CYCLES")
-        cycles = ["*"] if line.cycles.last is None else line.cycles.within(self.cycles)
-        return [" ".join([*line.words[:at], str(cycle), place, *line.words[at + 2:]]) for cycle in cycles
-                for place in self.places(line.place)]
-
-    def places(self, place: FaultPlace) -> list[str]:
-        """Returns the places of version 2 for a place."""
-        if place.first is not None and place.first != place.last:
-            return [f"s{slot}" for slot in range(place.first, (place.last or 0) + 1)]
-        static = ["s*"] if place.segment == "*" else []
-        if place.segment in "*m" and place.first is None:
-            return static + [f"m{minislot}" for minislot in range(1, self.minislots + 1)]
-        return [str(place)]
-
-
 RIGHT_CYCLES = (f"Expected `*` for every cycle, `C`, `C-D`, or `C-D/STEP` for each STEPth cycle from C on up to D, "
                 f"with numbers up to {MOST_CYCLE} without leading zeros and C not above D")
 
@@ -210,7 +187,7 @@ def right_place(word: str, version: int) -> str | None:
 
 def right_hex(kind: str, word: str) -> str | None:
     """Returns the expected form of bytes, or nothing where they are right."""
-    most, even = MOST_BYTES[kind], "an even number of bytes, " if kind == "commit" else ""
+    most, even = MOST_BYTES[kind], "" if kind == "babble" else "an even number of bytes, "
     is_right = HEX.fullmatch(word) and len(word) // 2 <= most and not (even and len(word) // 2 % 2)
     right = f"Expected `x` and two lower-case hexadecimal digits for each byte, {even}{most} at most"
     return None if is_right else right

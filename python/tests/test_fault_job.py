@@ -112,6 +112,12 @@ class TestJobs(unittest.TestCase):
             with self.subTest(harm):
                 self.assertEqual(self.done(self.sent(harm)), ([], 1))
 
+    def test_a_run_that_misses_expectations(self):
+        told = "line 7: node 0 buffer 1 at the end of cycle 0: expected x00, found nothing\n"
+        sent = self.sent(f"trap 'echo \"{told.strip()}\" >&2; exit 3' EXIT")
+        wanted = [(number, Answer(3, text, f"said\n{told}")) for number, text in enumerate(PRINTED)]
+        self.assertEqual(self.done(sent), (wanted, 0))
+
     def test_a_refusal_of_the_run(self):
         refused, sent = Answer(1, "", "refused BadFault 0\n"), self.sent("echo 'refused BadFault 0' >&2; exit 1")
         self.assertEqual(self.done(sent), ([(0, refused), (1, refused)], 0))

@@ -97,6 +97,8 @@ FAULTS_3 = {
         for place in range(1, 9)]),
     "dynamic slots": (None, [f"mute {node} AB * d{1023 + place}" for node in range(4) for place in range(1, 901)]),
     "lines of later cycles": (None, ["lost 0 1000"] * 4094),
+    "expectations of one buffer in each cycle": (None, [f"expect 0 * 0 x{number % 2:04}" for number in range(4094)]),
+    "expectations of missing buffers": (None, [f"expect-none {number % 16} * 63" for number in range(4094)]),
     "comments": (None, ["#" * 250] * 4094),
     "names like that of a node": ("BadLine 2", [f"pop nodd{number} 0 0" for number in range(4094)]),
     "calls in each cycle": ("BadScript 0", ["pop 0 0 *"] * 4094),

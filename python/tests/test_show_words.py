@@ -21,6 +21,7 @@ from musmyrtle.show.main import EVERY
 from musmyrtle.show.manual import manual
 from musmyrtle.show.tables import Column, Name, Receiver, Receivers, Row, Section, Time, as_csv, as_json, as_text
 from musmyrtle.version import version
+from tests import judging
 from tests.shows import NETWORK, POP, SCENE, THREE, Shows
 from tests.test_visible_output import IN_TOML, SPELLED
 
@@ -84,6 +85,7 @@ class Keys(Shows):
         found: dict[tuple[str, ...], list[str]] = {}
         network = NETWORK.replace('"none"', '"AB"').replace("sync", "startup = true, sync")
         guarded = self.written("guarded.toml", network)
+        missing = self.written("missing", "frscenario 3\nexpect 1 0 1 x\nend\n")
         past = self.written("past", SCENE.replace("read 1 0 1 1", "read 1 0 9 1"))
         for command, words in (
             ("lint", [guarded]), ("lint", [guarded, past, "--cycles", "2"]), ("lint", [THREE[0]]),
@@ -93,8 +95,11 @@ class Keys(Shows):
             ("latency", [guarded, "--slot", "4", "--channel", "A"]), ("check", [guarded]), ("plan", [guarded]),
             ("monitor", [THREE[0], str(TOP / "examples/recordings/disturbed.pcap")]),
             *((it, run) for it in ("run", "log", "commits", "reads")),
+            ("run", [run[0], missing, "--cycles", "2"]),
         ):
-            for line in self.asked(*command.split(), *words, "--json")[1].splitlines():
+            with patch.dict(os.environ, judging.variables(self.folder) if words[1:2] == [missing] else {}):
+                output = self.asked(*command.split(), *words, "--json")[1]
+            for line in output.splitlines():
                 row = json.loads(line)
                 kind = row.pop("kind")
                 found[command, kind] = list(row)

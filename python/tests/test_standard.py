@@ -1,6 +1,6 @@
 """The rules of FlexRay 2.1 Rev A: each that a cluster file breaks is a warning with the parameter and its range."""
 from musmyrtle.lint.allows import NAMES
-from musmyrtle.lint.lint import OF_CLUSTER, Task, lint
+from musmyrtle.lint.lint import OF_CLUSTER, Ran, Task, lint
 from musmyrtle.lint.overwriting import Overwritten
 from musmyrtle.lint.standard import RULES
 from tests.cases import CLUSTER, EXAMPLES, SCENARIO, Cases
@@ -126,7 +126,7 @@ class Standard(Cases):
 
     def looked(self, scenario, overwritten):
         task = Task(self.written("cluster.toml", CLUSTER), self.written("scenario", scenario), 4)
-        return [it for it in lint(task, overwritten).warnings if it.name == "fifo-overwrites"]
+        return [it for it in lint(task, Ran(overwritten)).warnings if it.name == "fifo-overwrites"]
 
     def test_overwritten_frames_of_an_outcome(self):
         overwritten = Overwritten()

@@ -1,4 +1,4 @@
-" Scenarios of musmyrtle: calls of host tasks, and faults.
+" Scenarios of musmyrtle: calls of host tasks, faults, and expectations.
 if exists("b:current_syntax")
   finish
 endif
@@ -6,6 +6,7 @@ syntax match frscenarioMagic "\%^frscenario [123]$"
 syntax match frscenarioCall "^\s*\zs\(commit\|withdraw\|read\|pop\)\>" nextgroup=frscenarioNode skipwhite
 syntax match frscenarioFault "^\s*\zs\(babble\|mute\|lost\)\>" nextgroup=frscenarioNode skipwhite
 syntax match frscenarioFault "^\s*\zscorrupt\>"
+syntax match frscenarioExpectation "^\s*\zsexpect\(-none\)\?\>-\@!" nextgroup=frscenarioNode skipwhite
 syntax match frscenarioEnd "^\s*\zsend\>"
 syntax match frscenarioNode "[A-Za-z0-9_.-]\+" contained
 syntax match frscenarioBytes "\v<x([0-9a-f]{2})*>"
@@ -16,6 +17,7 @@ syntax match frscenarioComment "#.*$" contains=@Spell
 highlight default link frscenarioMagic PreProc
 highlight default link frscenarioCall Function
 highlight default link frscenarioFault Exception
+highlight default link frscenarioExpectation Statement
 highlight default link frscenarioEnd Keyword
 highlight default link frscenarioNode Identifier
 highlight default link frscenarioBytes String

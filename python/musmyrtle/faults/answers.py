@@ -4,6 +4,7 @@ import signal
 from dataclasses import dataclass
 
 from musmyrtle.breaking import SIGNALLED
+from musmyrtle.missed import MISSED, miss_of
 
 REFUSED = 1
 NO_REFUSALS = ("Read", "Write", "Memory", "Truncated", "Thread")
@@ -25,14 +26,15 @@ class Answer:
     def failure(self) -> tuple[str, str] | None:
         """Returns the effect and the reason, if there is no outcome.
 
-        `refused` is an answer, `killed` and `unreadable` are none. With status 0 the output still has to be read.
+        `refused` is an answer, `killed` and `unreadable` are none. With status 0 the output still has to be read, and
+        also where the run missed expectations of the scenario, which no campaign compares.
         """
-        if self.status == 0:
+        last = self.told.strip().split("\n")[-1]
+        if self.status == 0 or self.status == MISSED and miss_of(last):
             return None
         killer = signal_of(self.status)
         if killer is not None:
             return "killed", signal_name(killer)
-        last = self.told.strip().split("\n")[-1]
         found = REFUSAL.fullmatch(last)
         if self.status == REFUSED and found and found[1] not in NO_REFUSALS:
             return "refused", last.removeprefix("refused ")

@@ -15,6 +15,7 @@ from musmyrtle.faults.answers import NO_REFUSALS, REFUSED, Answer
 from musmyrtle.faults.listing import SingleFault
 from musmyrtle.faults.runs import CLUSTER_FILE, SCENARIO_FILE, Folder, outcome_words
 from musmyrtle.faults.whole_files import unusable, write_file
+from musmyrtle.missed import MISSED
 
 PROGRAM_FILE = "program"
 SENT = (PROGRAM_FILE, CLUSTER_FILE, SCENARIO_FILE, "lines", "jobs", "script")
@@ -43,7 +44,7 @@ one() {
         last=$(tail -n 1 "$run.told")
         case "$status $last" in
         NO_REFUSALS) fail "no answer: $last"; return ;;
-        REFUSED\\ refused\\ [A-Z]*) ;;
+        REFUSED\\ refused\\ [A-Z]* | MISSED\\ line\\ [0-9]*) ;;
         *) fail "no answer: status $status $last"; return ;;
         esac
     fi
@@ -86,6 +87,7 @@ def script(cycles: int) -> str:
         "WORDS": " ".join(outcome_words(CLUSTER_FILE, '"$run"', cycles)),
         "NO_REFUSALS": " | ".join(f"{REFUSED}\\ refused\\ {name}*" for name in NO_REFUSALS),
         "FILES": " ".join(SENT), "PROGRAM": PROGRAM_FILE, "SCENARIO": SCENARIO_FILE, "REFUSED": str(REFUSED),
+        "MISSED": str(MISSED),
     }
     return re.sub(rf"\b({'|'.join(words)})\b", lambda found: words[found[1]], SCRIPT)
 

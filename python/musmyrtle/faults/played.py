@@ -14,7 +14,6 @@ from musmyrtle.faults.runs import Folder
 from musmyrtle.faults.traces import fetched
 from musmyrtle.scenario import Scenario
 from musmyrtle.scenario_lines import Line
-from musmyrtle.scenario_words import Size, fault_lines_of
 from musmyrtle.world.refusals import Refused, SessionOver, refusal
 from musmyrtle.world.replies import Window, record_of, window_of
 from musmyrtle.world.session import Session
@@ -65,8 +64,6 @@ class Player:
     def __init__(self, program: str, viewer: str, folder: Folder, cluster: Cluster, scenario: Scenario) -> None:
         self.program, self.viewer, self.folder, self.cluster = program, viewer, folder, cluster
         self.scenario, self.cycles = scenario, folder.cycles
-        parameters = cluster.parameters
-        self.size = Size(parameters.static_slots, parameters.minislots, self.cycles)
         self.calls: dict[int, list[Line]] = {}
         for cycle, line in scenario.calls(self.cycles):
             self.calls.setdefault(cycle, []).append(line)
@@ -126,10 +123,10 @@ class Player:
         """Returns a session that keeps the fault lines. It asks by numbers alone, so no key `name` is read."""
         session = Session(self.program, self.folder.cluster, self.cycles, REQUEST_SECONDS)
         try:
-            for line in (*self.scenario.faults, *fault_lines_of(lines)):
-                for request, reply in zip(requests := self.size.requests(line), session.send(requests)):
-                    if reply != "done":
-                        raise refusal(reply, request)
+            requests = [*(" ".join(it.words) for it in self.scenario.faults), *lines]
+            for request, reply in zip(requests, session.send(requests)):
+                if reply != "done":
+                    raise refusal(reply, request)
         except BaseException:
             session.close()
             raise

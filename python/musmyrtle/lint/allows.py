@@ -34,6 +34,8 @@ WARNINGS = {
     "action-point": "a static frame fits only without an action point offset",
     "small-journal": "a journal has too little room for the run",
     "idle-fault": "a fault of the scenario has no effect",
+    "wrong-expectation": "no run of the cluster meets an expectation of the scenario",
+    "missed-expectation": "the run misses an expectation of the scenario",
     "unknown-allow": "a comment allows a name that no warning has",
 }
 NOTES = {

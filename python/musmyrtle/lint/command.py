@@ -12,11 +12,12 @@ from typing import Any, NoReturn, TextIO
 from musmyrtle.findings import MOST_REASONS, block, counted, nearest
 from musmyrtle.lint.allows import NAMES, expected_name
 from musmyrtle.lint.guarantees import Guarantees, load_section
-from musmyrtle.lint.lint import Lint, Task, lint, read_bytes
+from musmyrtle.lint.lint import Lint, Ran, Task, lint, read_bytes
 from musmyrtle.lint.overwriting import Overwritten
 from musmyrtle.lint.rows import sections
 from musmyrtle.lint.runs import MOST_CYCLES
 from musmyrtle.lint.trace_why import MAGIC, NoAnswer, TraceFile, ask_why, finding_of, is_trace
+from musmyrtle.missed import FORM
 from musmyrtle.output import Stop, write
 from musmyrtle.program import Answer, ask, by_option, no_answer, usual_program
 from musmyrtle.show.tables import Section, as_csv, as_json, as_text
@@ -24,8 +25,8 @@ from musmyrtle.version import version
 from musmyrtle.visible import cut, visible
 
 COMMAND = "musmyrtle lint"
-LEFT_OUT = re.compile("line [0-9]+ names no cycle of the run")
-"""A message of the program, in whose place there is a note."""
+KNOWN = re.compile(f"line [0-9]+ names no cycle of the run|{FORM.pattern}")
+"""The messages of the program in whose place there are notes and warnings."""
 FINE, REFUSED, USAGE, WARNED, BROKEN_OFF = 0, 1, 2, 4, 130
 MOST_WARNINGS, MOST_REPEATED = 40, 200
 ABOUT = """Explains the faults of a cluster file, and of a scenario for it: place, reason, and expected form.
@@ -275,14 +276,14 @@ def linted(given: argparse.Namespace) -> int:
             overwritten = Overwritten()
             # `run` itself decides whether a scenario fits the cluster. Its outcome is dropped.
             answer = ask(given.program, words_for(task), listen=overwritten.read if given.scenario else None,
-                         known=LEFT_OUT)
+                         known=KNOWN)
         except OSError as error:
             raise Stop(USAGE, f"{given.program} can't be run: {error.strerror}") from None
         if not answer.is_one:
             raise Stop(USAGE, no_answer(given.program, words_for(task), answer))
         wanted = [(node, buffer) for node, buffer in given.guaranteed]
         guarantees = Guarantees(task.file(task.cluster), wanted, given.load)
-        found = lint(task, overwritten, None if answer.status else guarantees)
+        found = lint(task, Ran(overwritten, answer.misses), None if answer.status else guarantees)
     if guarantees.is_wanted and not guarantees.is_done and not answer.status:
         raise Stop(USAGE, f"{COMMAND} can't read {given.cluster}, so that it finds no guarantees and no load")
     known = found if is_explained(answer, found) else Lint()

@@ -9,11 +9,13 @@ from musmyrtle.findings import Finding
 from musmyrtle.lint import physical, ranges, receiving, sending, unread
 from musmyrtle.lint.allows import NOTES, Allows
 from musmyrtle.lint.clashes import clashes
+from musmyrtle.lint.expecting import Expectations, missed
 from musmyrtle.lint.guarantees import Guarantees
 from musmyrtle.lint.overwriting import overwriting_fifos
 from musmyrtle.lint.runs import Run, skipped_lines
 from musmyrtle.lint.strikes import Strikes, small_journals
 from musmyrtle.lint.trace_why import is_trace
+from musmyrtle.missed import Miss
 from musmyrtle.names import named_in
 from musmyrtle.scenario import Reading as ScenarioReading
 from musmyrtle.texts import FILE_LIMIT, NoText, Text, read_text
@@ -107,11 +109,18 @@ def unreadable(file: str, what: str) -> Finding:
     return Finding(f"{what} {file!r} {found}", "Expected the name of a file that can be read.")
 
 
-def lint(task: Task, overwritten: dict[int, int] | None = None, guarantees: Guarantees | None = None) -> Lint:
-    """Returns the findings. OVERWRITTEN has the frames that the FIFO of each node overwrote in the run.
+@dataclass(frozen=True)
+class Ran:
+    """The facts of the run that warnings are about."""
 
-    GUARANTEES finds the buffers that the schedule doesn't guarantee.
-    """
+    overwritten: dict[int, int] = field(default_factory=dict)
+    """The frames that the FIFO of each node overwrote."""
+    misses: tuple[Miss, ...] = ()
+    """The expectations that it missed."""
+
+
+def lint(task: Task, ran: Ran = Ran(), guarantees: Guarantees | None = None) -> Lint:
+    """Returns the findings. GUARANTEES finds the buffers that the schedule doesn't guarantee."""
     found = Lint(allowed=task.allowed)
     data = read_bytes(task.file(task.cluster))
     if data is None:
@@ -127,7 +136,7 @@ def lint(task: Task, overwritten: dict[int, int] | None = None, guarantees: Guar
         notes, found.errors = guarantees.notes_and_errors(cluster, text)
         found.warn("not-guaranteed", notes)
     if cluster and task.scenario is not None:
-        lint_scenario(task, cluster, text, found, overwritten or {})
+        lint_scenario(task, cluster, text, found, ran)
     elif cluster:
         # One cycle is the shortest run: a cluster with less room has none.
         found.warn("small-journal", small_journals(cluster, text, task.cycles or 1))
@@ -152,7 +161,7 @@ def lint_cluster(text: Text, found: Lint) -> Cluster | None:
     return cluster
 
 
-def lint_scenario(task: Task, cluster: Cluster, text: Text, found: Lint, overwritten: dict[int, int]) -> None:
+def lint_scenario(task: Task, cluster: Cluster, text: Text, found: Lint, ran: Ran) -> None:
     name = task.scenario or ""
     data, cycles = read_bytes(task.file(name)), task.cycles or 1
     if data is None:
@@ -163,4 +172,7 @@ def lint_scenario(task: Task, cluster: Cluster, text: Text, found: Lint, overwri
     if not found.refusals:
         found.warn("skipped-line", skipped_lines(scenario, cycles))
         found.warn("idle-fault", Strikes(cluster, scenario, cycles).findings())
-        found.warn("fifo-overwrites", overwriting_fifos(cluster, text, scenario, overwritten))
+        found.warn("fifo-overwrites", overwriting_fifos(cluster, text, scenario, ran.overwritten))
+        wrong = list(Expectations(cluster, text, scenario).findings(cycles))
+        found.warn("wrong-expectation", wrong)
+        found.warn("missed-expectation", missed(scenario, ran.misses, wrong))

@@ -9,6 +9,7 @@ import musmyrtle.faults.options
 import musmyrtle.lint.command
 from musmyrtle.breaking import BrokenOff, breaking_off
 from musmyrtle.lint.command import FINE, formed, is_bold_on, printed
+from musmyrtle.missed import MISSED
 from musmyrtle.output import Stop
 from musmyrtle.show import monitor, options, page
 from musmyrtle.show.commits import commits
@@ -62,7 +63,7 @@ def table(name: str, purpose: str, words: Words, examples: tuple[str, ...],
                 with opened(given.cluster, *scenario) as inputs:
                     found = sections(inputs, given)
                     printed(formed(given, found, as_text(found, is_bold_on(sys.stdout))))
-            return FINE
+            return MISSED if inputs.misses else FINE
         except Stop as stop:
             return stop.tell(COMMAND)
         except BrokenOff as signal:
@@ -106,7 +107,8 @@ TABLES = (
           "each channel. With one slot and its channel it also prints the frames before the slot's latest start.",
           Words(has_places=True), (f"latency {TEN}", f"latency {TEN} --slot 67 --channel A"), guarantees),
     table("run", "Runs a scenario, and prints what went wrong: commits that no node received and why, receive buffers\n"
-          "that hold nothing, FIFOs that overwrote frames, errors with their slots, faults without effect.",
+          "that hold nothing, FIFOs that overwrote frames, errors with their slots, faults without effect, and the\n"
+          "expectations of the scenario that were missed.",
           Words(has_run=True), (RUN_EXAMPLE,), lambda inputs, _: run(Facts(inputs))),
     table("log", "Prints all transmissions of a run and their fates.", Words(True, True, True),
           (f"log {RUN} --slot 1 --channel B", f"log {RUN} --errors --csv"), selected(log)),

@@ -10,6 +10,7 @@ from musmyrtle.faults.children import Children
 from musmyrtle.findings import block, counted
 from musmyrtle.lint.command import MOST_REPEATED, REFUSED, USAGE, is_bold_on, lasting
 from musmyrtle.lint.lint import Lint, Task, lint, read_bytes
+from musmyrtle.missed import Miss, miss_of, misses_of
 from musmyrtle.output import Stop, pass_on, write
 from musmyrtle.program import REFUSED_LINE, Answer, is_launcher, itself, no_answer, places, usual_program
 from musmyrtle.show.network import Network
@@ -38,6 +39,10 @@ class Inputs:
         self.programs: dict[str, str] = {}
         self.passed_on: set[str] = set()
         """The messages that were passed on. Each run of a command has the same ones."""
+        self.misses: tuple[Miss, ...] = ()
+        """The expectations of the scenario that the run missed."""
+        self.passes_misses_on = True
+        """False for a command that has a table of them, in which they aren't messages."""
 
     @cached_property
     def network(self) -> Network:
@@ -87,11 +92,14 @@ class Inputs:
         if is_launcher(program):
             # One check of the sources is enough for all that one command asks.
             self.programs[name] = itself(program)
-        if status:
+        misses = misses_of(status, lines)
+        if status and not misses:
             self.stop(program, words, status, lines)
+        self.misses = misses or self.misses
         idle = [it for it in lines if it.startswith(IDLE_FRONT) and it.endswith(IDLE_BACK)]
         for line in lines:
-            if line not in idle and line not in self.passed_on:
+            is_known = line in idle or not self.passes_misses_on and miss_of(line)
+            if not is_known and line not in self.passed_on:
                 self.passed_on.add(line)
                 pass_on(line)
         numbers = (it.removeprefix(IDLE_FRONT).removesuffix(IDLE_BACK) for it in idle)

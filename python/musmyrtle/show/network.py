@@ -34,6 +34,15 @@ class Network:
         """Returns the number and the name of a buffer."""
         return Name(number, self.buffer_names[node][number], "buffer")
 
+    def node_if_any(self, number: int) -> Name:
+        """Returns the number of a node, which may be missing, and the name that it has."""
+        return self.node(number) if number < len(self.node_names) else Name(number, None, "node")
+
+    def buffer_if_any(self, node: int, number: int) -> Name:
+        """Returns the number of a buffer, which or whose node may be missing, and the name that it has."""
+        is_there = node < len(self.buffer_names) and number < len(self.buffer_names[node])
+        return self.buffer(node, number) if is_there else Name(number, None, "buffer")
+
     def receiver(self, word: str) -> Receiver:
         """Returns the receiver that `fr_view commits` spells `1:b1` or `1:queue`."""
         node, _, place = word.partition(":")

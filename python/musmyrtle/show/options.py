@@ -1,15 +1,14 @@
 """The words of the commands that print tables."""
 import argparse
 from dataclasses import dataclass
+from textwrap import fill
 
 from musmyrtle.faults.options import numbers_of
 from musmyrtle.findings import counted
 from musmyrtle.lint.command import Parser, add_forms, cycles_of, shown_examples
 
-STATUSES = """status: 0 if it is done, 1 if the cluster file, the scenario or the run is refused, with the reason as by
-`musmyrtle lint`, 2 if the words are no command, a program can't be run or fails, or the output can't be written, 130,
-143 or 129 if SIGINT, SIGTERM or SIGHUP broke it off"""
 CLUSTER, SCENARIO = "CLUSTER", "SCENARIO"
+WIDTH = 110
 
 
 @dataclass(frozen=True)
@@ -21,10 +20,18 @@ class Words:
     has_cycles: bool = False
 
 
+def statuses(has_run: bool) -> str:
+    """Returns the paragraph of a help that has the statuses of a command, with those of runs if it does one."""
+    missed = "3 if it is done and the run missed expectations of the scenario, " if has_run else ""
+    return fill("status: 0 if it is done, 1 if the cluster file, the scenario or the run is refused, with the reason "
+                "as by `musmyrtle lint`, 2 if the words are no command, a program can't be run or fails, or the output "
+                f"can't be written, {missed}130, 143 or 129 if SIGINT, SIGTERM or SIGHUP broke it off", WIDTH)
+
+
 def arguments(name: str, purpose: str, words: Words, examples: tuple[str, ...]) -> argparse.ArgumentParser:
     """Returns the parser of a command that prints tables."""
     parser = Parser(prog=f"musmyrtle {name}", description=purpose, allow_abbrev=False,
-                    epilog=f"{shown_examples(examples)}\n{STATUSES}",
+                    epilog=f"{shown_examples(examples)}\n{statuses(words.has_run)}",
                     formatter_class=argparse.RawDescriptionHelpFormatter)
     add = parser.add_argument
     add("cluster", metavar=CLUSTER, help="a cluster file")

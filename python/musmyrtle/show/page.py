@@ -9,10 +9,11 @@ from pathlib import Path
 
 from musmyrtle.breaking import BrokenOff, breaking_off
 from musmyrtle.lint.command import FINE, Parser, cycles_of, shown_examples
+from musmyrtle.missed import MISSED
 from musmyrtle.output import Stop, write
 from musmyrtle.show.engines import COMMAND, opened
 from musmyrtle.show.facts import Facts
-from musmyrtle.show.options import CLUSTER, SCENARIO, STATUSES
+from musmyrtle.show.options import CLUSTER, SCENARIO, statuses
 from musmyrtle.show.page_data import packed_run
 from musmyrtle.visible import visible
 
@@ -60,8 +61,9 @@ def script(names: tuple[str, ...]) -> str:
 
 def arguments() -> argparse.ArgumentParser:
     """Returns the parser of the command's words."""
-    parser = Parser(prog=f"{COMMAND} page", description=PURPOSE, epilog=f"{shown_examples(EXAMPLE)}\n{STATUSES}",
-                    allow_abbrev=False, formatter_class=argparse.RawDescriptionHelpFormatter)
+    parser = Parser(prog=f"{COMMAND} page", description=PURPOSE, allow_abbrev=False,
+                    epilog=f"{shown_examples(EXAMPLE)}\n{statuses(has_run=True)}",
+                    formatter_class=argparse.RawDescriptionHelpFormatter)
     parser.add_argument("cluster", metavar=CLUSTER, help="a cluster file")
     parser.add_argument("scenario", metavar=SCENARIO, help="a scenario of this cluster")
     parser.add_argument("--cycles", metavar="N", type=cycles_of, required=True, help="the cycles of the run, 1 to 1024")
@@ -77,7 +79,7 @@ def main(words: list[str]) -> int:
                 text = page_of(Facts(inputs))
             with suppress(BrokenPipeError):
                 write(sys.stdout, [text])
-        return FINE
+        return MISSED if inputs.misses else FINE
     except Stop as stop:
         return stop.tell(COMMAND)
     except BrokenOff as signal:

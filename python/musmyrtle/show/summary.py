@@ -15,7 +15,9 @@ ERRORS = {"syntax": ("syntax", "noise"), "content": ("content",), "boundary": ("
 
 def run(facts: Facts) -> list[Section]:
     """Returns the tables of `run`."""
-    return [totals(facts), undelivered(facts), empty_buffers(facts), overwriting(facts), errors(facts), idle(facts)]
+    facts.inputs.passes_misses_on = False
+    return [totals(facts), missed(facts), undelivered(facts), empty_buffers(facts), overwriting(facts), errors(facts),
+            idle(facts)]
 
 
 def totals(facts: Facts) -> Section:
@@ -29,6 +31,19 @@ def totals(facts: Facts) -> Section:
     return Section("total", "Run", columns, [Row({
         "nodes": len(outcome.nodes), "cycles": facts.inputs.cycles, "time": time, "windows": outcome.windows,
         "commits": len(facts.commits), "delivered": delivered, "idle_faults": len(idle_lines)})])
+
+
+def missed(facts: Facts) -> Section:
+    """Returns the expectations of the scenario that the run missed."""
+    network = facts.network
+    rows = [Row({"line": it.line, "node": network.node_if_any(it.node), "cycle": it.cycle, "expected": it.expected,
+                 "buffer": network.buffer_if_any(it.node, it.buffer), "found": it.found, "others": it.others}, True)
+            for it in facts.inputs.misses]
+    columns = (Column("line", "line"), Column("node", "node", "name"), Column("buffer", "buffer", "name"),
+               Column("cycle", "cycle"), Column("expected", "expected"), Column("found", "found"),
+               Column("others", "other cycles"))
+    nothing = "Each expectation was met." if facts.scenario.expectations else ""
+    return Section("missed", "Expectations that the run missed", columns, rows, nothing)
 
 
 def undelivered(facts: Facts) -> Section:

@@ -9,8 +9,9 @@
     scenario.babble("door", slot=3, data=b"\\0")
     Path("brakes.scenario").write_text(scenario.text())
 """
-from collections.abc import Iterable
+from collections.abc import Callable, Iterable, Sequence
 from dataclasses import dataclass
+from itertools import groupby
 from pathlib import Path
 from typing import Any
 
@@ -70,13 +71,7 @@ class Task:
         cycles.
         """
         number = self.scenario.buffer(self.node, buffer)
-        if isinstance(payload, bytes):
-            self._lines("commit", self.cycles, number, self._hex(number, payload))
-            return
-        payloads = list(payload)
-        if len(payloads) < len(self.cycles):
-            raise ValueError(f"{len(payloads)} payloads for {len(self.cycles)} cycles")
-        for word, cycles in alike(zip(self.cycles, (self._hex(number, it) for it in payloads))):
+        for word, cycles in in_cycles(payload, self.cycles, lambda it: self._hex(number, it)):
             self._lines("commit", cycles, number, word)
 
     def _hex(self, buffer: int, payload: bytes) -> str:
@@ -99,15 +94,24 @@ class Task:
         lines += [(kind, self.node, self.number, named, *words) for named in self.scenario.spelled(cycles)]
 
 
-def alike(payloads: Iterable[tuple[int, str]]) -> list[tuple[str, list[int]]]:
+def in_cycles(payload: bytes | Iterable[bytes], cycles: Sequence[int],
+              spelled: Callable[[bytes], str]) -> list[tuple[str, Sequence[int]]]:
+    """Returns the words for the payload of some cycles, each with its cycles: this one, or one after another of these.
+
+    Raises `ValueError` where there are fewer payloads than cycles.
+    """
+    if isinstance(payload, bytes):
+        return [(spelled(payload), cycles)]
+    payloads = list(payload)
+    if len(payloads) < len(cycles):
+        raise ValueError(f"{len(payloads)} payloads for {len(cycles)} cycles")
+    return alike(zip(cycles, map(spelled, payloads)))
+
+
+def alike(payloads: Iterable[tuple[int, str]]) -> list[tuple[str, Sequence[int]]]:
     """Returns the payloads of cycles, those of neighbours that are the same once, with their cycles."""
-    found: list[tuple[str, list[int]]] = []
-    for cycle, word in payloads:
-        if found and found[-1][0] == word:
-            found[-1][1].append(cycle)
-        else:
-            found.append((word, [cycle]))
-    return found
+    grouped = groupby(payloads, lambda it: it[1])
+    return [(word, [cycle for cycle, _ in its]) for word, its in grouped]
 
 
 class Scenario:
@@ -130,6 +134,7 @@ class Scenario:
         self.cluster: dict[str, Any] = document_of(self.data)
         self.scripts: dict[tuple[int, int], list[tuple[object, ...]]] = {}
         self.faults: list[tuple[object, ...]] = []
+        self.expectations: list[tuple[object, ...]] = []
 
     def node(self, node: str | int) -> int:
         """Returns the number of a node. Raises `ValueError` out of 0 to 15, and `UnknownName`."""
@@ -215,10 +220,31 @@ class Scenario:
         named = self.spelled(self.cycles_of(cycles))
         self.faults += [(kind, *who, channels, cycle, place, *words) for cycle in named]
 
+    # ---- expectations
+
+    def expect(self, node: str | int, buffer: str | int, payload: bytes | Iterable[bytes], *,
+               cycles: Cycles = None) -> None:
+        """Expects a payload in a receive buffer at the end of each of these cycles, or one after another of these.
+
+        The run reports each payload that it misses, and ends with status 3. Raises `ValueError` as `Task.commit` does.
+        """
+        where = self.node(node), self.buffer(self.node(node), buffer)
+        for word, named in in_cycles(payload, self.cycles_of(cycles), payload_hex):
+            self._expectation("expect", where, named, word)
+
+    def expect_none(self, node: str | int, buffer: str | int, *, cycles: Cycles = None) -> None:
+        """Expects a receive buffer to be empty at the end of each of these cycles: no frame has come to it."""
+        where = self.node(node), self.buffer(self.node(node), buffer)
+        self._expectation("expect-none", where, self.cycles_of(cycles))
+
+    def _expectation(self, kind: str, where: tuple[int, int], cycles: Iterable[int], *words: object) -> None:
+        node, buffer = where
+        self.expectations += [(kind, node, named, buffer, *words) for named in self.spelled(cycles)]
+
     # ---- the text
 
     def text(self) -> ScenarioText:
-        """Returns the text, of version 3: the lines of each task in the order of the calls, then the fault lines.
+        """Returns the text, of version 3: the calls of each task in their order, the faults, and the expectations.
 
         Cycles with one step are one line, and so are both channels. It can be printed and written to a file. Both make
         a scenario that is accepted.
@@ -226,7 +252,7 @@ class Scenario:
         lines = [f"frscenario {NEWEST}"]
         for _, calls in sorted(self.scripts.items()):
             lines += [" ".join(map(str, words)) for words in calls]
-        lines += [" ".join(map(str, words)) for words in self.faults]
+        lines += [" ".join(map(str, words)) for words in (*self.faults, *self.expectations)]
         return ScenarioText("".join(f"{line}\n" for line in [*lines, "end"]))
 
     def __str__(self) -> str:

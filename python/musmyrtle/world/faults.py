@@ -2,8 +2,8 @@
 from dataclasses import dataclass
 
 from musmyrtle.names import LineNames, Names
-from musmyrtle.scenario_lines import FAULTS, LOST, FaultLine
-from musmyrtle.scenario_words import NEWEST, Size, Words
+from musmyrtle.scenario_lines import FAULTS, LOST
+from musmyrtle.scenario_words import NEWEST, Words
 from musmyrtle.world.bounds import babble_hex, bit_number, channel_name, node_number
 from musmyrtle.world.replies import Channel
 
@@ -69,15 +69,15 @@ Fault = Babble | Mute | Corrupt
 
 def is_fault_line(text: str) -> bool:
     """Returns whether the text is meant as a fault line, which has more words than the fault of one window."""
-    kind, *words = text.split() or [""]
+    kind, *words = text.partition("#")[0].split() or [""]
     return kind in FAULTS and len(words) > 3 or kind == LOST
 
 
-def fault_lines(text: str, names: Names | None = None, size: Size | None = None) -> list[str]:
-    """Returns the requests for a fault line of a scenario, which may end with a line feed: one for each channel.
+def fault_line(text: str, names: Names | None = None) -> str:
+    """Returns the request for a fault line of a scenario, which may end with a line feed.
 
-    They have numbers in the place of NAMES, and the form of version 2 if the SIZE of the world is known. Raises
-    `ValueError`, with the expected form, for any other text, and for a dynamic slot, which version 2 can't name.
+    It has numbers in the place of NAMES, and no comment. Raises `ValueError`, with the expected form, for any other
+    text.
     """
     line = text.removesuffix("\n")
     words = Words.of(line, NEWEST, LineNames(names))
@@ -88,5 +88,4 @@ def fault_lines(text: str, names: Names | None = None, size: Size | None = None)
     if not is_fault_line(line):
         kinds = "`babble`, `mute`, `corrupt` or `lost`"
         raise ValueError(f"no fault line: `{line[:60]}`. It begins with {kinds}")
-    lines = (it for it in words.lines(0) if isinstance(it, FaultLine))
-    return [request for it in lines for request in (size.requests(it) if size else [" ".join(it.words)])]
+    return " ".join(words.numbers)

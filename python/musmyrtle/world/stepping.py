@@ -11,13 +11,17 @@ def requests_of(text: str, cycles: int, names: Names | None = None) -> tuple[lis
 
     In a cycle these are in the order of nodes and then tasks. Lines of version 3 may have NAMES, and those of later
     cycles alone are left out. Raises `ValueError` with the line number and the expected text, where the text is no
-    scenario or a line of version 1 or 2 names a cycle that isn't one of these.
+    scenario or a line of version 1 or 2 names a cycle that isn't one of these. A line that expects a payload raises it
+    too: a session judges none, and a line that is left out would seem to be met.
     """
     scenario = Reading("scenario", text.encode(), cycles, names).scenario
     if scenario.refusals:
         raise ValueError(told(scenario.refusals[0][1]))
     if scenario.version < NEWEST:
         check_cycles(scenario, cycles)
+    for it in scenario.expectations:
+        raise ValueError(f"scenario line {it.number}: no session judges `{it.kind}`. Leave the line out, and assert "
+                         "what a `read` or the report of the node returns.")
     requests: list[list[str]] = [[] for _ in range(cycles)]
     for cycle, line in scenario.calls(cycles):
         requests[cycle].append(" ".join((line.kind, *line.words[1:3], *line.words[4:])))

@@ -9,18 +9,17 @@ from collections.abc import Callable, Iterable, Iterator
 from contextlib import AbstractContextManager, contextmanager, suppress
 from functools import partial
 
-from musmyrtle.cluster_file import document_of, payload_length
+from musmyrtle.cluster_file import payload_length
 from musmyrtle.names import Names, UnknownName
-from musmyrtle.scenario_words import Size
 from musmyrtle.texts import FILE_LIMIT
 from musmyrtle.world.bounds import (
     MOST_CYCLES, MOST_ENDLESS, endless_cycles, run_cycles, some_cycles, window_number,
 )
 from musmyrtle.world.capture import captured, listener, only_bytes
-from musmyrtle.world.faults import Fault, fault_lines
+from musmyrtle.world.faults import Fault, fault_line
 from musmyrtle.world.node import Buffer, Node
 from musmyrtle.world.playing import Host, Play
-from musmyrtle.world.refusals import BadCycles, BadName, Refused, TooManyFaults, UnknownNode, WrongLength, refusal
+from musmyrtle.world.refusals import BadCycles, BadName, TooManyFaults, UnknownNode, WrongLength, refusal
 from musmyrtle.world.replies import Channel, Counters, Moment, Record, Window, record_of, window_of
 from musmyrtle.world.session import CLOSE_SECONDS, FileName, Session
 from musmyrtle.world.stepping import requests_of
@@ -73,7 +72,6 @@ class World:
         self._session = Session(program or usual_world(), cluster, cycles, timeout, endless=self._is_endless)
         try:
             self._names = self._read_names(self._data)
-            self._size = size_of(self._data, cycles or MOST_CYCLES)
         except BaseException:
             self._session.close()
             raise
@@ -341,35 +339,26 @@ class World:
             if when is not None:
                 raise ValueError("a fault line says itself where it comes: give it no `when`, or give a Babble, Mute "
                                  "or Corrupt")
-            return self._kept_in_block(fault_lines(fault, self._names, self._size))
+            return self._kept_in_block(fault_line(fault, self._names))
         return self._injected_in_block(fault, when or every_window)
 
     def keep(self, line: str) -> None:
         """Has the world bring the fault of a scenario's fault line into each window that it names from now on.
 
-        It is a line of version 3, and may end with a line feed. A line for both channels is two requests, and `lost`
-        too: one for A and one for B. Raises `ValueError` for a text that is no fault line, with nothing sent, and
-        `BadFault` where no run of the cluster can have it beside those that are kept. Then nothing of it is kept.
+        It is a line of version 3, which may end with a line feed, and is sent with numbers in the place of names.
+        Raises `ValueError` for a text that is no fault line, with nothing sent, and `BadFault` where the run can't have
+        it beside those that are kept. Then nothing of it is kept, also where it is for both channels.
         """
-        self._keep(fault_lines(line, self._names, self._size))
-
-    def _keep(self, lines: list[str]) -> None:
-        with self._session.lock:
-            for number, line in enumerate(lines):
-                try:
-                    self.ask(line)
-                except Refused:
-                    self._drop(lines[:number])
-                    raise
+        self.ask(fault_line(line, self._names))
 
     def forget(self) -> None:
         """Ends all fault lines. The faults that they brought into the open window stay there."""
         self.ask("forget")
 
     @contextmanager
-    def _kept_in_block(self, lines: list[str]) -> Iterator[None]:
-        self._keep(lines)
-        yield from self._block(partial(self._drop, lines))
+    def _kept_in_block(self, line: str) -> Iterator[None]:
+        self.ask(line)
+        yield from self._block(partial(self._drop, line))
 
     @contextmanager
     def _injected_in_block(self, fault: Fault, when: Callable[[Window], bool]) -> Iterator[None]:
@@ -393,13 +382,11 @@ class World:
             if not self._session.is_closed:
                 ending()
 
-    def _drop(self, lines: list[str]) -> None:
-        """Ends some fault lines. The others are kept again in the same exchange, so that none is lost between."""
+    def _drop(self, line: str) -> None:
+        """Ends a fault line. The others are kept again in the same exchange, so that none is lost between."""
         others = list(self._session.kept)
-        ended = [line for line in lines if line in others]
-        for line in ended:
+        if line in others:
             others.remove(line)
-        if ended:
             requests = ["forget", *others]
             for request, reply in zip(requests, self.send(requests)):
                 if reply != "done":
@@ -419,15 +406,6 @@ class World:
             if when(window):
                 with suppress(TooManyFaults):
                     self.inject(fault)
-
-
-def size_of(data: bytes | None, cycles: int) -> Size | None:
-    """Returns the size of a world by its cluster file, which the program has accepted, or None."""
-    try:
-        parameters = document_of(data)["params"] if data is not None else None
-        return parameters and Size(parameters["static_slots"], parameters["minislots"], min(cycles, MOST_CYCLES))
-    except (ValueError, KeyError, TypeError):
-        return None
 
 
 def every_window(_: Window) -> bool:

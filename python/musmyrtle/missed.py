@@ -1,0 +1,41 @@
+"""The expectations of a scenario that a run missed, as the programs print them on standard error."""
+import re
+from collections.abc import Iterable
+from dataclasses import dataclass
+
+MISSED = 3
+"""The status of a run that was done and printed, and missed expectations of its scenario."""
+NOTHING, NO_BUFFER = "nothing", "no receive buffer"
+"""The words for an empty receive buffer, and for one that the cluster doesn't have."""
+NUMBER = "([0-9]{1,9})"
+FORM = re.compile(rf"line {NUMBER}: node {NUMBER} buffer {NUMBER} at the end of cycle {NUMBER}: "
+                  rf"expected (x[0-9a-f]*|{NOTHING}), found (x[0-9a-f]*|{NOTHING}|{NO_BUFFER})"
+                  rf"(?: \(and in {NUMBER} other cycles?\))?")
+
+
+@dataclass(frozen=True)
+class Miss:
+    """A line of a scenario whose expectation the run missed: the first cycle, and the number of the others."""
+
+    line: int
+    node: int
+    buffer: int
+    cycle: int
+    expected: str
+    """The payload as `x0102`, or `nothing`."""
+    found: str
+    others: int
+
+
+def miss_of(text: str) -> Miss | None:
+    """Returns the missed expectation that a line of standard error reports, or None for another line."""
+    found = FORM.fullmatch(text)
+    if found is None:
+        return None
+    line, node, buffer, cycle = map(int, found.groups()[:4])
+    return Miss(line, node, buffer, cycle, found[5], found[6], int(found[7] or 0))
+
+
+def misses_of(status: int, lines: Iterable[str]) -> tuple[Miss, ...]:
+    """Returns the missed expectations of a program that ended so. Only with status 3 has it any."""
+    return tuple(it for it in map(miss_of, lines) if it) if status == MISSED else ()
