@@ -263,6 +263,17 @@ def session(random):
     return "".join(f"{request(random, 3)}\n" for _ in range(random.randint(0, 60))).encode()
 
 
+def write_largest_version3(cluster, scenario):
+    """Writes a cluster of sixteen nodes, and a scenario of as many lines and calls in 1,024 cycles as there can be."""
+    node = ('[[node]]\nhost_entries = 16384\nslot_entries = 65536\n'
+            'queue = {capacity = 2, first = 1, last = 2, channels = "AB"}\n')
+    values = "".join(f"{key} = {value}\n" for key, value in zip(KEYS, (2, 0, 2, 10, 1, 0, 5, 25, 0, 1)))
+    cluster.write_text(f"[params]\n{values}" + "".join(f'{node}name = "node-{it}"\n' for it in range(16)))
+    calls = [f"pop node-{it} 0 *" for it in range(16) for _ in range(16)]
+    faults = [f"mute node-{it % 16} AB {it // 16 * 4}-{it // 16 * 4 + 3} s1 # lost" for it in range(3838)]
+    scenario.write_text("".join(f"{line}\n" for line in ("frscenario 3", *calls, *faults, "end")))
+
+
 def write_largest_session(path):
     """Writes a run of as many cycles as possible, and each node's trace of it."""
     path.write_text("run 1024\n" + "".join(f"trace {node}\n" for node in range(16)))

@@ -82,6 +82,7 @@ def commands():
         "plan": (["plan", CLUSTER], b""),
         "midpoint": (["midpoint"], b"3 -1 4 1 -5 9 2 -6\n"),
         "run": (["run", CLUSTER, str(FOLDER / "scenario"), "--cycles", "4"], b""),
+        "run, expected": (["run", CLUSTER, str(FOLDER / "expectations"), "--cycles", "4"], b""),
     }
 
 
@@ -96,6 +97,7 @@ def views():
         "frames until the fault": (["frames", "--until-fault"], trace()[:-4]),
         "why": (["why"], trace().replace(b"2:A", b"2:B")),
         "outcome": (["outcome", *run], b""),
+        "outcome, expected": (["outcome", CLUSTER, str(FOLDER / "expectations"), "--cycles", "4"], b""),
         "answers": (["answers", *run], b""),
         "commits": (["commits", *run], b""),
         "record": (["record", *run], b""),

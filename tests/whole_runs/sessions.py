@@ -92,6 +92,23 @@ FAULT_LINES = [
 ]
 """Fault lines that are kept, refused and forgotten."""
 
+LINES_OF_VERSION_3 = [
+    ("commit 0 0 0 x0a0b", "committed 0"), ("lost 0 0  # each offer of cycle 0", "done"),
+    ("mute 0 B * s2", "refused BadFault 2"), ("mute\t0 AB 1-9/2 s1-2", "done"), ("babble 1 B 0-1 * x00", "done"),
+    ("babble 1 AB * s1 xff", "refused BadFault 5"), ("babble 1 A * s1 xff", "done"), ("corrupt AB 0-0 s2-2 30", "done"),
+    ("corrupt A 0 s* 9", "refused BadFault 8"), ("corrupt AB 2-3 s1 9", "refused BadFault 8"),
+    ("mute 1 AB * d1", "refused BadFault 8"), ("mute 1 A # x", "refused BadLine 12"),
+    ("mute pedal A * s1", "refused BadLine 13"), ("commit 0 0 0-1 0 x0a0b", "refused BadLine 14"),
+    ("# nothing", "refused BadLine 15"), ("cycle", "open 2 1 0 1 1"), ("record 0", "\n".join([
+        "lines 3", "window 0 0 0 1 1", "sent 1 A babble blocked xff", "sent 1 B babble blocked x00"])),
+    ("record 1", "\n".join([
+        "lines 6", "window 1 0 0 2 2", f"sent 0 A offer muted {DATA_A}", f"sent 0 B offer muted {DATA_B}",
+        "sent 1 B babble blocked x00", "corrupt A 30", "corrupt B 30"])), ("window", "open 3 1 0 2 2"),
+    ("record 2", "\n".join([
+        "lines 3", "window 2 1 0 1 1", "sent 1 A babble blocked xff", "sent 1 B babble blocked x00"])),
+]
+"""Fault lines as in version 3: a line of both channels is kept as two lines or not at all."""
+
 A_FAULT_BY_HAND = [
     ("corrupt A 5", "done"), ("corrupt A * s1 7", "done"), ("corrupt B 1 s1 9", "done"), ("window", "open 1 0 0 2 2"),
     ("record 0", "lines 2\nwindow 0 0 0 1 1\ncorrupt A 5"), ("run 1", "open 2 1 0 1 1"), ("look 0", "window 2 1 0 1 1"),
@@ -123,12 +140,14 @@ NO_REQUESTS = [
     "withdraw 0 0", "withdraw 0 0 0 0", "read 0 0", "read 0 0 0 0", "pop 0", "pop 0 0 0", "babble 0 A",
     "babble 0 AB x00", "babble 0 a x00", "babble 0 A x0", "mute 0", "mute 0 C", "mute 0 A 1", "corrupt A",
     "corrupt A 65536", "corrupt 1 A", "run", "run 1025", "run -1", "run 1 1", "forget 1", "babble 0 A * s*",
-    "babble 0 A * s* x0", "babble 0 A 1024 s* x00", "babble 0 A * s0 x00", "babble 0 A * 1 x00", "mute 0 A * m*",
-    "mute 0 A * s01", "mute 0 A ** s*", "mute 0 A * s* 1", "mute 0 A  * s*", "corrupt A * s*", "corrupt A * s* 65536",
+    "babble 0 A * s* x0", "babble 0 A 1024 s* x00", "babble 0 A * s0 x00", "babble 0 A * 1 x00", "mute 0 A * d*",
+    "mute 0 A * s01", "mute 0 A ** s*", "mute 0 A * s* 1", "mute 0 A  * s0", "corrupt A * s*", "corrupt A * s* 65536",
     "corrupt 0 A * s* 1", "commit 0 0 0 0 x0a0b", "read 0 0 0 1 ", "mute 0 A * m8001", "end", "frscenario 2", "record",
     "record 4294967296", "report", "report 16", "trace", "trace 0 0", "origin", "origin 16", "origin 0 0",
     "at 0", "At", "status", "status 0", "status 0 C", "status 16 A", "status A 0", "status 0 A 0",
-    "quit", "frworld 1", "now\r", "now\t", "now\0",
+    "quit", "frworld 1", "now\r", "now\t", "now\0", "lost", "lost 0", "lost 0 AB *", "lost 0 2-1", "lost pedal *",
+    "mute 0 AB", "mute 0 BA * s*", "mute 0 A * m1-2", "mute 0 AB 0-1/0 s1", "mute 0 A # x", "mute 0 A * # s*", "# now",
+    "now # x", "\t", "corrupt AB * s1 65536", "corrupt AB * s1", "babble 0 AB * * x" + "00" * 263,
     "commit 0 0 0 x" + "00" * 255, "babble 0 A x" + "00" * 263, "x" * 1200, "x" * 1201, "now " * 300,
     "now" + " " * 1198, "now" + " " * 5_000_000, "x" * 4095, "x" * 4096, "x" * 8191, "x" * 8192, "x" * 8193,
     "x" * 16384, "\N{EURO SIGN}",
@@ -226,6 +245,7 @@ class Sessions:
         self.check("times and counters", self.small, 2, TIMES)
         self.check("each refusal", THREE_NODES, 4, REFUSALS)
         self.check("fault lines", self.small, 2, FAULT_LINES)
+        self.check("fault lines of version 3", self.small, 2, LINES_OF_VERSION_3)
         self.check("a fault by hand before one of a line", self.small, 2, A_FAULT_BY_HAND)
         self.check("a fault line too late for a window", self.small, 2, A_LINE_TOO_LATE)
         roomy = self.folder / "roomy.toml"
@@ -240,9 +260,11 @@ class Sessions:
 
     def endless(self):
         """Checks that a session without history gives the replies of one with it, as far as these need no history."""
-        last = [(ask, reply) for ask, reply in FAULT_LINES if not ask.startswith("record")]
+        last, newest = ([(ask, reply) for ask, reply in asked if not ask.startswith("record 0")
+                         and not ask.startswith("record 1")] for asked in (FAULT_LINES, LINES_OF_VERSION_3))
         for name, asked in (("a window by its events", A_WINDOW), ("fault lines", last),
-                            ("a fault by hand", A_FAULT_BY_HAND), ("times and counters", TIMES)):
+                            ("fault lines of version 3", newest), ("a fault by hand", A_FAULT_BY_HAND),
+                            ("times and counters", TIMES)):
             self.check_endless(name, self.small, ("--cycles", "2"), asked)
         self.check_endless("what isn't kept", THREE_NODES, (), [
             ("record 0", "refused NoWindow"), ("cycle", "open 7 1 0 1 1"), ("record 6", "lines 1\nwindow 6 0 4 7 7"),

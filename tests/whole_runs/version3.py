@@ -198,6 +198,22 @@ class Version3:
         wanted = [*((cycle, "1", on, "babble", "5") for cycle in "01" for on in "AB"),
                   *(("2", "2", on, "offer", "6") for on in "AB"), *(("3", "1", on, "corrupt", "8") for on in "AB")]
         self.runs.compare("the record of version 3", (found, status), (sorted(wanted), 0))
+        self.endless_notes()
+
+    def endless_notes(self):
+        """Checks, of `fr_view record` and `bus`, that an endless run names each line that is left out, and no other
+        one."""
+        path = self.folder / "version3"
+        path.write_text(f"{BEGIN}commit 0 0 0 0 x0a0b\n\npop 0 0 4\nlost 2 5-9\nmute 1 AB 3-9 s*\n{END}")
+        for command in ("record", "bus"):
+            for cycles, numbers in ((4, (4, 5)), (5, (5,)), (6, ()), (1025, ())):
+                words = [command, self.cluster, path, "--cycles", str(cycles)]
+                output, errors, status = run([self.runs.program, *words, "--endless"])
+                notes = "".join(f"line {number} names no cycle of the run\n" for number in numbers)
+                name = f"{command} of {cycles} cycles in version 3, endless"
+                self.runs.compare(name, (errors.decode(), status), (notes, 0))
+                if cycles < 1025:
+                    self.runs.compare(f"output of {name}", output, run([self.runs.program, *words])[0])
 
     def examples(self):
         """Checks that the car by names has the outcome of the car by numbers."""
