@@ -67,6 +67,22 @@ class TestWorld(unittest.TestCase):
         self.assertIsNone(self.world.run(6))
         self.assertEqual(self.world.at(), Moment(8, 0, 56))
 
+    def test_the_time_in_seconds(self):
+        """A cycle has 90 macroticks, here of 2.5 us."""
+        with self.assertRaisesRegex(ValueError, "`macrotick_us`"):
+            self.world.seconds()
+        folder = self.enterContext(TemporaryDirectory())
+        file = Path(folder) / "physical.toml"
+        file.write_text(THREE_NODES.read_text().replace("[params]", "[physical]\nmacrotick_us = 2.5\n[params]"))
+        with World(file) as world:
+            self.assertEqual(world.seconds(), 0)
+            world.window()
+            self.assertAlmostEqual(world.seconds(), 0.00005)
+            world.run(3)
+            self.assertAlmostEqual(world.seconds(), 0.000675)
+            world.run(40_000)
+            self.assertAlmostEqual(world.seconds(), 9.000675)
+
     def test_the_status_counters(self):
         self.sender.commit(0, words(7))
         self.world.inject(Corrupt("A", 60))

@@ -9,7 +9,7 @@ from collections.abc import Callable, Iterable, Iterator
 from contextlib import AbstractContextManager, contextmanager, suppress
 from functools import partial
 
-from musmyrtle.cluster_file import payload_length
+from musmyrtle.cluster_file import Clock, clock_of, payload_length
 from musmyrtle.names import Names, UnknownName
 from musmyrtle.texts import FILE_LIMIT
 from musmyrtle.world.bounds import (
@@ -69,6 +69,7 @@ class World:
         self._cluster, self._data = cluster, regular_file(cluster)
         self._faults: list[tuple[Fault, Callable[[Window], bool]]] = []
         self._unread = ""
+        self._read_clock: Clock | None = None
         self._session = Session(program or usual_world(), cluster, cycles, timeout, endless=self._is_endless)
         try:
             self._names = self._read_names(self._data)
@@ -185,6 +186,22 @@ class World:
     def at(self) -> Moment:
         """Returns the time at which the open window starts, or that of the end of the run."""
         return Moment(*map(int, self.ask("at").split(" ")[1:]))
+
+    def seconds(self) -> float:
+        """Returns the same time in seconds since the start of cycle 0, by `macrotick_us` of the cluster file.
+
+        Raises `ValueError` where the file has no table `[physical]` with it, or is no regular file.
+        """
+        clock, moment = self._clock(), self.at()
+        return clock.seconds(moment.cycle, moment.macrotick)
+
+    def _clock(self) -> Clock:
+        """Returns the clock of the cluster file, which is read once."""
+        if self._read_clock is None:
+            if self._data is None:
+                raise ValueError("the cluster file is no regular file, and its `macrotick_us` can't be read")
+            self._read_clock = clock_of(self._data)
+        return self._read_clock
 
     def status(self, node: int, channel: Channel) -> Counters:
         """Returns the status counters of a node, 0 to 15, on a channel. Raises `UnknownNode`, and `ValueError`."""
