@@ -104,6 +104,12 @@ class Expectations:
         got = self.ran("expect 1 * 1 x1111", "", "expect-none 0 4 1", options=("--endless",))
         self.runs.compare(f"{self.command} without history", got, (usual, wanted, 0))
 
+    def examples(self):
+        """Checks that the run of the example meets its expectations."""
+        _, told, status = run([self.runs.program, "run", "three-nodes/cluster.toml", "three-nodes/expectations",
+                               "--cycles", "4"])
+        self.runs.compare("the example with expectations", (told, status), (b"", 0))
+
     def others(self):
         """Checks lines that are left out, of the same file in runs of other lengths. Line 3 commits in cycle 2."""
         lines = "expect 1 2-9 1 x0c0d", "expect-none 9 4-5 9", "pop 0 0 9-12", "expect 1 1 1 x0c0d"
