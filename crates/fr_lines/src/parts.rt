@@ -65,9 +65,9 @@ pub(crate) fn slot_of(word: &[u8]) -> Option<SlotId>
     SlotId::new(number as u16)
 }
 
-/// Returns the channels that the word spells.
+/// Returns the channels that the word spells, `A`, `B` or `AB` (project-defined). `None` if it spells none.
 #[tactic(auto, unfolding(crate::specs::PartReading::channels_in))]
-pub(crate) fn channels_of(word: &[u8]) -> Option<Channels>
+pub fn channels_of(word: &[u8]) -> Option<Channels>
     ensures { result ≡ channels_in word.now }
 {
     match word {

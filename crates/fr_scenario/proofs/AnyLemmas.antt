@@ -1,12 +1,12 @@
 -- The text of a scenario of any version.
-use Rattle.std.proofs.Common.{◌≡◌, ℕ, ◌⊎◌, true, false, inl, inr, List, Some, Result, Ok, Err, refl, sym}
+use Rattle.std.proofs.Common.{◌≡◌, ℕ, ◌⊎◌, false, inl, inr, List, Some, Result, Ok, Err, refl, sym}
 use Rattle.std.proofs.Common.{ap, ◌∙◌}
 use Rattle.std.proofs.lemmas.Bool.{cases_Bool}
 use Rattle.std.specs.Prelude.{IfOk, IfErr}
 use Rattle.std.specs.Result.{result_err}
 use Rattle.fr_names.specs.Names.{NamesOfNode}
 use Rattle.fr_scenario.proofs.TextLemmas.{scenario_again, scenario_found}
-use Rattle.fr_scenario.specs.AnyText.{IsNewText, IsScenarioText}
+use Rattle.fr_scenario.specs.AnyText.{IsScenarioText}
 use Rattle.fr_scenario.specs.Contents.{Contents}
 use Rattle.fr_scenario.specs.declared.error.ScenarioError.{ScenarioError}
 use Rattle.fr_scenario.specs.declared.error.ScenarioError.TheVariants.{BadMagic, BadLine, TooManyLines, Truncated}

@@ -2,89 +2,57 @@
 use Rattle.std.proofs.Common.{◌≡◌, ℕ, ◌+◌, ◌≤◌, inl, inr, List, [], ◌∷◌, length, take, drop, Some, None, refl, ap, ◌∙◌}
 use Rattle.std.proofs.Common.{arith, ltb, ◌<◌, ◌==◌, true, false, zero, suc, get_or, Err, sym, length-take}
 use Rattle.std.proofs.lemmas.Bool.{cases_Bool, ltb-true, lt-ltb, le-ltb}
-use Rattle.std.proofs.lemmas.List.Splits.{slice_split_first, slice_split-cons_no, slice_split-cons_yes}
-use Rattle.std.specs.List.{position, position_or_len, slice_split, onto_first}
-use Rattle.memchr.specs.Find.{IsFirstByte, is_byte}
+use Rattle.std.proofs.lemmas.List.Splits.{slice_split-cons_no, slice_split-cons_yes}
+use Rattle.std.specs.List.{position, position_or_len, onto_first}
+use Rattle.memchr.specs.Find.{IsFirstByte}
 use Rattle.std.proofs.lemmas.Bool.Decides.{nat_tests}
 use Rattle.std.specs.Prelude.{Bool, Ok, Option}
+use Rattle.fr_scenario.proofs.BlankLemmas.{cut_at, cut_none}
 use Rattle.fr_scenario.specs.declared.error.ScenarioError.{ScenarioError}
 use Rattle.fr_scenario.specs.declared.error.ScenarioError.TheVariants.{BadLine, TooManyLines, Truncated}
 use Rattle.fr_scenario.specs.Reading.{lines_in, next_line, read_from, whole_line, is_at_end}
 use Rattle.fr_text.specs.Plain.{is_feed}
 
-split_none : (xs : List ℕ) → length xs ≤ position_or_len is_feed xs → slice_split is_feed xs ≡ xs ∷ []
-split_none [] h = refl
-split_none (x ∷ xs) h =
-    elim (cases_Bool (is_feed x)) [
-      | inl pass ↦
-          let none : position_or_len is_feed (x ∷ xs) ≡ 0 = rw pass refl in
-          absurd (omega arith)
-      | inr fail ↦
-          let more : position_or_len is_feed (x ∷ xs) ≡ position_or_len is_feed xs + 1 = rw fail (omega arith) in
-          slice_split-cons_no is_feed x xs fail ∙ ap (onto_first x) (split_none xs (omega arith))
-    ]
+-- ---- the first such byte, from the result of a search
 
--- the text has its first line feed at this place
-pub cut_at : (text : List ℕ) (at : ℕ) → position is_feed text ≡ Some at
-    → lines_in text ≡ take at text ∷ lines_in (drop (at + 1) text)
-cut_at text at found =
-    let first = position_or_len is_feed text in
-    elim (cases_Bool (ltb first (length text))) [
-      | inl pass ↦
-          let is : first ≡ at = cc (rw pass at found) in
-          rw (← is) (slice_split_first is_feed text 0 (ltb-true first (length text) pass))
-      | inr fail ↦ cc (rw fail at found)
-    ]
+module _ (is : ℕ → Bool) where
+  first_at : (text : List ℕ) (k : ℕ) → k < length text → is (get_or text k 0) ≡ true
+      → ((j : ℕ) → j < k → is (get_or text j 0) ≡ true → ⊥) → position_or_len is text ≡ k
+  first_at [] k lt here before = absurd (omega arith)
+  first_at (b ∷ text) zero lt here before = rw here refl
+  first_at (b ∷ text) (suc k) lt here before =
+      elim (cases_Bool (is b)) [
+        | inl pass ↦ absurd (before 0 (omega arith) pass)
+        | inr fail ↦
+            let rest : position_or_len is text ≡ k = first_at text k (omega arith) here
+            (λ j less. before (suc j) (omega arith)) in
+            rw fail (omega arith)
+      ]
 
--- the text has no line feed
-pub cut_none : (text : List ℕ) → position is_feed text ≡ None → lines_in text ≡ text ∷ []
-cut_none text none =
-    let first = position_or_len is_feed text in
-    elim (cases_Bool (ltb first (length text))) [
-      | inl pass ↦ cc (rw pass at none)
-      | inr fail ↦ split_none text (grind arith)
-    ]
+  first_none : (text : List ℕ) → ((j : ℕ) → j < length text → is (get_or text j 0) ≡ true → ⊥)
+      → length text ≤ position_or_len is text
+  first_none [] none = omega arith
+  first_none (b ∷ text) none =
+      elim (cases_Bool (is b)) [
+        | inl pass ↦ absurd (none 0 (omega arith) pass)
+        | inr fail ↦
+            let rest : length text ≤ position_or_len is text =
+            first_none text (λ j less. none (suc j) (omega arith)) in
+            rw fail (omega arith)
+      ]
 
--- ---- the first line feed, from the result of a search
+  byte_at : (text : List ℕ) (k : ℕ) → k < length text → is (get_or text k 0) ≡ true
+      → ((j : ℕ) → j < k → is (get_or text j 0) ≡ true → ⊥) → Some k ≡ position is text
+  byte_at text k lt here before = rw (first_at text k lt here before, lt-ltb k (length text) lt) refl
 
-first_at : (text : List ℕ) (k : ℕ) → k < length text → is_feed (get_or text k 0) ≡ true
-    → ((j : ℕ) → j < k → is_feed (get_or text j 0) ≡ true → ⊥) → position_or_len is_feed text ≡ k
-first_at [] k lt here before = absurd (omega arith)
-first_at (b ∷ text) zero lt here before = rw here refl
-first_at (b ∷ text) (suc k) lt here before =
-    elim (cases_Bool (is_feed b)) [
-      | inl pass ↦ absurd (before 0 (omega arith) pass)
-      | inr fail ↦
-          let rest : position_or_len is_feed text ≡ k = first_at text k (omega arith) here
-          (λ j less. before (suc j) (omega arith)) in
-          rw fail (omega arith)
-    ]
+  byte_nowhere : (text : List ℕ) → ((j : ℕ) → j < length text → is (get_or text j 0) ≡ true → ⊥)
+      → None ≡ position is text
+  byte_nowhere text none = rw (le-ltb (position_or_len is text) (length text) (first_none text none)) refl
 
-first_none : (text : List ℕ) → ((j : ℕ) → j < length text → is_feed (get_or text j 0) ≡ true → ⊥)
-    → length text ≤ position_or_len is_feed text
-first_none [] none = omega arith
-first_none (b ∷ text) none =
-    elim (cases_Bool (is_feed b)) [
-      | inl pass ↦ absurd (none 0 (omega arith) pass)
-      | inr fail ↦
-          let rest : length text ≤ position_or_len is_feed text =
-          first_none text (λ j less. none (suc j) (omega arith)) in
-          rw fail (omega arith)
-    ]
-
-feed_at : (text : List ℕ) (k : ℕ) → k < length text → is_feed (get_or text k 0) ≡ true
-    → ((j : ℕ) → j < k → is_feed (get_or text j 0) ≡ true → ⊥) → Some k ≡ position is_feed text
-feed_at text k lt here before = rw (first_at text k lt here before, lt-ltb k (length text) lt) refl
-
-feed_nowhere : (text : List ℕ) → ((j : ℕ) → j < length text → is_feed (get_or text j 0) ≡ true → ⊥)
-    → None ≡ position is_feed text
-feed_nowhere text none = rw (le-ltb (position_or_len is_feed text) (length text) (first_none text none)) refl
-
-pub first_feed : (text : List ℕ) (found : Option ℕ) → IsFirstByte (is_byte 10) text found
-    → found ≡ position is_feed text
-first_feed text (Some k) first = feed_at text k first.0.high first.1
-    (λ j less is. first.0.before j (omega arith) less is)
-first_feed text None none = feed_nowhere text (λ j less is. none j (omega arith) less is)
+  pub first_byte : (text : List ℕ) (found : Option ℕ) → IsFirstByte is text found → found ≡ position is text
+  first_byte text (Some k) first = byte_at text k first.0.high first.1
+      (λ j less same. first.0.before j (omega arith) less same)
+  first_byte text None none = byte_nowhere text (λ j less same. none j (omega arith) less same)
 
 -- ---- a text has at least one line
 
@@ -146,27 +114,27 @@ pub next_long : (n : ℕ) (text : List ℕ) (at : ℕ) → position is_feed text
 next_long n text at found long =
     let within = at_within text at found in
     let len = length-take at text in
-    ap (next_line n) (cut_at text at found) ∙ next_is_long n (take at text) _ (omega arith)
+    ap (next_line n) (cut_at is_feed text at found) ∙ next_is_long n (take at text) _ (omega arith)
 
 pub next_whole : (n : ℕ) (text : List ℕ) (at : ℕ) → position is_feed text ≡ Some at → at ≤ 1200
     → next_line n (lines_in text) ≡ Ok (take at text)
 next_whole n text at found short =
     let (other, more, is) = some_line (drop (at + 1) text) in
     let len = length-take at text in
-    ap (next_line n) (cut_at text at found) ∙ next_is n (take at text) _ other more is (omega arith)
+    ap (next_line n) (cut_at is_feed text at found) ∙ next_is n (take at text) _ other more is (omega arith)
 
 pub next_left : (text : List ℕ) (at : ℕ) → position is_feed text ≡ Some at
     → lines_in (drop (at + 1) text) ≡ drop 1 (lines_in text)
-next_left text at found = sym (ap (drop 1) (cut_at text at found))
+next_left text at found = sym (ap (drop 1) (cut_at is_feed text at found))
 
 pub next_last_long : (n : ℕ) (text : List ℕ) → position is_feed text ≡ None → 1200 < length text
     → next_line n (lines_in text) ≡ Err (BadLine n)
-next_last_long n text none long = ap (next_line n) (cut_none text none) ∙ next_is_long n text [] long
+next_last_long n text none long = ap (next_line n) (cut_none is_feed text none) ∙ next_is_long n text [] long
 
 pub next_last : (n : ℕ) (text : List ℕ) → position is_feed text ≡ None → length text ≤ 1200
     → next_line n (lines_in text) ≡ Err Truncated
 next_last n text none short =
-    ap (next_line n) (cut_none text none) ∙ rw (le-ltb 1200 (length text) short) refl
+    ap (next_line n) (cut_none is_feed text none) ∙ rw (le-ltb 1200 (length text) short) refl
 
 -- ---- the lines of a version, after one line
 

@@ -1,5 +1,5 @@
 -- The fault lines of one line of version 3. A fault line of version 2 is the same fault line in version 3.
-use Rattle.std.proofs.Common.{◌≡◌, ℕ, ◌+◌, ◌<◌, ◌≤◌, ◌^◌, true, List, [], ◌∷◌, ◌++◌, codes, length, Option, Some}
+use Rattle.std.proofs.Common.{◌≡◌, ℕ, ◌+◌, ◌<◌, ◌≤◌, ◌^◌, true, List, [], ◌∷◌, ◌++◌, codes, Option, Some}
 use Rattle.std.proofs.Common.{None, refl, ap, length-append, ◌∙◌, arith}
 use Rattle.std.specs.Fmt.{decimal}
 use Rattle.arrayvec.specs.ArrayVec.{ArrayVec}

@@ -8,6 +8,7 @@ pub mod BlankLemmas
 pub mod AnyLemmas
 pub mod StatementLemmas
 pub mod RunLemmas
+pub mod RunCallLemmas
 pub mod PartedLemmas
 pub mod StatementLaws
 pub mod SaidLaws

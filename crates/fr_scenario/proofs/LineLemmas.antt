@@ -1,6 +1,6 @@
 -- A line of a scenario spells at most one value, and the words of a spelled line are read as this value.
 use Rattle.std.proofs.Common.{◌≡◌, ℕ, ◌<◌, ◌≤◌, inl, inr, true, false, List, [], ◌∷◌, length, codes, Some, refl, sym}
-use Rattle.std.proofs.Common.{ap, ◌∙◌, arith, if◌then◌else◌}
+use Rattle.std.proofs.Common.{ap, ◌∙◌, arith}
 use Rattle.std.specs.Fmt.{decimal}
 use Rattle.std.specs.Str.{bytes_eq}
 use Rattle.fr_bus.specs.declared.fault.Fault.{Fault}

@@ -1,18 +1,19 @@
 -- The lines of a run, cycle after cycle, and the scripts of its tasks.
-use Rattle.std.proofs.Common.{◌≡◌, ℕ, zero, suc, ◌+◌, ◌-◌, ◌<◌, ◌≤◌, Bool, true, false, cond, inl, inr, List, [], ◌∷◌}
-use Rattle.std.proofs.Common.{◌++◌, length, map, refl, sym, ap, ◌∙◌, arith, append_assoc}
-use Rattle.std.proofs.lemmas.Bool.{cases_Bool}
+use mir.Val.{bool_byte}
+use Rattle.std.proofs.Common.{◌≡◌, ℕ, zero, suc, ◌+◌, ◌-◌, ◌<◌, ◌≤◌, ◌==◌, Bool, true, false, cond, inl, inr, List, [], ◌∷◌}
+use Rattle.std.proofs.Common.{◌++◌, refl, sym, ap, ◌∙◌, arith, append_assoc, ltb}
+use Rattle.std.proofs.lemmas.Bool.{cases_Bool, cases_eq, eq-eqb, ltb-true, ltb-false}
+use Rattle.std.proofs.lemmas.Bool.Decides.{nat_tests}
 use Rattle.std.proofs.lemmas.List.{append-nil}
 use Rattle.std.proofs.lemmas.List.Sums.{length-filter}
 use Rattle.std.specs.List.{flat_map, range_with_len}
 use Rattle.std.specs.Prelude.{count_by}
 use Rattle.fr_core.specs.Answers.{IsUnanswered, AreUnanswered}
-use Rattle.fr_core.specs.declared.script.Line.{Line}
-use Rattle.fr_core.specs.Scripts.{Scripted}
 use Rattle.fr_runs.specs.Cycles.{names_cycle}
 use Rattle.fr_runs.specs.declared.cycles.RunCycles.{RunCycles}
+use Rattle.fr_runs.specs.declared.cycles.RunCycles.TheVariants.{Every, Only}
 use Rattle.fr_scenario.proofs.TextLemmas.{Each-append, script_unanswered}
-use Rattle.fr_scenario.specs.Contents.{script_of, node_at, task_at}
+use Rattle.fr_scenario.specs.Contents.{node_at, task_at}
 use Rattle.fr_scenario.specs.declared.statement.Statement.{Statement}
 use Rattle.fr_scenario.specs.RunContents.{Planned, planned, lines_at, lines_in_run, script_in_run, scripts_in_run}
 use Rattle.fr_slots.specs.Plans.{Each}
@@ -78,25 +79,57 @@ module _ (named : RunCycles) where
       let none = ap (count_by (names_cycle named)) (none_in from to done) in
       omega (arith, none, so_far)
 
--- ---- a task without calls
+-- every cycle is named
+count_all : (n from : ℕ) → count_by (names_cycle Every) (range_with_len from n) ≡ n
+count_all zero from = refl
+count_all (suc n) from =
+    let rest = count_all n (from + 1) in
+    let one = counted_by Every true from (range_with_len (from + 1) n) refl in
+    omega (arith, one, rest)
 
-no_lines : (cycles : List ℕ) → flat_map (lines_at []) cycles ≡ []
-no_lines [] = refl
-no_lines (c ∷ cycles) = no_lines cycles
+pub count_every : (cycles : ℕ) → cycles ≡ count_by (names_cycle Every) (range_with_len 0 cycles)
+count_every cycles = sym (count_all cycles 0)
 
-pub idle_task : {A : Type 0} (f : A → Planned) (plans : List A) (cycles : ℕ) → length plans ≡ 0
-    → [] ≡ lines_in_run cycles (map f plans)
-idle_task f [] cycles none = sym (no_lines (range_with_len 0 cycles))
-idle_task f (plan ∷ plans) cycles none = absurd (omega arith)
+-- one cycle is named, which stands before, after or in the range
+module _ (only : ℕ) where
+  count_before : (n from : ℕ) → only < from → count_by (names_cycle (Only only)) (range_with_len from n) ≡ 0
+  count_before zero from less = refl
+  count_before (suc n) from less =
+      let other : (only == from) ≡ false = grind (arith, nat_tests) in
+      let rest = count_before n (from + 1) (omega arith) in
+      let none = counted_by (Only only) false from (range_with_len (from + 1) n) other in
+      omega (arith, none, rest)
 
-pub no_script : (ss : List Scripted) (n t : ℕ) (ls : List Line) → length ls ≡ 0 → ss ≡ ss ++ script_of n t ls
-no_script ss n t [] none = sym (append-nil ss)
-no_script ss n t (l ∷ ls) none = absurd (omega arith)
+  count_after : (n from : ℕ) → from + n ≤ only → count_by (names_cycle (Only only)) (range_with_len from n) ≡ 0
+  count_after zero from more = refl
+  count_after (suc n) from more =
+      let other : (only == from) ≡ false = grind (arith, nat_tests) in
+      let rest = count_after n (from + 1) (omega arith) in
+      let none = counted_by (Only only) false from (range_with_len (from + 1) n) other in
+      omega (arith, none, rest)
 
-pub one_script : (ss : List Scripted) (n t : ℕ) (ls : List Line) → 0 < length ls
-    → ss ++ record { node = n; task = t; lines = ls } ∷ [] ≡ ss ++ script_of n t ls
-one_script ss n t [] some = absurd (omega arith)
-one_script ss n t (l ∷ ls) some = refl
+  count_in : (n from : ℕ) → from ≤ only → only < from + n
+      → count_by (names_cycle (Only only)) (range_with_len from n) ≡ 1
+  count_in zero from low high = absurd (omega arith)
+  count_in (suc n) from low high =
+      elim (cases_eq only from) [
+        | inl same ↦
+            let rest = count_before n (from + 1) (omega (arith, same)) in
+            let one = counted_by (Only only) true from (range_with_len (from + 1) n) (eq-eqb only from same) in
+            omega (arith, one, rest)
+        | inr different ↦
+            let other : (only == from) ≡ false = grind (arith, nat_tests) in
+            let rest = count_in n (from + 1) (omega (arith, different)) (omega arith) in
+            let none = counted_by (Only only) false from (range_with_len (from + 1) n) other in
+            omega (arith, none, rest)
+      ]
+
+  pub count_only : (cycles : ℕ)
+      → bool_byte (ltb only cycles) ≡ count_by (names_cycle (Only only)) (range_with_len 0 cycles)
+  count_only cycles = elim (cases_Bool (ltb only cycles)) [
+    | inl less ↦ let low = ltb-true only cycles less in rw less (sym (count_in cycles 0 (omega arith) (omega (arith, low))))
+    | inr more ↦ let high = ltb-false only cycles more in rw more (sym (count_after cycles 0 (omega (arith, high))))
+  ]
 
 -- ---- no line has an answer
 

@@ -1,6 +1,6 @@
 -- The lines that are kept for each task, and the scripts that they make.
 use Rattle.std.proofs.Common.{◌≡◌, ◌≢◌, ℕ, zero, suc, ◌+◌, ◌*◌, ◌/◌, ◌%◌, ◌<◌, ◌==◌, ◌&&◌, true, false, inl, inr, List}
-use Rattle.std.proofs.Common.{[]}
+use Rattle.std.proofs.Common.{[], cond}
 use Rattle.std.proofs.Common.{◌∷◌, ◌++◌, length, get_or, set, replicate, map, refl, sym, ap, ◌∙◌, arith, append_assoc}
 use Rattle.std.proofs.lemmas.Bool.{cases_Bool, cases_eq, eq-eqb}
 use Rattle.std.proofs.lemmas.Bool.Decides.{nat_tests}
@@ -14,7 +14,7 @@ use Rattle.fr_core.specs.Scripts.{Scripted}
 use Rattle.fr_scenario.specs.Contents.{script_of, node_at, task_at, task_lines, fault_lines, fault_numbers, scripts_of}
 use Rattle.fr_scenario.specs.declared.spelled.SpelledLine.{SpelledLine}
 use Rattle.fr_scenario.specs.declared.spelled.SpelledLine.TheVariants.{Host, Fault as FaultOf}
-use Rattle.fr_scenario.specs.Gathering.{Kept, none_yet, place_of, with_line, with_lines, scripts_from}
+use Rattle.fr_scenario.specs.Gathering.{Kept, none_yet, place_of, with_line, with_lines, with_task_line, scripts_from}
 use Rattle.fr_scenario.specs.declared.version.Version.{Version}
 use Rattle.fr_scenario.specs.Spelled.{IsSpelledLine}
 use Rattle.fr_slots.specs.Plans.{Each}
@@ -46,12 +46,6 @@ pub length-kept : (n : ℕ) (lines : List SpelledLine) (g : Kept) → length (wi
 length-kept n [] g = refl
 length-kept n (l ∷ lines) g = length-kept (n + 1) lines (with_line n g l) ∙ length-with_line n g l
 
-here : (node task k : ℕ) → task < 8 → 8 * node + task ≡ k → (node == k / 8 && task == k % 8) ≡ true
-here node task k small is =
-    let n : (node == k / 8) ≡ true = eq-eqb node (k / 8) (omega arith) in
-    let t : (task == k % 8) ≡ true = eq-eqb task (k % 8) (omega arith) in
-    rw (n, t) refl
-
 elsewhere : (node task k : ℕ) → 8 * node + task ≢ k → (node == k / 8 && task == k % 8) ≡ false
 elsewhere node task k other =
     elim (cases_Bool (node == k / 8 && task == k % 8)) [
@@ -60,28 +54,36 @@ elsewhere node task k other =
     ]
 
 -- one line more at its task
-step : (version : Version) (n : ℕ) (g : Kept) (l : SpelledLine) (lines : List SpelledLine) (k : ℕ)
-    → IsSpelledLine version l → length g.tasks ≡ 128 → k < 128
-    → get_or (with_line n g l).tasks k [] ++ task_lines (node_at k) (task_at k) lines
-    ≡ get_or g.tasks k [] ++ task_lines (node_at k) (task_at k) (l ∷ lines)
-step version n g (Host node task line) lines k fits len within =
-    let low = fits.task_fits in
-    let high = fits.node_fits in
+pub line_more : (tasks : List (List Line)) (node task : ℕ) (line : Line) (rest : List Line) (k : ℕ)
+    → node_at (place_of node task) ≡ node → task_at (place_of node task) ≡ task → place_of node task < length tasks
+    → get_or (with_task_line (place_of node task) line tasks) k [] ++ rest
+    ≡ get_or tasks k [] ++ cond (node == node_at k && task == task_at k) (line ∷ rest) rest
+line_more tasks node task line rest k of by inside =
     let place = place_of node task in
-    let old = get_or g.tasks place [] in
+    let old = get_or tasks place [] in
     elim (cases_eq place k) [
       | inl same ↦
-          let inside : place < length g.tasks = omega arith in
-          let now : get_or (set g.tasks place (old ++ line ∷ [])) k [] ≡ get_or g.tasks k [] ++ line ∷ [] =
-          ap (λ j. get_or (set g.tasks place (old ++ line ∷ [])) j []) (sym same) ∙ get_or-set_same g.tasks place
-          (old ++ line ∷ []) [] inside ∙ ap (λ j. get_or g.tasks j [] ++ line ∷ []) same in
-          rw (here node task k low same) (ap (λ xs. xs ++ task_lines (node_at k) (task_at k) lines) now ∙ append_assoc
-          (get_or g.tasks k []) (line ∷ []) (task_lines (node_at k) (task_at k) lines))
+          let n : (node == k / 8) ≡ true = eq-eqb node (k / 8) (sym of ∙ ap (λ j. j / 8) same) in
+          let t : (task == k % 8) ≡ true = eq-eqb task (k % 8) (sym by ∙ ap (λ j. j % 8) same) in
+          let now : get_or (set tasks place (old ++ line ∷ [])) k [] ≡ get_or tasks k [] ++ line ∷ [] =
+          ap (λ j. get_or (set tasks place (old ++ line ∷ [])) j []) (sym same) ∙ get_or-set_same tasks place
+          (old ++ line ∷ []) [] inside ∙ ap (λ j. get_or tasks j [] ++ line ∷ []) same in
+          rw (n, t) (ap (λ xs. xs ++ rest) now ∙ append_assoc (get_or tasks k []) (line ∷ []) rest)
       | inr other ↦
-          rw (elsewhere node task k other) (ap (λ xs. xs ++ task_lines (node_at k) (task_at k) lines)
-          (get_or-set_other g.tasks place k (old ++ line ∷ []) [] (λ e. other (sym e))))
+          rw (elsewhere node task k other) (ap (λ xs. xs ++ rest)
+          (get_or-set_other tasks place k (old ++ line ∷ []) [] (λ e. other (sym e))))
     ]
-step version n g (FaultOf f) lines k fits len within = refl
+
+step : (version : Version) (n : ℕ) (g : Kept) (l : SpelledLine) (lines : List SpelledLine) (k : ℕ)
+    → IsSpelledLine version l → length g.tasks ≡ 128
+    → get_or (with_line n g l).tasks k [] ++ task_lines (node_at k) (task_at k) lines
+    ≡ get_or g.tasks k [] ++ task_lines (node_at k) (task_at k) (l ∷ lines)
+step version n g (Host node task line) lines k fits len =
+    let low = fits.task_fits in
+    let high = fits.node_fits in
+    line_more g.tasks node task line (task_lines (node_at k) (task_at k) lines) k (omega arith) (omega arith)
+    (omega arith)
+step version n g (FaultOf f) lines k fits len = refl
 
 kept_lines : (version : Version) (n : ℕ) (lines : List SpelledLine) (g : Kept) (k : ℕ)
     → Each (IsSpelledLine version) lines → length g.tasks ≡ 128 → k < 128
@@ -89,16 +91,16 @@ kept_lines : (version : Version) (n : ℕ) (lines : List SpelledLine) (g : Kept)
 kept_lines version n [] g k fit len within = sym (append-nil (get_or g.tasks k []))
 kept_lines version n (l ∷ lines) g k fit len within =
     kept_lines version (n + 1) lines (with_line n g l) k fit.1 (length-with_line n g l ∙ len) within
-    ∙ step version n g l lines k fit.0 len within
+    ∙ step version n g l lines k fit.0 len
 
-nothing_yet : (n k : ℕ) → get_or (replicate {A = List Line} n []) k [] ≡ []
+pub nothing_yet : {X : Type 0} (n k : ℕ) → get_or (replicate {A = List X} n []) k [] ≡ []
 nothing_yet zero k = refl
 nothing_yet (suc n) zero = refl
 nothing_yet (suc n) (suc k) = nothing_yet n k
 
 -- ---- the scripts
 
-scripts_by : (f : ℕ → List Line) (n place : ℕ) → scripts_from place (map f (range_with_len place n)) ≡ flat_map
+pub scripts_by : (f : ℕ → List Line) (n place : ℕ) → scripts_from place (map f (range_with_len place n)) ≡ flat_map
     (λ k. script_of (node_at k) (task_at k) (f k)) (range_with_len place n)
 scripts_by f zero place = refl
 scripts_by f (suc n) place = ap (λ ss. script_of (node_at place) (task_at place) (f place) ++ ss)

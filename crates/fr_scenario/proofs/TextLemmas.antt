@@ -1,6 +1,6 @@
 -- A text that is read is spelled by its lines, and a text that is spelled is read again.
 use Rattle.std.proofs.Common.{◌≡◌, ℕ, ◌+◌, ◌≤◌, ◌==◌, ◌⊎◌, true, false, not, ◌&&◌, inl, inr, List, [], ◌∷◌, ◌++◌}
-use Rattle.std.proofs.Common.{length, take, drop, Option, Some, None, Result, Ok, Err, refl, sym, ap, subst, ◌∙◌, arith}
+use Rattle.std.proofs.Common.{length, take, drop, Option, Some, None, Ok, Err, refl, sym, ap, subst, ◌∙◌, arith}
 use Rattle.std.proofs.Common.{ltb, append_assoc}
 use Rattle.std.proofs.lemmas.Bool.{and_parts, cases_Bool, le-ltb, ltb-false}
 use Rattle.std.proofs.lemmas.Bool.Decides.{nat_tests}
@@ -8,8 +8,6 @@ use Rattle.std.proofs.lemmas.List.Elements.{All-nil, All-cons}
 use Rattle.std.proofs.lemmas.List.Splits.{slice_split_at, join_with_byte-slice_split}
 use Rattle.std.proofs.lemmas.Slice.Eq.{bytes_eq-Decides}
 use Rattle.std.specs.List.{All, flat_map, join_with_byte, range_with_len}
-use Rattle.std.specs.Prelude.{IfOk, IfErr}
-use Rattle.std.specs.Result.{result_err}
 use Rattle.std.specs.Str.{bytes_eq}
 use Rattle.fr_lines.specs.Spelling.{line_feed, end_line}
 use Rattle.fr_scenario.proofs.CutLemmas.{some_line, read_next}
@@ -24,8 +22,7 @@ use Rattle.fr_scenario.specs.Contents.{Contents, contents_of, task_lines, fault_
 use Rattle.fr_scenario.specs.Contents.{fault_numbers, scripts_of}
 use Rattle.fr_scenario.specs.Gathering.{Kept, none_yet, with_line, with_lines, kept_from, scripts_from}
 use Rattle.fr_scenario.specs.declared.error.ScenarioError.{ScenarioError}
-use Rattle.fr_scenario.specs.declared.error.ScenarioError.TheVariants.{BadMagic, BadLine, TooManyLines, Truncated}
-use Rattle.fr_scenario.specs.declared.error.ScenarioError.TheVariants.{Memory}
+use Rattle.fr_scenario.specs.declared.error.ScenarioError.TheVariants.{BadMagic}
 use Rattle.fr_scenario.specs.declared.spelled.SpelledLine.{SpelledLine}
 use Rattle.fr_scenario.specs.declared.spelled.SpelledLine.TheVariants.{Host, Fault as FaultOf}
 use Rattle.fr_scenario.specs.declared.version.Version.{Version}

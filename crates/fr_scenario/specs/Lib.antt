@@ -12,6 +12,7 @@ pub mod Statements
 pub mod StatementText
 pub mod FaultLines
 pub mod RunContents
+pub mod RunCalls
 pub mod Reading
 pub mod AnyText
 pub mod Gathering

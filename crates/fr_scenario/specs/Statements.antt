@@ -1,5 +1,5 @@
 -- The statement that the words of a line of version 3 spell.
-use Rattle.std.specs.Prelude.{ℕ, Bool, true, false, List, [], ◌∷◌, codes, Option, Some, None, if◌then◌else◌}
+use Rattle.std.specs.Prelude.{ℕ, Bool, false, List, [], ◌∷◌, codes, Option, Some, None, if◌then◌else◌}
 use Rattle.std.specs.Str.{bytes_eq}
 use Rattle.fr_bus.specs.declared.fault.Fault.{Fault}
 use Rattle.fr_bus.specs.declared.fault.Fault.TheVariants.{Babble, Mute, Corrupt}
@@ -17,7 +17,6 @@ use Rattle.fr_scenario.specs.BlankWords.{blank_words}
 use Rattle.fr_scenario.specs.declared.statement.Statement.{Statement}
 use Rattle.fr_scenario.specs.declared.statement.Statement.TheVariants as statement
 use Rattle.fr_scenario.specs.StatementParts.{cycles_said, place_said, node_said, buffer_said}
-use Rattle.fr_slots.specs.declared.channel.Channel.{Channel}
 use Rattle.fr_slots.specs.declared.channel.Channel.TheVariants.{A, B}
 use Rattle.fr_slots.specs.declared.channel.Channels.{Channels}
 use Rattle.fr_slots.specs.declared.channel.Channels.TheVariants as channels

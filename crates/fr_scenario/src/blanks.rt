@@ -4,6 +4,7 @@ ghost use Rattle.std.specs.List.{position, slice_split};
 ghost use Rattle.fr_scenario.specs.BlankWords.{before_comment, blank_words, is_blank, is_mark, split_rest};
 
 use arrayvec::ArrayVec;
+use memchr::{memchr, memchr2};
 
 /// The largest number of words of a line (project-defined).
 pub(crate) const MOST_WORDS: usize = 6;
@@ -11,25 +12,18 @@ pub(crate) const MOST_WORDS: usize = 6;
 /// The words of a line.
 pub(crate) type LineWords<'a> = ArrayVec<&'a [u8], MOST_WORDS>;
 
-/// Returns whether the byte separates words.
-fn is_blank(byte: u8) -> bool
-    ensures { result ≡ is_blank byte }
-{
-    byte == b' ' || byte == b'\t'
-}
-
 /// Returns the place of the first blank.
 fn blank_in(bytes: &[u8]) -> Option<usize>
     ensures { result ≡ position is_blank bytes.now }
 {
-    bytes.iter().position(|byte| is_blank(*byte))
+    memchr2(b' ', b'\t', bytes)
 }
 
 /// Returns the place of the mark that begins a comment.
 fn mark_in(line: &[u8]) -> Option<usize>
     ensures { result ≡ position is_mark line.now }
 {
-    line.iter().position(|byte| *byte == b'#')
+    memchr(b'#', line)
 }
 
 /// Returns the line without its comment.

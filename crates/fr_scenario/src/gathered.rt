@@ -39,15 +39,17 @@ impl Model for Gathered {
 }
 
 /// Returns the place of the node's task among all tasks.
-fn place_of(node: NodeId, task: TaskId) -> usize
+pub(crate) fn place_of(node: NodeId, task: TaskId) -> usize
     ensures place { result ≡ place_of node task }
     ensures within { result < task_count }
+    ensures node { node_at result ≡ node }
+    ensures task { task_at result ≡ task }
 {
     TASKS_OF_NODE * usize::from(node.number()) + usize::from(task.number())
 }
 
 /// Returns the node of the task at this place.
-pub(crate) fn node_at(place: usize) -> NodeId
+fn node_at(place: usize) -> NodeId
     requires { place < task_count }
     ensures { result ≡ node_at place }
 {
@@ -58,7 +60,7 @@ pub(crate) fn node_at(place: usize) -> NodeId
 }
 
 /// Returns the number of the task at this place within its node.
-pub(crate) fn task_at(place: usize) -> TaskId
+fn task_at(place: usize) -> TaskId
     requires { place < task_count }
     ensures { result ≡ task_at place }
 {
@@ -81,7 +83,11 @@ fn idle_tasks(alloc: Global) -> Result<Vec<Vec<Line>>, AllocError>
 }
 
 /// Adds one line to the task at this place.
-fn add_task_line(tasks: &mut Vec<Vec<Line>>, place: usize, line: Line) -> Result<(), AllocError>
+pub(crate) fn add_task_line(
+    tasks: &mut Vec<Vec<Line>>,
+    place: usize,
+    line: Line,
+) -> Result<(), AllocError>
     requires { place < vec_len tasks.old }
     ensures tasks { OnOk result (map (λ lines. lines.items) tasks.new.items
         ≡ with_task_line place line (map (λ lines. lines.items) tasks.old.items)) }
@@ -93,7 +99,7 @@ fn add_task_line(tasks: &mut Vec<Vec<Line>>, place: usize, line: Line) -> Result
 }
 
 /// Returns the scripts of the tasks that have lines.
-fn scripts_of(alloc: Global, tasks: Vec<Vec<Line>>) -> Result<Vec<Script>, AllocError>
+pub(crate) fn scripts_of(alloc: Global, tasks: Vec<Vec<Line>>) -> Result<Vec<Script>, AllocError>
     requires { vec_len tasks ≡ task_count }
     ensures { IfOk result (λ scripts. scripts.items ≡ scripts_from 0 (map (λ lines. lines.items) tasks.items)) }
 {

@@ -21,14 +21,15 @@
 //! - `Contents`, `ScenarioText`, `Spelling`, `Parts`, `Spelled`, `LineReading`, `CallReading`, `PartReading`: in
 //!   versions 1 and 2, the contents of a scenario, with the number of each fault line; its text and lines.
 //! - `BlankWords`, `Statements`, `StatementParts`, `FaultLines`, `RunContents`: in version 3, the words of a line, and
-//!   what they say; the fault lines of one line; the contents in a run of so many cycles. `Parts` and `Spelled` also have
-//!   the cycles and places of version 3.
+//!   what they say; the fault lines of one line; the contents in a run of so many cycles. `Parts` and `Spelled` also
+//!   have the cycles and places of version 3.
 //! - `StatementText`: the values in the ranges of version 3, and one spelling of each.
 //! - `ErrorNames`: the printed text of an error.
 //!
 //! Modules that follow the steps of the code, for private functions, with the module that has the meaning:
 //!
 //! - `Gathering`: the contents of the lines so far. Meaning: `Contents`, `ScenarioText`.
+//! - `RunCalls`: the statements that make the calls of each cycle, and the lines of each task. Meaning: `RunContents`.
 //!
 //! # Inner workings
 //!
@@ -43,6 +44,7 @@ mod gathered;
 mod left;
 mod lines;
 mod parts;
+mod run_calls;
 mod run_contents;
 pub mod scenario;
 mod spelled;

@@ -1,150 +1,25 @@
 //! The contents of a scenario of version 3 in a run.
-ghost use Rattle.std.specs.Prelude.{◌≡◌, ◌<◌, ◌≤◌, ◌++◌, map, nat_lt, count_by, length, IfOk, OnOk};
-ghost use Rattle.std.specs.List.{flat_map, range_with_len};
+ghost use Rattle.std.specs.Prelude.{◌≡◌, ◌≤◌, ◌++◌, map, nat_lt, count_by, length, IfOk, OnOk};
+ghost use Rattle.std.specs.List.{range_with_len};
 ghost use Rattle.fr_runs.specs.Cycles.{names_cycle};
-ghost use Rattle.fr_scenario.specs.Contents.{task_count};
 ghost use Rattle.fr_scenario.specs.ScenarioText.{most_lines};
 ghost use Rattle.fr_scenario.specs.RunContents.{calls_in_run, calls_of, expected_in_run, expected_left};
 ghost use Rattle.fr_scenario.specs.RunContents.{faults_in_run, faults_left, is_skipped};
-ghost use Rattle.fr_scenario.specs.RunContents.{line_at, lines_at, lines_in_run, most_calls, numbers_in_run, planned};
-ghost use Rattle.fr_scenario.specs.RunContents.{script_in_run, scripts_in_run, skipped_in_run};
+ghost use Rattle.fr_scenario.specs.RunContents.{most_calls, numbers_in_run, skipped_in_run};
 
-use crate::gathered::{TASK_COUNT, node_at, task_at};
 use crate::statement::Statement;
-use fr_core::script::{Line, Script};
 use fr_expecting::expectation::Expectation;
 use fr_frame::payload::Payload;
-use fr_interface::call::Call;
 use fr_runs::cycles::RunCycles;
 use fr_runs::fault_line::FaultLine;
 use fr_runs::faults::has_cycle;
-use fr_slots::numbers::{NodeId, TaskId};
 use std::alloc::{AllocError, Global};
 
 /// The largest number of calls in a run (project-defined).
 const MOST_CALLS: usize = 262_144;
 
-/// A call, and the cycles in which it is made.
-type Planned<'a> = (RunCycles, &'a Call);
-
-/// Returns the calls of the task, with their cycles.
-fn planned<'a>(
-    alloc: Global,
-    node: NodeId,
-    task: TaskId,
-    statements: &'a [Statement],
-) -> Result<Vec<Planned<'a>>, AllocError>
-    ensures { IfOk result (λ plans. map (λ plan. (plan.0, plan.1.now)) plans.items ≡ planned node task statements.now) }
-{
-    let mut plans = Vec::new(alloc);
-    for statement in statements {
-        if let Statement::Calls {
-            node: of,
-            task: by,
-            cycles,
-            call,
-        } = statement
-        {
-            if *of == node && *by == task {
-                plans.push((*cycles, call))?;
-            }
-        }
-    }
-    Ok(plans)
-}
-
-/// Returns the line of the call in the cycle.
-fn line_at(cycle: u16, call: &Call) -> Line
-    ensures { result ≡ line_at cycle call.now }
-{
-    Line {
-        cycle,
-        action: call.duplicate(),
-        answer: None,
-    }
-}
-
-/// Adds the lines of the calls that name the cycle.
-fn add_lines(plans: &[Planned<'_>], cycle: u16, lines: &mut Vec<Line>) -> Result<(), AllocError>
-    ensures { OnOk result (lines.new.items
-        ≡ lines.old.items ++ lines_at (map (λ plan. (plan.0, plan.1.now)) plans.now) cycle) }
-{
-    for plan in plans {
-        let (cycles, call) = plan;
-        if cycles.names(cycle) {
-            lines.push(line_at(cycle, call))?;
-        }
-    }
-    Ok(())
-}
-
-/// Returns the lines of the calls, cycle after cycle.
-fn lines_in_run(alloc: Global, cycles: u16, plans: &[Planned<'_>]) -> Result<Vec<Line>, AllocError>
-    ensures { IfOk result (λ lines. lines.items
-        ≡ lines_in_run cycles (map (λ plan. (plan.0, plan.1.now)) plans.now)) }
-{
-    let mut lines = Vec::new(alloc);
-    if plans.is_empty() {
-        return Ok(lines);
-    }
-    for cycle in 0..cycles {
-        add_lines(plans, cycle, &mut lines)?;
-    }
-    Ok(lines)
-}
-
-/// Adds the script of the task at this place, if it has calls in the run.
-fn add_script(
-    alloc: Global,
-    cycles: u16,
-    statements: &[Statement],
-    place: usize,
-    scripts: &mut Vec<Script>,
-) -> Result<(), AllocError>
-    requires { place < task_count }
-    ensures { OnOk result (scripts.new.items ≡ scripts.old.items ++ script_in_run cycles statements.now place) }
-{
-    let (node, task) = (node_at(place), task_at(place));
-    let plans = planned(alloc, node, task, statements)?;
-    let lines = lines_in_run(alloc, cycles, plans.as_slice())?;
-    if !lines.is_empty() {
-        scripts.push(Script { node, task, lines })?;
-    }
-    Ok(())
-}
-
-/// Returns the scripts of the first tasks, so many, that have calls in the run.
-fn first_scripts(
-    alloc: Global,
-    cycles: u16,
-    statements: &[Statement],
-    count: usize,
-) -> Result<Vec<Script>, AllocError>
-    requires { count ≤ task_count }
-    ensures { IfOk result (λ scripts. scripts.items
-        ≡ flat_map (script_in_run cycles statements.now) (range_with_len 0 count)) }
-{
-    let mut scripts = Vec::new(alloc);
-    for place in 0..count {
-        add_script(alloc, cycles, statements, place, &mut scripts)?;
-    }
-    Ok(scripts)
-}
-
-/// Returns the scripts of the tasks that have calls in the run.
-#[tactic(auto, unfolding(crate::specs::RunContents::scripts_in_run))]
-pub(crate) fn scripts_in_run(
-    alloc: Global,
-    cycles: u16,
-    statements: &[Statement],
-) -> Result<Vec<Script>, AllocError>
-    ensures { IfOk result (λ scripts. scripts.items ≡ scripts_in_run cycles statements.now) }
-{
-    first_scripts(alloc, cycles, statements, TASK_COUNT)
-}
-
-/// Returns how many cycles of the run are named.
-fn cycles_named(cycles: u16, named: RunCycles) -> usize
+/// Returns how many cycles of the run are named, by a look at each.
+fn cycles_in_span(cycles: u16, named: RunCycles) -> usize
     ensures { result ≡ count_by (names_cycle named) (range_with_len 0 cycles) }
 {
     let mut count = 0;
@@ -154,6 +29,17 @@ fn cycles_named(cycles: u16, named: RunCycles) -> usize
         }
     }
     count
+}
+
+/// Returns how many cycles of the run are named.
+fn cycles_named(cycles: u16, named: RunCycles) -> usize
+    ensures { result ≡ count_by (names_cycle named) (range_with_len 0 cycles) }
+{
+    match named {
+        RunCycles::Every => usize::from(cycles),
+        RunCycles::Only(cycle) => usize::from(cycle < cycles),
+        RunCycles::Span { .. } => cycles_in_span(cycles, named),
+    }
 }
 
 /// Returns the number of calls that the statement makes in the run.

@@ -11,9 +11,8 @@ use crate::error::ScenarioError;
 use crate::gathered::Gathered;
 use crate::left::{LAST_LINE, Left};
 use crate::lines::line_of;
-use crate::run_contents::{
-    expected_in_run, faults_in_run, has_too_many_calls, scripts_in_run, skipped_in_run,
-};
+use crate::run_calls::scripts_in_run;
+use crate::run_contents::{expected_in_run, faults_in_run, has_too_many_calls, skipped_in_run};
 use crate::statement::Statement;
 use crate::statements::{are_end, statement_of};
 use crate::version::Version;

@@ -1,6 +1,5 @@
 //! The parts of a line of version 3.
 ghost use Rattle.std.specs.Prelude.{◌≡◌, ◌==◌, option_map, position};
-ghost use Rattle.fr_lines.specs.PartReading.{channels_in};
 ghost use Rattle.fr_scenario.specs.StatementParts.{parted, step_said, with_step, without_step, span_of};
 ghost use Rattle.fr_scenario.specs.StatementParts.{span_said, one_cycle, cycles_said, slots_from, one_slot};
 ghost use Rattle.fr_scenario.specs.StatementParts.{some_slots, slots_said, minislots_said, dynamic_said, marked_place};
@@ -11,7 +10,6 @@ use fr_lines::parts::{buffer_of, node_of};
 use fr_names::names::Names;
 use fr_runs::cycles::RunCycles;
 use fr_runs::fault_line::FaultPlace;
-use fr_slots::channel::Channels;
 use fr_slots::numbers::NodeId;
 use fr_text::numbers::number_of;
 
@@ -201,19 +199,6 @@ pub(crate) fn place_of(word: &[u8]) -> Option<FaultPlace>
         return Some(FaultPlace::EveryWindow);
     }
     marked_place(word)
-}
-
-/// Returns the channels that the word spells: `A`, `B` or `AB`.
-#[tactic(auto, unfolding(fr_lines::specs::PartReading::channels_in))]
-pub(crate) fn channels_of(word: &[u8]) -> Option<Channels>
-    ensures { result ≡ channels_in word.now }
-{
-    match word {
-        b"A" => Some(Channels::A),
-        b"B" => Some(Channels::B),
-        b"AB" => Some(Channels::Both),
-        _ => None,
-    }
 }
 
 /// Returns the node whose number or name the word is.

@@ -7,11 +7,11 @@ ghost use Rattle.fr_scenario.specs.Statements.{read_said, statement_said, withdr
 ghost use Rattle.fr_bus.specs.declared.fault.Fault.TheVariants.{Babble, Mute, Corrupt};
 
 use crate::statement::Statement;
-use crate::statement_parts::{channels_of, cycles_of, named_buffer, named_node, place_of};
+use crate::statement_parts::{cycles_of, named_buffer, named_node, place_of};
 use fr_bus::fault::Fault;
 use fr_frame::frame::{Bytes, FRAME_BYTES, duplicate_bytes};
 use fr_interface::call::Call;
-use fr_lines::parts::{payload_of, task_of};
+use fr_lines::parts::{channels_of, payload_of, task_of};
 use fr_names::names::Names;
 use fr_runs::cycles::RunCycles;
 use fr_runs::fault_line::{FaultLine, FaultPlace};

@@ -1,5 +1,6 @@
-use Rattle.fr_scenario.proofs.CutLemmas.{first_feed}
+use Rattle.memchr.specs.Find.{is_byte}
+use Rattle.fr_scenario.proofs.CutLemmas.{first_byte}
 use Rattle.fr_scenario.proofs.left.feed_in.Goals as goal
 
 pub returns : goal.returns
-returns c = first_feed c.args.text.now c.memchr.result c.memchr.ensures
+returns c = first_byte (is_byte 10) c.args.text.now c.memchr.result c.memchr.ensures

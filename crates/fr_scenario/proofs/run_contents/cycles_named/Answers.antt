@@ -1,26 +1,16 @@
-use Rattle.std.proofs.Common.{◌≡◌, ◌∙◌, true, false, sym, arith}
+use Rattle.std.proofs.Common.{◌∙◌, sym, ap}
 use Rattle.std.specs.List.{range_with_len}
 use Rattle.std.specs.Prelude.{count_by}
 use Rattle.fr_runs.specs.Cycles.{names_cycle}
-use Rattle.fr_scenario.proofs.RunLemmas.{count_more}
-use Rattle.fr_scenario.proofs.run_contents.cycles_named.Goals.{then-names, else-names}
+use Rattle.fr_scenario.proofs.RunLemmas.{count_every, count_only}
 use Rattle.fr_scenario.proofs.run_contents.cycles_named.Goals as goal
 
-pub loop-cycle-preserved : goal.loop-cycle-preserved
-loop-cycle-preserved c =
-    let named = c.args.named in
-    let all = count_by (names_cycle named) (range_with_len 0 c.args.cycles) in
-    let few = c.loop-cycle.invariant.few in
-    elim c.if-names.branch [
-      | then-names w ↦ record {
-        few = omega (arith, w.count-is, few);
-        left = count_more named true c.loop-cycle.count c.if-names.count c.loop-cycle.cycle c.args.cycles all
-            (sym c.names.ensures ∙ w.if-names.true) c.loop-cycle-test.true w.count-is c.loop-cycle.invariant.left;
-      }
-      | else-names w ↦ record {
-        few = omega (arith, w.count-is, few);
-        left = count_more named false c.loop-cycle.count c.if-names.count c.loop-cycle.cycle c.args.cycles all
-            (sym c.names.ensures ∙ w.if-names.false) c.loop-cycle-test.true (omega (arith, w.count-is))
-            c.loop-cycle.invariant.left;
-      }
-    ]
+pub returns-in-Every : goal.returns-in-Every
+returns-in-Every c =
+    c.from.ensures ∙ count_every c.args.cycles
+    ∙ ap (λ named. count_by (names_cycle named) (range_with_len 0 c.args.cycles)) (sym c.in-Every.is)
+
+pub returns-in-Only : goal.returns-in-Only
+returns-in-Only c =
+    c.from-in-Only.ensures ∙ count_only c.in-Only.cycle c.args.cycles
+    ∙ ap (λ named. count_by (names_cycle named) (range_with_len 0 c.args.cycles)) (sym c.in-Only.is)

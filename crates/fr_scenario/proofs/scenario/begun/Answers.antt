@@ -1,4 +1,3 @@
-use Rattle.std.proofs.Common.{◌≡◌, ◌∙◌}
 use Rattle.fr_scenario.proofs.TextLemmas.{not_first, not_there}
 use Rattle.fr_scenario.proofs.scenario.begun.Goals as goal
 

@@ -1,6 +1,6 @@
 use Rattle.std.proofs.Common.{◌≡◌, ◌+◌, length}
 use Rattle.fr_scenario.proofs.StatementLemmas.{put_all}
-use Rattle.fr_scenario.specs.Reading.{lines_in, read_from, statements_in}
+use Rattle.fr_scenario.specs.Reading.{read_from, statements_in}
 use Rattle.fr_scenario.specs.Statements.{is_last, statement_in}
 use Rattle.fr_scenario.proofs.scenario.statements_of.Given as goal
 

@@ -1,4 +1,4 @@
-use Rattle.std.proofs.Common.{◌≡◌, [], List, Result, Err, subst}
+use Rattle.std.proofs.Common.{[], List, subst}
 use Rattle.fr_names.specs.Names.{NamesOfNode}
 use Rattle.fr_scenario.proofs.AnyLemmas.{Tells, told_found, told_only, told_refused, told_hopeless}
 use Rattle.fr_scenario.proofs.scenario.Scenario.from_text.Goals as goal

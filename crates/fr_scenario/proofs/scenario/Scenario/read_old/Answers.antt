@@ -1,4 +1,4 @@
-use Rattle.std.proofs.Common.{◌≡◌, Result, Err, rules, ap, refl, ◌∙◌}
+use Rattle.std.proofs.Common.{◌≡◌, Result, Err, rules, ap, ◌∙◌}
 use Rattle.fr_scenario.proofs.TextLemmas.{no_first, made, made_unanswered, refused}
 use Rattle.fr_scenario.specs.Contents.{Contents}
 use Rattle.fr_scenario.specs.declared.error.ScenarioError.{ScenarioError}
