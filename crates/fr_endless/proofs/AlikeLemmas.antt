@@ -7,8 +7,6 @@ use Rattle.fr_core.specs.declared.error.StepError.{StepError}
 use Rattle.fr_core.specs.Worlds.{WorldState}
 use Rattle.fr_live.proofs.RefusalLemmas.{collecting_same}
 use Rattle.fr_live.specs.LiveWorlds.{LiveState, IsWorldHistory}
-use Rattle.fr_bus.specs.Record.{Recorded}
-use Rattle.fr_bus.specs.Standing.{LiveStanding}
 use Rattle.fr_endless.proofs.NumberLemmas.{last_counts}
 use Rattle.fr_endless.specs.Answers.{kept_time, windows_by}
 use Rattle.fr_lines.specs.Spelling.{line_text}

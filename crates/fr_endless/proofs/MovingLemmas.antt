@@ -1,6 +1,6 @@
 -- Each world with its history moves as the kept data do.
 use Rattle.std.proofs.Common.{◌≡◌, ℕ, ◌+◌, ◌<◌, ◌≤◌, Bool, true, false, cond, List, [], ◌∷◌, ◌++◌, length, take, get_or}
-use Rattle.std.proofs.Common.{Option, Some, None, refl, sym, ap, subst, ◌∙◌, inl, inr}
+use Rattle.std.proofs.Common.{Option, Some, None, Result, Ok, Err, refl, sym, ap, subst, ◌∙◌, inl, inr}
 use Rattle.std.proofs.lemmas.List.{take_all, take_more}
 use Rattle.std.specs.List.{flat_map}
 use Rattle.fr_bus.specs.Standing.{bare}
@@ -8,14 +8,16 @@ use Rattle.fr_bus.specs.States.{collecting_of}
 use Rattle.fr_core.specs.declared.error.StepError.{StepError}
 use Rattle.fr_core.specs.declared.event.Event.{Event}
 use Rattle.fr_core.specs.declared.event.Event.TheVariants.{Inject, Advance}
+use Rattle.fr_core.specs.declared.event.Reply.{Reply}
+use Rattle.fr_core.specs.declared.event.Reply.TheVariants.{Done}
 use Rattle.fr_core.specs.Runs.{Answer, StepsAll}
-use Rattle.fr_core.specs.Steps.{Steps}
+use Rattle.fr_core.specs.Steps.{Steps, answered, step_reply}
 use Rattle.fr_core.specs.Worlds.{WorldState}
 use Rattle.fr_endless.proofs.AlikeLemmas.{opened_same, begun_same, collecting_is}
 use Rattle.fr_endless.specs.Alike.{Alike, run_cycle_by}
-use Rattle.fr_live.specs.LiveSteps.{StepsAlike}
+use Rattle.fr_live.specs.LiveSteps.{AppliesAlike, StepsAlike}
 use Rattle.fr_live.specs.LiveWorlds.{LiveState}
-use Rattle.fr_playing.proofs.MovingLemmas.{does_none, does_more, strikes_none, strikes_some, within_none, within_more}
+use Rattle.fr_playing.proofs.MovingLemmas.{does_none, does_more, found_so, strikes_none, strikes_some, within_none, within_more}
 use Rattle.fr_playing.proofs.MovingLemmas.{passes_none, passes_more}
 use Rattle.fr_playing.proofs.StrikingLemmas.{flat-more, steps_append, tries_none}
 use Rattle.fr_playing.specs.Moving.{first_refusal, hindrance, Strikes, DoesAll, MovesOn, is_at_cycle, WithinCycle}
@@ -101,12 +103,14 @@ pub did_none : (l : LiveState) → Alike l (λ w v. DoesAll w [] None v) l
 did_none l w is = (w, does_none w, is)
 
 pub did_more : (l mid new : LiveState) (events : List Event) (i : ℕ) (event : Event) (found after : Option StepError)
-    (answer : Answer) → i < length events → event ≡ get_or events i event → after ≡ first_refusal found answer
-    → Alike l (λ w v. DoesAll w (take i events) found v) mid → StepsAlike mid event answer new
-    → Alike l (λ w v. DoesAll w (take (i + 1) events) after v) new
-did_more l mid new events i event found after answer lt event_is after_is so_far step w is =
+    (outcome : Result (Unit {0}) StepError) → i < length events → event ≡ get_or events i event
+    → after ≡ first_refusal found (answered Done outcome) → Alike l (λ w v. DoesAll w (take i events) found v) mid
+    → AppliesAlike mid event outcome new → Alike l (λ w v. DoesAll w (take (i + 1) events) after v) new
+did_more l mid new events i event found after outcome lt event_is found_is so_far step w is =
     let first = so_far w is in
     let second = step first.0 first.2 in
+    let answer = answered (step_reply first.0 event) outcome in
+    let after_is = found_is ∙ found_so found outcome Done (step_reply first.0 event) in
     let more : take (i + 1) events ≡ take i events ++ event ∷ [] =
     take_more events i event lt ∙ ap (λ (e : Event). take i events ++ e ∷ []) (sym event_is) in
     let did : DoesAll w (take i events ++ event ∷ []) (first_refusal found answer) second.0 =

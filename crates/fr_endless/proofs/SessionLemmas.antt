@@ -17,7 +17,7 @@ use Rattle.fr_session.proofs.SessionLemmas.{SoFarBy, are_lines_more, feeds_more,
 use Rattle.fr_session.specs.Cuts.{EndsEarly, IsFront}
 use Rattle.fr_session.specs.declared.error.SessionError.{SessionError}
 use Rattle.fr_session.specs.declared.error.SessionError.TheVariants.{Read, Write, Memory}
-use Rattle.fr_session.specs.Lines.{AreLines, Comes, ComesFront, with_feed}
+use Rattle.fr_session.specs.Lines.{Comes, ComesFront, with_feed}
 use Rattle.fr_session.specs.Reading.{asked_in}
 use Rattle.fr_session.specs.Replies.{greeting}
 use Rattle.fr_session.specs.Sessions.{SessionState, Terms, state_of}

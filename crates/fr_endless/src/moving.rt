@@ -1,51 +1,26 @@
 //! Windows and cycles of a world without history.
 ghost use Rattle.std.specs.Prelude.{◌≡◌};
 ghost use Rattle.fr_endless.specs.Alike.{Alike};
-ghost use Rattle.fr_playing.specs.Moving.{first_refusal, hindrance, DoesAll, MovesOn, is_at_cycle, EndsCycle};
-ghost use Rattle.fr_playing.specs.Moving.{RunsCycles};
+ghost use Rattle.fr_playing.specs.Moving.{DoesAll, MovesOn, is_at_cycle, EndsCycle, RunsCycles};
 
 use crate::striking::strike_open;
 use crate::world::EndlessWorld;
 use fr_bus::live::LiveBus;
 use fr_bus::windows::opens_cycle;
 use fr_core::error::StepError;
-use fr_core::event::{Event, Reply};
+use fr_core::event::Event;
+use fr_playing::moving::{MOST_WINDOWS, first_refusal, hindrance};
 use fr_runs::fault_line::FaultLine;
 
-/// The greatest number of windows of a cycle: one for each of 1,023 static slots and 8,000 minislots.
-const MOST_WINDOWS: u32 = 9_023;
-
-/// Returns the first refusal that isn't `WrongTurn`: the one found before, or otherwise this one.
-fn first_refusal(found: Option<StepError>, answer: &Result<Reply, StepError>) -> Option<StepError>
-    ensures { result ≡ first_refusal found answer.now }
-{
-    match (found, answer) {
-        (Some(found), _) => Some(found),
-        (None, Ok(_)) => None,
-        (None, Err(StepError::WrongTurn)) => None,
-        (None, Err(error)) => Some(*error),
-    }
-}
-
-/// Returns the hindrance of the bus, from the answer of its advance and the refusal found before.
-fn hindrance(found: Option<StepError>, last: &Result<Reply, StepError>) -> Option<StepError>
-    ensures { result ≡ hindrance found last.now }
-{
-    match (last, found) {
-        (Ok(_), _) => None,
-        (Err(_), Some(found)) => Some(found),
-        (Err(error), None) => Some(*error),
-    }
-}
-
+// No reply is asked for, so that no room for a frame is moved.
 /// Executes the events, and returns the first refusal that isn't `WrongTurn`.
 fn do_all(world: &mut EndlessWorld, events: &[Event]) -> Option<StepError>
     ensures { Alike world.old (λ w v. DoesAll w events.now result v) world.new }
 {
     let mut found = None;
     for event in events {
-        let answer = world.step(event);
-        found = first_refusal(found, &answer);
+        let outcome = world.apply(event);
+        found = first_refusal(found, outcome);
     }
     found
 }
@@ -60,8 +35,8 @@ pub(crate) fn finish_window(
 {
     strike_open(world, faults);
     let found = do_all(world, events);
-    let last = world.step(&Event::Advance);
-    hindrance(found, &last)
+    let last = world.apply(&Event::Advance);
+    hindrance(found, last)
 }
 
 /// Returns whether the open window is the first of its cycle, or the run is over.

@@ -35,7 +35,7 @@ fn strike(world: &mut EndlessWorld, cycle: u32, window: &Window, line: &FaultLin
 {
     if strikes(line, cycle, window) {
         // A fault of the window stays, if it has the same kind, node and channel.
-        let _struck = world.step(&Event::Inject(line.fault.duplicate()));
+        let _struck = world.apply(&Event::Inject(line.fault.duplicate()));
     }
 }
 

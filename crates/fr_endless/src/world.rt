@@ -7,10 +7,12 @@ use fr_bus::error::BusError;
 use fr_bus::live::{LIVE_CYCLES, LiveBus};
 use fr_core::error::StepError;
 use fr_core::event::{Event, Reply};
+use fr_interface::call::{Answer, Call};
 use fr_interface::state::InterfaceState;
 use fr_live::room::Room;
 use fr_live::world::LiveWorld;
 use fr_schedule::cluster::Cluster;
+use fr_slots::numbers::{NodeId, TaskId};
 use fr_slots::plan::NodePlan;
 use std::alloc::{AllocError, Global};
 use std::marker::Model;
@@ -59,10 +61,13 @@ fn buffers_of(alloc: Global, plans: &[NodePlan]) -> Result<Vec<u8>, AllocError>
 }
 
 impl EndlessWorld {
-    ghost use Rattle.std.specs.Prelude.{◌≡◌};
+    ghost use Rattle.std.specs.Prelude.{◌≡◌, IfOk};
     ghost use Rattle.fr_core.specs.Headline.{Headline};
+    ghost use Rattle.fr_core.specs.Steps.{event_of};
+    ghost use Rattle.fr_core.specs.Worlds.{interface_at};
     ghost use Rattle.fr_endless.specs.Alike.{buffers_each};
-    ghost use Rattle.fr_live.specs.LiveSteps.{StepsAlike};
+    ghost use Rattle.fr_interface.specs.Calls.{call_answer};
+    ghost use Rattle.fr_live.specs.LiveSteps.{AppliesAlike, StepsAlike, with_answer};
     ghost use Rattle.fr_live.specs.LiveWorlds.{OpensLiveWorld, ForEachWorld};
 
     /// Returns the opening world of a cluster, as `LiveWorld::new` does. Fails as that does.
@@ -89,6 +94,22 @@ impl EndlessWorld {
         ensures { StepsAlike self.old event.now result self.new }
     {
         self.world.step(event)
+    }
+
+    /// Executes one event without its answer, as `LiveWorld::apply` does, and fails as that does.
+    pub fn apply(&mut self, event: &Event) -> Result<(), StepError>
+        ensures { AppliesAlike self.old event.now result self.new }
+    {
+        self.world.apply(event)
+    }
+
+    /// Makes a call of a task as `LiveWorld::call` does, and fails as that does.
+    pub fn call(&mut self, node: NodeId, task: TaskId, call: &Call) -> Result<Answer, StepError>
+        ensures steps { StepsAlike self.old (event_of node task call.now) (with_answer result) self.new }
+        ensures answer { ForEachWorld self.old (λ w. IfOk result
+            (λ a. a ≡ call_answer (interface_at w node) task call.now)) }
+    {
+        self.world.call(node, task, call)
     }
 
     /// Returns the data of the interfaces, in the order of the nodes.

@@ -12,12 +12,19 @@ use Rattle.fr_core.specs.declared.event.Event.{Event}
 use Rattle.fr_core.specs.declared.event.Event.TheVariants.{Seal}
 use Rattle.fr_core.specs.declared.event.Reply.{Reply}
 use Rattle.fr_core.specs.declared.event.Reply.TheVariants.{Done, Committed, Window}
+use Rattle.fr_interface.specs.Calls.{call_answer}
+use Rattle.fr_interface.specs.declared.call.Answer.{Answer}
+use Rattle.fr_interface.specs.declared.call.Call.{Call}
+use Rattle.fr_interface.specs.declared.call.Call.TheVariants as host_call
 use Rattle.fr_interface.specs.declared.interface.Receipt.{Receipt}
 use Rattle.fr_slots.specs.Windows.{Opportunity}
 use Rattle.fr_core.specs.Steps.{Steps, Refuses, step_refusal, step_reply, step_done, answered, with_window}
-use Rattle.fr_core.specs.Worlds.{WorldState}
+use Rattle.fr_core.specs.Steps.{event_of, reply_of}
+use Rattle.fr_core.specs.Worlds.{WorldState, interface_at}
+use Rattle.fr_live.proofs.CallLemmas.{reply_call}
 use Rattle.fr_live.proofs.RefusalLemmas.{seal_refuses}
-use Rattle.fr_live.specs.LiveSteps.{LiveSteps, StepsAlike, SealsMachine, with_receipt}
+use Rattle.fr_live.specs.LiveSteps.{LiveApplies, LiveSteps, AppliesAlike, StepsAlike, SealsMachine, with_answer}
+use Rattle.fr_live.specs.LiveSteps.{with_receipt, without_value}
 use Rattle.fr_live.specs.LiveWorlds.{LiveState, Leads, IsWorldHistory}
 
 -- the answer with this reply in place of the value
@@ -43,6 +50,10 @@ done_replied (Err e) = refl
 receipt_replied : (r : Result Receipt StepError) → replied Committed r ≡ with_receipt r
 receipt_replied (Ok x) = refl
 receipt_replied (Err e) = refl
+
+answer_replied : (r : Result Answer StepError) → replied reply_of r ≡ with_answer r
+answer_replied (Ok x) = refl
+answer_replied (Err e) = refl
 
 window_replied : (r : Result Opportunity StepError) → replied Window r ≡ with_window r
 window_replied (Ok x) = refl
@@ -80,10 +91,30 @@ module _ (old new : LiveState) (event : Event)
   window_so r refusal leads refused replies = subst (λ a. LiveSteps old event a new) (window_replied r)
       (step_so old new event Window plain r refusal leads refused replies)
 
+-- no call of a task is a seal
+plain_call : (n task : ℕ) (call : Call) (e : StepError) (found : Option StepError) → found ≡ Some e
+    → Refuses (event_of n task call) e found
+plain_call n task (host_call.Commit buffer payload) e found is = is
+plain_call n task (host_call.Withdraw buffer) e found is = is
+plain_call n task (host_call.Read buffer) e found is = is
+plain_call n task host_call.Pop e found is = is
+
 -- a fact about the value in an accepted answer gives another
 pub on_value : {X : Type 0} {P Q : X → Type 0} (r : Result X StepError) → ((x : X) → P x → Q x) → IfOk r P → IfOk r Q
 on_value (Ok x) so h = so x h
 on_value (Err e) so h = tt
+
+-- the same for a call of a task
+pub call_so : (old new : LiveState) (n task : ℕ) (call : Call) (r : Result Answer StepError)
+    → ((w : WorldState) → Leads w old → result_err r ≡ step_refusal w (event_of n task call))
+    → ((w : WorldState) → Leads w old → OnOk r (Leads (step_done w (event_of n task call)) new))
+    → OnErr r (new ≡ old)
+    → ((w : WorldState) → Leads w old → IfOk r (λ a. a ≡ call_answer (interface_at w n) task call))
+    → LiveSteps old (event_of n task call) (with_answer r) new
+call_so old new n task call r refusal leads refused answers =
+    subst (λ a. LiveSteps old (event_of n task call) a new) (answer_replied r)
+    (step_so old new (event_of n task call) reply_of (plain_call n task call) r refusal leads refused
+    (λ w is. on_value r (λ a h. ap reply_of h ∙ reply_call w n task call) (answers w is)))
 
 pub seal_so : (old new : LiveState) (r : Result (Unit {0}) StepError) → SealsMachine old r new
     → LiveSteps old Seal (answered Done r) new
@@ -120,10 +151,35 @@ seal_so old new (Err (Bus bus.NotAllTaken)) seals w is =
 seal_so old new (Err (Bus bus.BadCycles)) seals w is =
     (w, (sym (seal_refuses w old is) ∙ seals.0, refl), subst (Leads w) (sym seals.1) is)
 
+-- ---- a step without its reply
+
+module _ {X : Type 0} (old new : LiveState) (event : Event)
+    (plain : (e : StepError) (found : Option StepError) → found ≡ Some e → Refuses event e found) where
+  pub applied_so : (r : Result X StepError) → ((w : WorldState) → Leads w old → result_err r ≡ step_refusal w event)
+      → ((w : WorldState) → Leads w old → OnOk r (Leads (step_done w event) new)) → OnErr r (new ≡ old)
+      → LiveApplies old event (without_value r) new
+  applied_so (Ok x) refusal leads refused w is = (step_done w event, (sym (refusal w is), refl, refl), leads w is)
+  applied_so (Err e) refusal leads refused w is =
+      (w, (plain e (step_refusal w event) (sym (refusal w is)), refl), subst (Leads w) (sym refused) is)
+
+pub applied_by : (old new : LiveState) (event : Event) (answer : Result Reply StepError)
+    → LiveSteps old event answer new → LiveApplies old event (without_value answer) new
+applied_by old new event (Ok reply) steps w is =
+    let step = steps w is in
+    (step.0, (step.1.0, refl, step.1.2), step.2)
+applied_by old new event (Err e) steps w is = steps w is
+
 -- ---- worlds
 
 pub alike : (old new : LiveState) (event : Event) (answer : Result Reply StepError) → LiveSteps old event answer new
     → StepsAlike old event answer new
 alike old new event answer steps w is =
     let step = steps w is.leads in
+    (step.0, step.1, record { leads = step.2; world_is = kept_step w event answer step.0 step.1 is.world_is })
+
+pub applies_alike : (old new : LiveState) (event : Event) (outcome : Result (Unit {0}) StepError)
+    → LiveApplies old event outcome new → AppliesAlike old event outcome new
+applies_alike old new event outcome applies w is =
+    let step = applies w is.leads in
+    let answer = answered (step_reply w event) outcome in
     (step.0, step.1, record { leads = step.2; world_is = kept_step w event answer step.0 step.1 is.world_is })

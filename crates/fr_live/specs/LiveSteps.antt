@@ -10,9 +10,10 @@ use Rattle.fr_core.specs.declared.error.StepError.TheVariants.{UnknownNode, Wron
 use Rattle.fr_core.specs.declared.event.Event.{Event}
 use Rattle.fr_core.specs.declared.event.Reply.{Reply}
 use Rattle.fr_core.specs.declared.event.Reply.TheVariants.{Committed}
+use Rattle.fr_interface.specs.declared.call.Answer.{Answer}
 use Rattle.fr_interface.specs.declared.interface.Receipt.{Receipt}
 use Rattle.fr_core.specs.declared.event.Event.TheVariants.{Seal}
-use Rattle.fr_core.specs.Steps.{Steps, Applies, step_done, unless_collecting}
+use Rattle.fr_core.specs.Steps.{Steps, Applies, reply_of, step_done, unless_collecting}
 use Rattle.fr_core.specs.Worlds.{WorldState}
 use Rattle.fr_interface.specs.Standing.{commit_refused, fetch_refused, observe_refused}
 use Rattle.fr_live.specs.LiveWorlds.{LiveState, Leads, IsWorldHistory, has_node, standing_at, carried_at}
@@ -64,11 +65,26 @@ abbrev pub with_receipt : Result Receipt StepError → Result Reply StepError
 with_receipt (Ok receipt) = Ok (Committed receipt)
 with_receipt (Err e) = Err e
 
+-- the reply that has the answer of an accepted call
+abbrev pub with_answer : Result Answer StepError → Result Reply StepError
+with_answer (Ok answer) = Ok (reply_of answer)
+with_answer (Err e) = Err e
+
+-- whether it was accepted, and nothing more
+abbrev pub without_value : {X : Type 0} → Result X StepError → Result (Unit {0}) StepError
+without_value (Ok x) = Ok tt
+without_value (Err e) = Err e
+
 -- Each world that leads to the data before the step takes this step, with this answer, and then leads to the data after
 -- it.
 abbrev pub LiveSteps : LiveState → Event → Result Reply StepError → LiveState → Type 0
 LiveSteps old event answer new =
     (w : WorldState) → Leads w old → (v : WorldState) × Steps w event answer v × Leads v new
+
+-- the same without the reply
+abbrev pub LiveApplies : LiveState → Event → Result (Unit {0}) StepError → LiveState → Type 0
+LiveApplies old event outcome new =
+    (w : WorldState) → Leads w old → (v : WorldState) × Applies w event outcome v × Leads v new
 
 -- the same for worlds
 abbrev pub StepsAlike : LiveState → Event → Result Reply StepError → LiveState → Type 0

@@ -4,7 +4,7 @@ ghost use Rattle.std.specs.Prelude.{◌≡◌, replicate, map, IfOk};
 ghost use Rattle.fr_core.specs.Carried.{Idle};
 ghost use Rattle.fr_core.specs.Steps.{answered, with_window};
 ghost use Rattle.fr_core.specs.declared.event.Reply.TheVariants.{Done};
-ghost use Rattle.fr_live.specs.LiveSteps.{with_receipt};
+ghost use Rattle.fr_live.specs.LiveSteps.{with_answer, with_receipt, without_value};
 ghost use Rattle.fr_live.specs.LiveWorlds.{AreHistories, new_with};
 
 use crate::room::Room;
@@ -15,7 +15,7 @@ use fr_core::controller::{Controller, Due};
 use fr_core::error::StepError;
 use fr_core::event::{Event, Reply};
 use fr_frame::payload::Payload;
-use fr_interface::call::Call;
+use fr_interface::call::{Answer, Call};
 use fr_interface::errors::InterfaceError;
 use fr_interface::interface::Receipt;
 use fr_interface::state::InterfaceState;
@@ -84,12 +84,38 @@ fn committed(outcome: Result<Receipt, StepError>) -> Result<Reply, StepError>
     Ok(Reply::Committed(receipt))
 }
 
+/// Returns the reply that has the answer of an accepted call.
+fn replied(outcome: Result<Answer, StepError>) -> Result<Reply, StepError>
+    ensures { result ≡ with_answer outcome }
+{
+    match outcome {
+        Ok(answer) => Ok(Reply::from(answer)),
+        Err(error) => Err(error),
+    }
+}
+
 /// Returns the reply that has the window of an accepted look.
 fn looked(outcome: Result<Window, StepError>) -> Result<Reply, StepError>
     ensures { result ≡ with_window outcome }
 {
     let window = outcome?;
     Ok(Reply::Window(window))
+}
+
+/// Returns whether a look was accepted, without its window.
+fn without_window(outcome: Result<Window, StepError>) -> Result<(), StepError>
+    ensures { result ≡ without_value outcome }
+{
+    outcome?;
+    Ok(())
+}
+
+/// Returns whether an event was accepted, without its reply.
+fn without_reply(outcome: Result<Reply, StepError>) -> Result<(), StepError>
+    ensures { result ≡ without_value outcome }
+{
+    outcome?;
+    Ok(())
 }
 
 /// Returns `Done` for an accepted event.
@@ -108,12 +134,13 @@ impl LiveMachine {
     ghost use Rattle.fr_bus.specs.States.{collecting_of, inject_refusal, seal_refusal, advance_refusal};
     ghost use Rattle.fr_core.specs.declared.error.StepError.TheVariants.{UnknownNode, Host, Bus};
     ghost use Rattle.fr_core.specs.declared.event.Event.TheVariants as event;
-    ghost use Rattle.fr_core.specs.Steps.{Applies, event_of, step_refusal, step_reply, step_done, reply_of};
+    ghost use Rattle.fr_core.specs.Steps.{Applies, event_of, step_refusal, step_reply, step_done};
     ghost use Rattle.fr_core.specs.Worlds.{is_between, interface_at};
+    ghost use Rattle.fr_interface.specs.Calls.{call_answer};
     ghost use Rattle.fr_interface.specs.Standing.{commit_refused};
     ghost use Rattle.fr_live.specs.LiveWorlds.{OpensMachine, ForEachLead, Leads, has_node, standing_at, carried_at};
-    ghost use Rattle.fr_live.specs.LiveSteps.{LiveSteps, SealsMachine, if_node, look_in_turn, fetch_in_turn};
-    ghost use Rattle.fr_live.specs.LiveSteps.{put_in_turn, take_in_turn, observe_in_turn};
+    ghost use Rattle.fr_live.specs.LiveSteps.{LiveApplies, LiveSteps, SealsMachine, if_node, look_in_turn};
+    ghost use Rattle.fr_live.specs.LiveSteps.{fetch_in_turn, put_in_turn, take_in_turn, observe_in_turn};
 
     /// Returns the data of the opening world.
     pub(crate) fn new(
@@ -197,17 +224,23 @@ impl LiveMachine {
         Ok(Receipt { task, entry })
     }
 
-    /// Makes a call of a task at the node's interface.
-    fn call(&mut self, node: NodeId, task: TaskId, call: &Call) -> Result<Reply, StepError>
+    /// Makes a call of a task at the node's interface, and returns its answer.
+    pub(crate) fn call(
+        &mut self,
+        node: NodeId,
+        task: TaskId,
+        call: &Call,
+    ) -> Result<Answer, StepError>
         ensures refusal { ForEachLead self.old (λ w. result_err result ≡ step_refusal w (event_of node task call.now)) }
-        ensures reply { ForEachLead self.old (λ w. IfOk result (λ r. r ≡ step_reply w (event_of node task call.now))) }
+        ensures answer { ForEachLead self.old (λ w. IfOk result
+            (λ a. a ≡ call_answer (interface_at w node) task call.now)) }
         ensures leads { ForEachLead self.old (λ w. OnOk result
             (Leads (step_done w (event_of node task call.now)) self.new)) }
         ensures refused { OnErr result (self.new ≡ self.old) }
     {
         let place = self.place(node)?;
         let answer = self.interfaces[place].call(task, call)?;
-        Ok(Reply::from(answer))
+        Ok(answer)
     }
 
     /// Gets the open window from the bus for a controller.
@@ -343,12 +376,12 @@ impl LiveMachine {
                 payload,
             } => committed(self.commit(*node, *task, *buffer, payload)),
             Event::Withdraw { node, task, buffer } => {
-                self.call(*node, *task, &Call::Withdraw { buffer: *buffer })
+                replied(self.call(*node, *task, &Call::Withdraw { buffer: *buffer }))
             }
             Event::Read { node, task, buffer } => {
-                self.call(*node, *task, &Call::Read { buffer: *buffer })
+                replied(self.call(*node, *task, &Call::Read { buffer: *buffer }))
             }
-            Event::Pop { node, task } => self.call(*node, *task, &Call::Pop),
+            Event::Pop { node, task } => replied(self.call(*node, *task, &Call::Pop)),
             Event::Look(node) => looked(self.look(*node)),
             Event::Fetch(node) => done(self.fetch(*node)),
             Event::Put(node) => done(self.put(*node)),
@@ -357,6 +390,23 @@ impl LiveMachine {
             Event::Inject(fault) => done(self.inject(fault)),
             Event::Seal => done(self.seal()),
             Event::Advance => done(self.advance()),
+        }
+    }
+
+    /// Executes one event, without its answer.
+    pub(crate) fn apply(&mut self, event: &Event) -> Result<(), StepError>
+        ensures { LiveApplies self.old event.now result self.new }
+    {
+        match event {
+            Event::Look(node) => without_window(self.look(*node)),
+            Event::Fetch(node) => self.fetch(*node),
+            Event::Put(node) => self.put(*node),
+            Event::Take(node) => self.take(*node),
+            Event::Observe(node) => self.observe(*node),
+            Event::Inject(fault) => self.inject(fault),
+            Event::Seal => self.seal(),
+            Event::Advance => self.advance(),
+            _ => without_reply(self.step(event)),
         }
     }
 }

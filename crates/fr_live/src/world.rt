@@ -6,8 +6,10 @@ use fr_bus::error::BusError;
 use fr_bus::live::LiveBus;
 use fr_core::error::StepError;
 use fr_core::event::{Event, Reply};
+use fr_interface::call::{Answer, Call};
 use fr_interface::state::InterfaceState;
 use fr_schedule::cluster::Cluster;
+use fr_slots::numbers::{NodeId, TaskId};
 use std::alloc::Global;
 use std::marker::Model;
 
@@ -30,11 +32,13 @@ impl Model for LiveWorld {
 }
 
 impl LiveWorld {
-    ghost use Rattle.std.specs.Prelude.{◌≡◌};
+    ghost use Rattle.std.specs.Prelude.{◌≡◌, IfOk};
     ghost use Rattle.std.specs.List.{list_all};
     ghost use Rattle.fr_core.specs.Headline.{Headline};
-    ghost use Rattle.fr_core.specs.Worlds.{is_between};
-    ghost use Rattle.fr_live.specs.LiveSteps.{StepsAlike};
+    ghost use Rattle.fr_core.specs.Steps.{event_of};
+    ghost use Rattle.fr_core.specs.Worlds.{interface_at, is_between};
+    ghost use Rattle.fr_interface.specs.Calls.{call_answer};
+    ghost use Rattle.fr_live.specs.LiveSteps.{AppliesAlike, StepsAlike, with_answer};
     ghost use Rattle.fr_live.specs.LiveWorlds.{OpensLiveWorld, ForEachWorld};
 
     /// Returns the opening world of a cluster for a run of so many cycles, 1 to 4,000,000. The bus is at cycle 0, slot
@@ -63,6 +67,24 @@ impl LiveWorld {
         ensures { StepsAlike self.old event.now result self.new }
     {
         self.machine.step(event)
+    }
+
+    /// Executes one event as `step` does, without its answer, and fails as that does. An event of a controller or of the
+    /// bus moves no room for a frame.
+    pub fn apply(&mut self, event: &Event) -> Result<(), StepError>
+        ensures { AppliesAlike self.old event.now result self.new }
+    {
+        self.machine.apply(event)
+    }
+
+    /// Makes a call of a task at the node's interface, as `step` does for the event of the call, and fails as that does.
+    /// The answer also has the origin of a frame.
+    pub fn call(&mut self, node: NodeId, task: TaskId, call: &Call) -> Result<Answer, StepError>
+        ensures steps { StepsAlike self.old (event_of node task call.now) (with_answer result) self.new }
+        ensures answer { ForEachWorld self.old (λ w. IfOk result
+            (λ a. a ≡ call_answer (interface_at w node) task call.now)) }
+    {
+        self.machine.call(node, task, call)
     }
 
     /// Returns the data of the interfaces, in the order of the nodes.

@@ -1,6 +1,6 @@
 -- A list of events that are executed one after another.
 use Rattle.std.proofs.Common.{◌≡◌, ℕ, zero, suc, ◌+◌, false, List, [], ◌∷◌, ◌++◌, Option, Some, None, refl, ap, sym}
-use Rattle.std.proofs.Common.{subst, ◌∙◌, arith}
+use Rattle.std.proofs.Common.{Result, Ok, Err, subst, ◌∙◌, arith}
 use Rattle.std.specs.List.{flat_map, range_with_len}
 use Rattle.std.proofs.lemmas.Grind.{flat_map-append}
 use Rattle.std.proofs.lemmas.List.{append-nil}
@@ -9,7 +9,8 @@ use Rattle.fr_bus.specs.States.{collecting_of}
 use Rattle.fr_core.specs.declared.error.StepError.{StepError}
 use Rattle.fr_core.specs.declared.event.Event.{Event}
 use Rattle.fr_core.specs.Runs.{Answer, StepsAll}
-use Rattle.fr_core.specs.Steps.{Steps}
+use Rattle.fr_core.specs.declared.event.Reply.{Reply}
+use Rattle.fr_core.specs.Steps.{Steps, answered}
 use Rattle.fr_core.specs.Worlds.{WorldState}
 use Rattle.fr_runs.specs.declared.fault_line.FaultLine.{FaultLine}
 use Rattle.fr_playing.specs.Moving.{first_refusal, run_cycle_after, struck_after, Strikes, DoesAll, MovesOn, for_nodes}
@@ -36,6 +37,13 @@ steps_more old (e ∷ events) (a ∷ answers) between event answer new so_far st
 pub does_none : (w : WorldState) → DoesAll w [] None w
 unfolding StepsAll
 does_none w = ([], refl, refl)
+
+-- what is found depends on no reply
+pub found_so : (found : Option StepError) (outcome : Result (Unit {0}) StepError) (reply other : Reply)
+    → first_refusal found (answered reply outcome) ≡ first_refusal found (answered other outcome)
+found_so (Some e) outcome reply other = refl
+found_so None (Ok done) reply other = refl
+found_so None (Err e) reply other = refl
 
 pub does_more : (old : WorldState) (events : List Event) (found : Option StepError) (between : WorldState)
     (event : Event) (answer : Answer) (new : WorldState)

@@ -1,7 +1,9 @@
 //! The faults and steps of a window, as events.
 ghost use Rattle.std.specs.Prelude.{◌≡◌, ◌≤◌, ◌++◌, List, IfOk, OnOk};
 ghost use Rattle.std.specs.List.{flat_map, range_with_len};
+ghost use Rattle.fr_core.specs.declared.event.Reply.TheVariants.{Done};
 ghost use Rattle.fr_core.specs.Runs.{Answer, StepsAll};
+ghost use Rattle.fr_core.specs.Steps.{answered};
 ghost use Rattle.fr_playing.specs.Moving.{first_refusal, hindrance, observe_events, offer_events, see_events};
 ghost use Rattle.fr_playing.specs.Moving.{for_nodes, whole_window, window_events, run_cycle_after, Strikes, DoesAll};
 ghost use Rattle.fr_playing.specs.Moving.{MovesOn, is_at_cycle, EndsCycle, RunsCycles};
@@ -10,36 +12,37 @@ use crate::striking::strike_all;
 use fr_bus::bus::Bus;
 use fr_bus::windows::opens_cycle;
 use fr_core::error::StepError;
-use fr_core::event::{Event, Reply};
+use fr_core::event::Event;
 use fr_core::world::World;
 use fr_runs::fault_line::FaultLine;
 use fr_slots::numbers::NodeId;
 use fr_slots::window::Window;
 use std::alloc::{AllocError, Global};
 
-/// The greatest number of windows of a cycle: one for each of 1,023 static slots and 8,000 minislots.
-pub(crate) const MOST_WINDOWS: u32 = 9_023;
+/// The greatest number of windows of a cycle: one for each of 1,023 static slots and 8,000 minislots (project-defined).
+pub const MOST_WINDOWS: u32 = 9_023;
 
-/// Returns the first refusal that isn't `WrongTurn`: the one found before, or otherwise this one.
-fn first_refusal(found: Option<StepError>, answer: &Result<Reply, StepError>) -> Option<StepError>
-    ensures { result ≡ first_refusal found answer.now }
+/// Returns the first refusal that isn't `WrongTurn`: the one found before, or otherwise that of this event
+/// (project-defined).
+pub fn first_refusal(found: Option<StepError>, outcome: Result<(), StepError>) -> Option<StepError>
+    ensures { result ≡ first_refusal found (answered Done outcome) }
 {
-    match (found, answer) {
+    match (found, outcome) {
         (Some(found), _) => Some(found),
-        (None, Ok(_)) => None,
+        (None, Ok(())) => None,
         (None, Err(StepError::WrongTurn)) => None,
-        (None, Err(error)) => Some(*error),
+        (None, Err(error)) => Some(error),
     }
 }
 
-/// Returns the hindrance of the bus, from the answer of its advance and the refusal found before.
-fn hindrance(found: Option<StepError>, last: &Result<Reply, StepError>) -> Option<StepError>
-    ensures { result ≡ hindrance found last.now }
+/// Returns the hindrance of the bus, from the outcome of its advance and the refusal found before (project-defined).
+pub fn hindrance(found: Option<StepError>, last: Result<(), StepError>) -> Option<StepError>
+    ensures { result ≡ hindrance found (answered Done last) }
 {
     match (last, found) {
-        (Ok(_), _) => None,
+        (Ok(()), _) => None,
         (Err(_), Some(found)) => Some(found),
-        (Err(error), None) => Some(*error),
+        (Err(error), None) => Some(error),
     }
 }
 
@@ -126,8 +129,8 @@ fn do_all(world: &mut World, events: &[Event]) -> Option<StepError>
 {
     let mut found = None;
     for event in events {
-        let answer = world.step(event);
-        found = first_refusal(found, &answer);
+        let outcome = world.apply(event);
+        found = first_refusal(found, outcome);
     }
     found
 }
@@ -166,8 +169,8 @@ pub fn finish_window(world: &mut World, faults: &[FaultLine], events: &[Event]) 
 {
     strike_open(world, faults);
     let found = do_all(world, events);
-    let last = world.step(&Event::Advance);
-    hindrance(found, &last)
+    let last = world.apply(&Event::Advance);
+    hindrance(found, last)
 }
 
 /// Returns whether the open window is the first of its cycle, or the run is over (project-defined).

@@ -7,9 +7,9 @@ loop-event-init c = did_none c.args.world.now
 
 pub loop-event-preserved : goal.loop-event-preserved
 loop-event-preserved c =
-    did_more c.args.world.now c.loop-event.world c.step-answer.new.self c.args.events.now c.loop-event.event-index
-    c.event-item.result c.loop-event.found c.first_refusal-found.result c.step-answer.result c.loop-event-test.true
-    c.event-item.is c.first_refusal-found.ensures c.loop-event.invariant c.step-answer.ensures
+    did_more c.args.world.now c.loop-event.world c.apply-outcome.new.self c.args.events.now c.loop-event.event-index
+    c.event-item.result c.loop-event.found c.first_refusal-found.result c.apply-outcome.result c.loop-event-test.true
+    c.event-item.is c.first_refusal-found.ensures c.loop-event.invariant c.apply-outcome.ensures
 
 pub returns : goal.returns
 returns c =

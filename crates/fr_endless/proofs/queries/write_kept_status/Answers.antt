@@ -1,5 +1,4 @@
 use Rattle.std.proofs.Common.{ap, ◌∙◌}
-use Rattle.fr_endless.specs.Answers.{kept_status}
 use Rattle.fr_session.proofs.QueryLemmas.{writes_so}
 use Rattle.fr_session.specs.Queries.{counters_on, status_line}
 use Rattle.fr_status.specs.declared.counters.Counters.{Counters}

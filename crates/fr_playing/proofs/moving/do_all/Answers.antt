@@ -1,5 +1,7 @@
 use Rattle.std.proofs.lemmas.List.{take_more}
-use Rattle.fr_playing.proofs.MovingLemmas.{does_none, does_more}
+use Rattle.fr_core.specs.declared.event.Reply.TheVariants.{Done}
+use Rattle.fr_core.specs.Steps.{step_reply}
+use Rattle.fr_playing.proofs.MovingLemmas.{does_none, does_more, found_so}
 use Rattle.fr_playing.proofs.moving.do_all.Goals as goal
 
 pub loop-event-init : goal.loop-event-init
@@ -11,5 +13,6 @@ loop-event-preserved c =
       take_more c.args.events.now c.loop-event.event-index c.event-item.result c.loop-event-test.true,
       ← c.event-item.is,
       c.first_refusal-found.ensures,
+      found_so c.loop-event.found c.apply-outcome.result Done (step_reply c.loop-event.world c.event-item.result),
     )
-    (does_more _ _ _ _ _ _ _ c.loop-event.invariant c.step-answer.ensures.step)
+    (does_more _ _ _ _ _ _ _ c.loop-event.invariant c.apply-outcome.ensures.step)

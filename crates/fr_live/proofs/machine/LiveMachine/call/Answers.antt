@@ -3,13 +3,13 @@ use Rattle.std.proofs.lemmas.Bool.{ltb-true}
 use Rattle.std.specs.Prelude.{option_map, slice_set}
 use Rattle.std.specs.Result.{result_err}
 use Rattle.fr_core.specs.declared.error.StepError.TheVariants.{UnknownNode, Host}
-use Rattle.fr_core.specs.Steps.{reply_of, with_interface}
+use Rattle.fr_core.specs.Steps.{with_interface}
 use Rattle.fr_core.specs.Worlds.{WorldState, interface_at}
 use Rattle.fr_core.specs.Worlds as worlds
 use Rattle.fr_interface.specs.Calls.{call_refusal, call_answer, call_entry}
 use Rattle.fr_interface.specs.Standing.{IsHistory}
 use Rattle.fr_interface.specs.State.{with_entry}
-use Rattle.fr_live.proofs.CallLemmas.{place_no, no_node, node_call, reply_call, done_call}
+use Rattle.fr_live.proofs.CallLemmas.{place_no, no_node, node_call, done_call}
 use Rattle.fr_live.proofs.LeadLemmas.{place_ok, nodes_same, history_lent, with_history}
 use Rattle.fr_live.specs.LiveWorlds.{LiveState, Leads, has_node}
 use Rattle.fr_live.proofs.machine.LiveMachine.call.Goals as goal
@@ -69,8 +69,8 @@ returns-clause-refusal c w is =
     ap (option_map Host) (c.in_ok-answer.ensures.refusal s history)
     ∙ ap (λ m. option_map Host (call_refusal (interface_at w m) task call)) at.1 ∙ sym (node_call w n task call there)
 
-pub returns-clause-reply : goal.returns-clause-reply
-returns-clause-reply c w is =
+pub returns-clause-answer : goal.returns-clause-answer
+returns-clause-answer c w is =
     let l : LiveState = record {
       interfaces = c.self.inside.interfaces.items;
       bus = c.self.inside.bus;
@@ -89,8 +89,7 @@ returns-clause-reply c w is =
     let n = c.args.node in
     let task = c.args.task in
     let call = c.args.call.now in
-    c.from.ensures ∙ ap reply_of (c.in_ok-answer.ensures.answer s history)
-    ∙ ap (λ m. reply_of (call_answer (interface_at w m) task call)) at.1 ∙ reply_call w n task call
+    c.in_ok-answer.ensures.answer s history ∙ ap (λ m. call_answer (interface_at w m) task call) at.1
 
 pub returns-clause-leads : goal.returns-clause-leads
 returns-clause-leads c w is =

@@ -1,11 +1,13 @@
 use Rattle.std.proofs.Common.{◌≡◌, refl, sym, ap, subst, ◌∙◌}
 use Rattle.fr_core.specs.declared.event.Event.{Event}
-use Rattle.fr_core.specs.declared.event.Event.TheVariants.{Commit, Look, Fetch, Put, Take, Observe, Inject}
+use Rattle.fr_core.specs.declared.event.Event.TheVariants.{Commit, Withdraw, Read, Pop, Look, Fetch, Put, Take}
+use Rattle.fr_core.specs.declared.event.Event.TheVariants.{Observe, Inject}
 use Rattle.fr_core.specs.declared.event.Reply.TheVariants.{Committed}
 use Rattle.fr_core.specs.Steps.{window_shown}
 use Rattle.fr_live.proofs.RefusalLemmas.{commit_refuses, look_refuses, fetch_refuses, put_refuses, take_refuses}
 use Rattle.fr_live.proofs.RefusalLemmas.{observe_refuses, inject_refuses, collecting_same}
-use Rattle.fr_live.proofs.StepLemmas.{done_so, receipt_so, window_so, on_value}
+use Rattle.fr_interface.specs.declared.call.Call.TheVariants as host_call
+use Rattle.fr_live.proofs.StepLemmas.{call_so, done_so, receipt_so, window_so, on_value}
 use Rattle.fr_live.specs.LiveSteps.{LiveSteps}
 use Rattle.fr_live.proofs.machine.LiveMachine.step.Goals as goal
 
@@ -88,3 +90,35 @@ returns-in-Look c =
     (λ w is. on_value c.look.result (λ x h. sym (ap window_shown
     (sym (collecting_same old.bus.bus w.bus is.bus_is.of_bus) ∙ h)))
     c.look.ensures.window)))
+
+pub returns-in-Withdraw : goal.returns-in-Withdraw
+returns-in-Withdraw c =
+    let old = c.args.self.now in
+    let new = c.call.new.self in
+    let event = Withdraw c.in-Withdraw.node c.in-Withdraw.task c.in-Withdraw.buffer in
+    subst (λ (e : Event). LiveSteps old e c.replied.result new) (sym c.in-Withdraw.is)
+    (subst (λ a. LiveSteps old event a new) (sym c.replied.ensures)
+    (call_so old new c.in-Withdraw.node c.in-Withdraw.task (host_call.Withdraw c.in-Withdraw.buffer)
+    c.call.result c.call.ensures.refusal
+    c.call.ensures.leads c.call.ensures.refused c.call.ensures.answer))
+
+pub returns-in-Read : goal.returns-in-Read
+returns-in-Read c =
+    let old = c.args.self.now in
+    let new = c.call-in-Read.new.self in
+    let event = Read c.in-Read.node c.in-Read.task c.in-Read.buffer in
+    subst (λ (e : Event). LiveSteps old e c.replied-in-Read.result new) (sym c.in-Read.is)
+    (subst (λ a. LiveSteps old event a new) (sym c.replied-in-Read.ensures)
+    (call_so old new c.in-Read.node c.in-Read.task (host_call.Read c.in-Read.buffer)
+    c.call-in-Read.result c.call-in-Read.ensures.refusal
+    c.call-in-Read.ensures.leads c.call-in-Read.ensures.refused c.call-in-Read.ensures.answer))
+
+pub returns-in-Pop : goal.returns-in-Pop
+returns-in-Pop c =
+    let old = c.args.self.now in
+    let new = c.call-in-Pop.new.self in
+    let event = Pop c.in-Pop.node c.in-Pop.task in
+    subst (λ (e : Event). LiveSteps old e c.replied-in-Pop.result new) (sym c.in-Pop.is)
+    (subst (λ a. LiveSteps old event a new) (sym c.replied-in-Pop.ensures)
+    (call_so old new c.in-Pop.node c.in-Pop.task host_call.Pop c.call-in-Pop.result c.call-in-Pop.ensures.refusal
+    c.call-in-Pop.ensures.leads c.call-in-Pop.ensures.refused c.call-in-Pop.ensures.answer))
