@@ -1,1 +1,3 @@
 pub mod MatrixLemmas
+pub mod ExtentLemmas
+pub mod GridLemmas

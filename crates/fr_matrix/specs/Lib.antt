@@ -1,4 +1,5 @@
 pub mod Looks
 pub mod Places
+pub mod Extents
 pub mod Pages
 pub mod Cells

@@ -1,20 +1,32 @@
 //! A cell of the matrix.
 
-ghost use Rattle.std.specs.Prelude.{◌≡◌, ◌≤◌, ◌<◌, ◌^◌, [], if◌then◌else◌};
+ghost use Rattle.std.specs.Prelude.{◌≡◌, ◌≤◌, ◌<◌, ◌^◌, if◌then◌else◌};
 ghost use Rattle.std.specs.List.{flat_map};
 ghost use Rattle.fr_text.specs.Writing.{Writes};
-ghost use Rattle.fr_matrix.specs.Cells.{cell_text, fate_text, front_text, head_text, label_text, mark_text};
-ghost use Rattle.fr_matrix.specs.Cells.{marks_class, marks_letters, sender_class, sender_number, sent_on, sent_text};
+ghost use Rattle.fr_matrix.specs.Cells.{box_width, cell_text, content_text, fate_text, front_text, head_text};
+ghost use Rattle.fr_matrix.specs.Cells.{label_text, letters_text, mark_text, marks_class, marks_letters, numbered_text};
+ghost use Rattle.fr_matrix.specs.Cells.{sender_class, sender_number, sent_on, sent_text, signs_text, slot_text};
 ghost use Rattle.fr_matrix.specs.Cells.{title_text, title_end, turned_text};
 
 use crate::look::{Look, Marks, look_word, sign};
 use fr_bus::outcome::{Sent, SentFate};
 use fr_slots::channel::Channel;
 use fr_slots::numbers::{NodeId, SlotId};
-use fr_svg::elements::{close_group, close_text, open_text, write_rect};
+use fr_svg::elements::{close_group, close_text, open_plain, open_text, write_rect};
 use fr_text::hexes::write_hex;
 use std::io;
 use std::io::Write;
+
+/// The shape of a cell, which all cells of a column have (project-defined).
+#[derive(Clone, Copy, PartialEq, Eq)]
+pub enum Shape {
+    /// A narrow box without texts.
+    Narrow,
+    /// A box without the slot, whose number stands above the column.
+    Headed,
+    /// A box with the number of the slot.
+    Numbered,
+}
 
 /// The content of a cell of the matrix, and its place (project-defined).
 #[derive(Clone, Copy)]
@@ -23,6 +35,8 @@ pub struct Cell {
     pub left: u64,
     /// The distance from the top.
     pub top: u64,
+    /// The shape.
+    pub shape: Shape,
     /// The cycle of the run.
     pub cycle: usize,
     /// The open slot of the channel.
@@ -172,16 +186,77 @@ fn write_close<W: Write>(writer: &mut W) -> io::Result<()>
     write!(writer, "</title>")
 }
 
-/// Writes its label: the sender's number, and the signs by which it is read without colours.
+/// Writes the number of its slot.
+#[tactic(auto, unfolding(crate::specs::Cells::slot_text))]
+fn write_slot<W: Write>(writer: &mut W, cell: &Cell) -> io::Result<()>
+    ensures { Writes W.contents writer.old writer.new result (slot_text cell.now) }
+{
+    let slot = cell.slot;
+    open_plain(writer, "slot")?;
+    open_text(writer, cell.left, cell.top, 10, 8)?;
+    write!(writer, "{slot}")?;
+    close_text(writer)?;
+    close_group(writer)
+}
+
+/// Writes the sender's number, and the sign by which it is read without colours.
 #[tactic(auto, unfolding(crate::specs::Cells::label_text))]
 fn write_label<W: Write>(writer: &mut W, cell: &Cell) -> io::Result<()>
     ensures { Writes W.contents writer.old writer.new result (label_text cell.now) }
 {
-    open_text(writer, cell.left, cell.top, 10, 14)?;
+    open_text(writer, cell.left, cell.top, 10, 17)?;
     write_sender_number(writer, cell.sender)?;
     writer.write_all(sign(cell.look).as_bytes())?;
+    close_text(writer)
+}
+
+/// Writes the letters of its marks in a line of their own.
+#[tactic(auto, unfolding(crate::specs::Cells::letters_text))]
+fn write_letters<W: Write>(writer: &mut W, cell: &Cell) -> io::Result<()>
+    ensures { Writes W.contents writer.old writer.new result (letters_text cell.now) }
+{
+    open_text(writer, cell.left, cell.top, 10, 25)?;
     write_marks_letters(writer, cell.marks)?;
     close_text(writer)
+}
+
+/// Writes the sender, its sign and the marks.
+#[tactic(auto, unfolding(crate::specs::Cells::signs_text))]
+fn write_signs<W: Write>(writer: &mut W, cell: &Cell) -> io::Result<()>
+    ensures { Writes W.contents writer.old writer.new result (signs_text cell.now) }
+{
+    write_label(writer, cell)?;
+    write_letters(writer, cell)
+}
+
+/// Writes all texts of a cell whose column has no heading.
+#[tactic(auto, unfolding(crate::specs::Cells::numbered_text))]
+fn write_numbered<W: Write>(writer: &mut W, cell: &Cell) -> io::Result<()>
+    ensures { Writes W.contents writer.old writer.new result (numbered_text cell.now) }
+{
+    write_slot(writer, cell)?;
+    write_signs(writer, cell)
+}
+
+/// Writes the texts in its box.
+fn write_content<W: Write>(writer: &mut W, cell: &Cell) -> io::Result<()>
+    ensures { Writes W.contents writer.old writer.new result (content_text cell.now.shape cell.now) }
+{
+    match cell.shape {
+        Shape::Narrow => Ok(()),
+        Shape::Headed => write_signs(writer, cell),
+        Shape::Numbered => write_numbered(writer, cell),
+    }
+}
+
+/// Returns the width of a cell of this shape.
+fn width_of(shape: Shape) -> u64
+    ensures { result ≡ box_width shape }
+{
+    match shape {
+        Shape::Narrow => 3,
+        Shape::Headed | Shape::Numbered => 20,
+    }
 }
 
 /// Writes the part before its box: its classes, and its title.
@@ -214,7 +289,7 @@ pub fn write_cell<W: Write>(
     ensures { Writes W.contents writer.old writer.new result (cell_text cell.now channel all.now turned) }
 {
     write_front(writer, cell, channel, all, turned)?;
-    write_rect(writer, cell.left, cell.top, 20, 20)?;
-    write_label(writer, cell)?;
+    write_rect(writer, cell.left, cell.top, width_of(cell.shape), 28)?;
+    write_content(writer, cell)?;
     close_group(writer)
 }

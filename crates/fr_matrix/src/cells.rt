@@ -1,13 +1,14 @@
 //! The cells of a record.
 
-ghost use Rattle.std.specs.Prelude.{◌≡◌, ◌≤◌, ◌<◌, ◌-◌, ◌++◌, ◌∷◌, [], IsTrue, length, ◌↔◌};
-ghost use Rattle.fr_bus.specs.Windows.{cycles_begun, this_cycle};
+ghost use Rattle.std.specs.Prelude.{◌≡◌, ◌≤◌, ◌<◌, IsTrue};
 ghost use Rattle.fr_slots.specs.Windows.{slot_of};
 ghost use Rattle.fr_text.specs.Writing.{Writes};
-ghost use Rattle.fr_matrix.specs.Cells.{cell_at, cell_of, cells_text, slot_cell};
-ghost use Rattle.fr_matrix.specs.Places.{across, down, has_row, is_drawn};
+ghost use Rattle.fr_matrix.specs.Cells.{cell_at, cell_of, cells_text, shape_at, slot_cell};
+ghost use Rattle.fr_matrix.specs.Places.{is_drawn};
 
-use crate::cell::{Cell, write_cell};
+use crate::cell::{Cell, Shape, write_cell};
+use crate::extent::{Extent, has_row};
+use crate::grid::{Grid, across, down, is_headed, is_wide};
 use crate::look::{look_in, marks_in, sender_in, turned_bit};
 use crate::view::View;
 use fr_bus::outcome::Sealed;
@@ -17,58 +18,47 @@ use fr_slots::params::Params;
 use std::io;
 use std::io::Write;
 
-/// The greatest number of cycles in a matrix.
-pub const MOST_CYCLES: usize = 64;
-
-/// The greatest number of windows of a cycle in a matrix.
-pub const MOST_WINDOWS: usize = 512;
-
-/// Returns the distance of a column from the left.
-pub(crate) fn across(column: usize) -> u64
-    requires { column ≤ 512 }
-    ensures { result ≡ across column }
+/// Returns whether a window of this cycle of the run and of this column is drawn, if as many columns are.
+fn is_drawn(view: &View, columns: usize, cycle: usize, column: usize) -> bool
+    ensures { result ≡ is_drawn view.now columns cycle column }
 {
-    70 + 22 * (column as u64)
+    let first = usize::from(view.from_window);
+    has_row(view, cycle) && first <= column && column - first < columns
 }
 
-/// Returns the distance of a row from the top.
-pub(crate) fn down(row: usize) -> u64
-    requires { row ≤ 64 }
-    ensures { result ≡ down row }
+/// Returns the shape of the cells of a column.
+fn shape_at(grid: &Grid, place: usize) -> Shape
+    requires { place < 377 }
+    ensures { result ≡ shape_at grid.now place }
 {
-    90 + 22 * (row as u64)
-}
-
-/// Returns whether the cycle of the run has a row.
-pub(crate) fn has_row(view: &View, cycle: usize) -> bool
-    ensures { result ≡ has_row view.now cycle }
-{
-    let from = usize::from(view.from);
-    from <= cycle && cycle - from < MOST_CYCLES
-}
-
-/// Returns whether a window of this cycle of the run and of this column is drawn.
-fn is_drawn(view: &View, cycle: usize, column: usize) -> bool
-    ensures { result ≡ is_drawn view.now cycle column }
-{
-    has_row(view, cycle) && column < MOST_WINDOWS
+    if is_headed(grid, place) {
+        Shape::Headed
+    } else if is_wide(grid, place) {
+        Shape::Numbered
+    } else {
+        Shape::Narrow
+    }
 }
 
 /// Returns the cell of a window in which the channel has this slot.
 fn cell_of(
     params: &Params,
     view: &View,
+    extent: &Extent,
     cycle: usize,
     column: usize,
     slot: SlotId,
     sealed: &Sealed,
 ) -> Cell
-    requires { IsTrue (is_drawn view.now cycle column) }
-    ensures { result ≡ cell_of params.now view.now cycle column slot sealed.now }
+    requires drawn { IsTrue (is_drawn view.now extent.now.columns cycle column) }
+    requires columns { extent.now.columns ≤ 377 }
+    ensures { result ≡ cell_of params.now view.now extent.now.grid cycle column slot sealed.now }
 {
+    let place = column - usize::from(view.from_window);
     Cell {
-        left: across(column),
+        left: across(&extent.grid, place),
         top: down(cycle - usize::from(view.from)),
+        shape: shape_at(&extent.grid, place),
         cycle,
         slot,
         number: sealed.window.number,
@@ -83,17 +73,20 @@ fn write_slot_cell<W: Write>(
     writer: &mut W,
     params: &Params,
     view: &View,
+    extent: &Extent,
     cycle: usize,
     column: usize,
     sealed: &Sealed,
 ) -> io::Result<()>
-    requires { IsTrue (is_drawn view.now cycle column) }
+    requires drawn { IsTrue (is_drawn view.now extent.now.columns cycle column) }
+    requires columns { extent.now.columns ≤ 377 }
     ensures { Writes W.contents writer.old writer.new result
-        (slot_cell params.now view.now cycle column sealed.now (slot_of sealed.now.window view.now.channel)) }
+        (slot_cell params.now view.now extent.now.grid cycle column sealed.now
+        (slot_of sealed.now.window view.now.channel)) }
 {
     match sealed.window.slot(view.channel) {
         Some(slot) => {
-            let cell = cell_of(params, view, cycle, column, slot, sealed);
+            let cell = cell_of(params, view, extent, cycle, column, slot, sealed);
             let turned = turned_bit(params, view.channel, sealed);
             write_cell(writer, &cell, view.channel, sealed.sent.as_slice(), turned)
         }
@@ -106,29 +99,33 @@ fn write_at<W: Write>(
     writer: &mut W,
     params: &Params,
     view: &View,
+    extent: &Extent,
     cycle: usize,
     column: usize,
     sealed: &Sealed,
 ) -> io::Result<()>
-    ensures { Writes W.contents writer.old writer.new result (cell_at params.now view.now cycle column sealed.now) }
+    requires { extent.now.columns ≤ 377 }
+    ensures { Writes W.contents writer.old writer.new result
+        (cell_at params.now view.now extent.now.grid extent.now.columns cycle column sealed.now) }
 {
-    if is_drawn(view, cycle, column) {
-        write_slot_cell(writer, params, view, cycle, column, sealed)
+    if is_drawn(view, extent.columns, cycle, column) {
+        write_slot_cell(writer, params, view, extent, cycle, column, sealed)
     } else {
         Ok(())
     }
 }
 
-/// Writes the cells of the record, in the order of its windows (project-defined).
-///
-/// Fails if the writer fails, which may have written a part by then.
-pub fn write_cells<W: Write>(
+/// Writes the cells of the record in these columns, in the order of its windows.
+pub(crate) fn write_cells<W: Write>(
     writer: &mut W,
     params: &Params,
     view: &View,
+    extent: &Extent,
     recorded: &[Sealed],
 ) -> io::Result<()>
-    ensures { Writes W.contents writer.old writer.new result (cells_text params.now view.now recorded.now) }
+    requires { extent.now.columns ≤ 377 }
+    ensures { Writes W.contents writer.old writer.new result
+        (cells_text params.now view.now extent.now.grid extent.now.columns recorded.now) }
 {
     let mut cycles: usize = 0;
     let mut windows: usize = 0;
@@ -142,6 +139,7 @@ pub fn write_cells<W: Write>(
             writer,
             params,
             view,
+            extent,
             cycles.saturating_sub(1),
             windows - 1,
             sealed,

@@ -23,17 +23,18 @@ fn write_matrix<W: Write>(
 ) -> io::Result<()>
     ensures { Writes W.contents writer.old writer.new result (matrix_text params.now view.now recorded.now) }
 {
-    let extent = extent_of(view, recorded);
-    write_front(writer, params.static_slots, view, &extent)?;
-    write_cells(writer, params, view, recorded)?;
+    let extent = extent_of(params, view, recorded);
+    write_front(writer, view, &extent)?;
+    write_cells(writer, params, view, &extent, recorded)?;
     write_end(writer, extent.rows)
 }
 
 /// Returns the communication matrix of a run with this record: an SVG text (project-defined).
 ///
-/// It has a row for each cycle of the run from `view.from` on, up to 64, and a column for each window of the cycle, up
-/// to 512. Static slots come first, then the windows of the dynamic segment in their order. A cell is left out if the
-/// channel has no slot there. Fails if an allocation fails.
+/// It has a row for each cycle of the run from `view.from` on, up to 64, and a column for each window of the cycle from
+/// `view.from_window` on, as far as they fit in a width of 1,600. Static slots come first, then the windows of the
+/// dynamic segment in their order. A dynamic column is narrow if nothing was sent there on the channel in any row. A
+/// cell is left out if the channel has no slot there. Fails if an allocation fails.
 pub fn matrix_of(
     alloc: Global,
     params: &Params,

@@ -1,18 +1,20 @@
-//! The parts around the cells of a matrix: its style, the numbers of its rows and columns, and the legend.
+//! The parts around the cells of a matrix: its style, the heading, and the numbers of its rows and columns.
 
-ghost use Rattle.std.specs.Prelude.{◌≡◌, ◌≤◌, ◌<◌, min};
+ghost use Rattle.std.specs.Prelude.{◌≡◌, ◌≤◌, ◌<◌};
 ghost use Rattle.std.specs.List.{flat_map, range_with_len};
-ghost use Rattle.fr_matrix.specs.Pages.{broken_rule, column_text, columns_text, cut_text, drawn_text, dynamic_text};
-ghost use Rattle.fr_matrix.specs.Pages.{filled_rule, first_rules, heading_text, high_rule, last_rules, legend_text};
-ghost use Rattle.fr_matrix.specs.Pages.{letters_meaning, low_rule, more_text, none_text, numbers_meaning, opening_text};
-ghost use Rattle.fr_matrix.specs.Pages.{page_end, page_front, paper_text, range_text, row_numbers, row_text};
-ghost use Rattle.fr_matrix.specs.Pages.{height_of, rows_text, scope_text, signs_meaning, style_text, subject_text};
-ghost use Rattle.fr_matrix.specs.Pages.{title_line, width_of};
-ghost use Rattle.fr_svg.specs.Elements.{placed_text};
+ghost use Rattle.fr_matrix.specs.Pages.{broken_rule, column_numbers, column_text, columns_text, cycles_line};
+ghost use Rattle.fr_matrix.specs.Pages.{dynamic_text, filled_rule, first_rules, headed_in, heading_text, height_of};
+ghost use Rattle.fr_matrix.specs.Pages.{high_rule, last_rules, low_rule, more_text, more_windows, names_dynamic};
+ghost use Rattle.fr_matrix.specs.Pages.{drawn_text, next_window};
+ghost use Rattle.fr_matrix.specs.Pages.{no_windows, none_text, opening_text, page_end, page_front, paper_text};
+ghost use Rattle.fr_matrix.specs.Pages.{range_text, row_numbers, row_text, rows_text, scope_text, style_text};
+ghost use Rattle.fr_matrix.specs.Pages.{subject_text, title_line, width_of, windows_drawn, windows_line, windows_range};
+ghost use Rattle.fr_matrix.specs.Pages.{windows_text};
 ghost use Rattle.fr_text.specs.Writing.{Writes};
 
-use crate::cells::{across, down};
 use crate::extent::Extent;
+use crate::grid::{Grid, across, down};
+use crate::key::write_key;
 use crate::view::View;
 use fr_svg::elements::{
     close_group, close_picture, close_text, open_group, open_picture, open_placed, open_plain,
@@ -25,7 +27,8 @@ use std::io::Write;
 /// The rules in front of those for the nodes.
 const RULES: &str = ".head text{font-size:14px;text-anchor:start}
 .name text{text-anchor:end}
-.legend text{text-anchor:start}
+.legend text{font-size:11px;text-anchor:start}
+.slot text{font-size:7px}
 rect{stroke:#bbb;stroke-width:.5px}
 .page rect{fill:#fff;stroke:none}
 .silence rect,.broken rect{fill:#fff}
@@ -38,20 +41,6 @@ const LAST_RULES: &str = ".null rect{fill-opacity:.3}
 .blocked rect,.lost rect,.turned rect{stroke:#000;stroke-width:1.5px}
 </style>
 ";
-
-/// The meaning of the numbers and of their colours.
-const NUMBERS: &str = "A number is the node whose transmission came first of those that passed; \
-     its colour is filled for data and pale for a null frame (-).";
-
-/// The meaning of the signs in the cells.
-const SIGNS: &str =
-    "? bytes that are no frame, + too long for the slot, X several at once (red), = the node's own; \
-     nothing where nothing passed.";
-
-/// The meaning of the letters in the cells.
-const LETTERS: &str =
-    "b a guardian stopped a transmission, l a fault lost one, t a fault turned a bit. \
-     Each cell has a title with all that was sent.";
 
 /// Writes the rules in front of those for the nodes.
 #[tactic(auto, unfolding(crate::specs::Pages::first_rules))]
@@ -132,7 +121,7 @@ fn write_style<W: Write>(writer: &mut W) -> io::Result<()>
     ensures { Writes W.contents writer.old writer.new result style_text }
 {
     writeln!(writer, "<style>")?;
-    write_text_rule(writer, 9, 2)?;
+    write_text_rule(writer, 8, 2)?;
     write_first_rules(writer)?;
     write_low_rules(writer, 8)?;
     write_high_rules(writer, 8)?;
@@ -192,55 +181,149 @@ fn write_more<W: Write>(writer: &mut W, from: u16, cycles: usize, rows: usize) -
     }
 }
 
-/// Writes the number of windows of the longest cycle, if not all of them have a column.
-#[tactic(auto, unfolding(crate::specs::Pages::cut_text))]
-fn write_cut<W: Write>(writer: &mut W, longest: usize) -> io::Result<()>
-    ensures { Writes W.contents writer.old writer.new result (cut_text longest) }
+/// Writes which cycles are drawn, and the option that shows more.
+#[tactic(auto, unfolding(crate::specs::Pages::scope_text))]
+fn write_scope<W: Write>(writer: &mut W, from: u16, cycles: usize, rows: usize) -> io::Result<()>
+    requires { rows ≤ 64 }
+    ensures { Writes W.contents writer.old writer.new result (scope_text from cycles rows) }
 {
-    if longest > 512 {
-        write!(writer, "; 512 of {longest} windows")
+    write_range(writer, from, cycles, rows)?;
+    write_more(writer, from, cycles, rows)
+}
+
+/// Writes the first and the last window of a cycle that are drawn.
+#[tactic(auto, unfolding(crate::specs::Pages::windows_drawn))]
+fn write_windows_drawn<W: Write>(
+    writer: &mut W,
+    first: u16,
+    last: u64,
+    most: usize,
+) -> io::Result<()>
+    ensures { Writes W.contents writer.old writer.new result (windows_drawn first last most) }
+{
+    write!(writer, "Windows {first} to {last} of {most} in a cycle")
+}
+
+/// Writes that no window is drawn.
+#[tactic(auto, unfolding(crate::specs::Pages::no_windows))]
+fn write_no_windows<W: Write>(writer: &mut W, most: usize) -> io::Result<()>
+    ensures { Writes W.contents writer.old writer.new result (no_windows most) }
+{
+    write!(writer, "None of the {most} windows in a cycle")
+}
+
+/// Writes which windows of a cycle are drawn.
+fn write_windows_range<W: Write>(
+    writer: &mut W,
+    first: u16,
+    most: usize,
+    columns: usize,
+) -> io::Result<()>
+    requires { columns ≤ 377 }
+    ensures { Writes W.contents writer.old writer.new result (windows_range first most columns) }
+{
+    if columns == 0 {
+        write_no_windows(writer, most)
+    } else {
+        write_windows_drawn(writer, first, u64::from(first) + columns as u64 - 1, most)
+    }
+}
+
+/// Writes the option that shows the windows from this one on.
+#[tactic(auto, unfolding(crate::specs::Pages::next_window))]
+fn write_next_window<W: Write>(writer: &mut W, next: u64) -> io::Result<()>
+    ensures { Writes W.contents writer.old writer.new result (next_window next) }
+{
+    write!(writer, "; --from-window {next} shows more")
+}
+
+/// Writes the option that shows the windows after the drawn ones, if there are any.
+fn write_more_windows<W: Write>(
+    writer: &mut W,
+    first: u16,
+    most: usize,
+    columns: usize,
+) -> io::Result<()>
+    requires { columns ≤ 377 }
+    ensures { Writes W.contents writer.old writer.new result (more_windows first most columns) }
+{
+    let next = u64::from(first) + columns as u64;
+    if next < most as u64 {
+        write_next_window(writer, next)
     } else {
         Ok(())
     }
 }
 
-/// Writes which cycles and windows are drawn, and the option that shows more.
-#[tactic(auto, unfolding(crate::specs::Pages::scope_text))]
-fn write_scope<W: Write>(writer: &mut W, from: u16, extent: &Extent) -> io::Result<()>
-    requires { extent.now.rows ≤ 64 }
-    ensures { Writes W.contents writer.old writer.new result
-        (scope_text from extent.now.cycles extent.now.rows extent.now.longest) }
+/// Writes which windows of a cycle are drawn, and the option that shows more.
+#[tactic(auto, unfolding(crate::specs::Pages::windows_text))]
+fn write_windows<W: Write>(
+    writer: &mut W,
+    first: u16,
+    most: usize,
+    columns: usize,
+) -> io::Result<()>
+    requires { columns ≤ 377 }
+    ensures { Writes W.contents writer.old writer.new result (windows_text first most columns) }
 {
-    write_range(writer, from, extent.cycles, extent.rows)?;
-    write_more(writer, from, extent.cycles, extent.rows)?;
-    write_cut(writer, extent.longest)
+    write_windows_range(writer, first, most, columns)?;
+    write_more_windows(writer, first, most, columns)
+}
+
+/// Writes the first line of the heading: the subject, and which cycles are drawn.
+#[tactic(auto, unfolding(crate::specs::Pages::cycles_line))]
+fn write_cycles_line<W: Write>(
+    writer: &mut W,
+    view: &View,
+    cycles: usize,
+    rows: usize,
+) -> io::Result<()>
+    requires { rows ≤ 64 }
+    ensures { Writes W.contents writer.old writer.new result (cycles_line view.now cycles rows) }
+{
+    open_placed(writer, 20, 30)?;
+    write_subject(writer, view)?;
+    write_scope(writer, view.from, cycles, rows)?;
+    close_text(writer)
+}
+
+/// Writes the second line of the heading: which windows are drawn.
+#[tactic(auto, unfolding(crate::specs::Pages::windows_line))]
+fn write_windows_line<W: Write>(
+    writer: &mut W,
+    first: u16,
+    most: usize,
+    columns: usize,
+) -> io::Result<()>
+    requires { columns ≤ 377 }
+    ensures { Writes W.contents writer.old writer.new result (windows_line first most columns) }
+{
+    open_placed(writer, 20, 50)?;
+    write_windows(writer, first, most, columns)?;
+    close_text(writer)
 }
 
 /// Writes the heading: the subject, and which cycles and windows are drawn.
-pub(crate) fn write_heading<W: Write>(
-    writer: &mut W,
-    view: &View,
-    extent: &Extent,
-) -> io::Result<()>
-    requires { extent.now.rows ≤ 64 }
+#[tactic(auto, unfolding(crate::specs::Pages::heading_text))]
+fn write_heading<W: Write>(writer: &mut W, view: &View, extent: &Extent) -> io::Result<()>
+    requires rows { extent.now.rows ≤ 64 }
+    requires columns { extent.now.columns ≤ 377 }
     ensures { Writes W.contents writer.old writer.new result
-        (heading_text view.now.channel view.now.node view.now.from extent.now.cycles extent.now.rows
-        extent.now.longest) }
+        (heading_text view.now extent.now.cycles extent.now.rows extent.now.most extent.now.columns) }
 {
     open_plain(writer, "head")?;
-    open_placed(writer, 20, 30)?;
-    write_subject(writer, view)?;
-    write_scope(writer, view.from, extent)?;
-    close_text(writer)?;
+    write_cycles_line(writer, view, extent.cycles, extent.rows)?;
+    write_windows_line(writer, view.from_window, extent.most, extent.columns)?;
     close_group(writer)
 }
 
 /// Returns the width of a matrix with as many columns.
-fn width_of(columns: usize) -> u64
-    requires { columns ≤ 512 }
-    ensures { result ≡ width_of columns }
+fn width_of(grid: &Grid, columns: usize) -> u64
+    requires { columns ≤ 377 }
+    ensures width { result ≡ width_of grid.now columns }
+    ensures small { result ≤ 10000 }
 {
-    across(columns).max(760) + 20
+    across(grid, columns).max(840) + 20
 }
 
 /// Returns the height of a matrix with as many rows.
@@ -248,7 +331,7 @@ fn height_of(rows: usize) -> u64
     requires { rows ≤ 64 }
     ensures { result ≡ height_of rows }
 {
-    down(rows) + 80
+    down(rows) + 150
 }
 
 /// Writes the title of the picture.
@@ -270,12 +353,7 @@ fn write_paper<W: Write>(writer: &mut W, width: u64, height: u64) -> io::Result<
 }
 
 /// Writes the part before the heading.
-pub(crate) fn write_opening<W: Write>(
-    writer: &mut W,
-    view: &View,
-    width: u64,
-    height: u64,
-) -> io::Result<()>
+fn write_opening<W: Write>(writer: &mut W, view: &View, width: u64, height: u64) -> io::Result<()>
     ensures { Writes W.contents writer.old writer.new result
         (opening_text view.now.channel view.now.node width height) }
 {
@@ -287,55 +365,63 @@ pub(crate) fn write_opening<W: Write>(
 
 /// Writes the number of the static slot over its column.
 #[tactic(auto, unfolding(crate::specs::Pages::column_text))]
-fn write_column<W: Write>(writer: &mut W, column: usize) -> io::Result<()>
-    requires { column < 512 }
-    ensures { Writes W.contents writer.old writer.new result (column_text column) }
+fn write_column<W: Write>(writer: &mut W, grid: &Grid, place: usize) -> io::Result<()>
+    requires { place < 377 }
+    ensures { Writes W.contents writer.old writer.new result (column_text grid.now place) }
 {
-    write_number(writer, across(column) + 10, 80, column as u64 + 1)
+    let slot = u64::from(grid.first) + place as u64 + 1;
+    write_number(writer, across(grid, place) + 10, 80, slot)
 }
 
-/// Writes the numbers of as many columns.
-fn write_column_numbers<W: Write>(writer: &mut W, columns: usize) -> io::Result<()>
-    requires { columns ≤ 512 }
-    ensures { Writes W.contents writer.old writer.new result (flat_map column_text (range_with_len 0 columns)) }
+/// Writes the numbers of as many static slots.
+#[tactic(auto, unfolding(crate::specs::Pages::column_numbers))]
+fn write_column_numbers<W: Write>(writer: &mut W, grid: &Grid, headed: usize) -> io::Result<()>
+    requires { headed ≤ 377 }
+    ensures { Writes W.contents writer.old writer.new result (column_numbers grid.now headed) }
 {
-    for column in 0..columns {
-        write_column(writer, column)?;
+    for place in 0..headed {
+        write_column(writer, grid, place)?;
     }
     Ok(())
 }
 
-/// Writes the numbers of the static slots, as many as there are columns for.
-pub(crate) fn write_columns<W: Write>(writer: &mut W, columns: usize) -> io::Result<()>
-    requires { columns ≤ 512 }
-    ensures { Writes W.contents writer.old writer.new result (columns_text columns) }
+/// Writes the numbers of the static slots above their columns.
+#[tactic(auto, unfolding(crate::specs::Pages::columns_text))]
+fn write_columns<W: Write>(writer: &mut W, grid: &Grid, headed: usize) -> io::Result<()>
+    requires { headed ≤ 377 }
+    ensures { Writes W.contents writer.old writer.new result (columns_text grid.now headed) }
 {
     open_group(writer, "axis", "static slots")?;
-    write_column_numbers(writer, columns)?;
+    write_column_numbers(writer, grid, headed)?;
     close_group(writer)
 }
 
-/// Writes the heading over the columns of the dynamic segment, if there are any.
+/// Returns whether there are columns after those of the static slots, and room for a heading over them.
+fn names_dynamic(grid: &Grid, headed: usize, columns: usize) -> bool
+    requires headed { headed ≤ 377 }
+    requires columns { columns ≤ 377 }
+    ensures { result ≡ names_dynamic grid.now headed columns }
+{
+    headed < columns && across(grid, headed) + 100 <= width_of(grid, columns)
+}
+
+/// Writes the heading over the columns of the dynamic segment, if there are any, and room for it.
 #[tactic(auto, unfolding(crate::specs::Pages::dynamic_text))]
-pub(crate) fn write_dynamic<W: Write>(
+fn write_dynamic<W: Write>(
     writer: &mut W,
-    static_slots: u16,
+    grid: &Grid,
+    headed: usize,
     columns: usize,
 ) -> io::Result<()>
-    requires { columns ≤ 512 }
-    ensures { Writes W.contents writer.old writer.new result (dynamic_text static_slots columns) }
+    requires headed { headed ≤ 377 }
+    requires columns { columns ≤ 377 }
+    ensures { Writes W.contents writer.old writer.new result (dynamic_text grid.now headed columns) }
 {
-    let dynamic = usize::from(static_slots);
-    if dynamic >= columns {
+    if !names_dynamic(grid, headed, columns) {
         return Ok(());
     }
     open_group(writer, "legend", "dynamic windows")?;
-    write_text(
-        writer,
-        across(dynamic),
-        66,
-        "windows of the dynamic segment",
-    )?;
+    write_text(writer, across(grid, headed), 80, "dynamic segment")?;
     close_group(writer)
 }
 
@@ -345,7 +431,7 @@ fn write_row<W: Write>(writer: &mut W, from: u16, row: usize) -> io::Result<()>
     requires { row < 64 }
     ensures { Writes W.contents writer.old writer.new result (row_text from row) }
 {
-    write_number(writer, 60, down(row) + 14, u64::from(from) + row as u64)
+    write_number(writer, 60, down(row) + 17, u64::from(from) + row as u64)
 }
 
 /// Writes the numbers of as many rows.
@@ -361,7 +447,7 @@ fn write_row_numbers<W: Write>(writer: &mut W, from: u16, rows: usize) -> io::Re
 }
 
 /// Writes the numbers of the cycles of the run that are drawn.
-pub(crate) fn write_rows<W: Write>(writer: &mut W, from: u16, rows: usize) -> io::Result<()>
+fn write_rows<W: Write>(writer: &mut W, from: u16, rows: usize) -> io::Result<()>
     requires { rows ≤ 64 }
     ensures { Writes W.contents writer.old writer.new result (rows_text from rows) }
 {
@@ -370,69 +456,28 @@ pub(crate) fn write_rows<W: Write>(writer: &mut W, from: u16, rows: usize) -> io
     close_group(writer)
 }
 
-/// Writes the meaning of the numbers in the cells.
-#[tactic(auto, unfolding(crate::specs::Pages::numbers_meaning))]
-fn write_numbers_meaning<W: Write>(writer: &mut W, top: u64) -> io::Result<()>
-    ensures { Writes W.contents writer.old writer.new result (placed_text 20 top numbers_meaning) }
+/// Returns the number of columns of static slots.
+fn headed_in(grid: &Grid, columns: usize) -> usize
+    ensures { result ≡ headed_in grid.now columns }
 {
-    write_text(writer, 20, top, NUMBERS)
-}
-
-/// Writes the meaning of the signs in the cells.
-#[tactic(auto, unfolding(crate::specs::Pages::signs_meaning))]
-fn write_signs_meaning<W: Write>(writer: &mut W, top: u64) -> io::Result<()>
-    ensures { Writes W.contents writer.old writer.new result (placed_text 20 top signs_meaning) }
-{
-    write_text(writer, 20, top, SIGNS)
-}
-
-/// Writes the meaning of the letters in the cells.
-#[tactic(auto, unfolding(crate::specs::Pages::letters_meaning))]
-fn write_letters_meaning<W: Write>(writer: &mut W, top: u64) -> io::Result<()>
-    ensures { Writes W.contents writer.old writer.new result (placed_text 20 top letters_meaning) }
-{
-    write_text(writer, 20, top, LETTERS)
-}
-
-/// Writes the legend.
-pub(crate) fn write_legend<W: Write>(writer: &mut W, rows: usize) -> io::Result<()>
-    requires { rows ≤ 64 }
-    ensures { Writes W.contents writer.old writer.new result (legend_text rows) }
-{
-    let top = down(rows);
-    open_group(writer, "legend", "legend")?;
-    write_numbers_meaning(writer, top + 20)?;
-    write_signs_meaning(writer, top + 36)?;
-    write_letters_meaning(writer, top + 52)?;
-    close_group(writer)
-}
-
-/// Returns the number of columns with the number of a static slot.
-fn numbered(static_slots: u16, columns: usize) -> usize
-    ensures { result ≡ min columns static_slots }
-{
-    columns.min(usize::from(static_slots))
+    columns.min(usize::from(grid.static_slots).saturating_sub(usize::from(grid.first)))
 }
 
 /// Writes the part before the cells.
 #[tactic(auto, unfolding(crate::specs::Pages::page_front))]
-pub(crate) fn write_front<W: Write>(
-    writer: &mut W,
-    static_slots: u16,
-    view: &View,
-    extent: &Extent,
-) -> io::Result<()>
+pub(crate) fn write_front<W: Write>(writer: &mut W, view: &View, extent: &Extent) -> io::Result<()>
     requires rows { extent.now.rows ≤ 64 }
-    requires columns { extent.now.columns ≤ 512 }
+    requires columns { extent.now.columns ≤ 377 }
     ensures { Writes W.contents writer.old writer.new result
-        (page_front static_slots view.now.channel view.now.node view.now.from extent.now.cycles
-        extent.now.longest extent.now.rows extent.now.columns) }
+        (page_front view.now extent.now.grid extent.now.cycles extent.now.rows extent.now.most
+        extent.now.columns) }
 {
-    let (rows, columns) = (extent.rows, extent.columns);
-    write_opening(writer, view, width_of(columns), height_of(rows))?;
+    let (grid, rows, columns) = (&extent.grid, extent.rows, extent.columns);
+    let headed = headed_in(grid, columns);
+    write_opening(writer, view, width_of(grid, columns), height_of(rows))?;
     write_heading(writer, view, extent)?;
-    write_columns(writer, numbered(static_slots, columns))?;
-    write_dynamic(writer, static_slots, columns)?;
+    write_columns(writer, grid, headed)?;
+    write_dynamic(writer, grid, headed, columns)?;
     write_rows(writer, view.from, rows)
 }
 
@@ -442,6 +487,6 @@ pub(crate) fn write_end<W: Write>(writer: &mut W, rows: usize) -> io::Result<()>
     requires { rows ≤ 64 }
     ensures { Writes W.contents writer.old writer.new result (page_end rows) }
 {
-    write_legend(writer, rows)?;
+    write_key(writer, down(rows) + 14)?;
     close_picture(writer)
 }

@@ -12,4 +12,6 @@ pub struct View {
     pub node: Option<NodeId>,
     /// The first cycle of the run that is drawn, counted from 0.
     pub from: u16,
+    /// The first window of each cycle that is drawn, counted from 0.
+    pub from_window: u16,
 }

@@ -15,6 +15,7 @@ loop-sealed-init g c = (none_counted, Appends-nil (g.W.Write.contents c.args.wri
 pub loop-sealed-preserved : goal.loop-sealed-preserved
 loop-sealed-preserved g c =
     let all = c.args.recorded.now in
+    let e = c.args.extent.now in
     let place = c.loop-sealed.sealed-index in
     let r = c.sealed-item.result in
     let lt = c.loop-sealed-test.true in
@@ -32,11 +33,13 @@ loop-sealed-preserved g c =
           c.if-opens_cycle.windows begins w.cycles-is w.windows-is h
     ] in
     let one : Appends (g.W.Write.contents c.loop-sealed.writer) (g.W.Write.contents c.write_at.new.writer)
-    (cell_at c.args.params.now c.args.view.now (c.if-opens_cycle.cycles - 1) ((c.if-opens_cycle.windows + 1) - 1) r) =
+    (cell_at c.args.params.now c.args.view.now e.grid e.columns (c.if-opens_cycle.cycles - 1)
+    ((c.if-opens_cycle.windows + 1) - 1) r) =
     search rules in (
-      counted_longer c.args.params.now c.args.view.now all place r c.if-opens_cycle.cycles
+      counted_longer all place r c.if-opens_cycle.cycles
           (c.if-opens_cycle.windows + 1) lt c.sealed-item.is counted,
-      cell_more c.args.params.now c.args.view.now all place r c.if-opens_cycle.cycles (c.if-opens_cycle.windows + 1)
+      cell_more c.args.params.now c.args.view.now e.grid e.columns all place r c.if-opens_cycle.cycles
+          (c.if-opens_cycle.windows + 1)
           (g.W.Write.contents c.args.writer.now)
           (g.W.Write.contents c.loop-sealed.writer) (g.W.Write.contents c.write_at.new.writer) lt c.sealed-item.is
           counted c.loop-sealed.invariant.1 one,

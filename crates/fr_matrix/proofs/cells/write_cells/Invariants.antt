@@ -9,4 +9,4 @@ abbrev pub invariant-loop-sealed : goal.invariant-loop-sealed
 invariant-loop-sealed g l =
     Counted (take l.sealed-index l.recorded) l.cycles l.windows l.sealed-index
     × Appends (g.W.Write.contents l.fn.writer) (g.W.Write.contents l.writer)
-    (cells_text l.params l.view (take l.sealed-index l.recorded))
+    (cells_text l.params l.view l.extent.grid l.extent.columns (take l.sealed-index l.recorded))
