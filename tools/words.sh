@@ -44,9 +44,9 @@ find_command() {
     fr_view-latency) places=FILE options='--slot --channel' ;;
     fr_view-capture) flags='--own --until-fault' input=TRACE ;;
     fr_view-frames) flags='--all --until-fault' input=TRACE ;;
-    fr_view-outcome | fr_view-answers | fr_view-commits) places='FILE SCENARIO' options=--cycles ;;
-    fr_view-record | fr_view-bus) places='FILE SCENARIO' options=--cycles flags=--endless ;;
-    fr_view-matrix) places='FILE SCENARIO' options='--cycles --channel --node --from' ;;
+    fr_view-outcome | fr_view-commits) places='FILE SCENARIO' options=--cycles ;;
+    fr_view-answers | fr_view-record | fr_view-bus) places='FILE SCENARIO' options=--cycles flags=--endless ;;
+    fr_view-matrix) places='FILE SCENARIO' options='--cycles --channel --node --from --from-window' ;;
     fr_view-trace) places='NODE FILE SCENARIO' options=--cycles ;;
     *) return 1 ;;
     esac
@@ -60,6 +60,7 @@ is_in_range() {
     --slot) least=1 most=2047 ;;
     --node | NODE) least=0 most=15 ;;
     --from) least=0 most=1023 ;;
+    --from-window) least=0 most=4095 ;;
     --findings) least=0 most=4294967295 ;;
     --macrotick) least=1 most=4294967295 ;;
     --channel)

@@ -1,5 +1,6 @@
 """Runs of the second program that play a scenario: the outcome, the answers and the traces."""
 import os
+import re
 from xml.etree import ElementTree
 
 from .captured import FILE_HEADER, record_of
@@ -82,6 +83,8 @@ LOOKS = {
     ("--node", "2", "--channel", "B"): ["collision n0", "collision n1", "own n2"],
     ("--from", "1"): ["null n0 blocked"],
     ("--from", "4"): [],
+    ("--from-window", "2"): ["silence blocked", "data n2"],
+    ("--from-window", "7"): [],
 }
 """The classes of the first cells of other matrices of it."""
 
@@ -278,17 +281,60 @@ class Plays:
             looks = [cell.partition(": ")[0] for cell in self.cells([*words, "--channel", channel])]
             self.runs.compare(f"the flipped bit on {channel}", looks[:3], [wanted, "null n1", "silence"])
         for options in (["--channel", "C"], ["--channel", "a"], ["--node", "16"], ["--node", "00"],
-                        ["--from", "1024"], ["--from", "-1"], ["--node"], ["--node", "0", "--node", "0"]):
+                        ["--from", "1024"], ["--from", "-1"], ["--from-window", "4096"], ["--from-window", "01"],
+                        ["--from-window"], ["--node"], ["--node", "0", "--node", "0"]):
             self.runs.check(f"matrix with {options}", ["matrix", *THREE_NODES, *options], USAGE)
+        self.columns()
         for node in ("3", "15"):
             self.runs.check(f"matrix of node {node}", ["matrix", *THREE_NODES, "--node", node], refused("UnknownNode"))
+
+    def columns(self):
+        """Checks by the record which columns of matrices are narrow, and that no picture is wider than 1,600 pixels."""
+        words = [EXAMPLES / "vehicle/cluster.toml", EXAMPLES / "vehicle/scenario", "--cycles", "8"]
+        record = [line.split(" ") for line in run([self.runs.program, "record", *words])[0].decode().splitlines()]
+        for channel in "AB":
+            sent = {int(line[0]) for line in record if line[4] == channel and line[6] != "corrupt"}
+            starts = {cycle: window for cycle, slot, window, *_ in self.boxes([*words, "--channel", channel])[1]
+                      if slot == 1}
+            begin = 0
+            while begin is not None:
+                begin = self.columns_from(begin, [*words, "--channel", channel], sent, starts)
+
+    def columns_from(self, begin, words, sent, starts):
+        """Checks the picture that begins with this window, and returns the first window after it, if there is one."""
+        words = [*words, "--from-window", str(begin)]
+        width, boxes = self.boxes(words)
+        places = {window - starts[cycle] for cycle, _, window, *_ in boxes}
+        busy = {window - starts[cycle] for cycle, _, window, *_ in boxes if window in sent}
+        wanted = []
+        for cycle, slot, window, *_ in boxes:
+            place = window - starts[cycle]
+            wanted.append((20, None) if place < 62 else (20, str(slot)) if place in busy else (3, None))
+        self.runs.compare(f"cells of {words[-3:]}", [box[3:] for box in boxes], wanted)
+        end = begin + len(places)
+        self.runs.compare(f"places of {words[-3:]}", (sorted(places), width <= 1600), (list(range(begin, end)), True))
+        return end if f"--from-window {end} shows more" in self.text(words) else None
+
+    def text(self, words):
+        return run([self.runs.program, "matrix", *words])[0].decode()
+
+    def boxes(self, words):
+        """Returns the width of a matrix, and for each cell the numbers of its title, its width and its slot."""
+        picture, boxes = ElementTree.fromstring(self.text(words)), []
+        for group in picture.iter("{http://www.w3.org/2000/svg}g"):
+            told = re.match("cycle ([0-9]+), slot ([0-9]+), window ([0-9]+): ", group[0].text or "")
+            if told:
+                slot = group.find("{http://www.w3.org/2000/svg}g")
+                boxes.append((*map(int, told.groups()), int(group[1].get("width")),
+                              None if slot is None else slot[0].text))
+        return int(picture.get("width")), boxes
 
     def streams(self):
         """Checks that runs without history print the same bytes, and have more than 1,024 cycles."""
         for outcome in sorted(EXAMPLES.glob("*/outcome-of-*-cycles")):
             words = [outcome.with_name("cluster.toml"), outcome.with_name("scenario"), "--cycles",
                      outcome.name.split("-")[2]]
-            for command in ("record", "bus"):
+            for command in ("answers", "record", "bus"):
                 kept = run([self.runs.program, command, *words])[0]
                 self.runs.compare(f"{command} of {outcome.parent.name}, endless",
                                   run([self.runs.program, command, *words, "--endless"]), (kept, b"", 0))
@@ -298,13 +344,16 @@ class Plays:
         self.runs.compare("cycles of an endless record", (sorted(set(cycles)), cycles == sorted(cycles)),
                           (list(range(66_000)), True))
         self.runs.compare("bits of an endless record", told.count(b"corrupt"), 3)
-        for command in ("record", "bus"):
+        long = run([self.runs.program, "answers", *words, "--endless", "--cycles", "66000"])
+        self.runs.compare("the answers of a run of 66000 cycles", long,
+                          (run([self.runs.program, "answers", *words, "--cycles", "4"])[0], b"", 0))
+        for command in ("answers", "record", "bus"):
             self.runs.check(f"{command}, endless, for 4000000 cycles",
                             [command, "a", "b", "--endless", "--cycles=4000000"], refused("Read"))
             for number in ("0", "4000001", "04", ""):
                 self.runs.check(f"{command}, endless, for {number!r} cycles",
                                 [command, "a", "b", "--endless", "--cycles", number], USAGE)
-        for command in (["outcome"], ["answers"], ["commits"], ["matrix"], ["trace", "0"]):
+        for command in (["outcome"], ["commits"], ["matrix"], ["trace", "0"]):
             self.runs.check(f"{command}, endless", [*command, *THREE_NODES, "--endless"], USAGE)
 
     def refusals(self):
@@ -312,7 +361,7 @@ class Plays:
         for command in COMMANDS:
             for line, error in REFUSALS.items():
                 words = self.given(scenes.cluster, scenes.with_line(line))
-                for more in ([], ["--endless"]) if command in (["record"], ["bus"]) else ([],):
+                for more in ([], ["--endless"]) if command in (["answers"], ["record"], ["bus"]) else ([],):
                     self.runs.check(f"{command} with {line} {more}", [*command, *words, *more], refused(error))
             for name, error in {"missing": "Read", ".": "Read", "three-nodes/cluster.toml": "BadMagic"}.items():
                 self.runs.check(f"{command} with {name!r}",
@@ -340,7 +389,7 @@ class Plays:
             self.runs.check(f"{command} for 1024 cycles", [*command, "a", "b", "--cycles=1024"], refused("Read"))
 
     def outputs(self):
-        for command in [*COMMANDS, ["record", "--endless"], ["bus", "--endless"]]:
+        for command in [*COMMANDS, ["answers", "--endless"], ["record", "--endless"], ["bus", "--endless"]]:
             words = [*command, *THREE_NODES]
             with open("/dev/full", "wb") as full:
                 self.runs.check(f"{words} to a full device", words, refused("Write"), output=full)

@@ -104,6 +104,7 @@ def views():
         "bus": (["bus", *run], b""),
         "matrix": (["matrix", *run], b""),
         "trace": (["trace", "0", *run], b""),
+        "answers, endless": (["answers", *run, "--endless"], b""),
         "record, endless": (["record", *run, "--endless"], b""),
         "bus, endless": (["bus", *run, "--endless"], b""),
     }

@@ -50,6 +50,7 @@ SLIPS: list[tuple[str, Words, str]] = [
     ("fr_view", ("matrix", *RUN, "--channel", "C"), "--channel must be A or B, not C"),
     ("fr_view", ("matrix", *RUN, "--node", "16"), "--node must be a whole number from 0 to 15, not 16"),
     ("fr_view", ("matrix", *RUN, "--from=1024"), "--from must be a whole number from 0 to 1023, not 1024"),
+    ("fr_view", ("matrix", *RUN, "--from-window=4096"), "must be a whole number from 0 to 4095, not 4096"),
     ("fr_view", ("matrix", *RUN, "--chanel", "A"), "did you mean --channel?"),
     ("fr_view", ("schedule", CLUSTER, "--cycle", "64"), "--cycle must be a whole number from 0 to 63, not 64"),
     ("fr_view", ("schedule", CLUSTER, "1"), "--cycle is missing in front of 1"),
@@ -98,6 +99,8 @@ UNREAD: list[tuple[str, Words, str]] = [
     ("fr_bench", ("run", "lost", "missing", "--cycles", "4"), "no such file: lost"),
     ("fr_view", ("trace", "1", CLUSTER, "closed", "--cycles", "4"), "permission denied: closed"),
     ("fr_view", ("schedule", "missing.toml"), "no such file: missing.toml"),
+    ("fr_view", ("answers", CLUSTER, "missing", "--cycles", "4", "--endless"), "no such file: missing"),
+    ("fr_view", ("record", CLUSTER, "missing", "--cycles", "4", "--endless"), "no such file: missing"),
     ("fr_world", ("missing.toml", "--cycles", "4"), "no such file: missing.toml"),
     ("fr_monitor", ("missing.toml", "--whole"), "no such file: missing.toml"),
 ]
@@ -113,13 +116,14 @@ ALONE: list[tuple[str, Words, str]] = [
 """Refusals that the words don't explain: the program's line is alone."""
 
 POOL = ["a", "4", "0", "1024", "1025", "04", "--cycles", "--cycles=4", "--cycles=", "--free", "--free=1", "--channel",
-        "A", "--channel=B", "C", "--node=3", "--node", "16", "--from", "--cycle=5", "--cycle", "--own", "--all",
-        "--until-fault", "--whole", "--findings=5", "--macrotick", "--", "-", "-x", "--x", "", " ", "\u00e9", "--=",
-        "*", "--cycles --channel", "-4"]
+        "A", "--channel=B", "C", "--node=3", "--node", "16", "--from", "--from-window", "--cycle=5", "--cycle", "--own",
+        "--all", "--endless", "--until-fault", "--whole", "--findings=5", "--macrotick", "--", "-", "-x", "--x", "", " ", "\u00e9",
+        "--=", "*", "--cycles --channel", "-4"]
 SHAPES = {
     "fr_bench": [["audit"], ["check", "a"], ["midpoint"], ["run", "a", "b", "--cycles", "4"]],
     "fr_view": [["schedule", "a"], ["frames"], ["matrix", "a", "b", "--cycles", "4"],
-                ["trace", "1", "a", "b", "--cycles", "4"]],
+                ["trace", "1", "a", "b", "--cycles", "4"], ["answers", "a", "b", "--cycles", "4"],
+                ["record", "a", "b", "--cycles", "4", "--endless"]],
     "fr_world": [["a", "--cycles", "4"]],
     "fr_monitor": [["a"], ["a", "--findings", "4", "--macrotick=1000"]],
 }

@@ -201,11 +201,11 @@ class Version3:
         self.endless_notes()
 
     def endless_notes(self):
-        """Checks, of `fr_view record` and `bus`, that an endless run names each line that is left out, and no other
-        one."""
+        """Checks, of `fr_view answers`, `record` and `bus`, that an endless run names each line that is left out, and
+        no other one."""
         path = self.folder / "version3"
         path.write_text(f"{BEGIN}commit 0 0 0 0 x0a0b\n\npop 0 0 4\nlost 2 5-9\nmute 1 AB 3-9 s*\n{END}")
-        for command in ("record", "bus"):
+        for command in ("answers", "record", "bus"):
             for cycles, numbers in ((4, (4, 5)), (5, (5,)), (6, ()), (1025, ())):
                 words = [command, self.cluster, path, "--cycles", str(cycles)]
                 output, errors, status = run([self.runs.program, *words, "--endless"])

@@ -115,16 +115,22 @@ class Names:
 
 
 def unapplied(crate: Path, edit: str) -> str | None:
-    """Returns the first text of an edit that doesn't stand exactly once in its file, after the changes before it."""
-    text, old = "", None
+    """Returns the first text of an edit that doesn't stand exactly once in its file, after the changes before it.
+
+    A text that is no change, and a line after the first file that belongs to no text, count as well: a text has one
+    line.
+    """
+    text, old, files = "", None, 0
     for line in edit.splitlines():
         key, _, rest = line.partition(": ")
         if key == "file":
-            text = (crate / rest).read_text(encoding="utf-8")
+            text, files = (crate / rest).read_text(encoding="utf-8"), files + 1
         elif key == "old":
             old = rest
             if text.count(old) != 1:
                 return old
-        elif key == "new" and old is not None:
+        elif key == "new" and old is not None and old != rest:
             text = text.replace(old, rest)
+        elif files and line.strip() and not line.startswith("#"):
+            return line
     return None

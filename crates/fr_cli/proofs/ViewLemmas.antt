@@ -18,6 +18,7 @@ use Rattle.fr_cli.specs.declared.view.Asked.TheVariants.{Outcome, Answers, Commi
 use Rattle.fr_cli.specs.ViewOrders.{IsAnswerTo, IsOrder, IsScheduleBy, IsShowBy, asked_by, asks, channel_asked}
 use Rattle.fr_cli.specs.ViewOrders.{cycle_asked, drawn_by, from_asked, has_schedule_by, has_show_by, matrix_of}
 use Rattle.fr_cli.specs.ViewOrders.{IsLatencyBy, has_latency_by, node_asked, the_commands, viewer_asked, way_asked}
+use Rattle.fr_cli.specs.ViewOrders.{window_asked}
 use Rattle.fr_cli.specs.ViewOrders.{IsKeptBy, IsShowIf, IsStreamBy, has_kept_by, has_stream_by, is_endless, streamed_by}
 use Rattle.fr_cli.proofs.CommandLemmas.{has_long_run_alike, has_run_alike}
 use Rattle.fr_cli.specs.Commands.{IsNamed, cycles_in, is_true, most_in, order_error_of, word_in}
@@ -165,12 +166,18 @@ latency_lacks entered look None named same lacks = asks_no_latency entered named
 
 drawn_alike : (f g : Text → Option Text) → ((id : Text) → f id ≡ g id) → drawn_by f ≡ drawn_by g
 drawn_alike f g same =
-    ap (λ w. matrix_of (channel_asked w) (viewer_asked (f (codes "node"))) (from_asked (f (codes "from"))))
+    ap (λ w. matrix_of (channel_asked w) (viewer_asked (f (codes "node"))) (from_asked (f (codes "from")))
+    (window_asked (f (codes "from-window"))))
     (same (codes "channel"))
-    ∙ ap (λ w. matrix_of (channel_asked (g (codes "channel"))) (viewer_asked w) (from_asked (f (codes "from"))))
+    ∙ ap (λ w. matrix_of (channel_asked (g (codes "channel"))) (viewer_asked w) (from_asked (f (codes "from")))
+    (window_asked (f (codes "from-window"))))
     (same (codes "node"))
-    ∙ ap (λ w. matrix_of (channel_asked (g (codes "channel"))) (viewer_asked (g (codes "node"))) (from_asked w))
+    ∙ ap (λ w. matrix_of (channel_asked (g (codes "channel"))) (viewer_asked (g (codes "node"))) (from_asked w)
+    (window_asked (f (codes "from-window"))))
     (same (codes "from"))
+    ∙ ap (λ w. matrix_of (channel_asked (g (codes "channel"))) (viewer_asked (g (codes "node")))
+    (from_asked (g (codes "from"))) (window_asked w))
+    (same (codes "from-window"))
 
 -- the view of a command of this name, by the word for the node of a trace and by the picture
 abbrev asked_with : Text → Option Text → Option Asked → Option Asked

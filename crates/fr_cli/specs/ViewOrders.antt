@@ -79,8 +79,8 @@ trace_command = with_run (with_rule (new_app (codes "trace")) the_node)
 -- the command of the picture of a run, with its options
 abbrev pub matrix_drawn : App
 matrix_drawn =
-    with_rule (with_rule (with_rule (new_app (codes "matrix")) (option_named (codes "channel")))
-    (option_named (codes "node"))) (option_named (codes "from"))
+    with_rule (with_rule (with_rule (with_rule (new_app (codes "matrix")) (option_named (codes "channel")))
+    (option_named (codes "node"))) (option_named (codes "from"))) (option_named (codes "from-window"))
 
 abbrev pub matrix_command : App
 matrix_command = with_run matrix_drawn
@@ -90,7 +90,7 @@ abbrev pub with_outcome : App
 with_outcome = with_subcommand file_commands (of_run (codes "outcome")).top
 
 abbrev pub with_answers : App
-with_answers = with_subcommand with_outcome (of_run (codes "answers")).top
+with_answers = with_subcommand with_outcome (of_long_run (codes "answers")).top
 
 abbrev pub with_commits : App
 with_commits = with_subcommand with_answers (of_run (codes "commits")).top
@@ -158,17 +158,23 @@ abbrev pub from_asked : Option Text → Option ℕ
 from_asked None = Some 0
 from_asked (Some word) = number_in 1024 word
 
-abbrev pub matrix_of : Option Channel → Option (Option ℕ) → Option ℕ → Option Asked
-matrix_of None viewer from = None
-matrix_of (Some channel) None from = None
-matrix_of (Some channel) (Some viewer) None = None
-matrix_of (Some channel) (Some viewer) (Some from) = Some (Matrix channel viewer from)
+-- the window of each cycle that is drawn first
+abbrev pub window_asked : Option Text → Option ℕ
+window_asked None = Some 0
+window_asked (Some word) = number_in 4096 word
+
+abbrev pub matrix_of : Option Channel → Option (Option ℕ) → Option ℕ → Option ℕ → Option Asked
+matrix_of None viewer from window = None
+matrix_of (Some channel) None from window = None
+matrix_of (Some channel) (Some viewer) None window = None
+matrix_of (Some channel) (Some viewer) (Some from) None = None
+matrix_of (Some channel) (Some viewer) (Some from) (Some window) = Some (Matrix channel viewer from window)
 
 -- the picture of a run that the arguments ask for
 abbrev pub drawn_by : (Text → Option Text) → Option Asked
 drawn_by first_word =
     matrix_of (channel_asked (first_word (codes "channel"))) (viewer_asked (first_word (codes "node")))
-    (from_asked (first_word (codes "from")))
+    (from_asked (first_word (codes "from"))) (window_asked (first_word (codes "from-window")))
 
 -- the view of the command of this name, if it shows a run
 abbrev pub asked_by : Text → (Text → Option Text) → Option Asked
@@ -204,7 +210,8 @@ IsKeptBy name first_word (the_order.Show asked cluster scenario cycles) =
 -- the view of the command of this name, if it can be written as the run goes
 abbrev pub streamed_by : Text → Option StreamAsked
 streamed_by name =
-    if bytes_eq name (codes "record") then Some streamed.Record
+    if bytes_eq name (codes "answers") then Some streamed.Answers
+    else if bytes_eq name (codes "record") then Some streamed.Record
     else if bytes_eq name (codes "bus") then Some streamed.Heard
     else None
 

@@ -9,7 +9,8 @@ ghost use Rattle.fr_cli.specs.ViewOrders.{IsAnswer, IsOrder, IsScheduleBy, IsSho
 ghost use Rattle.fr_cli.specs.ViewOrders.{drawn_by, file_commands, flag_named, from_asked, has_schedule_by};
 ghost use Rattle.fr_cli.specs.ViewOrders.{IsLatencyBy, has_latency_by, latency_command, slot_in, way_asked};
 ghost use Rattle.fr_cli.specs.ViewOrders.{has_show_by, is_help, line_commands, matrix_command, of_trace};
-ghost use Rattle.fr_cli.specs.ViewOrders.{schedule_command, the_commands, trace_command, viewer_asked, with_run};
+ghost use Rattle.fr_cli.specs.ViewOrders.{schedule_command, the_commands, trace_command, viewer_asked, window_asked};
+ghost use Rattle.fr_cli.specs.ViewOrders.{with_run};
 ghost use Rattle.fr_cli.specs.ViewOrders.{IsKeptBy, IsStreamBy, has_kept_by, has_stream_by, of_long_run, streamed_by};
 
 use crate::commands::{cycles_of, most_of, of_file, program};
@@ -42,12 +43,16 @@ pub enum Asked {
         node: Option<u8>,
         /// The cycle of the run that is drawn first, 0 to 1023.
         from: u16,
+        /// The window of each cycle that is drawn first, 0 to 4095.
+        from_window: u16,
     },
 }
 
 /// A view that is written as the run goes (project-defined).
 #[derive(Clone, Copy, PartialEq, Eq)]
 pub enum StreamAsked {
+    /// A line for each line of a script, with its answer.
+    Answers,
     /// A line for each transmission and each flipped bit.
     Record,
     /// A capture of the bus, as a passive listener receives it.
@@ -186,10 +191,12 @@ fn matrix_command<'a>(alloc: Global) -> Result<Command<'a>, AllocError>
     let channel = Arg::new(alloc, "channel").long("channel");
     let node = Arg::new(alloc, "node").long("node");
     let from = Arg::new(alloc, "from").long("from");
+    let from_window = Arg::new(alloc, "from-window").long("from-window");
     let drawn = Command::new(alloc, "matrix")
         .arg(channel)?
         .arg(node)?
-        .arg(from)?;
+        .arg(from)?
+        .arg(from_window)?;
     of_run(alloc, drawn)
 }
 
@@ -220,7 +227,7 @@ fn line_commands<'a>(alloc: Global, files: Command<'a>) -> Result<Command<'a>, A
     ensures { IfOk result (λ c. app_of c ≡ line_commands) }
 {
     let outcome = of_run(alloc, Command::new(alloc, "outcome"))?;
-    let answers = of_run(alloc, Command::new(alloc, "answers"))?;
+    let answers = of_long_run(alloc, "answers")?;
     let commits = of_run(alloc, Command::new(alloc, "commits"))?;
     let recorded = of_long_run(alloc, "record")?;
     let first = files.subcommand(outcome)?;
@@ -347,6 +354,21 @@ fn first_in(arguments: &ArgMatches<'_>) -> Option<u16>
     }
 }
 
+/// Returns the window of each cycle that is drawn first, and 0 if none is named.
+///
+/// A window is 0 to 4095, without a leading zero: no cycle has more.
+fn window_in(arguments: &ArgMatches<'_>) -> Option<u16>
+    ensures { result ≡ window_asked (first_value (found_of arguments.now) (codes "from-window")) }
+{
+    match arguments.get_str("from-window") {
+        None => Some(0),
+        Some(word) => match number_of(word.as_bytes(), 4096) {
+            Some(number) => Some(number as u16),
+            None => None,
+        },
+    }
+}
+
 /// Returns the picture of a run, if its options are right.
 fn drawn_in(arguments: &ArgMatches<'_>) -> Option<Asked>
     ensures { result ≡ drawn_by (first_value (found_of arguments.now)) }
@@ -354,10 +376,12 @@ fn drawn_in(arguments: &ArgMatches<'_>) -> Option<Asked>
     let channel = channel_in(arguments)?;
     let node = viewer_in(arguments)?;
     let from = first_in(arguments)?;
+    let from_window = window_in(arguments)?;
     Some(Asked::Matrix {
         channel,
         node,
         from,
+        from_window,
     })
 }
 
@@ -396,6 +420,7 @@ fn streamed_in(name: &str) -> Option<StreamAsked>
     ensures { result ≡ streamed_by name.now }
 {
     match name {
+        "answers" => Some(StreamAsked::Answers),
         "record" => Some(StreamAsked::Record),
         "bus" => Some(StreamAsked::Heard),
         _ => None,
@@ -481,8 +506,9 @@ fn is_help(words: &[&str]) -> bool
 /// Returns the order of the words after the program's name (project-defined).
 ///
 /// Refused with `Memory` if an allocation fails, otherwise with `Usage` for all words that are no command. A call for
-/// help is the word `--help` alone. A cycle of a picture is 0 to 63, the first one of a matrix 0 to 1023, a node 0 to
-/// 15 and a number of cycles 1 to 1024, and with `--endless` 1 to 4,000,000, without a leading zero.
+/// help is the word `--help` alone. A cycle of a picture is 0 to 63, the first one of a matrix 0 to 1023, its first
+/// window 0 to 4095, a node 0 to 15 and a number of cycles 1 to 1024, and with `--endless` 1 to 4,000,000, without a
+/// leading zero.
 pub fn order<'a>(alloc: Global, words: &'a [&'a str]) -> Result<ViewOrder<'a>, OrderError>
     ensures { IsAnswer (map (λ word. word.now) words.now) result }
 {

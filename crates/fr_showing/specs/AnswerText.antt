@@ -4,15 +4,20 @@ use Rattle.std.specs.Fmt.{decimal}
 use Rattle.std.specs.Option.{option_and_then}
 use Rattle.fr_core.specs.declared.event.Reply.{Reply}
 use Rattle.fr_core.specs.declared.event.Reply.TheVariants.{Committed, Withdrawn, Frame, Window, Done}
-use Rattle.fr_interface.specs.declared.call.Call.{Call}
+use Rattle.fr_core.specs.Steps.{reply_of}
 use Rattle.fr_core.specs.Worlds.{WorldState}
 use Rattle.fr_frame.specs.Fields.{Fields}
+use Rattle.fr_interface.specs.declared.call.Answer.{Answer}
+use Rattle.fr_interface.specs.declared.call.Answer.TheVariants as answer
+use Rattle.fr_interface.specs.declared.call.Call.{Call}
 use Rattle.fr_interface.specs.State.{State}
+use Rattle.fr_journal.specs.declared.entry.Arrival.{Arrival}
 use Rattle.fr_journal.specs.Forms.{Entry}
 use Rattle.fr_journal.specs.declared.entry.Entry.TheVariants as entry
 use Rattle.fr_journal.specs.declared.entry.Origin.{Origin}
 use Rattle.fr_lines.specs.Parts.{absent}
 use Rattle.fr_lines.specs.Spelling.{line_text}
+use Rattle.fr_playing.specs.Calls.{Asked, asked_of}
 use Rattle.fr_playing.specs.declared.call.ExecutedCall.{ExecutedCall}
 use Rattle.fr_scenario.specs.Spelling.{kind_word, call_words}
 use Rattle.fr_slots.specs.Admission.{letter_of}
@@ -64,8 +69,24 @@ answer_words channel Done = absent ∷ []
 
 -- ---- a line
 
--- the node, the task, the cycle of the run, the call, and its answer
+-- the node, the task, the cycle of the run, the call, and this reply with the channel of its frame
+abbrev pub reply_line : Option Channel → Asked → Reply → List ℕ
+reply_line channel asked reply =
+    line_text (decimal asked.node ∷ decimal asked.task ∷ decimal asked.cycle ∷ line_of (told_words asked.call)
+    ∷ codes "=" ∷ line_of (answer_words channel reply) ∷ [])
+
+-- the same of an executed call
 abbrev pub answer_line : WorldState → ExecutedCall → List ℕ
 answer_line w call =
-    line_text (decimal call.node ∷ decimal call.task ∷ decimal call.cycle ∷ line_of (told_words call.call)
-    ∷ codes "=" ∷ line_of (answer_words (channel_in (slice_get w.interfaces call.node) call.entry) call.reply) ∷ [])
+    reply_line (channel_in (slice_get w.interfaces call.node) call.entry) (asked_of call) call.reply
+
+-- ---- a line by the answer of an interface
+
+-- the channel of the frame in the answer
+abbrev pub channel_answered : Answer → Option Channel
+channel_answered (answer.Committed receipt) = None
+channel_answered (answer.Withdrawn of) = None
+channel_answered (answer.Frame arrival) = option_map (λ (a : Arrival). a.origin.channel) arrival
+
+abbrev pub answered_line : Asked → Answer → List ℕ
+answered_line asked answer = reply_line (channel_answered answer) asked (reply_of answer)

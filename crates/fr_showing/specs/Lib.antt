@@ -1,3 +1,4 @@
+pub mod AnswerSteps
 pub mod AnswerText
 pub mod CommitSteps
 pub mod CommitText

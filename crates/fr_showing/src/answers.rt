@@ -4,17 +4,19 @@ ghost use Rattle.std.specs.List.{flat_map};
 ghost use Rattle.fr_text.specs.Spaces.{line_of};
 ghost use Rattle.fr_text.specs.Writing.{Writes};
 ghost use Rattle.fr_showing.specs.AnswerText.{told_words, answer_words, channel_word, answer_line, origin_of};
-ghost use Rattle.fr_showing.specs.AnswerText.{channel_in, frame_words};
+ghost use Rattle.fr_showing.specs.AnswerText.{answered_line, channel_answered, channel_in, frame_words, reply_line};
+ghost use Rattle.fr_showing.specs.AnswerSteps.{asked_by};
 
 use fr_core::event::Reply;
+use fr_core::script::Line;
 use fr_core::world::World;
 use fr_frame::frame::Frame;
-use fr_interface::call::Call;
+use fr_interface::call::{Answer, Call};
 use fr_journal::entry::{Entry, Origin};
 use fr_playing::call::ExecutedCall;
 use fr_playing::nodes::interface_of;
 use fr_slots::channel::Channel;
-use fr_slots::numbers::NodeId;
+use fr_slots::numbers::{NodeId, TaskId};
 use fr_text::hexes::write_hex;
 use std::io;
 use std::io::Write;
@@ -86,17 +88,82 @@ fn write_answer<W: Write>(writer: &mut W, channel: Option<Channel>, reply: &Repl
     }
 }
 
-/// Writes the line of a call, with its answer.
+/// A call of a task.
+#[derive(Clone, Copy)]
+struct TaskCall<'a> {
+    /// The node.
+    node: NodeId,
+    /// The task.
+    task: TaskId,
+    /// The cycle of the run, from 0.
+    cycle: u16,
+    /// The call.
+    call: &'a Call,
+}
+
+/// Writes the line of a call, with this reply and the channel of its frame.
+fn write_reply<W: Write>(
+    writer: &mut W,
+    made: &TaskCall<'_>,
+    channel: Option<Channel>,
+    reply: &Reply,
+) -> io::Result<()>
+    ensures { Writes W.contents writer.old writer.new result (reply_line channel (asked_by made.now) reply.now) }
+{
+    let (node, task) = (made.node.number(), made.task.number());
+    write!(writer, "{node} {task} {} ", made.cycle)?;
+    write_host_call(writer, made.call)?;
+    write!(writer, " = ")?;
+    write_answer(writer, channel, reply)?;
+    writeln!(writer)
+}
+
+/// Writes the line of an executed call, with its answer.
 fn write_call<W: Write>(writer: &mut W, world: &World, call: &ExecutedCall) -> io::Result<()>
     ensures { Writes W.contents writer.old writer.new result (answer_line world.now call.now) }
 {
-    let (node, task) = (call.node.number(), call.task.number());
-    write!(writer, "{node} {task} {} ", call.cycle)?;
-    write_host_call(writer, &call.call)?;
-    write!(writer, " = ")?;
+    let made = TaskCall {
+        node: call.node,
+        task: call.task,
+        cycle: call.cycle,
+        call: &call.call,
+    };
     let channel = channel_of(world, call.node, call.entry);
-    write_answer(writer, channel, &call.reply)?;
-    writeln!(writer)
+    write_reply(writer, &made, channel, &call.reply)
+}
+
+/// Returns the channel of the frame in an answer.
+fn channel_answered(answer: &Answer) -> Option<Channel>
+    ensures { result ≡ channel_answered answer.now }
+{
+    match answer {
+        Answer::Frame(Some(arrival)) => Some(arrival.origin.channel),
+        _ => None,
+    }
+}
+
+/// Writes the line of a task's call, as `write_answers` does, with the answer of the node's interface
+/// (project-defined).
+///
+/// Fails if the writer fails. Then a part of the line may have gone out.
+pub fn write_answered<W: Write>(
+    writer: &mut W,
+    node: NodeId,
+    task: TaskId,
+    line: &Line,
+    answer: Answer,
+) -> io::Result<()>
+    ensures { Writes W.contents writer.old writer.new result
+        (answered_line (record { node = node; task = task; cycle = line.now.cycle; call = line.now.action }) answer) }
+{
+    let made = TaskCall {
+        node,
+        task,
+        cycle: line.cycle,
+        call: &line.action,
+    };
+    let channel = channel_answered(&answer);
+    write_reply(writer, &made, channel, &Reply::from(answer))
 }
 
 /// Writes a line for each of the calls, in their order (project-defined).

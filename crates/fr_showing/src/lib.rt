@@ -20,6 +20,7 @@
 //!
 //! Modules that follow the steps of the code, for private functions, with the module that has the meaning:
 //!
+//! - `AnswerSteps`: the call at hand. Meaning: `AnswerText`.
 //! - `CommitSteps`, `FateSteps`: journals, entry by entry. Meaning: `CommitText`, `Fates`.
 //!
 //! # Inner workings

@@ -6,13 +6,12 @@ use Rattle.std.proofs.lemmas.List.{take_all}
 use Rattle.std.specs.List.{flat_map}
 use Rattle.fr_core.specs.declared.event.Event.{Event}
 use Rattle.fr_core.specs.declared.event.Event.TheVariants.{Inject, Advance}
-use Rattle.fr_core.specs.declared.event.Reply.{Reply}
-use Rattle.fr_core.specs.Runs.{Answer}
-use Rattle.fr_core.specs.Steps.{Steps}
+use Rattle.fr_core.specs.declared.error.StepError.{StepError}
+use Rattle.fr_core.specs.Steps.{Applies, step_reply}
 use Rattle.fr_core.specs.Worlds.{WorldState}
 use Rattle.fr_endless.proofs.AlikeLemmas.{opened_same}
 use Rattle.fr_endless.specs.Alike.{Alike}
-use Rattle.fr_live.specs.LiveSteps.{StepsAlike}
+use Rattle.fr_live.specs.LiveSteps.{AppliesAlike}
 use Rattle.fr_live.specs.LiveWorlds.{LiveState, IsWorldHistory}
 use Rattle.fr_playing.proofs.PlayLemmas.{passes_window}
 use Rattle.fr_playing.proofs.StrikingLemmas.{flat-more, passes_none, passes_one, passes_append, passes_more}
@@ -47,12 +46,13 @@ ok_as (Err e) P Q given means = tt
 
 -- ---- events
 
-pub passed_one : (l new : LiveState) (event : Event) (answer : Answer) (reply : Reply) → answer ≡ Ok reply
-    → StepsAlike l event answer new → Alike l (λ w v. Passes w (event ∷ []) v) new
-passed_one l new event answer reply is step w history =
+pub passed_one : (l new : LiveState) (event : Event) (outcome : Result (Unit {0}) StepError) (done : Unit {0})
+    → outcome ≡ Ok done → AppliesAlike l event outcome new → Alike l (λ w v. Passes w (event ∷ []) v) new
+passed_one l new event outcome done is step w history =
     let got = step w history in (
       got.0,
-      passes_one w event reply got.0 (subst (λ (a : Answer). Steps w event a got.0) is got.1),
+      passes_one w event (step_reply w event) got.0
+          (subst (λ (o : Result (Unit {0}) StepError). Applies w event o got.0) is got.1),
       got.2,
     )
 

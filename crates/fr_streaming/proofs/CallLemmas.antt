@@ -1,118 +1,163 @@
--- The calls of scripts, made of each world that leads to the kept data.
-use Rattle.std.proofs.Common.{◌≡◌, ℕ, ◌+◌, ◌<◌, ◌≤◌, Bool, true, false, cond, List, [], ◌∷◌, ◌++◌, length, take, get_or}
-use Rattle.std.proofs.Common.{Result, Ok, Err, refl, sym, ap, subst, ◌∙◌, eq-eqb, slice_get}
-use Rattle.std.specs.Prelude.{◌==◌, OnOk}
+-- The calls of scripts, made of each world that leads to the kept data, and what a view has of them.
+use Rattle.std.proofs.Common.{◌≡◌, ℕ, ◌+◌, ◌<◌, ◌≤◌, Bool, cond, List, [], ◌∷◌, ◌++◌, length, take, get_or}
+use Rattle.std.proofs.Common.{Option, Result, Ok, refl, sym, ap, ap₂, subst, ◌∙◌, append-nil, eq-eqb, slice_get}
+use Rattle.std.specs.Prelude.{IfOk, OnOk}
 use Rattle.std.proofs.lemmas.Bool.{ne_eqb}
 use Rattle.std.proofs.lemmas.List.{take_all}
 use Rattle.std.specs.List.{flat_map}
-use Rattle.fr_core.specs.declared.event.Event.{Event}
+use Rattle.fr_bus.specs.States.{BusState}
+use Rattle.fr_core.specs.declared.error.StepError.{StepError}
 use Rattle.fr_core.specs.declared.event.Reply.{Reply}
 use Rattle.fr_core.specs.declared.script.Line.{Line}
-use Rattle.fr_core.specs.Runs.{Answer}
-use Rattle.fr_core.specs.Steps.{event_of, Steps}
-use Rattle.fr_core.specs.Worlds.{WorldState}
+use Rattle.fr_core.specs.Steps.{event_of, reply_of, Steps}
+use Rattle.fr_core.specs.Worlds.{interface_at, WorldState}
 use Rattle.fr_endless.specs.Alike.{Alike}
+use Rattle.fr_interface.specs.Calls.{call_answer}
+use Rattle.fr_interface.specs.declared.call.Answer.{Answer}
 use Rattle.fr_interface.specs.declared.call.Call.{Call}
-use Rattle.fr_live.specs.LiveSteps.{StepsAlike}
-use Rattle.fr_live.specs.LiveWorlds.{LiveState}
+use Rattle.fr_live.specs.LiveSteps.{with_answer, StepsAlike}
+use Rattle.fr_live.specs.LiveWorlds.{ForEachWorld, LiveState}
 use Rattle.fr_playing.proofs.EntryLemmas.{host_done}
 use Rattle.fr_playing.proofs.PlayLemmas.{adds_append}
 use Rattle.fr_playing.proofs.StrikingLemmas.{flat-more}
 use Rattle.fr_playing.specs.Calls.{Asked, asked_in_line, asked_of, entries_in, AddsCalls, DoesCall, DoesCalls}
 use Rattle.fr_playing.specs.declared.call.ExecutedCall.{ExecutedCall}
-use Rattle.fr_streaming.proofs.AlikeLemmas.{alike_same, alike_then}
-use Rattle.fr_streaming.specs.Streams.{asked, MakesCalls}
+use Rattle.fr_scenario.specs.Contents.{Contents}
+use Rattle.fr_showing.specs.AnswerText.{answer_line, channel_answered, reply_line}
+use Rattle.fr_showing.specs.Listening.{capture_of}
+use Rattle.fr_showing.specs.RecordText.{record_text}
+use Rattle.fr_slots.specs.declared.channel.Channel.{Channel}
+use Rattle.fr_slots.specs.Parameters.{Parameters}
+use Rattle.fr_streaming.proofs.KeptLemmas.{channel_kept, channel_told, kept_same}
+use Rattle.fr_streaming.proofs.LedLemmas.{made_executed}
+use Rattle.fr_streaming.proofs.TellLemmas.{breaks_after, goes_none, goes_then}
+use Rattle.fr_streaming.specs.declared.telling.Streamed.{Streamed}
+use Rattle.fr_streaming.specs.declared.telling.Streamed.TheVariants.{Answers, Record, Heard}
+use Rattle.fr_streaming.specs.Streams.{asked, told_call, Breaks, Goes, MakesCalls, TellsBetween}
 
-makes_none : (w : WorldState) → MakesCalls [] w w
+-- ---- calls one after another
+
+made_none : (w : WorldState) → MakesCalls [] w [] w
 unfolding DoesCalls
-makes_none w = ([], refl, refl)
+made_none w = (refl, refl)
 
-makes_append : (xs ys : List Asked) (w u v : WorldState) → MakesCalls xs w u → MakesCalls ys u v
-    → MakesCalls (xs ++ ys) w v
-makes_append xs ys w u v first second =
-    let (calls, are, does) = first in
-    let (more, are', does') = second in
-    let one : AddsCalls [] calls w xs u = (calls, refl, are, does) in
-    let two : AddsCalls calls (calls ++ more) u ys v = (more, refl, are', does') in
+made_append : (xs ys : List Asked) (w u v : WorldState) (calls more : List ExecutedCall) → MakesCalls xs w calls u
+    → MakesCalls ys u more v → MakesCalls (xs ++ ys) w (calls ++ more) v
+made_append xs ys w u v calls more first second =
+    let one : AddsCalls [] calls w xs u = (calls, refl, first.0, first.1) in
+    let two : AddsCalls calls (calls ++ more) u ys v = (more, refl, second.0, second.1) in
     let (all, is, all_asked, all_done) = adds_append [] calls (calls ++ more) xs ys w u v one two in
-    (all, all_asked, all_done)
+    subst (λ (cs : List ExecutedCall). MakesCalls (xs ++ ys) w cs v) (sym is) (all_asked, all_done)
 
-made_of : (w v : WorldState) (node task cycle : ℕ) (call : Call) (reply : Reply)
-    → Steps w (event_of node task call) (Ok reply) v → MakesCalls (asked node task cycle call ∷ []) w v
-unfolding DoesCalls
-made_of w v node task cycle call reply step =
-    let made : ExecutedCall =
-    record {
-      node = node;
-      task = task;
-      cycle = cycle;
-      call = call;
-      entry = entries_in (slice_get w.interfaces node);
-      reply = reply;
-    } in
-    (made ∷ [], refl, (v, (step, refl), refl))
+-- ---- one call
 
-pub called_one : (l new : LiveState) (node task cycle : ℕ) (call : Call) (event : Event) (answer : Answer)
-    (reply : Reply) → event ≡ event_of node task call → answer ≡ Ok reply → StepsAlike l event answer new
-    → Alike l (λ w v. MakesCalls (asked node task cycle call ∷ []) w v) new
-called_one l new node task cycle call event answer reply event_is answer_is step w history =
-    let got = step w history in (
-      got.0,
-      made_of w got.0 node task cycle call reply
-          (subst (λ (e : Event). Steps w e (Ok reply) got.0) event_is
-          (subst (λ (a : Answer). Steps w event a got.0) answer_is got.1)),
-      got.2,
-    )
-
-pub called_none : (l : LiveState) → Alike l (λ w v. MakesCalls [] w v) l
-called_none l = alike_same l (λ w v. MakesCalls [] w v) makes_none
-
--- ---- a line
-
-pub line_called : {A E : Type 0} (r : Result A E) (l new : LiveState) (cycle node task : ℕ) (line : Line)
-    → line.cycle ≡ cycle
-    → OnOk r (Alike l (λ w v. MakesCalls (asked node task cycle line.action ∷ []) w v) new)
-    → OnOk r (Alike l (λ w v. MakesCalls (asked_in_line cycle node task line) w v) new)
-line_called r l new cycle node task line same given =
-    subst (λ (b : Bool). OnOk r (Alike l (λ w v. MakesCalls (cond b (asked node task cycle line.action ∷ []) []) w v)
-    new)) (sym (eq-eqb line.cycle cycle same)) given
-
-pub line_passed : (l : LiveState) (cycle node task : ℕ) (line : Line) → (line.cycle ≡ cycle → ⊥)
-    → Alike l (λ w v. MakesCalls (asked_in_line cycle node task line) w v) l
-line_passed l cycle node task line other =
-    subst (λ (b : Bool). Alike l (λ w v. MakesCalls (cond b (asked node task cycle line.action ∷ []) []) w v) l)
-    (sym (ne_eqb line.cycle cycle other)) (called_none l)
-
--- ---- lists of lines
-
-pub called_more : {X : Type 0} (f : X → List Asked) (xs : List X) (i : ℕ) (x : X) (l mid new : LiveState)
-    → i < length xs → x ≡ get_or xs i x → Alike l (λ w v. MakesCalls (flat_map f (take i xs)) w v) mid
-    → Alike mid (λ w v. MakesCalls (f x) w v) new
-    → Alike l (λ w v. MakesCalls (flat_map f (take (i + 1) xs)) w v) new
-called_more f xs i x l mid new lt is first second =
-    let front = flat_map f (take i xs) in
-    subst (λ (all : List Asked). Alike l (λ w v. MakesCalls all w v) new) (sym (flat-more f xs i x lt is))
-    (alike_then l mid new (λ w v. MakesCalls front w v) (λ w v. MakesCalls (f x) w v)
-    (λ w v. MakesCalls (front ++ f x) w v) first second (λ w u v one two. makes_append front (f x) w u v one two))
-
-pub called_all : {X : Type 0} (f : X → List Asked) (xs : List X) (i : ℕ) (l new : LiveState) → length xs ≤ i
-    → Alike l (λ w v. MakesCalls (flat_map f (take i xs)) w v) new
-    → Alike l (λ w v. MakesCalls (flat_map f xs) w v) new
-called_all f xs i l new all given =
-    subst (λ (ys : List _). Alike l (λ w v. MakesCalls (flat_map f ys) w v) new) (take_all i xs all) given
-
--- ---- calls leave the bus
-
-call_keeps : (w : WorldState) (call : ExecutedCall) (v : WorldState) → DoesCall w call v → v.bus ≡ w.bus
-call_keeps w call v does =
+-- a call leaves the bus
+bus_kept : (w : WorldState) (call : ExecutedCall) (v : WorldState) → DoesCall w call v → v.bus ≡ w.bus
+bus_kept w call v does =
     ap (λ (u : WorldState). u.bus) (does.0.2 ∙ host_done w call.node call.task call.call)
 
-calls_keep : (w : WorldState) (calls : List ExecutedCall) (v : WorldState) → DoesCalls w calls v → v.bus ≡ w.bus
-unfolding DoesCalls
-calls_keep w [] v does = ap (λ (u : WorldState). u.bus) does
-calls_keep w (call ∷ calls) v does =
-    let (between, here, rest) = does in
-    calls_keep between calls v rest ∙ call_keeps w call between here
+call_told : (streamed : Streamed) (s : Contents) (p : Parameters) (w : WorldState) (made : ExecutedCall)
+    (v : WorldState) (answer : Answer) → DoesCall w made v
+    → answer ≡ call_answer (interface_at w made.node) made.task made.call → made.reply ≡ reply_of answer
+    → TellsBetween streamed s p w (made ∷ []) v (told_call streamed (asked_of made) answer)
+call_told Answers s p w made v answer does is reply_is =
+    ap₂ (λ (channel : Option Channel) (reply : Reply). reply_line channel (asked_of made) reply)
+    (ap channel_answered is ∙ channel_told (interface_at w made.node) made.task made.call
+    ∙ sym (channel_kept w made v v does (kept_same v.interfaces)))
+    (sym reply_is)
+    ∙ sym (append-nil (answer_line v made))
+call_told Record s p w made v answer does is reply_is =
+    ap (λ (b : BusState). record_text s p b.sealed) (bus_kept w made v does)
+    ∙ sym (append-nil (record_text s p w.bus.sealed))
+call_told Heard s p w made v answer does is reply_is =
+    ap (λ (b : BusState). capture_of p b.sealed) (bus_kept w made v does)
+    ∙ sym (append-nil (capture_of p w.bus.sealed))
 
-pub made_keeps : (xs : List Asked) (w v : WorldState) → MakesCalls xs w v → v.bus ≡ w.bus
-made_keeps xs w v made = calls_keep w made.0 v made.2
+does_one : (w : WorldState) (made : ExecutedCall) (v : WorldState) → DoesCall w made v → DoesCalls w (made ∷ []) v
+unfolding DoesCalls
+does_one w made v does = (v, does, refl)
+
+module _ (streamed : Streamed) (s : Contents) (p : Parameters) where
+  pub called_one : (l new : LiveState) (node task cycle : ℕ) (call : Call) (r : Result Answer StepError)
+      (answer : Answer) → r ≡ Ok answer → StepsAlike l (event_of node task call) (with_answer r) new
+      → ForEachWorld l (λ w. IfOk r (λ (a : Answer). a ≡ call_answer (interface_at w node) task call))
+      → Alike l (λ w v. (calls : List ExecutedCall) × MakesCalls (asked node task cycle call ∷ []) w calls v
+      × TellsBetween streamed s p w calls v (told_call streamed (asked node task cycle call) answer)) new
+  called_one l new node task cycle call r answer r_is step answers w history =
+      let (v, steps, end) = step w history in
+      let accepted : Steps w (event_of node task call) (Ok (reply_of answer)) v =
+      subst (λ (x : Result Answer StepError). Steps w (event_of node task call) (with_answer x) v) r_is steps in
+      let answer_is : answer ≡ call_answer (interface_at w node) task call =
+      subst (λ (x : Result Answer StepError). IfOk x (λ (a : Answer). a ≡ call_answer (interface_at w node) task call))
+      r_is (answers w history) in
+      let made : ExecutedCall =
+      record {
+        node = node;
+        task = task;
+        cycle = cycle;
+        call = call;
+        entry = entries_in (slice_get w.interfaces node);
+        reply = reply_of answer;
+      } in
+      let does : DoesCall w made v = (accepted, refl) in
+      (v, (made ∷ [], (refl, does_one w made v does), call_told streamed s p w made v answer does answer_is refl), end)
+
+  -- ---- a line
+
+  pub in_line : (cycle node task : ℕ) (line : Line) → line.cycle ≡ cycle
+      → asked_in_line cycle node task line ≡ asked node task line.cycle line.action ∷ []
+  in_line cycle node task line same =
+      ap (λ (b : Bool). cond b (asked node task cycle line.action ∷ []) []) (eq-eqb line.cycle cycle same)
+      ∙ ap (λ (c : ℕ). asked node task c line.action ∷ []) (sym same)
+
+  pub out_of_line : (cycle node task : ℕ) (line : Line) → (line.cycle ≡ cycle → ⊥)
+      → asked_in_line cycle node task line ≡ []
+  out_of_line cycle node task line other =
+      ap (λ (b : Bool). cond b (asked node task cycle line.action ∷ []) []) (ne_eqb line.cycle cycle other)
+
+  pub line_goes : {A E : Type 0} (r : Result A E) (cycle node task : ℕ) (line : Line) (l n : LiveState)
+      (a b : Option (List ℕ)) → line.cycle ≡ cycle
+      → OnOk r (Goes (TellsBetween streamed s p) (MakesCalls (asked node task line.cycle line.action ∷ [])) l a b n)
+      → OnOk r (Goes (TellsBetween streamed s p) (MakesCalls (asked_in_line cycle node task line)) l a b n)
+  line_goes r cycle node task line l n a b same goes =
+      subst (λ (xs : List Asked). OnOk r (Goes (TellsBetween streamed s p) (MakesCalls xs) l a b n))
+      (sym (in_line cycle node task line same)) goes
+
+  pub none_goes : (l : LiveState) (bytes : Option (List ℕ))
+      → Goes (TellsBetween streamed s p) (MakesCalls []) l bytes bytes l
+  none_goes l bytes = goes_none streamed s p (MakesCalls []) l bytes made_none
+
+  pub line_passed : (cycle node task : ℕ) (line : Line) (l : LiveState) (bytes : Option (List ℕ))
+      → (line.cycle ≡ cycle → ⊥)
+      → Goes (TellsBetween streamed s p) (MakesCalls (asked_in_line cycle node task line)) l bytes bytes l
+  line_passed cycle node task line l bytes other =
+      subst (λ (xs : List Asked). Goes (TellsBetween streamed s p) (MakesCalls xs) l bytes bytes l)
+      (sym (out_of_line cycle node task line other)) (none_goes l bytes)
+
+  -- ---- lists of lines
+
+  pub goes_more : {X : Type 0} (f : X → List Asked) (xs : List X) (i : ℕ) (x : X) (l m n : LiveState)
+      (a b c : Option (List ℕ)) → i < length xs → x ≡ get_or xs i x
+      → Goes (TellsBetween streamed s p) (MakesCalls (flat_map f (take i xs))) l a b m
+      → Goes (TellsBetween streamed s p) (MakesCalls (f x)) m b c n
+      → Goes (TellsBetween streamed s p) (MakesCalls (flat_map f (take (i + 1) xs))) l a c n
+  goes_more f xs i x l m n a b c lt is first second =
+      let front = flat_map f (take i xs) in
+      subst (λ (all : List Asked). Goes (TellsBetween streamed s p) (MakesCalls all) l a c n)
+      (sym (flat-more f xs i x lt is))
+      (goes_then streamed s p (MakesCalls front) (MakesCalls (f x)) (MakesCalls (front ++ f x)) l m n a b c first second
+      (made_executed front) (made_executed (f x))
+      (λ w u v calls more end one two. made_append front (f x) w u v calls more one two))
+
+  pub goes_all : {X : Type 0} (f : X → List Asked) (xs : List X) (i : ℕ) (l n : LiveState) (a b : Option (List ℕ))
+      → length xs ≤ i → Goes (TellsBetween streamed s p) (MakesCalls (flat_map f (take i xs))) l a b n
+      → Goes (TellsBetween streamed s p) (MakesCalls (flat_map f xs)) l a b n
+  goes_all f xs i l n a b all given =
+      subst (λ (ys : List _). Goes (TellsBetween streamed s p) (MakesCalls (flat_map f ys)) l a b n)
+      (take_all i xs all) given
+
+  pub breaks_more : (xs : List Asked) (l m : LiveState) (a b c : Option (List ℕ))
+      → Goes (TellsBetween streamed s p) (MakesCalls xs) l a b m → Breaks (TellsBetween streamed s p) m b c
+      → Breaks (TellsBetween streamed s p) l a c
+  breaks_more xs l m a b c first breaks =
+      breaks_after streamed s p (MakesCalls xs) l m a b c first (made_executed xs) breaks

@@ -1,5 +1,6 @@
 pub mod AlikeLemmas
-pub mod CallLemmas
-pub mod TellLemmas
+pub mod KeptLemmas
 pub mod LedLemmas
+pub mod TellLemmas
+pub mod CallLemmas
 pub mod StreamLemmas

@@ -1,6 +1,7 @@
 -- The result of a run in a world without history, from the results of its parts.
 use Rattle.std.proofs.Common.{◌≡◌, ◌≤◌, ℕ, ◌&&◌, Bool, true, false, List, [], ◌++◌, length, Option, Some, None, Result}
-use Rattle.std.proofs.Common.{Ok, Err, refl, sym, ap, subst, ◌∙◌, inl, inr, arith}
+use Rattle.std.proofs.Common.{Ok, Err, refl, sym, ap, subst, ◌∙◌, append_assoc, inl, inr, arith}
+use Rattle.std.specs.List.{list_all}
 use Rattle.std.specs.Prelude.{IfErr, OnOk, min, nat_le, is_some, ◌*◌}
 use Rattle.std.proofs.lemmas.Bool.{le-leb, leb-true}
 use Rattle.std.specs.Result.{result_err}
@@ -27,8 +28,10 @@ use Rattle.fr_outcome.specs.declared.file_error.FileError.TheVariants as file
 use Rattle.fr_outcome.specs.ScenarioFiles.{IsScenarioOf}
 use Rattle.fr_playing.specs.declared.error.PlayError.{PlayError}
 use Rattle.fr_playing.specs.declared.error.PlayError.TheVariants as refusal
-use Rattle.fr_playing.proofs.StrikingLemmas.{passes_none}
+use Rattle.fr_playing.proofs.PlayLemmas.{all_asked}
+use Rattle.fr_playing.specs.declared.call.ExecutedCall.{ExecutedCall}
 use Rattle.fr_playing.specs.Moving.{whole_window}
+use Rattle.fr_playing.specs.Playing.{PlaysCycles}
 use Rattle.fr_playing.specs.Refusals.{failure_of_file}
 use Rattle.fr_playing.specs.Windows.{PlaysWindow}
 use Rattle.fr_runs.specs.declared.check.RunRefusal.{RunRefusal}
@@ -40,7 +43,8 @@ use Rattle.fr_schedule.specs.Descriptions.{Description}
 use Rattle.fr_slots.specs.Parameters.{Parameters}
 use Rattle.fr_endless.proofs.AlikeLemmas.{opened_same}
 use Rattle.fr_endless.specs.Alike.{Alike}
-use Rattle.fr_streaming.proofs.TellLemmas.{goes_by, told_none, window_told}
+use Rattle.fr_streaming.proofs.LedLemmas.{executes_none, whole_silent}
+use Rattle.fr_streaming.proofs.TellLemmas.{told_after, told_none, window_told}
 use Rattle.fr_streaming.specs.declared.hindrance.Hindrance.{Hindrance}
 use Rattle.fr_streaming.specs.declared.hindrance.Hindrance.TheVariants as hindrance
 use Rattle.fr_streaming.specs.declared.telling.Streamed.{Streamed}
@@ -49,7 +53,8 @@ use Rattle.fr_streaming.specs.Runs.{error_of, kept_refusal, most_entries, openin
 use Rattle.fr_streaming.specs.Runs.{cycles_named, CutsRun, CutsStream, CutsText, OpensStream, RefusesStream}
 use Rattle.fr_streaming.specs.Runs.{AreNotes, StreamIsRefused}
 use Rattle.fr_streaming.specs.Runs.{Streams, TellsRun, TellsStream}
-use Rattle.fr_streaming.specs.Streams.{told, told_last, told_opening, Breaks, Goes, MakesCycles}
+use Rattle.fr_streaming.specs.Streams.{is_silent, told, told_last, told_opening, Breaks, Goes, TellsBetween}
+use Rattle.fr_streaming.specs.Streams.{WithoutCalls}
 
 -- ---- the world
 
@@ -145,33 +150,46 @@ none_of (Some x) b is none = absurd (let no : ⊥ = cc in no)
 
 -- ---- a window
 
-pub window_goes : (streamed : Streamed) (s : Contents) (p : Parameters) (cycle nodes : ℕ) (faults : List FaultLine)
-    (due : List Event) (l n : LiveState) (a b : Option (List ℕ)) → due ≡ whole_window nodes
+-- the kept data after a window have the text of each way that leads there
+pub window_shows : (streamed : Streamed) (s : Contents) (p : Parameters) (cycle nodes : ℕ) (faults : List FaultLine)
+    (due : List Event) (l n : LiveState) → due ≡ whole_window nodes
     → Alike l (λ w v. PlaysWindow cycle faults due w v) n
-    → Appends a b (told_last streamed s p n.bus.bus.course.begun n.bus.last)
-    → Goes (λ w. told streamed s p w.bus.sealed) (PlaysWindow cycle faults due) l a b n
-window_goes streamed s p cycle nodes faults due l n a b due_is plays adds =
-    goes_by (λ w. told streamed s p w.bus.sealed) (PlaysWindow cycle faults due) l n a b
-    (told_last streamed s p n.bus.bus.course.begun n.bus.last) plays adds
-    (λ w v is one. window_told s p streamed cycle nodes faults n w v
-    (subst (λ (es : List Event). PlaysWindow cycle faults es w v) due_is one) is)
+    → Alike l (λ w v. (calls : List ExecutedCall) × WithoutCalls (PlaysWindow cycle faults due) w calls v
+    × TellsBetween streamed s p w calls v (told_last streamed s p n.bus.bus.course.begun n.bus.last)) n
+window_shows streamed s p cycle nodes faults due l n due_is plays w is =
+    let (v, one, end) = plays w is in (
+      v,
+      (
+        [],
+        (refl, one),
+        window_told s p streamed cycle nodes faults n w v
+            (subst (λ (es : List Event). PlaysWindow cycle faults es w v) due_is one) end,
+      ),
+      end,
+    )
+
+-- the events that are due in a window have no call of a task
+pub due_silent : (due : List Event) (nodes : ℕ) → due ≡ whole_window nodes → list_all is_silent due ≡ true
+due_silent due nodes is = ap (list_all is_silent) is ∙ whole_silent nodes
 
 -- ---- the whole run
 
 module _ (streamed : Streamed) (d : Description) (s : Contents) (cycles : ℕ) where
   pub streamed_all : (due : List Event) (l n : LiveState) (a b c : Option (List ℕ))
       → due ≡ whole_window (length d.plans) → OpensStream d cycles (Ok l) → Appends a b (told_opening streamed)
-      → Goes (λ w. told streamed s d.params w.bus.sealed) (MakesCycles s.scripts s.faults due cycles) l b c n
+      → Goes (TellsBetween streamed s d.params) (PlaysCycles s.scripts s.faults due cycles) l b c n
       → n.bus.bus.opened ≡ None → ForEachWorld n Headline → AddsStream d cycles streamed s a c
   streamed_all due l n a b c due_is opens begins goes over headline =
       let (text, adds, each) = goes in
-      let (v, (makes, grows), is) = each (opening d cycles) opens.1 in
-      let whole : told streamed s d.params v.bus.sealed ≡ told_opening streamed ++ text =
-      grows ∙ ap (λ (t : List ℕ). t ++ text) (told_none s d.params streamed) in (
+      let (v, (calls, plays, tells), is) = each (opening d cycles) opens.1 in
+      let whole : told streamed s d.params v calls ≡ told_opening streamed ++ text =
+      told_after s d.params streamed (opening d cycles) calls v text refl tells in (
         v,
+        calls,
         record {
-          cycles_are = subst (λ (es : List Event). MakesCycles s.scripts s.faults es cycles (opening d cycles) v) due_is
-              makes;
+          cycles_are = subst
+              (λ (es : List Event). PlaysCycles s.scripts s.faults es cycles (opening d cycles) calls v) due_is plays;
+          asked = all_asked s.scripts s.faults due cycles calls (opening d cycles) v plays;
           over = opened_same n v is ∙ over;
           headline = headline v is;
         },
@@ -182,17 +200,18 @@ module _ (streamed : Streamed) (d : Description) (s : Contents) (cycles : ℕ) w
 
 module _ (d : Description) (s : Contents) (cycles : ℕ) (streamed : Streamed) where
   pub cuts_of : (l : LiveState) (a b c : Option (List ℕ)) → OpensStream d cycles (Ok l)
-      → Appends a b (told_opening streamed) → Breaks (λ w. told streamed s d.params w.bus.sealed) l b c
+      → Appends a b (told_opening streamed) → Breaks (TellsBetween streamed s d.params) l b c
       → Cuts d s cycles streamed a c
   cuts_of l a b c opens begins breaks =
       let (text, adds, each) = breaks in
-      let (v, events, rest, passes, grows) = each (opening d cycles) opens.1 in (
+      let (v, calls, rest, executes, tells) = each (opening d cycles) opens.1 in (
         v,
-        events,
+        calls,
         told_opening streamed ++ text,
         rest,
-        passes,
-        grows ∙ ap (λ (t : List ℕ). (t ++ text) ++ rest) (told_none s d.params streamed),
+        executes,
+        told_after s d.params streamed (opening d cycles) calls v (text ++ rest) refl tells
+            ∙ sym (append_assoc (told_opening streamed) text rest),
         Appends-trans a b c (told_opening streamed) text begins adds,
       )
 
@@ -203,8 +222,8 @@ module _ (d : Description) (s : Contents) (cycles : ℕ) (streamed : Streamed) w
         [],
         front,
         rest,
-        passes_none (opening d cycles),
-        told_none s d.params streamed ∙ is,
+        executes_none (opening d cycles),
+        told_none s d.params streamed (opening d cycles) refl ∙ is,
         adds,
       )
 

@@ -1,10 +1,12 @@
--- What a view has of windows and cycles, one after another.
-use Rattle.std.proofs.Common.{◌≡◌, ℕ, zero, suc, ◌+◌, ◌-◌, true, false, List, [], ◌∷◌, ◌++◌, length, map}
-use Rattle.std.proofs.Common.{Option, Some, None, Result, Ok, Err, refl, sym, ap, subst, ◌∙◌, append_assoc, append-nil}
-use Rattle.std.proofs.Common.{slice_get, arith}
-use Rattle.std.specs.Prelude.{OnOk}
+-- What a view has of calls, windows and cycles, one after another.
+use Rattle.std.proofs.Common.{◌≡◌, ℕ, ◌+◌, ◌-◌, true, false, List, [], ◌∷◌, ◌++◌, length}
+use Rattle.std.proofs.Common.{Option, Some, Result, Ok, Err, refl, sym, ap, ap₂, subst, ◌∙◌, append_assoc}
+use Rattle.std.proofs.Common.{append-nil, slice_get, arith}
+use Rattle.std.specs.Prelude.{OnErr, OnOk}
+use Rattle.std.specs.List.{list_all}
 use Rattle.std.specs.Io.KnownBytes.{Appends}
 use Rattle.std.proofs.KnownBytes.{Appends-nil, Appends-trans}
+use Rattle.std.proofs.lemmas.Grind.{flat_map-append}
 use Rattle.std.proofs.lemmas.List.{length-append}
 use Rattle.fr_bus.specs.Record.{Recorded}
 use Rattle.fr_bus.specs.Windows.{cycles_begun}
@@ -14,26 +16,32 @@ use Rattle.fr_core.specs.Scripts.{Scripted}
 use Rattle.fr_core.specs.Worlds.{WorldState}
 use Rattle.fr_endless.proofs.AlikeLemmas.{opened_same, begun_same, last_same}
 use Rattle.fr_endless.specs.Alike.{Alike}
+use Rattle.fr_files.specs.Outputs.{FallsShort}
 use Rattle.fr_live.specs.LiveWorlds.{LiveState, IsWorldHistory}
 use Rattle.fr_playing.proofs.PlayLemmas.{within_none, within_more, cycles_none, cycles_more}
 use Rattle.fr_playing.proofs.WindowLemmas.{window_adds}
-use Rattle.fr_playing.specs.Calls.{Asked, asked_in}
+use Rattle.fr_playing.specs.Calls.{asked_in}
 use Rattle.fr_playing.specs.declared.call.ExecutedCall.{ExecutedCall}
 use Rattle.fr_playing.specs.Moving.{is_at_cycle, whole_window}
 use Rattle.fr_playing.specs.Playing.{PlaysCycle, PlaysCycles}
 use Rattle.fr_playing.specs.Windows.{PlaysWindow, PlaysWithin, PlaysWindows}
 use Rattle.fr_runs.specs.declared.fault_line.FaultLine.{FaultLine}
 use Rattle.fr_scenario.specs.Contents.{Contents}
-use Rattle.fr_showing.specs.Listening.{records_after, window_records}
-use Rattle.fr_showing.specs.RecordText.{window_after, window_text}
+use Rattle.fr_showing.specs.AnswerText.{answer_line}
+use Rattle.fr_showing.specs.Listening.{capture_of, records_after, window_records}
+use Rattle.fr_showing.specs.RecordText.{record_text, window_after, window_text}
 use Rattle.fr_slots.proofs.HistoryLemmas.{each_after-snoc}
 use Rattle.fr_slots.proofs.PlaceLemmas.{get-after}
 use Rattle.fr_slots.specs.History.{each_after}
 use Rattle.fr_slots.specs.Parameters.{Parameters}
-use Rattle.fr_streaming.proofs.CallLemmas.{made_keeps}
+use Rattle.fr_streaming.proofs.AlikeLemmas.{ok_as}
+use Rattle.fr_streaming.proofs.KeptLemmas.{executes_keeps, lines_kept}
+use Rattle.fr_streaming.proofs.LedLemmas.{err_as, executes_none, executes_then, made_executed, window_executed}
+use Rattle.fr_streaming.proofs.LedLemmas.{windows_executed, within_executed, cycle_executed, cycles_executed}
 use Rattle.fr_streaming.specs.declared.telling.Streamed.{Streamed}
-use Rattle.fr_streaming.specs.declared.telling.Streamed.TheVariants.{Record, Heard}
-use Rattle.fr_streaming.specs.Streams.{told, told_last, told_opening, Goes, MakesCalls, MakesCycle, MakesCycles}
+use Rattle.fr_streaming.specs.declared.telling.Streamed.TheVariants.{Answers, Record, Heard}
+use Rattle.fr_streaming.specs.Streams.{is_silent, told, told_last, told_opening, Breaks, Executes, Goes, MakesCalls}
+use Rattle.fr_streaming.specs.Streams.{TellsBetween, WithoutCalls}
 
 -- ---- one more window
 
@@ -43,151 +51,248 @@ last_of xs x =
     let place : length (xs ++ x ∷ []) - 1 ≡ length xs = omega (arith, many) in
     ap (slice_get (xs ++ x ∷ [])) place ∙ get-after xs [] x
 
-module _ (s : Contents) (p : Parameters) where
-  told_more : (streamed : Streamed) (rs : List Recorded) (r : Recorded)
-      → told streamed s p (rs ++ r ∷ [])
-      ≡ told streamed s p rs ++ told_last streamed s p (cycles_begun (rs ++ r ∷ [])) (Some r)
-  told_more Record rs r = each_after-snoc (window_after s p) rs r
-  told_more Heard rs r =
-      ap (λ (l : List ℕ). file_header ++ l) (each_after-snoc (records_after p) rs r)
-      ∙ sym (append_assoc file_header (each_after (records_after p) [] rs) (records_after p rs r))
+-- the kept data have the window that was sealed last, and the number of cycles
+sealed_more : (cycle nodes : ℕ) (faults : List FaultLine) (l : LiveState) (w v : WorldState)
+    → PlaysWindow cycle faults (whole_window nodes) w v → IsWorldHistory l v
+    → (made : Recorded) × (v.bus.sealed ≡ w.bus.sealed ++ made ∷ []) × (l.bus.last ≡ Some made)
+    × (cycles_begun (w.bus.sealed ++ made ∷ []) ≡ l.bus.bus.course.begun)
+sealed_more cycle nodes faults l w v plays is =
+    let (made, grows) = window_adds faults cycle nodes plays.0 w v plays.1 plays.2 in (
+      made,
+      grows,
+      sym (last_same l v is)
+          ∙ ap (λ (rs : List Recorded). slice_get rs (length rs - 1)) grows ∙ last_of w.bus.sealed made,
+      ap cycles_begun (sym grows) ∙ begun_same l v is,
+    )
 
-  pub told_none : (streamed : Streamed) → told streamed s p [] ≡ told_opening streamed
+module _ (s : Contents) (p : Parameters) where
+  pub told_none : (streamed : Streamed) (w : WorldState) → w.bus.sealed ≡ []
+      → told streamed s p w [] ≡ told_opening streamed
   unfolding each_after
-  told_none Record = refl
-  told_none Heard = append-nil file_header
+  told_none Answers w none = refl
+  told_none Record w none = ap (record_text s p) none
+  told_none Heard w none = ap (capture_of p) none ∙ append-nil file_header
+
+  -- what the view has of a way from a world without windows is the view without its opening
+  pub told_after : (streamed : Streamed) (w : WorldState) (calls : List ExecutedCall) (v : WorldState) (text : List ℕ)
+      → w.bus.sealed ≡ [] → TellsBetween streamed s p w calls v text
+      → told streamed s p v calls ≡ told_opening streamed ++ text
+  told_after Answers w calls v text none tells = sym tells
+  told_after Record w calls v text none tells = tells ∙ ap (λ (t : List ℕ). t ++ text) (told_none Record w none)
+  told_after Heard w calls v text none tells = tells ∙ ap (λ (t : List ℕ). t ++ text) (told_none Heard w none)
 
   -- what the kept data have of the window that was sealed last
   pub window_told : (streamed : Streamed) (cycle nodes : ℕ) (faults : List FaultLine) (l : LiveState)
       (w v : WorldState) → PlaysWindow cycle faults (whole_window nodes) w v → IsWorldHistory l v
-      → told streamed s p v.bus.sealed
-      ≡ told streamed s p w.bus.sealed ++ told_last streamed s p l.bus.bus.course.begun l.bus.last
-  window_told streamed cycle nodes faults l w v plays is =
-      let (made, grows) = window_adds faults cycle nodes plays.0 w v plays.1 plays.2 in
-      let last : l.bus.last ≡ Some made =
-      sym (last_same l v is)
-      ∙ ap (λ (rs : List Recorded). slice_get rs (length rs - 1)) grows ∙ last_of w.bus.sealed made in
-      let begun : cycles_begun (w.bus.sealed ++ made ∷ []) ≡ l.bus.bus.course.begun =
-      ap cycles_begun (sym grows) ∙ begun_same l v is in
-      ap (told streamed s p) grows ∙ told_more streamed w.bus.sealed made
-      ∙ ap (λ (n : ℕ). told streamed s p w.bus.sealed ++ told_last streamed s p n (Some made)) begun
-      ∙ ap (λ (o : Option Recorded). told streamed s p w.bus.sealed
-      ++ told_last streamed s p l.bus.bus.course.begun o) (sym last)
+      → TellsBetween streamed s p w [] v (told_last streamed s p l.bus.bus.course.begun l.bus.last)
+  window_told Answers cycle nodes faults l w v plays is = refl
+  window_told Record cycle nodes faults l w v plays is =
+      let (made, grows, last, begun) = sealed_more cycle nodes faults l w v plays is in
+      ap (record_text s p) grows ∙ each_after-snoc (window_after s p) w.bus.sealed made
+      ∙ ap (λ (n : ℕ). record_text s p w.bus.sealed ++ window_text s p (n - 1) made) begun
+      ∙ ap (λ (o : Option Recorded). record_text s p w.bus.sealed ++ told_last Record s p l.bus.bus.course.begun o)
+      (sym last)
+  window_told Heard cycle nodes faults l w v plays is =
+      let (made, grows, last, begun) = sealed_more cycle nodes faults l w v plays is in
+      ap (capture_of p) grows
+      ∙ ap (λ (t : List ℕ). file_header ++ t) (each_after-snoc (records_after p) w.bus.sealed made)
+      ∙ sym (append_assoc file_header (each_after (records_after p) [] w.bus.sealed)
+      (records_after p w.bus.sealed made))
+      ∙ ap (λ (n : ℕ). capture_of p w.bus.sealed ++ window_records p (n - 1) made) begun
+      ∙ ap (λ (o : Option Recorded). capture_of p w.bus.sealed ++ told_last Heard s p l.bus.bus.course.begun o)
+      (sym last)
+
+  -- ---- one way after another
+
+  pub tells_none : (streamed : Streamed) (w : WorldState) → TellsBetween streamed s p w [] w []
+  tells_none Answers w = refl
+  tells_none Record w = sym (append-nil (record_text s p w.bus.sealed))
+  tells_none Heard w = sym (append-nil (capture_of p w.bus.sealed))
+
+  pub tells_then : (streamed : Streamed) (w u v : WorldState) (xs ys : List ExecutedCall) (a b : List ℕ)
+      → Executes w xs u → Executes u ys v → TellsBetween streamed s p w xs u a → TellsBetween streamed s p u ys v b
+      → TellsBetween streamed s p w (xs ++ ys) v (a ++ b)
+  tells_then Answers w u v xs ys a b first second one two =
+      ap₂ (λ (x y : List ℕ). x ++ y)
+      (one ∙ lines_kept w xs u v first (executes_keeps u ys v second)) two
+      ∙ sym (flat_map-append (answer_line v) xs ys)
+  tells_then Record w u v xs ys a b first second one two =
+      two ∙ ap (λ (t : List ℕ). t ++ b) one ∙ append_assoc (record_text s p w.bus.sealed) a b
+  tells_then Heard w u v xs ys a b first second one two =
+      two ∙ ap (λ (t : List ℕ). t ++ b) one ∙ append_assoc (capture_of p w.bus.sealed) a b
 
 -- ---- texts one after another
 
-module _ (tells : WorldState → List ℕ) where
-  pub goes_none : (R : WorldState → WorldState → Type 0) (l : LiveState) (bytes : Option (List ℕ))
-      → ((w : WorldState) → R w w) → Goes tells R l bytes bytes l
-  goes_none R l bytes same = ([], Appends-nil bytes, λ w is. (w, (same w, sym (append-nil (tells w))), is))
+-- the relation holds of accepted events
+abbrev pub Leads : (WorldState → List ExecutedCall → WorldState → Type 0) → Type 0
+Leads R = (w : WorldState) (calls : List ExecutedCall) (v : WorldState) → R w calls v → Executes w calls v
 
-  pub goes_then : (R S Q : WorldState → WorldState → Type 0) (l m n : LiveState) (a b c : Option (List ℕ))
-      → Goes tells R l a b m → Goes tells S m b c n
-      → ((w u v : WorldState) → IsWorldHistory n v → R w u → S u v → Q w v) → Goes tells Q l a c n
-  goes_then R S Q l m n a b c first second joins =
+module _ (streamed : Streamed) (s : Contents) (p : Parameters) where
+  pub goes_none : (R : WorldState → List ExecutedCall → WorldState → Type 0) (l : LiveState) (bytes : Option (List ℕ))
+      → ((w : WorldState) → R w [] w) → Goes (TellsBetween streamed s p) R l bytes bytes l
+  goes_none R l bytes same =
+      ([], Appends-nil bytes, λ w is. (w, ([], same w, tells_none s p streamed w), is))
+
+  pub goes_then : (R S Q : WorldState → List ExecutedCall → WorldState → Type 0) (l m n : LiveState)
+      (a b c : Option (List ℕ)) → Goes (TellsBetween streamed s p) R l a b m
+      → Goes (TellsBetween streamed s p) S m b c n → Leads R → Leads S
+      → ((w u v : WorldState) (xs ys : List ExecutedCall) → IsWorldHistory n v → R w xs u → S u ys v
+      → Q w (xs ++ ys) v)
+      → Goes (TellsBetween streamed s p) Q l a c n
+  goes_then R S Q l m n a b c first second leads leads' joins =
       let (text, adds, each) = first in
       let (more, adds', each') = second in (
         text ++ more,
         Appends-trans a b c text more adds adds',
         λ w is.
-            let (u, (one, tells_one), mid) = each w is in
-            let (v, (two, tells_two), end) = each' u mid in (
+            let (u, (xs, one, tells_one), mid) = each w is in
+            let (v, (ys, two, tells_two), end) = each' u mid in (
               v,
               (
-                joins w u v end one two,
-                tells_two ∙ ap (λ (t : List ℕ). t ++ more) tells_one
-                    ∙ append_assoc (tells w) text more,
+                xs ++ ys,
+                joins w u v xs ys end one two,
+                tells_then s p streamed w u v xs ys text more (leads w xs u one) (leads' u ys v two) tells_one
+                    tells_two,
               ),
               end,
             ),
       )
 
-  -- nothing is told
-  pub goes_quiet : (R : WorldState → WorldState → Type 0) (l n : LiveState) (bytes : Option (List ℕ)) → Alike l R n
-      → ((w v : WorldState) → R w v → tells v ≡ tells w) → Goes tells R l bytes bytes n
-  goes_quiet R l n bytes given same = (
-    [],
-    Appends-nil bytes,
-    λ w is.
-        let (v, one, end) = given w is in
-        (v, (one, same w v one ∙ sym (append-nil (tells w))), end),
-  )
+  -- ---- hindrances
 
-  -- the same text is told of each
-  pub goes_by : (R : WorldState → WorldState → Type 0) (l n : LiveState) (a b : Option (List ℕ)) (text : List ℕ)
-      → Alike l R n → Appends a b text
-      → ((w v : WorldState) → IsWorldHistory n v → R w v → tells v ≡ tells w ++ text) → Goes tells R l a b n
-  goes_by R l n a b text given adds means = (
-    text,
-    adds,
-    λ w is.
-        let (v, one, end) = given w is in
-        (v, (one, means w v end one), end),
-  )
+  pub breaks_none : (l : LiveState) (bytes : Option (List ℕ)) → Breaks (TellsBetween streamed s p) l bytes bytes
+  breaks_none l bytes =
+      ([], Appends-nil bytes, λ w is. (w, [], [], executes_none w, tells_none s p streamed w))
 
--- ---- windows of a cycle
+  pub breaks_after : (R : WorldState → List ExecutedCall → WorldState → Type 0) (l m : LiveState)
+      (a b c : Option (List ℕ)) → Goes (TellsBetween streamed s p) R l a b m → Leads R
+      → Breaks (TellsBetween streamed s p) m b c → Breaks (TellsBetween streamed s p) l a c
+  breaks_after R l m a b c goes leads breaks =
+      let (text, adds, each) = goes in
+      let (more, adds', each') = breaks in (
+        text ++ more,
+        Appends-trans a b c text more adds adds',
+        λ w is.
+            let (u, (xs, one, tells_one), mid) = each w is in
+            let (v, ys, rest, executes, tells_two) = each' u mid in
+            let before = leads w xs u one in (
+              v,
+              xs ++ ys,
+              rest,
+              executes_then w xs u ys v before executes,
+              subst (TellsBetween streamed s p w (xs ++ ys) v) (sym (append_assoc text more rest))
+                  (tells_then s p streamed w u v xs ys text (more ++ rest) before executes tells_one tells_two),
+            ),
+      )
 
-module _ (tells : WorldState → List ℕ) (cycle : ℕ) (faults : List FaultLine) (due : List Event) where
-  pub windows_none : (l : LiveState) (bytes : Option (List ℕ))
-      → Goes tells (PlaysWithin cycle faults due 0) l bytes bytes l
-  windows_none l bytes = goes_none tells (PlaysWithin cycle faults due 0) l bytes (within_none cycle faults due)
+  pub breaks_at : (R : WorldState → List ExecutedCall → WorldState → Type 0) (l m : LiveState) (a b : Option (List ℕ))
+      → Goes (TellsBetween streamed s p) R l a b m → Leads R → Breaks (TellsBetween streamed s p) l a b
+  breaks_at R l m a b goes leads = breaks_after R l m a b b goes leads (breaks_none m b)
 
-  pub windows_more : (l m n : LiveState) (a b c : Option (List ℕ)) (count : ℕ)
-      → Goes tells (PlaysWithin cycle faults due count) l a b m → Goes tells (PlaysWindow cycle faults due) m b c n
-      → is_at_cycle n.bus.bus.opened ≡ false → Goes tells (PlaysWithin cycle faults due (count + 1)) l a c n
-  windows_more l m n a b c count first second within =
-      goes_then tells (PlaysWithin cycle faults due count) (PlaysWindow cycle faults due)
-      (PlaysWithin cycle faults due (count + 1)) l m n a b c first second
-      (λ w u v is one two. within_more cycle faults due count w u v one two
-      (ap is_at_cycle (opened_same n v is) ∙ within))
+  -- only a front of the text was written
+  pub breaks_short : (R : WorldState → List ExecutedCall → WorldState → Type 0) (l m : LiveState)
+      (a b : Option (List ℕ)) (text : List ℕ)
+      → Alike l (λ w v. (calls : List ExecutedCall) × R w calls v × TellsBetween streamed s p w calls v text) m
+      → Leads R → FallsShort a b text → Breaks (TellsBetween streamed s p) l a b
+  breaks_short R l m a b text given leads short =
+      let (front, rest, text_is, missing, adds) = short in (
+        front,
+        adds,
+        λ w is.
+            let (v, (calls, one, tells), end) = given w is in
+            (v, calls, rest, leads w calls v one, subst (TellsBetween streamed s p w calls v) text_is tells),
+      )
 
-  pub windows_end : (l m n : LiveState) (a b c : Option (List ℕ)) (count : ℕ)
-      → Goes tells (PlaysWithin cycle faults due count) l a b m → Goes tells (PlaysWindow cycle faults due) m b c n
-      → is_at_cycle n.bus.bus.opened ≡ true → Goes tells (PlaysWindows cycle faults due) l a c n
-  windows_end l m n a b c count first second ends =
-      goes_then tells (PlaysWithin cycle faults due count) (PlaysWindow cycle faults due)
-      (PlaysWindows cycle faults due) l m n a b c first second
-      (λ w u v is one two. (count, u, one, two, ap is_at_cycle (opened_same n v is) ∙ ends))
+  -- ---- a text that is handed to the writer
 
--- ---- cycles
+  module _ {A E : Type 0} (r : Result A E) (R : WorldState → List ExecutedCall → WorldState → Type 0)
+      (l n : LiveState) (a b : Option (List ℕ)) (handed text : List ℕ) (is : handed ≡ text)
+      (given : Alike l
+      (λ w v. (calls : List ExecutedCall) × R w calls v × TellsBetween streamed s p w calls v text) n) where
+    pub handed_goes : OnOk r (Appends a b handed) → OnOk r (Goes (TellsBetween streamed s p) R l a b n)
+    handed_goes adds =
+        ok_as r (Appends a b handed) (Goes (TellsBetween streamed s p) R l a b n) adds
+        (λ appends. (text, subst (Appends a b) is appends, given))
 
-module _ (tells : WorldState → List ℕ) (scripts : List Scripted) (faults : List FaultLine) (due : List Event) where
-  cycle_of : (cycle : ℕ) (w u v : WorldState) → MakesCalls (asked_in cycle scripts) w u
-      → PlaysWindows cycle faults due u v → MakesCycle cycle scripts faults due w v
-  cycle_of cycle w u v made plays = (made.0, (u, made.1, made.2, plays))
+    pub handed_breaks : Leads R → OnErr r (FallsShort a b handed)
+        → OnErr r (Breaks (TellsBetween streamed s p) l a b)
+    handed_breaks leads short =
+        err_as r (FallsShort a b handed) (Breaks (TellsBetween streamed s p) l a b) short
+        (λ falls. breaks_short R l n a b text given leads (subst (FallsShort a b) is falls))
 
-  pub cycle_goes : {A E : Type 0} (r : Result A E) (cycle : ℕ) (l m n : LiveState) (a b : Option (List ℕ))
-      → Alike l (λ w v. MakesCalls (asked_in cycle scripts) w v) m
-      → ((w v : WorldState) → v.bus ≡ w.bus → tells v ≡ tells w)
-      → OnOk r (Goes tells (PlaysWindows cycle faults due) m a b n)
-      → OnOk r (Goes tells (MakesCycle cycle scripts faults due) l a b n)
-  cycle_goes (Ok x) cycle l m n a b called same goes =
-      goes_then tells (MakesCalls (asked_in cycle scripts)) (PlaysWindows cycle faults due)
-      (MakesCycle cycle scripts faults due) l m n a a b
-      (goes_quiet tells (MakesCalls (asked_in cycle scripts)) l m a called
-      (λ w v made. same w v (made_keeps (asked_in cycle scripts) w v made)))
-      goes (λ w u v is made plays. cycle_of cycle w u v made plays)
-  cycle_goes (Err e) cycle l m n a b called same goes = tt
+  -- ---- windows of a cycle
 
-  no_cycle : (w : WorldState) → MakesCycles scripts faults due 0 w w
-  no_cycle w = ([], cycles_none scripts faults due [] w refl)
+  module _ (cycle : ℕ) (faults : List FaultLine) (due : List Event) (silent : list_all is_silent due ≡ true) where
+    within_leads : (count : ℕ) → Leads (WithoutCalls (PlaysWithin cycle faults due count))
+    within_leads count = within_executed cycle faults due silent count
 
-  next_cycle : (count : ℕ) (w u v : WorldState) → MakesCycles scripts faults due count w u
-      → MakesCycle count scripts faults due u v → MakesCycles scripts faults due (count + 1) w v
-  next_cycle count w u v first second =
-      let (calls, so_far) = first in
-      let (more, plays) = second in
-      (calls ++ more, cycles_more scripts faults due count calls (calls ++ more) w u v so_far (more, refl, plays))
+    no_calls : (xs ys : List ExecutedCall) → xs ≡ [] → ys ≡ [] → xs ++ ys ≡ []
+    no_calls xs ys none none' = ap₂ (λ (a b : List ExecutedCall). a ++ b) none none'
 
-  pub cycles_start : (l : LiveState) (bytes : Option (List ℕ))
-      → Goes tells (MakesCycles scripts faults due 0) l bytes bytes l
-  cycles_start l bytes = goes_none tells (MakesCycles scripts faults due 0) l bytes no_cycle
+    pub windows_none : (l : LiveState) (bytes : Option (List ℕ))
+        → Goes (TellsBetween streamed s p) (WithoutCalls (PlaysWithin cycle faults due 0)) l bytes bytes l
+    windows_none l bytes =
+        goes_none (WithoutCalls (PlaysWithin cycle faults due 0)) l bytes
+        (λ w. (refl, within_none cycle faults due w))
 
-  pub cycles_next : (l m n : LiveState) (a b c : Option (List ℕ)) (count : ℕ)
-      → Goes tells (MakesCycles scripts faults due count) l a b m
-      → Goes tells (MakesCycle count scripts faults due) m b c n
-      → Goes tells (MakesCycles scripts faults due (count + 1)) l a c n
-  cycles_next l m n a b c count first second =
-      goes_then tells (MakesCycles scripts faults due count) (MakesCycle count scripts faults due)
-      (MakesCycles scripts faults due (count + 1)) l m n a b c first second
-      (λ w u v is one two. next_cycle count w u v one two)
+    pub windows_more : (l m n : LiveState) (a b c : Option (List ℕ)) (count : ℕ)
+        → Goes (TellsBetween streamed s p) (WithoutCalls (PlaysWithin cycle faults due count)) l a b m
+        → Goes (TellsBetween streamed s p) (WithoutCalls (PlaysWindow cycle faults due)) m b c n
+        → is_at_cycle n.bus.bus.opened ≡ false
+        → Goes (TellsBetween streamed s p) (WithoutCalls (PlaysWithin cycle faults due (count + 1))) l a c n
+    windows_more l m n a b c count first second within =
+        goes_then (WithoutCalls (PlaysWithin cycle faults due count)) (WithoutCalls (PlaysWindow cycle faults due))
+        (WithoutCalls (PlaysWithin cycle faults due (count + 1))) l m n a b c first second (within_leads count)
+        (window_executed cycle faults due silent)
+        (λ w u v xs ys is one two. (
+          no_calls xs ys one.0 two.0,
+          within_more cycle faults due count w u v one.1 two.1 (ap is_at_cycle (opened_same n v is) ∙ within),
+        ))
+
+    pub windows_end : (l m n : LiveState) (a b c : Option (List ℕ)) (count : ℕ)
+        → Goes (TellsBetween streamed s p) (WithoutCalls (PlaysWithin cycle faults due count)) l a b m
+        → Goes (TellsBetween streamed s p) (WithoutCalls (PlaysWindow cycle faults due)) m b c n
+        → is_at_cycle n.bus.bus.opened ≡ true
+        → Goes (TellsBetween streamed s p) (WithoutCalls (PlaysWindows cycle faults due)) l a c n
+    windows_end l m n a b c count first second ends =
+        goes_then (WithoutCalls (PlaysWithin cycle faults due count)) (WithoutCalls (PlaysWindow cycle faults due))
+        (WithoutCalls (PlaysWindows cycle faults due)) l m n a b c first second (within_leads count)
+        (window_executed cycle faults due silent)
+        (λ w u v xs ys is one two. (
+          no_calls xs ys one.0 two.0,
+          (count, u, one.1, two.1, ap is_at_cycle (opened_same n v is) ∙ ends),
+        ))
+
+  -- ---- cycles
+
+  module _ (scripts : List Scripted) (faults : List FaultLine) (due : List Event)
+      (silent : list_all is_silent due ≡ true) where
+    pub cycle_goes : {A E : Type 0} (r : Result A E) (cycle : ℕ) (l m n : LiveState) (a b c : Option (List ℕ))
+        → Goes (TellsBetween streamed s p) (MakesCalls (asked_in cycle scripts)) l a b m
+        → OnOk r (Goes (TellsBetween streamed s p) (WithoutCalls (PlaysWindows cycle faults due)) m b c n)
+        → OnOk r (Goes (TellsBetween streamed s p) (PlaysCycle cycle scripts faults due) l a c n)
+    cycle_goes (Ok x) cycle l m n a b c called goes =
+        goes_then (MakesCalls (asked_in cycle scripts)) (WithoutCalls (PlaysWindows cycle faults due))
+        (PlaysCycle cycle scripts faults due) l m n a b c called goes (made_executed (asked_in cycle scripts))
+        (windows_executed cycle faults due silent)
+        (λ w u v xs ys is made plays.
+        subst (λ (cs : List ExecutedCall). PlaysCycle cycle scripts faults due w cs v)
+        (sym (ap (λ (zs : List ExecutedCall). xs ++ zs) plays.0 ∙ append-nil xs))
+        (u, made.0, made.1, plays.1))
+    cycle_goes (Err e) cycle l m n a b c called goes = tt
+
+    pub cycles_start : (l : LiveState) (bytes : Option (List ℕ))
+        → Goes (TellsBetween streamed s p) (PlaysCycles scripts faults due 0) l bytes bytes l
+    cycles_start l bytes =
+        goes_none (PlaysCycles scripts faults due 0) l bytes (λ w. cycles_none scripts faults due [] w refl)
+
+    pub cycles_next : (l m n : LiveState) (a b c : Option (List ℕ)) (count : ℕ)
+        → Goes (TellsBetween streamed s p) (PlaysCycles scripts faults due count) l a b m
+        → Goes (TellsBetween streamed s p) (PlaysCycle count scripts faults due) m b c n
+        → Goes (TellsBetween streamed s p) (PlaysCycles scripts faults due (count + 1)) l a c n
+    cycles_next l m n a b c count first second =
+        goes_then (PlaysCycles scripts faults due count) (PlaysCycle count scripts faults due)
+        (PlaysCycles scripts faults due (count + 1)) l m n a b c first second
+        (cycles_executed scripts faults due silent count) (cycle_executed scripts faults due silent count)
+        (λ w u v xs ys is so_far plays.
+        cycles_more scripts faults due count xs (xs ++ ys) w u v so_far (ys, refl, plays))

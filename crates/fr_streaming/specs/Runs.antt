@@ -6,7 +6,6 @@ use Rattle.fr_bus.specs.declared.error.BusError.TheVariants as bus
 use Rattle.fr_bus.specs.Live.{cycles_suit}
 use Rattle.fr_core.specs.declared.error.StepError.{StepError}
 use Rattle.fr_core.specs.declared.error.StepError.TheVariants as step
-use Rattle.fr_core.specs.declared.event.Event.{Event}
 use Rattle.fr_core.specs.Headline.{Headline}
 use Rattle.fr_core.specs.Settling.{IsFirst}
 use Rattle.fr_core.specs.Worlds.{WorldState, opening_world}
@@ -18,8 +17,10 @@ use Rattle.fr_names.specs.Names.{NamesOfNode}
 use Rattle.fr_outcome.specs.ScenarioFiles.{IsShort, IsRefused}
 use Rattle.fr_playing.specs.declared.error.PlayError.{PlayError}
 use Rattle.fr_playing.specs.declared.error.PlayError.TheVariants as refusal
+use Rattle.fr_playing.specs.Calls.{asked_of}
+use Rattle.fr_playing.specs.declared.call.ExecutedCall.{ExecutedCall}
 use Rattle.fr_playing.specs.Moving.{whole_window}
-use Rattle.fr_playing.specs.Striking.{Passes}
+use Rattle.fr_playing.specs.Playing.{asked_by, PlaysCycles}
 use Rattle.fr_runs.specs.declared.check.RunRefusal.{RunRefusal}
 use Rattle.fr_runs.specs.declared.check.RunRefusal.TheVariants.{BadCycles, BadScript, BadFault, NoRoom}
 use Rattle.fr_runs.specs.Refusing.{EachFaultSuits, EachScriptSuits}
@@ -32,7 +33,7 @@ use Rattle.fr_streaming.specs.declared.hindrance.Hindrance.{Hindrance}
 use Rattle.fr_streaming.specs.declared.hindrance.Hindrance.TheVariants as hindrance
 use Rattle.fr_streaming.specs.declared.stream.StreamNotes.{StreamNotes}
 use Rattle.fr_streaming.specs.declared.telling.Streamed.{Streamed}
-use Rattle.fr_streaming.specs.Streams.{told, MakesCycles}
+use Rattle.fr_streaming.specs.Streams.{told, Executes}
 
 -- ---- refusals
 
@@ -104,10 +105,13 @@ OpensStream d cycles (Err (refusal.Run BadCycles)) = cycles_suit d.params cycles
 OpensStream d cycles (Err (refusal.Text bench.Memory)) = ⊤
 OpensStream d cycles (Err e) = ⊥
 
--- The events of a run of the cluster with the scenario lead to this world, and the run is over. They are the events of
--- `IsPlayed`, from the opening world with the greatest room.
-pub record IsStreamed (d : Description) (s : Contents) (cycles : ℕ) (w : WorldState) : Type 0 where
-  pub cycles_are : MakesCycles s.scripts s.faults (whole_window (length d.plans)) cycles (opening d cycles) w
+-- The events of a run of the cluster with the scenario lead to this world, with these calls, and the run is over. They
+-- are the events and the calls of `IsPlayed`, from the opening world with the greatest room.
+pub record IsStreamed (d : Description) (s : Contents) (cycles : ℕ) (w : WorldState) (calls : List ExecutedCall)
+    : Type 0 where
+  pub cycles_are : PlaysCycles s.scripts s.faults (whole_window (length d.plans)) cycles (opening d cycles) calls w
+  -- each line of the run is executed, once, and in this order
+  pub asked : map asked_of calls ≡ asked_by cycles s.scripts
   pub over : w.bus.opened ≡ None
   -- the headline promise, of the world with its whole history
   pub headline : Headline w
@@ -115,7 +119,8 @@ pub record IsStreamed (d : Description) (s : Contents) (cycles : ℕ) (w : World
 -- the view of a run with the scenario was written, and nothing else
 abbrev pub AddsStream : Description → ℕ → Streamed → Contents → Option (List ℕ) → Option (List ℕ) → Type 0
 AddsStream d cycles streamed s before after =
-    (w : WorldState) × IsStreamed d s cycles w × Appends before after (told streamed s d.params w.bus.sealed)
+    (w : WorldState) × (calls : List ExecutedCall) × IsStreamed d s cycles w calls
+    × Appends before after (told streamed s d.params w calls)
 
 -- the lines of the scenario that name cycles, but none that it is read for, and those of the expectations that are left
 pub record AreNotes (s : Contents) (notes : StreamNotes) : Type 0 where
@@ -157,11 +162,12 @@ TellsRun d s cycles (Err e) = ⊥
 
 -- ---- what was written before an error
 
--- accepted events lead from the opening world to one of whose view a front was written, and nothing else
+-- Accepted events lead from the opening world to this one, with these calls of tasks. A front of their view was
+-- written, and nothing else.
 abbrev pub Cuts : Description → Contents → ℕ → Streamed → Option (List ℕ) → Option (List ℕ) → Type 0
 Cuts d s cycles streamed before after =
-    (w : WorldState) × (events : List Event) × (front : List ℕ) × (rest : List ℕ)
-    × Passes (opening d cycles) events w × (told streamed s d.params w.bus.sealed ≡ front ++ rest)
+    (w : WorldState) × (calls : List ExecutedCall) × (front : List ℕ) × (rest : List ℕ)
+    × Executes (opening d cycles) calls w × (told streamed s d.params w calls ≡ front ++ rest)
     × Appends before after front
 
 abbrev pub CutsRun : Description → Contents → ℕ → Streamed → Option (List ℕ) → Option (List ℕ) → PlayError → Type 0

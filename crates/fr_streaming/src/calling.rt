@@ -1,71 +1,92 @@
-//! The calls of scripts in a world without history.
-ghost use Rattle.std.specs.Prelude.{◌∷◌, [], OnOk};
-ghost use Rattle.fr_endless.specs.Alike.{Alike};
+//! The calls of scripts in a world without history, each shown as it is made.
+ghost use Rattle.std.specs.Prelude.{◌∷◌, [], OnErr, OnOk};
 ghost use Rattle.fr_playing.specs.Calls.{asked_in, asked_in_line, asked_in_script};
-ghost use Rattle.fr_streaming.specs.Streams.{asked, MakesCalls};
+ghost use Rattle.fr_streaming.specs.RunFields.{tells};
+ghost use Rattle.fr_streaming.specs.Streams.{asked, Breaks, Goes, MakesCalls};
 
 use crate::hindrance::Hindrance;
-use fr_core::event::Event;
+use crate::telling::{Run, call_in, write_out};
 use fr_core::script::{Line, Script};
 use fr_endless::world::EndlessWorld;
-use fr_interface::call::Call;
 use fr_slots::numbers::{NodeId, TaskId};
+use std::io::Write;
 
-/// Executes the call of the node's task, which must be accepted.
-fn do_call(
+/// Executes the call of the task's line, which must be accepted, and writes what the view has of it.
+fn show_call<W: Write>(
     world: &mut EndlessWorld,
+    run: &Run<'_>,
     node: NodeId,
     task: TaskId,
-    cycle: u32,
-    call: &Call,
+    line: &Line,
+    writer: &mut W,
 ) -> Result<(), Hindrance>
-    ensures { OnOk result (Alike world.old (λ w v. MakesCalls (asked node task cycle call.now ∷ []) w v) world.new) }
+    ensures goes { OnOk result (Goes (tells run.now)
+        (MakesCalls (asked node task line.now.cycle line.now.action ∷ [])) world.old (W.contents writer.old)
+        (W.contents writer.new) world.new) }
+    ensures early { OnErr result (Breaks (tells run.now) world.old (W.contents writer.old) (W.contents writer.new)) }
 {
-    match world.step(&Event::of_call(node, task, call.duplicate())) {
-        Ok(_) => Ok(()),
-        Err(error) => Err(Hindrance::from(error)),
-    }
+    let answer = match world.call(node, task, &line.action) {
+        Ok(answer) => answer,
+        Err(error) => return Err(Hindrance::from(error)),
+    };
+    let text = call_in(run.alloc, run.streamed, node, task, line, answer)?;
+    write_out(writer, text.as_slice())
 }
 
 /// Executes the line of the node's task, if it is one of this cycle.
-fn do_line(
+fn show_line<W: Write>(
     world: &mut EndlessWorld,
+    run: &Run<'_>,
     cycle: u32,
     node: NodeId,
     task: TaskId,
     line: &Line,
+    writer: &mut W,
 ) -> Result<(), Hindrance>
-    ensures { OnOk result
-        (Alike world.old (λ w v. MakesCalls (asked_in_line cycle node task line.now) w v) world.new) }
+    ensures goes { OnOk result (Goes (tells run.now) (MakesCalls (asked_in_line cycle node task line.now)) world.old
+        (W.contents writer.old) (W.contents writer.new) world.new) }
+    ensures early { OnErr result (Breaks (tells run.now) world.old (W.contents writer.old) (W.contents writer.new)) }
 {
     if u32::from(line.cycle) == cycle {
-        do_call(world, node, task, cycle, &line.action)
+        show_call(world, run, node, task, line, writer)
     } else {
         Ok(())
     }
 }
 
 /// Executes the script's lines of this cycle, in their order.
-fn do_script(world: &mut EndlessWorld, cycle: u32, script: &Script) -> Result<(), Hindrance>
-    ensures { OnOk result (Alike world.old (λ w v. MakesCalls (asked_in_script cycle script.now) w v) world.new) }
+fn show_script<W: Write>(
+    world: &mut EndlessWorld,
+    run: &Run<'_>,
+    cycle: u32,
+    script: &Script,
+    writer: &mut W,
+) -> Result<(), Hindrance>
+    ensures goes { OnOk result (Goes (tells run.now) (MakesCalls (asked_in_script cycle script.now)) world.old
+        (W.contents writer.old) (W.contents writer.new) world.new) }
+    ensures early { OnErr result (Breaks (tells run.now) world.old (W.contents writer.old) (W.contents writer.new)) }
 {
     let lines = script.lines.as_slice();
     for line in lines {
-        do_line(world, cycle, script.node, script.task, line)?;
+        show_line(world, run, cycle, script.node, script.task, line, writer)?;
     }
     Ok(())
 }
 
 /// Executes the lines of this cycle, in the order of the scripts and of the lines of each.
-pub(crate) fn do_lines(
+pub(crate) fn show_lines<W: Write>(
     world: &mut EndlessWorld,
+    run: &Run<'_>,
     cycle: u32,
     scripts: &[Script],
+    writer: &mut W,
 ) -> Result<(), Hindrance>
-    ensures { OnOk result (Alike world.old (λ w v. MakesCalls (asked_in cycle scripts.now) w v) world.new) }
+    ensures goes { OnOk result (Goes (tells run.now) (MakesCalls (asked_in cycle scripts.now)) world.old
+        (W.contents writer.old) (W.contents writer.new) world.new) }
+    ensures early { OnErr result (Breaks (tells run.now) world.old (W.contents writer.old) (W.contents writer.new)) }
 {
     for script in scripts {
-        do_script(world, cycle, script)?;
+        show_script(world, run, cycle, script, writer)?;
     }
     Ok(())
 }

@@ -1,5 +1,5 @@
 //! Runs of a scenario without history: a view of the run is written as it goes, so that a run of hours needs the memory
-//! of one cycle.
+//! of one cycle. It is the answers of the calls, the record of the bus, or a capture of it.
 //!
 //! ```text
 //! let notes = stream_run(alloc, &cluster, &names, &mut scenario_file, cycles, Streamed::Record, &mut output)?;
@@ -9,15 +9,16 @@
 //!
 //! # Definitions
 //!
-//! - `Streams`: the text of a view after some windows, and what a run in a world without history has written.
+//! - `Streams`: the text of a view after some calls and windows, and what a run in a world without history has written.
 //! - `Runs`: the run of a scenario, and the reasons why there is none.
 //!
 //! # Inner workings
 //!
 //! `stream_run` (`stream`) reads the scenario, checks it, and opens an `EndlessWorld` (`fr_endless`). In each cycle
-//! `do_lines` (`calling`) executes the lines of the scripts. `show_windows` (`windows`) executes window after window
-//! by `play_window` (`playing`), and writes what the view has of the sealed one. The events are those of
-//! `fr_playing::play`, and each clause speaks of the world with its whole history that these events lead to.
+//! `show_lines` (`calling`) executes the lines of the scripts, and writes what the view has of each call.
+//! `show_windows` (`windows`) executes window after window by `play_window` (`playing`), and writes what the view has
+//! of the sealed one. The events are those of `fr_playing::play`, and each clause speaks of the world with its whole
+//! history that these events lead to.
 #![tactic(auto)]
 
 mod calling;

@@ -16,8 +16,8 @@ use fr_slots::window::Window;
 pub(crate) fn pass(world: &mut EndlessWorld, event: &Event) -> Result<(), Hindrance>
     ensures { OnOk result (Alike world.old (λ w v. Passes w (event.now ∷ []) v) world.new) }
 {
-    match world.step(event) {
-        Ok(_) => Ok(()),
+    match world.apply(event) {
+        Ok(()) => Ok(()),
         Err(error) => Err(Hindrance::from(error)),
     }
 }

@@ -6,8 +6,8 @@ ghost use Rattle.fr_streaming.specs.Runs.{CutsRun, CutsStream, TellsRun, TellsSt
 
 use crate::hindrance::error_of;
 pub use crate::telling::Streamed;
-use crate::telling::opening_in;
-use crate::windows::{Run, show_cycles};
+use crate::telling::{Run, opening_in};
+use crate::windows::show_cycles;
 use fr_bus::error::BusError;
 use fr_endless::world::EndlessWorld;
 use fr_files::error::BenchError;

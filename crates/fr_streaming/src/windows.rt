@@ -1,41 +1,22 @@
 //! The windows and the cycles of a run, each written as it is over.
 ghost use Rattle.std.specs.Prelude.{◌≡◌, length, OnErr, OnOk};
 ghost use Rattle.fr_playing.specs.Moving.{is_at_cycle, whole_window};
+ghost use Rattle.fr_playing.specs.Playing.{PlaysCycle, PlaysCycles};
 ghost use Rattle.fr_playing.specs.Windows.{PlaysWindow, PlaysWindows};
 ghost use Rattle.fr_streaming.specs.RunFields.{due_of, faults_of, scripts_of, tells};
-ghost use Rattle.fr_streaming.specs.Streams.{Breaks, Goes, MakesCycle, MakesCycles};
+ghost use Rattle.fr_streaming.specs.Streams.{Breaks, Goes, WithoutCalls};
 
-use crate::calling::do_lines;
+use crate::calling::show_lines;
 use crate::hindrance::Hindrance;
 use crate::playing::play_window;
-use crate::telling::{Streamed, last_in};
+use crate::telling::{Run, last_in, write_out};
 use fr_bus::live::LiveBus;
 use fr_bus::windows::opens_cycle;
-use fr_core::event::Event;
 use fr_endless::world::EndlessWorld;
-use fr_files::output::write_text;
-use fr_scenario::scenario::Scenario;
-use fr_schedule::cluster::Cluster;
-use std::alloc::Global;
 use std::io::Write;
 
 /// The greatest number of windows of a cycle: one for each of 1,023 static slots and 8,000 minislots.
 const MOST_WINDOWS: u32 = 9_023;
-
-/// The terms of a run.
-#[derive(Clone, Copy)]
-pub(crate) struct Run<'a> {
-    /// The memory that the text of a window takes.
-    pub(crate) alloc: Global,
-    /// The view.
-    pub(crate) streamed: Streamed,
-    /// The scenario.
-    pub(crate) scenario: &'a Scenario,
-    /// The cluster.
-    pub(crate) cluster: &'a Cluster,
-    /// The events that are due in a window.
-    pub(crate) due: &'a [Event],
-}
 
 /// Returns whether the open window is the first of its cycle, or the run is over.
 fn is_at_cycle(bus: &LiveBus) -> bool
@@ -55,17 +36,15 @@ fn show_window<W: Write>(
     writer: &mut W,
 ) -> Result<(), Hindrance>
     requires { due_of run.now ≡ whole_window (length run.now.cluster.now.plans) }
-    ensures goes { OnOk result (Goes (tells run.now) (PlaysWindow cycle (faults_of run.now) (due_of run.now))
-        world.old (W.contents writer.old) (W.contents writer.new) world.new) }
+    ensures goes { OnOk result (Goes (tells run.now)
+        (WithoutCalls (PlaysWindow cycle (faults_of run.now) (due_of run.now))) world.old (W.contents writer.old)
+        (W.contents writer.new) world.new) }
     ensures early { OnErr result (Breaks (tells run.now) world.old (W.contents writer.old) (W.contents writer.new)) }
 {
     play_window(world, cycle, run.scenario.faults(), run.due)?;
     let params = run.cluster.params();
     let text = last_in(run.alloc, run.streamed, run.scenario, params, world.bus())?;
-    match write_text(writer, text.as_slice()) {
-        Ok(()) => Ok(()),
-        Err(_) => Err(Hindrance::Write),
-    }
+    write_out(writer, text.as_slice())
 }
 
 /// Executes windows until the first one of a cycle is open, or the run is over.
@@ -76,8 +55,9 @@ fn show_windows<W: Write>(
     writer: &mut W,
 ) -> Result<(), Hindrance>
     requires { due_of run.now ≡ whole_window (length run.now.cluster.now.plans) }
-    ensures goes { OnOk result (Goes (tells run.now) (PlaysWindows cycle (faults_of run.now) (due_of run.now))
-        world.old (W.contents writer.old) (W.contents writer.new) world.new) }
+    ensures goes { OnOk result (Goes (tells run.now)
+        (WithoutCalls (PlaysWindows cycle (faults_of run.now) (due_of run.now))) world.old (W.contents writer.old)
+        (W.contents writer.new) world.new) }
     ensures early { OnErr result (Breaks (tells run.now) world.old (W.contents writer.old) (W.contents writer.new)) }
 {
     for count in 0..MOST_WINDOWS {
@@ -97,11 +77,11 @@ fn show_cycle<W: Write>(
     writer: &mut W,
 ) -> Result<(), Hindrance>
     requires { due_of run.now ≡ whole_window (length run.now.cluster.now.plans) }
-    ensures goes { OnOk result (Goes (tells run.now) (MakesCycle cycle (scripts_of run.now) (faults_of run.now)
+    ensures goes { OnOk result (Goes (tells run.now) (PlaysCycle cycle (scripts_of run.now) (faults_of run.now)
         (due_of run.now)) world.old (W.contents writer.old) (W.contents writer.new) world.new) }
     ensures early { OnErr result (Breaks (tells run.now) world.old (W.contents writer.old) (W.contents writer.new)) }
 {
-    do_lines(world, cycle, run.scenario.scripts())?;
+    show_lines(world, run, cycle, run.scenario.scripts(), writer)?;
     show_windows(world, run, cycle, writer)
 }
 
@@ -113,7 +93,7 @@ pub(crate) fn show_cycles<W: Write>(
     writer: &mut W,
 ) -> Result<(), Hindrance>
     requires { due_of run.now ≡ whole_window (length run.now.cluster.now.plans) }
-    ensures goes { OnOk result (Goes (tells run.now) (MakesCycles (scripts_of run.now) (faults_of run.now)
+    ensures goes { OnOk result (Goes (tells run.now) (PlaysCycles (scripts_of run.now) (faults_of run.now)
         (due_of run.now) cycles) world.old (W.contents writer.old) (W.contents writer.new) world.new) }
     ensures early { OnErr result (Breaks (tells run.now) world.old (W.contents writer.old) (W.contents writer.new)) }
 {

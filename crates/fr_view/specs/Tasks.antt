@@ -21,8 +21,9 @@ use Rattle.fr_why.specs.declared.verdict.Verdict.TheVariants.{Accepted, Refused}
 
 -- ---- views of a run
 
-abbrev pub drawn : Channel → Option ℕ → ℕ → Shown
-drawn channel node from = shown.Matrix (record { channel = channel; node = node; from = from })
+abbrev pub drawn : Channel → Option ℕ → ℕ → ℕ → Shown
+drawn channel node from from_window =
+    shown.Matrix (record { channel = channel; node = node; from = from; from_window = from_window })
 
 -- none if a node is named that no cluster can have
 abbrev pub shown_of : Asked → Option Shown
@@ -32,12 +33,13 @@ shown_of asked.Commits = Some shown.Commits
 shown_of asked.Record = Some shown.Record
 shown_of asked.Heard = Some shown.Heard
 shown_of (asked.Trace node) = option_map shown.Trace (number_within 0 last_node node)
-shown_of (asked.Matrix channel None from) = Some (drawn channel None from)
-shown_of (asked.Matrix channel (Some node) from) =
-    option_map (λ n. drawn channel (Some n) from) (number_within 0 last_node node)
+shown_of (asked.Matrix channel None from from_window) = Some (drawn channel None from from_window)
+shown_of (asked.Matrix channel (Some node) from from_window) =
+    option_map (λ n. drawn channel (Some n) from from_window) (number_within 0 last_node node)
 
 -- a view that is written as the run goes
 abbrev pub streamed_of : StreamAsked → Streamed
+streamed_of asked_stream.Answers = streamed.Answers
 streamed_of asked_stream.Record = streamed.Record
 streamed_of asked_stream.Heard = streamed.Heard
 

@@ -73,7 +73,7 @@ fr_view why < TRACE
     why an audit refuses a trace: the line at fault, the reason, and the line as it would be right
 fr_view outcome FILE SCENARIO --cycles N
     what `fr_bench run` prints of a run of the cluster
-fr_view answers FILE SCENARIO --cycles N
+fr_view answers FILE SCENARIO --cycles N [--endless]
     a line for each line of a task, with its answer
 fr_view commits FILE SCENARIO --cycles N
     a line for each commit, with what became of it
@@ -81,8 +81,9 @@ fr_view record FILE SCENARIO --cycles N [--endless]
     a line for each transmission and each bit to be turned, window by window
 fr_view bus FILE SCENARIO --cycles N [--endless] > CAPTURE
     what a listener on the bus hears, as a capture that Wireshark opens
-    --endless, of both: a run of up to 4,000,000 cycles, written as it goes
-fr_view matrix FILE SCENARIO --cycles N [--channel A|B] [--node N] [--from CYCLE] > SVG
+    --endless, of all three: a run of up to 4,000,000 cycles, written as it goes
+fr_view matrix FILE SCENARIO --cycles N [--channel A|B] [--node N] [--from CYCLE]
+        [--from-window N] > SVG
     what channel A or B carried, or a node saw there, as a picture of up to 64 cycles
 fr_view trace NODE FILE SCENARIO --cycles N
     the trace of a node after the run

@@ -86,19 +86,23 @@ fn shown_of(asked: Asked) -> Option<Shown>
             channel,
             node: None,
             from,
+            from_window,
         } => Some(Shown::Matrix(View {
             channel,
             node: None,
             from,
+            from_window,
         })),
         Asked::Matrix {
             channel,
             node: Some(node),
             from,
+            from_window,
         } => Some(Shown::Matrix(View {
             channel,
             node: Some(NodeId::new(node)?),
             from,
+            from_window,
         })),
     }
 }
@@ -108,6 +112,7 @@ fn streamed_of(asked: StreamAsked) -> Streamed
     ensures { result ≡ streamed_of asked }
 {
     match asked {
+        StreamAsked::Answers => Streamed::Answers,
         StreamAsked::Record => Streamed::Record,
         StreamAsked::Heard => Streamed::Heard,
     }

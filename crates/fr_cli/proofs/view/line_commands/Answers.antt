@@ -9,10 +9,9 @@ returns c =
     let top = λ (a : App). a.top in
     let outcome_is : app_of c.in_ok-outcome.outcome ≡ of_run (codes "outcome") =
     c.in_ok-outcome.ensures.app ∙ ap with_run c.new.ensures.app in
-    let answers_is : app_of c.in_ok-answers.answers ≡ of_run (codes "answers") =
-    c.in_ok-answers.ensures.app ∙ ap with_run c.new-2.ensures.app in
+    let answers_is : app_of c.in_ok-answers.answers ≡ of_long_run (codes "answers") = c.in_ok-answers.ensures.app in
     let commits_is : app_of c.in_ok-commits.commits ≡ of_run (codes "commits") =
-    c.in_ok-commits.ensures.app ∙ ap with_run c.new-3.ensures.app in
+    c.in_ok-commits.ensures.app ∙ ap with_run c.new-2.ensures.app in
     let record_is : app_of c.in_ok-recorded.recorded ≡ of_long_run (codes "record") = c.in_ok-recorded.ensures.app in
     let first : app_of c.in_ok-first.first ≡ with_outcome =
     c.in_ok-first.ensures.shape (search rules) ∙ ap₂ with_subcommand c.requires (ap top outcome_is) in

@@ -1,17 +1,18 @@
 use Rattle.std.proofs.Common.{◌≡◌, ◌∙◌, ℕ, Ok, Err, ap, length, rules, subst, sym}
 use Rattle.std.specs.Prelude.{IfErr, min}
 use Rattle.std.specs.Io.KnownBytes.{Appends}
-use Rattle.fr_core.specs.Worlds.{WorldState}
 use Rattle.fr_files.specs.declared.error.BenchError.{BenchError}
 use Rattle.fr_files.specs.Outputs.{FallsShort}
 use Rattle.fr_playing.specs.declared.error.PlayError.{PlayError}
 use Rattle.fr_playing.specs.declared.error.PlayError.TheVariants as refusal
 use Rattle.fr_playing.specs.Moving.{whole_window}
-use Rattle.fr_streaming.proofs.LedLemmas.{breaks_at, cycles_led}
-use Rattle.fr_streaming.proofs.StreamLemmas.{cuts_hindered, cuts_of, cuts_opening, hindered, named_fit, none_of}
-use Rattle.fr_streaming.proofs.StreamLemmas.{not_checked, not_refused, streamed_all}
+use Rattle.fr_playing.specs.Playing.{PlaysCycles}
+use Rattle.fr_streaming.proofs.LedLemmas.{cycles_executed}
+use Rattle.fr_streaming.proofs.StreamLemmas.{cuts_hindered, cuts_of, cuts_opening, due_silent, hindered, named_fit}
+use Rattle.fr_streaming.proofs.StreamLemmas.{none_of, not_checked, not_refused, streamed_all}
+use Rattle.fr_streaming.proofs.TellLemmas.{breaks_at}
 use Rattle.fr_streaming.specs.Runs.{error_of, ChecksStream, CutsRun, TellsRun}
-use Rattle.fr_streaming.specs.Streams.{told, told_opening, MakesCycles}
+use Rattle.fr_streaming.specs.Streams.{told_opening}
 use Rattle.fr_streaming.proofs.stream.stream_scenario.Goals as goal
 
 pub returns-in_err-check_named-clause-refused : goal.returns-in_err-check_named-clause-refused
@@ -85,12 +86,14 @@ returns-then-is_some-clause-early g c =
     subst (Appends a (g.W.Write.contents c.write_whole.new.writer))
     (c.as_slice-2.ensures.value ∙ c.in-Ok-opening_in.ensures.text) c.in_ok-write_whole.ensures.written in
     let due = c.as_slice.result.now in
+    let due_is : due ≡ whole_window (length d.plans) =
+    c.as_slice.ensures.value ∙ c.in-Ok.ensures ∙ ap whole_window c.nodes.ensures.value in
     let mid = g.W.Write.contents c.write_whole.new.writer in
     let end = g.W.Write.contents c.show_cycles.new.writer in
-    let view = λ (w : WorldState). told c.args.streamed s d.params w.bus.sealed in
     cuts_of d s n c.args.streamed c.in_ok-world.world a mid end c.in_ok-world.ensures begins
-    (breaks_at view (MakesCycles s.scripts s.faults due n) c.in_ok-world.world c.show_cycles.new.world mid end
-    c.in_default-show_cycles.ensures.goes (cycles_led s.scripts s.faults due n))
+    (breaks_at c.args.streamed s d.params (PlaysCycles s.scripts s.faults due n) c.in_ok-world.world
+    c.show_cycles.new.world mid end c.in_default-show_cycles.ensures.goes
+    (cycles_executed s.scripts s.faults due (due_silent due (length d.plans) due_is) n))
 
 pub returns-clause-written : goal.returns-clause-written
 returns-clause-written g c =
