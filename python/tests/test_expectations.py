@@ -18,6 +18,7 @@ from musmyrtle.names import Names
 from musmyrtle.program import VARIABLES, ask
 from musmyrtle.scenario import Reading
 from tests import judging
+from tests.pages import Pages, needs_node
 from tests.shows import FIRST, NETWORK, SCENE, SECOND, Shows
 
 BUFFER = "brake 0-1 position"
@@ -143,6 +144,29 @@ class Tables(Expecting):
                 status, output, told = self.asked(words[0], *self.missing(), *words[1:])
                 self.assertEqual((status, told), (3, numbered(f"{LEFT_OUT}{TOLD}")))
                 self.assertTrue(output)
+
+
+@needs_node
+class OnPages(Expecting, Pages):
+    def shown(self, scenario: str, *steps: str) -> list[dict[str, Any]]:
+        """Returns what the page of a run shows at first and after some steps."""
+        _, page, _ = self.asked("page", *self.run_of(scene=scenario))
+        return self.walked(self.written("run.html", page), *steps)
+
+    def test_missed(self) -> None:
+        """Each row leads to its buffer and to its cycle. A buffer that is missing leads nowhere."""
+        first, buffer, cycle = self.shown(scene(*MISSES), "click missed brake (1) position", "click missed cycle 1")
+        rows = ("line 11brake (1) position (1)cycle 0x0002x0001and in 1 other cycle"
+                "line 13brake (1) position (1)cycle 1nothingx0001line 14brake (1) unused (3)cycle 0x0003nothing"
+                "line 15node 3 buffer 0cycle 0x0001no receive bufferand in 1 other cycle")
+        self.assertTrue(first["missed"].startswith("Expectations that the run missed (6)"), first["missed"])
+        self.assertIn(rows, first["missed"])
+        self.assertIn("It stored 1 frame in the run.", buffer["details"])
+        self.assertIn("Cycle 1It begins at 200 µs and takes 200 µs.", cycle["details"])
+
+    def test_met(self) -> None:
+        self.assertEqual(self.shown(scene(MET))[0]["missed"], "Each expectation of the scenario was met.")
+        self.assertEqual(self.shown(SCENE)[0]["missed"], "")
 
 
 class Lints(Expecting):

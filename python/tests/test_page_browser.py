@@ -14,7 +14,8 @@ from tests.shows import NETWORK
 from tests.test_page import Structure
 
 BROWSER = next(filter(None, map(shutil.which, ("chromium", "chromium-browser", "google-chrome"))), None)
-COMPARED = ("subject", "nodes", "details", "results", "status", "errors", "faults", "inView", "view", "label")
+COMPARED = ("subject", "nodes", "details", "results", "status", "errors", "faults", "missing", "missed", "inView",
+            "view", "label")
 SECONDS = 120
 ENDING = """<script>
 {walk}

@@ -1,10 +1,12 @@
 """The programs that a command asks, and its inputs: a refusal is explained as `lint` explains it."""
+import subprocess
 import sys
-from collections.abc import Iterator
+from collections.abc import Iterable, Iterator
 from contextlib import contextmanager
 from dataclasses import dataclass
 from functools import cached_property
-from typing import NoReturn
+from tempfile import TemporaryFile
+from typing import IO, NoReturn
 
 from musmyrtle.faults.children import Children
 from musmyrtle.findings import block, counted
@@ -22,12 +24,24 @@ IDLE_FRONT, IDLE_BACK = "line ", " struck nothing"
 MOST_REASONS = 20
 
 
+def temporary_file() -> IO[bytes]:
+    """Returns a file without a name. Raises `Stop` where none can be made."""
+    try:
+        return TemporaryFile()
+    except OSError as error:
+        raise Stop(USAGE, f"a temporary file can't be made: {error.strerror}") from None
+
+
 @dataclass(frozen=True)
 class Printed:
     """The lines that a program printed, and the lines of the scenario whose faults had no effect."""
 
     lines: list[str]
     idle: tuple[int, ...] = ()
+
+
+class Awaited(Exception):
+    """A program refused the inputs by a name for which the command has another way."""
 
 
 class Inputs:
@@ -43,6 +57,8 @@ class Inputs:
         """The expectations of the scenario that the run missed."""
         self.passes_misses_on = True
         """False for a command that has a table of them, in which they aren't messages."""
+        self.awaited: frozenset[str] = frozenset()
+        """The refusals for which the command has another way. They raise `Awaited`."""
 
     @cached_property
     def network(self) -> Network:
@@ -76,22 +92,68 @@ class Inputs:
 
     def of_run(self, command: str, *words: str) -> Printed:
         """Returns what `fr_view` prints about the run."""
+        return self.ask("fr_view", self.words_of_run(command, *words))
+
+    def words_of_run(self, command: str, *words: str, cycles: int | None = None) -> list[str]:
+        """Returns the words with which `fr_view` is asked about the run, or about one of so many CYCLES."""
         files = self.task.file(self.task.cluster), self.task.file(self.task.scenario or "")
-        return self.ask("fr_view", [command, *words, "--cycles", str(self.task.cycles), "--", *files])
+        return [command, *words, "--cycles", str(self.task.cycles if cycles is None else cycles), "--", *files]
 
     def ask(self, name: str, words: list[str], data: bytes = b"") -> Printed:
         """Returns what a program prints. Raises `Stop` where it refuses the inputs, which are then explained, and where
         it gives no answer."""
         program = self.program(name)
+        status, output, told = self.ran(program, name, words, data)
+        idle = self.told(program, words, status, told)
+        return Printed(output.decode(errors="replace").splitlines(), tuple(idle))
+
+    def ran(self, program: str, name: str, words: list[str], data: bytes = b"") -> tuple[int, bytes, bytes]:
+        """Runs a program, and returns its status, output and standard error."""
         try:
-            status, output, told = self.children.ran([program, *words], data)
+            found = self.children.ran([program, *words], data)
         except OSError as error:
-            raise Stop(USAGE, f"{program} can't be run: {error.strerror}. {name} is looked for in this order: "
-                              f"{places(name)}") from None
-        lines = told.decode(errors="replace").splitlines()
+            raise self.no_start(program, name, error) from None
+        self.keep(program, name)
+        return found
+
+    def lines_of_run(self, command: str, *words: str) -> Iterator[str]:
+        """Yields the lines that `fr_view` prints about the run, as it prints them. Raises what `ask` raises."""
+        name, pipe = "fr_view", subprocess.PIPE
+        program, words_of_run = self.program(name), self.words_of_run(command, *words)
+        with temporary_file() as told:
+            try:
+                with self.children.started([program, *words_of_run], stdin=subprocess.DEVNULL, stdout=pipe,
+                                           stderr=told) as process:
+                    for line in process.stdout or ():
+                        if not line.endswith(b"\n"):
+                            # The program ended within a line, which its status tells.
+                            break
+                        yield line.decode(errors="replace").rstrip("\n")
+            except OSError as error:
+                raise self.no_start(program, name, error) from None
+            self.keep(program, name)
+            told.seek(0)
+            self.told(program, words_of_run, process.returncode, told.read())
+
+    def is_answering(self, command: str, *words: str) -> bool:
+        """Returns whether `fr_view` knows these words, by a run of one cycle."""
+        name = "fr_view"
+        return self.ran(self.program(name), name, self.words_of_run(command, *words, cycles=1))[0] != USAGE
+
+    def no_start(self, program: str, name: str, error: OSError) -> Stop:
+        """Returns the end of a command that can't run a program."""
+        return Stop(USAGE, f"{program} can't be run: {error.strerror}. {name} is looked for in this order: "
+                           f"{places(name)}")
+
+    def keep(self, program: str, name: str) -> None:
+        """Keeps the program of a launcher. One check of the sources is enough for all that one command asks."""
         if is_launcher(program):
-            # One check of the sources is enough for all that one command asks.
             self.programs[name] = itself(program)
+
+    def told(self, program: str, words: list[str], status: int, told: bytes) -> Iterable[int]:
+        """Passes the messages of a program on, and returns the lines of faults without effect. Raises `Stop` where the
+        program refused or failed."""
+        lines = told.decode(errors="replace").splitlines()
         misses = misses_of(status, lines)
         if status and not misses:
             self.stop(program, words, status, lines)
@@ -103,12 +165,14 @@ class Inputs:
                 self.passed_on.add(line)
                 pass_on(line)
         numbers = (it.removeprefix(IDLE_FRONT).removesuffix(IDLE_BACK) for it in idle)
-        return Printed(output.decode(errors="replace").splitlines(), tuple(int(it) for it in numbers if it.isdecimal()))
+        return [int(it) for it in numbers if it.isdecimal()]
 
     def stop(self, program: str, words: list[str], status: int, lines: list[str]) -> NoReturn:
         """Raises `Stop` for a program that refused or failed, after the reason of a refusal."""
         refusals = [it.removeprefix("refused ") for it in lines if REFUSED_LINE.fullmatch(it)]
         told = refusals[-1] if refusals else " ".join(lines).strip() or f"status {status}"
+        if refusals and told.split(" ")[0] in self.awaited:
+            raise Awaited(told)
         answer = Answer(status, told, bool(refusals))
         if not answer.is_one or answer.status == USAGE:
             raise Stop(USAGE, no_answer(program, words, answer))

@@ -51,7 +51,7 @@ class Sent:
 
 @dataclass(frozen=True, slots=True)
 class Commit:
-    """A commit with its fate, and the cycle in which it was overwritten or withdrawn."""
+    """A commit with its fate, and the cycle and the entry of the call by which it was overwritten or withdrawn."""
 
     node: int
     buffer: int
@@ -61,6 +61,7 @@ class Commit:
     data: str
     fate: str
     ended: int | None
+    ending: int | None
     sent: tuple[Sent, ...]
 
     @property
@@ -112,9 +113,10 @@ def commit_of(line: str) -> Commit:
     node, buffer, task, cycle, entry = map(int, words[:5])
     fate, rest = words[7], words[8:]
     if fate != "sent":
-        return Commit(node, buffer, task, cycle, entry, words[5], fate, int(rest[0]) if rest else None, ())
+        ended, ending = map(int, rest) if rest else (None, None)
+        return Commit(node, buffer, task, cycle, entry, words[5], fate, ended, ending, ())
     sent = tuple(Sent(int(rest[at]), int(rest[at + 1]), *rest[at + 2:at + 5]) for at in range(0, len(rest), 5))
-    return Commit(node, buffer, task, cycle, entry, words[5], fate, None, sent)
+    return Commit(node, buffer, task, cycle, entry, words[5], fate, None, None, sent)
 
 
 def call_of(line: str) -> Call:

@@ -1,6 +1,7 @@
 """The command `page`: one file in which a run is explored in a browser, without a network."""
 import argparse
 import base64
+import re
 import sys
 import zlib
 from contextlib import suppress
@@ -8,14 +9,16 @@ from html import escape
 from pathlib import Path
 
 from musmyrtle.breaking import BrokenOff, breaking_off
-from musmyrtle.lint.command import FINE, Parser, cycles_of, shown_examples
+from musmyrtle.lint.command import FINE, Parser, shown_examples
 from musmyrtle.missed import MISSED
-from musmyrtle.output import Stop, write
-from musmyrtle.show.engines import COMMAND, opened
+from musmyrtle.output import Stop, pass_on, write
+from musmyrtle.show.engines import COMMAND, Awaited, Inputs, opened
 from musmyrtle.show.facts import Facts
 from musmyrtle.show.options import CLUSTER, SCENARIO, statuses
 from musmyrtle.show.page_data import packed_run
+from musmyrtle.show.page_endless import packed_endless
 from musmyrtle.visible import visible
+from musmyrtle.world.bounds import MOST_CYCLES, MOST_ENDLESS
 
 FILES = Path(__file__).with_name("page_files")
 SCRIPTS = ("decode", "run", "lines", "cells", "view", "layout", "find", "buffers", "details", "slots", "paint", "panel",
@@ -25,11 +28,26 @@ PURPOSE = ("Writes a page in which a run is explored in a browser: what was sent
            "what came of each commit.")
 EXAMPLE = ("page examples/three-nodes/cluster.toml examples/three-nodes/scenario --cycles 4 > run.html",)
 LONGEST_TITLE = 100
+NO_ROOM = "NoRoom"
+"""The refusal of a run whose history has no room."""
+GOES_ON = (f"{COMMAND}: the history of this run has no room, so the page is that of an endless run, as with --endless")
 
 
 def page_of(facts: Facts) -> str:
     """Returns the page of a run. Raises `Stop` where the run is refused."""
     return assembled(packed_run(facts), f"Run of {facts.inputs.task.cluster}")
+
+
+def page_of_run(inputs: Inputs, is_endless: bool) -> str:
+    """Returns the page of a run, or of an endless one if it is asked for or if the history of the run has no room."""
+    if not is_endless:
+        inputs.awaited = frozenset((NO_ROOM,))
+        try:
+            return page_of(Facts(inputs))
+        except Awaited:
+            inputs.awaited = frozenset()
+            pass_on(GOES_ON)
+    return assembled(packed_endless(inputs), f"Run of {inputs.task.cluster}")
 
 
 def assembled(data: bytes, title: str) -> str:
@@ -66,17 +84,38 @@ def arguments() -> argparse.ArgumentParser:
                     formatter_class=argparse.RawDescriptionHelpFormatter)
     parser.add_argument("cluster", metavar=CLUSTER, help="a cluster file")
     parser.add_argument("scenario", metavar=SCENARIO, help="a scenario of this cluster")
-    parser.add_argument("--cycles", metavar="N", type=cycles_of, required=True, help="the cycles of the run, 1 to 1024")
+    parser.add_argument("--cycles", metavar="N", type=int_of_cycles, required=True,
+                        help=f"the cycles of the run, 1 to {MOST_CYCLES}, or more with --endless")
+    parser.add_argument("--endless", action="store_true",
+                        help="the page of a run without history, of up to 4,000,000 static slots and minislots in all "
+                             "its cycles; a run whose history has no room gets such a page in any case")
     return parser
+
+
+def int_of_cycles(word: str) -> int:
+    """Returns the number of cycles of a word. Raises an error with the numbers that are allowed."""
+    if not re.fullmatch(r"[1-9][0-9]{0,6}", word) or int(word) > MOST_ENDLESS:
+        raise argparse.ArgumentTypeError(f"{word!r} is no number from 1 to {MOST_CYCLES}, or with --endless to "
+                                         f"{MOST_ENDLESS}")
+    return int(word)
+
+
+def parsed(words: list[str]) -> argparse.Namespace:
+    """Returns the words of the command. Ends with status 2 for wrong ones."""
+    parser = arguments()
+    given = parser.parse_args(words)
+    if given.cycles > MOST_CYCLES and not given.endless:
+        parser.error(f"a run of {given.cycles} cycles needs --endless: without it there are 1 to {MOST_CYCLES}")
+    return given
 
 
 def main(words: list[str]) -> int:
     """Does the command, and returns the status."""
     try:
         with breaking_off():
-            given = arguments().parse_args(words)
+            given = parsed(words)
             with opened(given.cluster, given.scenario, given.cycles) as inputs:
-                text = page_of(Facts(inputs))
+                text = page_of_run(inputs, given.endless)
             with suppress(BrokenPipeError):
                 write(sys.stdout, [text])
         return MISSED if inputs.misses else FINE

@@ -20,6 +20,31 @@ def padded(data: bytes, filler: bytes = b"\0") -> bytes:
     return data + filler * (-len(data) % 4)
 
 
+class Words:
+    """A column of words that grows: each different word once, and the number of the word at each place."""
+
+    def __init__(self) -> None:
+        self.numbers: dict[str, int] = {}
+        self.places = array("I")
+
+    def add(self, word: str) -> None:
+        """Adds a word at the end."""
+        self.places.append(self.numbers.setdefault(word, len(self.numbers)))
+
+
+class Contents:
+    """A column of bytes that grows: the size and the bytes of each value."""
+
+    def __init__(self) -> None:
+        self.sizes, self.held = array("H"), bytearray()
+
+    def add(self, value: str | None) -> None:
+        """Adds a value that is spelled `x0a0b`. An absent one has no bytes."""
+        held = bytes.fromhex(value[1:]) if value else b""
+        self.sizes.append(len(held))
+        self.held += held
+
+
 class Columns:
     """Columns by name, with their types, in the order in which they were added."""
 
@@ -29,28 +54,35 @@ class Columns:
 
     def numbers(self, name: str, kind: str, values: Iterable[int | None]) -> None:
         """Adds a column of numbers of a type of `TYPES`."""
-        absent = NOTHING[kind]
-        self.add(name, kind, array(TYPES[kind], (absent if it is None else it for it in values)))
+        if not (isinstance(values, array) and values.typecode == TYPES[kind]):
+            absent = NOTHING[kind]
+            values = array(TYPES[kind], (absent if it is None else it for it in values))
+        self.add(name, kind, values)
 
     def rising(self, name: str, values: Sequence[int]) -> None:
         """Adds a column of numbers in ascending order, kept as differences, which are compressed far better."""
         self.add(name, "u32", array("I", (it - before for before, it in zip((0, *values), values))), is_rising=True)
 
-    def words(self, name: str, values: Sequence[str]) -> None:
+    def words(self, name: str, values: Iterable[str] | Words) -> None:
         """Adds a column of words. The header has each different word once, and the column its number."""
-        numbers: dict[str, int] = {}
-        places = [numbers.setdefault(it, len(numbers)) for it in values]
-        kind = "u8" if len(numbers) <= 0xff else "u16" if len(numbers) <= 0xffff else "u32"
-        self.add(name, kind, array(TYPES[kind], places), words=list(numbers))
+        made = values if isinstance(values, Words) else Words()
+        if not isinstance(values, Words):
+            for it in values:
+                made.add(it)
+        kind = "u8" if len(made.numbers) <= 0xff else "u16" if len(made.numbers) <= 0xffff else "u32"
+        self.add(name, kind, array(TYPES[kind], made.places), words=list(made.numbers))
 
-    def contents(self, name: str, values: Sequence[str | None]) -> None:
+    def contents(self, name: str, values: Iterable[str | None] | Contents) -> None:
         """Adds columns of the sizes and contents of values that are spelled `x0a0b`.
 
         An absent value has no bytes.
         """
-        held = [bytes.fromhex(it[1:]) if it else b"" for it in values]
-        self.numbers(f"{name}_size", "u16", map(len, held))
-        self.add(f"{name}_bytes", "u8", array("B", b"".join(held)))
+        made = values if isinstance(values, Contents) else Contents()
+        if not isinstance(values, Contents):
+            for it in values:
+                made.add(it)
+        self.add(f"{name}_size", "u16", made.sizes)
+        self.add(f"{name}_bytes", "u8", array("B", bytes(made.held)))
 
     def add(self, name: str, kind: str, values: "array[int]", **more: Any) -> None:
         """Adds a column, with MORE keys of its entry in the header."""

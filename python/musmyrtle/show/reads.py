@@ -51,11 +51,11 @@ class Sources:
     """The commits whose transmissions were stored, by receiver, slot, channel and payload."""
 
     def __init__(self, facts: Facts) -> None:
-        self.found: dict[tuple[str, int, str, str], list[Source]] = {}
+        self.found: dict[tuple[str, int, int, str, str], list[Source]] = {}
         for commit in facts.commits:
             for sent in commit.sent:
-                for receiver in sent.receivers.split(","):
-                    key = receiver, sent.slot, sent.channel, commit.data
+                for receiver in sent.receivers.split(",") if sent.receivers != "-" else ():
+                    key = receiver, sent.cycle % CYCLE_COUNTS, sent.slot, sent.channel, commit.data
                     self.found.setdefault(key, []).append((commit, sent))
 
     def of(self, call: Call) -> Source | None:
@@ -63,14 +63,12 @@ class Sources:
 
         The calls of a cycle come before its windows, so the frame is of an earlier cycle.
         """
-        if call.slot is None or call.channel is None or call.data is None:
+        if call.count is None or call.slot is None or call.channel is None or call.data is None:
             return None
         receiver = f"{call.node}:" + ("queue" if call.buffer is None else f"b{call.buffer}")
-        fitting = [it for it in self.found.get((receiver, call.slot, call.channel, call.data), [])
-                   if it[1].cycle < call.cycle and it[1].cycle % CYCLE_COUNTS == call.count]
-        if not fitting:
-            return None
-        return max(fitting, key=lambda it: it[1].cycle)
+        fitting = self.found.get((receiver, call.count, call.slot, call.channel, call.data), [])
+        earlier = [it for it in fitting if it[1].cycle < call.cycle]
+        return max(earlier, key=lambda it: it[1].cycle) if earlier else None
 
 
 def row_of(facts: Facts, call: Call, source: Source | None) -> Row:

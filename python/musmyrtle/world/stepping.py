@@ -1,5 +1,6 @@
 """The requests that do a scenario in a world, cycle by cycle, in the order of a lockstep run."""
 from musmyrtle.findings import Finding, counted
+from musmyrtle.named_windows import MOST_CYCLE
 from musmyrtle.names import Names
 from musmyrtle.scenario import Reading, Scenario
 from musmyrtle.scenario_lines import Line
@@ -22,10 +23,23 @@ def requests_of(text: str, cycles: int, names: Names | None = None) -> tuple[lis
     for it in scenario.expectations:
         raise ValueError(f"scenario line {it.number}: no session judges `{it.kind}`. Leave the line out, and assert "
                          "what a `read` or the report of the node returns.")
+    return fault_requests(scenario), call_requests(scenario, cycles)
+
+
+def fault_requests(scenario: Scenario) -> list[str]:
+    """Returns the requests that keep the fault lines of a scenario."""
+    return [" ".join(line.words) for line in scenario.faults]
+
+
+def call_requests(scenario: Scenario, cycles: int) -> list[list[str]]:
+    """Returns for each of the cycles the requests of the tasks, in the order of nodes and then tasks.
+
+    A line for every cycle makes its calls in the first 1,024, also in a longer run.
+    """
     requests: list[list[str]] = [[] for _ in range(cycles)]
-    for cycle, line in scenario.calls(cycles):
+    for cycle, line in scenario.calls(min(cycles, MOST_CYCLE + 1)):
         requests[cycle].append(" ".join((line.kind, *line.words[1:3], *line.words[4:])))
-    return [" ".join(line.words) for line in scenario.faults], requests
+    return requests
 
 
 def check_cycles(scenario: Scenario, cycles: int) -> None:

@@ -9,7 +9,8 @@ const {openPage} = require("./document.js");
 
 /** Returns all choices of a run. Of a long run it leaves out windows, so that at most MOST are opened. */
 function everyChoice(run, most) {
-  const kinds = {node: run.nodes, commit: run.columns.commit_node.length, fault: run.header.faults.length};
+  const kinds = {node: run.nodes, commit: run.columns.commit_node.length, fault: run.header.faults.length,
+                 cycle: run.header.cycles};
   const found = Object.entries(kinds).flatMap(([kind, count]) => choicesOf(count, kind, () => true));
   found.push(...usedSlots(run).map((number) => ({kind: "slot", number})));
   run.header.nodes.forEach(({buffers, has_fifo: hasFifo}, node) => {

@@ -34,6 +34,12 @@ function sourcesOf(run) {
   });
 }
 
+/** Returns the columns of the windows. */
+function windowsOf(run) {
+  const names = Object.keys(run.columns).filter((it) => it.startsWith("window_"));
+  return Object.fromEntries(names.map((it) => [it, Array.from(run.columns[it])]));
+}
+
 async function main() {
   for (const page of process.argv.slice(2)) {
     const run = await runOf(page);
@@ -41,8 +47,10 @@ async function main() {
     console.log(JSON.stringify({
       record: linesOf(run, "record"), commits: linesOf(run, "commits"), answers: linesOf(run, "answers"),
       idle: faults.filter((_, it) => !effectsOf(run, it).length).map((it) => it.line),
-      counts: Array.from({length: run.nodes}, (_, node) => countsOf(run, node)), stored: storedOf(run),
-      sources: sourcesOf(run), tables: errorTable(run, 16).rows.map((it) => it.total),
+      counts: run.hasSeen ? Array.from({length: run.nodes}, (_, node) => countsOf(run, node)) : null,
+      stored: storedOf(run), sources: sourcesOf(run), tables: errorTable(run, 16).rows.map((it) => it.total),
+      parts: errorTable(run, 16).rows.map((it) => it.counts), windows: windowsOf(run),
+      outcomes: run.header.nodes.map((it) => it.outcome),
     }));
   }
 }

@@ -63,6 +63,7 @@ function shownNow() {
     focus: document.activeElement.id || document.activeElement.textContent, view: [view.from, view.span],
     subject: textOf("subject"), nodes: textOf("nodes"), details: textOf("details"), results: textOf("results"),
     status: textOf("status"), inView: textOf("in-view"), errors: textOf("errors"), faults: textOf("faults"),
+    missing: textOf("missing"), missed: textOf("missed"),
     label: document.getElementById("picture").getAttribute("aria-label"),
   };
 }

@@ -41,6 +41,10 @@ function detailsOfBuffer(run, number) {
       return details;
     }
   }
+  if (!run.hasSeen) {
+    details.tables = [arrivedTable(run, node, buffer, details)];
+    return details;
+  }
   details.tables = [storedTable(run, node, buffer, details)];
   details.facts.push(`It stored ${counted(details.tables[0].rows.length, "frame")} in the run.`);
   return details;
@@ -61,4 +65,36 @@ function storedTable(run, node, buffer, details) {
     }
   }
   return carriedTable(run, "Frames that it stored", lines);
+}
+
+/** Returns the table of the commits that a receive buffer or the FIFO got, and adds them to what lights up. */
+function arrivedTable(run, node, buffer, details) {
+  const word = `${node}:${buffer === null ? "queue" : `b${buffer}`}`;
+  const rows = [];
+  for (let commit = 0; commit < run.columns.commit_node.length; commit += 1) {
+    const sends = sendsOf(run, commit).filter((it) => run.word("sent_receivers", it).split(",").includes(word));
+    for (const sent of sends) {
+      const {window, channel} = sentAt(run, sent);
+      details.lit.places.push(2 * window + channel);
+      rows.push([link(`cycle ${run.columns.sent_cycle[sent]}`, "window", window, channel),
+                 link(commitText(run, commit), "commit", commit)]);
+    }
+  }
+  return {caption: "Commits that it stored", head: ["sent in", "commit"], rows};
+}
+
+// ---- expectations
+
+/** Returns the table of missed expectations, by the lines of the scenario. */
+function missedTable(run) {
+  const rows = run.header.missed.map((it) => {
+    const its = run.header.nodes[it.node];
+    const isThere = its !== undefined && its.buffers[it.buffer] !== undefined;
+    const name = isThere ? receiverName(run, it) : `node ${it.node} buffer ${it.buffer}`;
+    return [`line ${it.line}`, isThere ? link(name, "buffer", bufferNumber(it.node, it.buffer)) : name,
+            link(`cycle ${it.cycle}`, "cycle", it.cycle), it.expected, it.found,
+            it.others ? `and in ${counted(it.others, "other cycle")}` : ""];
+  });
+  return {caption: "Expectations that the run missed",
+          head: ["expectation", "buffer", "at the end of", "expected", "found", "others"], rows};
 }

@@ -4,10 +4,32 @@
  * What is known about a choice, and what lights up with it.
  * @typedef {{title: string, facts: string[], tables: Table[], line: (string|undefined), lit: Lit,
  *            span: ([number, number]|null)}} Details
- * @typedef {{caption: string, head: string[], rows: (string|{text: string, choice: Choice})[][]}} Table
+ * @typedef {{caption: string, head: string[], rows: Rows|(string|{text: string, choice: Choice})[][]}} Table
  * @typedef {{places: number[], nodes: Map<number, string>, calls: {time: number, text: string}[]}} Lit places are
  *           twice the window, and 1 more for channel B; calls have macroticks
  */
+
+/** The rows of a table that may be long. They are made when they are shown. */
+class Rows {
+  /**
+   * @param {number[]} items what the rows are for
+   * @param {function(number): (string|{text: string, choice: Choice})[]} make makes a row
+   */
+  constructor(items, make) {
+    this.items = items;
+    this.make = make;
+  }
+
+  /** Returns the number of the rows. */
+  get length() {
+    return this.items.length;
+  }
+
+  /** Returns some of the rows. */
+  slice(first, last) {
+    return this.items.slice(first, last).map((it) => this.make(it));
+  }
+}
 
 /** Returns details without anything in them. */
 function emptyDetails(title) {
@@ -82,25 +104,29 @@ function fateText(run, commit) {
     return why;
   }
   const receivers = new Set();
-  for (let sent = run.firstSent[commit]; sent < run.firstSent[commit + 1]; sent += 1) {
+  sendsOf(run, commit).forEach((sent) => {
     receiversOf(run.word("sent_receivers", sent)).forEach((it) => receivers.add(receiverName(run, it)));
-  }
+  });
   return `received by ${[...receivers].join(", ")}`;
 }
 
-/** Returns the table of the calls of a node that are no commits. */
+/** Returns the table of the calls of a node that the table of commits doesn't have. */
 function callTable(run, node) {
   const rows = [];
+  const hasCommits = run.columns.commit_node.length > 0;
   for (let answer = 0; answer < run.columns.answer_node.length; answer += 1) {
-    if (run.columns.answer_node[answer] === node && run.word("answer_kind", answer) !== "commit") {
-      const [call, reply] = answerLine(run, answer).split(" = ");
+    const kind = run.word("answer_kind", answer);
+    if (run.columns.answer_node[answer] === node && !(hasCommits && kind === "commit")) {
+      const reply = answerLine(run, answer).split(" = ")[1];
       const buffer = run.number("answer_buffer", answer, "u8");
-      rows.push([String(run.columns.answer_cycle[answer]), String(run.columns.answer_task[answer]),
-                 call.split(" ")[3], buffer === null ? "FIFO" : bufferName(run, node, buffer), answerText(reply),
+      rows.push([String(run.columns.answer_cycle[answer]), String(run.columns.answer_task[answer]), kind,
+                 buffer === null ? "FIFO" : bufferName(run, node, buffer),
+                 (kind === "commit" ? `${run.bytes("answer_committed", answer)} as ` : "") + answerText(reply),
                  sourceCell(run, answer)]);
     }
   }
-  return {caption: "Other calls of its tasks", head: ["cycle", "task", "call", "buffer", "answer", "commit"], rows};
+  const caption = hasCommits ? "Other calls of its tasks" : "Calls of its tasks";
+  return {caption, head: ["cycle", "task", "call", "buffer", "answer", "commit"], rows};
 }
 
 /** Returns the cell for the commit whose frame a call read. */
@@ -160,7 +186,7 @@ function detailsOfCommit(run, commit) {
     `Slot: ${slot} on ${channels}.`, `Result: ${fateText(run, commit)}.`];
   details.line = commitLine(run, commit);
   details.lit.calls = [{time: cycle * run.cycleLength, text: "call"}];
-  const ended = run.number("commit_ended", commit, "u16");
+  const ended = run.number("commit_ended", commit, "u32");
   if (ended !== null) {
     details.lit.calls.push({time: ended * run.cycleLength, text: run.word("commit_fate", commit)});
   }
@@ -169,15 +195,26 @@ function detailsOfCommit(run, commit) {
   return details;
 }
 
+/** Returns the numbers of a commit's transmissions. */
+function sendsOf(run, commit) {
+  const first = run.firstSent[commit];
+  return Array.from({length: run.firstSent[commit + 1] - first}, (_, it) => first + it);
+}
+
+/** Returns the window and the channel of a commit's transmission. */
+function sentAt(run, sent) {
+  const channel = CHANNELS.indexOf(run.word("sent_channel", sent));
+  return {window: run.windowOf(run.columns.sent_cycle[sent], run.columns.sent_slot[sent], channel), channel};
+}
+
 /** Returns the table of a commit's transmissions, and adds them to what lights up. */
 function sentTable(run, commit, details) {
   const start = run.columns.commit_cycle[commit] * run.cycleLength;
   const rows = [];
   details.span = [start, start + run.cycleLength];
-  for (let sent = run.firstSent[commit]; sent < run.firstSent[commit + 1]; sent += 1) {
+  for (const sent of sendsOf(run, commit)) {
     const slot = run.columns.sent_slot[sent];
-    const channel = CHANNELS.indexOf(run.word("sent_channel", sent));
-    const window = run.windowOf(run.columns.sent_cycle[sent], slot, channel);
+    const {window, channel} = sentAt(run, sent);
     const begin = run.columns.window_begin[window];
     const receivers = receiversOf(run.word("sent_receivers", sent));
     receivers.forEach((it) => details.lit.nodes.set(it.node, "receives"));

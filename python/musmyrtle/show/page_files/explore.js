@@ -49,6 +49,8 @@ class Explorer {
       return button(nodeName(run, node), () => this.toggle(node), {"aria-pressed": "false", class: classes});
     });
     document.getElementById("nodes").append(...this.buttons);
+    showMissing(document.getElementById("missing"), run);
+    showMissed(document.getElementById("missed"), run, this.choose);
     showFaults(document.getElementById("faults"), run, this.choose);
     showErrors(document.getElementById("errors"), run, this.choose);
   }
@@ -116,7 +118,8 @@ class Explorer {
 
   /** Sets the lanes of the picture: both channels, and both as the chosen node received them. */
   setLanes() {
-    const seen = this.node === null ? [] : this.channels.map((it) => cellsSeen(this.run, it, this.node));
+    const isSeen = this.node !== null && this.run.hasSeen;
+    const seen = isSeen ? this.channels.map((it) => cellsSeen(this.run, it, this.node)) : [];
     this.lanes = placedLanes(this.channels.flatMap((it, channel) => [it, ...seen.slice(channel, channel + 1)]));
   }
 

@@ -108,22 +108,38 @@ function nextIn(cells, mark, place, isBack) {
 function errorTable(run, most) {
   const cycles = Math.ceil(run.header.cycles / most);
   const parts = Math.ceil(run.header.cycles / cycles);
+  const rows = Array.from({length: run.nodes}, () => (
+    {total: 0, counts: new Array(parts).fill(0), first: new Array(parts).fill(null)}));
+  const add = (node, cycle, count, choice) => {
+    const part = Math.floor(cycle / cycles);
+    rows[node].first[part] = rows[node].first[part] || choice;
+    rows[node].counts[part] += count;
+    rows[node].total += count;
+  };
+  (run.hasSeen ? addSeenErrors : addCountedErrors)(run, add);
+  return {cycles, rows};
+}
+
+/** Adds each error that a node received. */
+function addSeenErrors(run, add) {
   const isError = run.words.seen_state.map((it) => isErrorWord(run, it));
-  const rows = [];
   for (let node = 0; node < run.nodes; node += 1) {
-    const counts = new Array(parts).fill(0);
-    const first = new Array(parts).fill(null);
     const base = run.seenPlace(node, 0, 0);
     for (let place = 0; place < 2 * run.windows; place += 1) {
       if (isError[run.columns.seen_state[base + place]]) {
-        const part = Math.floor(run.columns.window_cycle[place >> 1] / cycles);
-        first[part] = first[part] || {kind: "window", number: place >> 1, channel: place & 1};
-        counts[part] += 1;
+        add(node, run.columns.window_cycle[place >> 1], 1, {kind: "window", number: place >> 1, channel: place & 1});
       }
     }
-    rows.push({total: counts.reduce((sum, it) => sum + it, 0), counts, first});
   }
-  return {cycles, rows};
+}
+
+/** Adds the errors that nodes counted in each cycle, of a run without observations. */
+function addCountedErrors(run, add) {
+  const its = run.columns;
+  its.counted_node.forEach((node, place) => {
+    const cycle = its.counted_cycle[place];
+    add(node, cycle, its.counted_errors[place], {kind: "cycle", number: cycle});
+  });
 }
 
 /** Returns whether a node counts what the word stands for: an error on a channel with a slot. */

@@ -72,7 +72,8 @@ function columnsOf(cells, view) {
 
 // ---- lanes on the canvas
 
-const AXIS = 40;
+/** The pixels above the lanes: cycles, times, and the calls of a chosen way. */
+const AXIS = 56;
 const LANE = 64;
 const GAP = 22;
 

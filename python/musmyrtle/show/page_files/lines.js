@@ -30,7 +30,7 @@ function commitLine(run, commit) {
   const fate = run.word("commit_fate", commit);
   const words = [its.commit_node[commit], its.commit_buffer[commit], its.commit_task[commit], its.commit_cycle[commit],
                  its.commit_entry[commit], run.bytes("commit_data", commit), "=", fate];
-  const ended = run.number("commit_ended", commit, "u16");
+  const ended = run.number("commit_ended", commit, "u32");
   if (ended !== null) {
     words.push(ended, its.commit_ending[commit]);
   }

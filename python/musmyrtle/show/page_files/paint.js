@@ -83,7 +83,7 @@ function paintTicks(context, {run, view, theme}) {
   for (const {time, text} of ticksOf(view, scale)) {
     const x = pixelOf(view, time);
     context.fillStyle = theme.grid;
-    context.fillRect(x, 20, 1, AXIS - 22);
+    context.fillRect(x, 20, 1, 18);
     context.fillStyle = theme.ink;
     context.fillText(`${text} ${unit}`, x + 3, 28);
   }
@@ -191,8 +191,8 @@ function paintCalls(context, {view, theme, calls, height}) {
   for (const {time, text} of calls) {
     const x = pixelOf(view, time);
     context.fillStyle = theme.lit;
-    context.fillRect(x, 16, 2, height - 16);
-    context.fillText(text, x + 5, 18);
+    context.fillRect(x, 40, 2, height - 40);
+    context.fillText(text, x + 5, 47);
   }
 }
 

@@ -90,6 +90,20 @@ function partText(run, first, cycles) {
   return first === last ? `cycle ${first}` : `cycles ${first} to ${last}`;
 }
 
+/** Fills an element with what the page of this run doesn't have, a sentence each. */
+function showMissing(place, run) {
+  place.replaceChildren(...run.header.missing.map((it) => element("p", {}, it)));
+  place.hidden = run.header.missing.length === 0;
+}
+
+/** Fills an element with the expectations of the scenario that the run missed, if it has any. */
+function showMissed(place, run, choose) {
+  const {expectations, missed, is_endless: isEndless} = run.header;
+  const isMet = expectations > 0 && !isEndless;
+  place.replaceChildren(...(missed.length ? [tableElement(missedTable(run), choose)]
+    : isMet ? [element("p", {}, "Each expectation of the scenario was met.")] : []));
+}
+
 /** Fills an element with the fault lines of the scenario. */
 function showFaults(place, run, choose) {
   const rows = run.header.faults.map((it, fault) => [

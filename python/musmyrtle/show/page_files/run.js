@@ -21,6 +21,8 @@ class Run {
     for (const name of ["record_data", "commit_data", "answer_committed", "answer_frame"]) {
       this.starts[name] = beginnings(its[`${name}_size`]);
     }
+    /** False of an endless run, of which no node's observations are known. */
+    this.hasSeen = its.seen_state.length > 0;
     this.firstSent = beginnings(its.commit_sends);
     this.firstOfWindow = firstLines(its.record_window, this.windows);
     this.firstOfCycle = firstLines(its.window_cycle, this.header.cycles);
@@ -64,7 +66,10 @@ class Run {
     return found;
   }
 
-  /** Returns the word for what a node received: its status, the error of bytes, and whether a slot was open. */
+  /**
+   * Returns the word for what a node received: its status, the error of bytes, and whether a slot was open. The run has
+   * observations.
+   */
   seen(node, window, channel) {
     const [status, error, slot] = this.word("seen_state", this.seenPlace(node, window, channel)).split(" ");
     return {status: status || "", error: error || "-", hasSlot: slot === "slot"};
@@ -122,7 +127,7 @@ function nodeName(run, node) {
 
 /** Returns `position (1)`, or `buffer 1` without a name. */
 function bufferName(run, node, buffer) {
-  const name = run.header.nodes[node].buffers[buffer].name;
+  const {name} = run.header.nodes[node].buffers[buffer];
   return name === null ? `buffer ${buffer}` : `${cut(name)} (${buffer})`;
 }
 

@@ -1,6 +1,6 @@
 "use strict";
 
-/** The details of windows, slots and fault lines. */
+/** The details of windows, cycles, slots and fault lines. */
 
 /** Returns where and when a window is on a channel. */
 function placeText(run, window, channel) {
@@ -42,7 +42,7 @@ function detailsOfWindow(run, window, channel) {
 /** Returns a table of lines of the record. */
 function carriedTable(run, caption, lines) {
   return {caption, head: ["cycle", "at", "slot", "channel", "node", "what", "what came of it", "bytes", "commit",
-                          "fault"], rows: lines.map((it) => carriedRow(run, it))};
+                          "fault"], rows: new Rows(lines, (it) => carriedRow(run, it))};
 }
 
 /** Returns the row of a line of the record. */
@@ -83,7 +83,7 @@ function faultCell(run, line) {
 /** Returns the table of what each node received in a window on a channel. */
 function receivedTable(run, window, channel) {
   const rows = [];
-  for (let node = 0; node < run.nodes; node += 1) {
+  for (let node = 0; node < run.nodes && run.hasSeen; node += 1) {
     const {status, error} = run.seen(node, window, channel);
     const stored = run.storedBy(node, window, channel);
     rows.push([link(nodeName(run, node), "node", node), status || "nothing", error === "-" ? "" : error,
@@ -95,6 +95,20 @@ function receivedTable(run, window, channel) {
 /** Returns the names of buffers that stored a frame, from a word such as `b0,b2` or `queue`. */
 function storedText(run, node, word) {
   return word.split(",").map((it) => (it === "queue" ? "FIFO" : bufferName(run, node, Number(it.slice(1))))).join(", ");
+}
+
+// ---- a cycle
+
+/** Returns the details of a cycle: when it is, and what was sent in it. */
+function detailsOfCycle(run, cycle) {
+  const details = emptyDetails(`Cycle ${cycle}`);
+  const begin = cycle * run.cycleLength;
+  const first = run.firstOfWindow[run.firstOfCycle[cycle]];
+  const lines = Array.from({length: run.firstOfWindow[run.firstOfCycle[cycle + 1]] - first}, (_, it) => first + it);
+  details.facts = [`It begins at ${timeText(run, begin)} and takes ${timeText(run, run.cycleLength)}.`];
+  details.tables = [carriedTable(run, "Transmissions", lines)];
+  details.span = [begin, begin + run.cycleLength];
+  return details;
 }
 
 // ---- a slot
@@ -187,6 +201,7 @@ const DETAILS = {
   node: (run, it) => detailsOfNode(run, it.number), buffer: (run, it) => detailsOfBuffer(run, it.number),
   commit: (run, it) => detailsOfCommit(run, it.number), slot: (run, it) => detailsOfSlot(run, it.number),
   window: (run, it) => detailsOfWindow(run, it.number, it.channel), fault: (run, it) => detailsOfFault(run, it.number),
+  cycle: (run, it) => detailsOfCycle(run, it.number),
 };
 
 /** Short texts for each kind of choice, as in a list of what a search found. */
@@ -194,6 +209,7 @@ const TEXTS = {
   node: (run, {number}) => nodeName(run, number), buffer: (run, {number}) => receiverName(run, bufferAt(number)),
   commit: (run, {number}) => commitText(run, number), slot: (_, {number}) => `slot ${number}`,
   window: (run, {number, channel}) => placeText(run, number, channel), fault: (run, {number}) => faultText(run, number),
+  cycle: (_, {number}) => `cycle ${number}`,
 };
 
 /** Returns the node, buffer, cycle and bytes of a commit. */
