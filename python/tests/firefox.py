@@ -1,12 +1,15 @@
 """A headless Firefox for the tests, asked by its Marionette protocol: lengths and JSON on a local connection."""
 import json
+import os
 import shutil
+import signal
 import socket
 import subprocess
 import time
 from collections.abc import Iterator
 from contextlib import contextmanager
 from pathlib import Path
+from tempfile import TemporaryDirectory
 from typing import Any
 
 FIREFOX = next(filter(None, map(shutil.which, ("firefox-esr", "firefox"))), None)
@@ -48,25 +51,30 @@ class Connection:
 
 
 @contextmanager
-def firefox(folder: Path) -> Iterator[Connection]:
-    """Yields the connection to a Firefox with a session and a new profile in a folder."""
-    profile = folder / "profile"
-    profile.mkdir()
-    (profile / "user.js").write_text(PREFERENCES, encoding="utf-8")
-    words = [str(FIREFOX), "--headless", "--no-remote", "--marionette", "--profile", str(profile), "--width", "1280",
-             "--height", "1000"]
-    with subprocess.Popen(words, stdin=subprocess.DEVNULL, stdout=subprocess.DEVNULL,
-                          stderr=subprocess.DEVNULL) as process:
+def firefox() -> Iterator[Connection]:
+    """Yields the connection to a Firefox with a session and a profile of its own."""
+    # A process of Firefox that outlives the first one may still write to the profile.
+    with TemporaryDirectory(ignore_cleanup_errors=True) as profile:
+        Path(profile, "user.js").write_text(PREFERENCES, encoding="utf-8")
+        words = [str(FIREFOX), "--headless", "--no-remote", "--marionette", "--profile", profile, "--width", "1280",
+                 "--height", "1000"]
+        with subprocess.Popen(words, stdin=subprocess.DEVNULL, stdout=subprocess.DEVNULL, stderr=subprocess.DEVNULL,
+                              start_new_session=True) as process:
+            yield from session_of(process, Path(profile, "MarionetteActivePort"))
+
+
+def session_of(process: "subprocess.Popen[bytes]", port: Path) -> Iterator[Connection]:
+    """Yields the connection to a Firefox with a session, and ends all its processes. It writes its port to a file."""
+    try:
+        connection = Connection(port_in(port))
         try:
-            connection = Connection(port_in(profile / "MarionetteActivePort"))
-            try:
-                connection.ask("WebDriver:NewSession", capabilities={"alwaysMatch": {}})
-                connection.ask("WebDriver:SetTimeouts", script=SECONDS * 1000)
-                yield connection
-            finally:
-                connection.close()
+            connection.ask("WebDriver:NewSession", capabilities={"alwaysMatch": {}})
+            connection.ask("WebDriver:SetTimeouts", script=SECONDS * 1000)
+            yield connection
         finally:
-            process.kill()
+            connection.close()
+    finally:
+        os.killpg(process.pid, signal.SIGKILL)
 
 
 def port_in(file: Path) -> int:

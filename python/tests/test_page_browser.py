@@ -139,7 +139,7 @@ class InChromium(Walks):
 @needs_node
 class InFirefox(Walks):
     def opened(self, page: str, steps: tuple[str, ...]) -> str:
-        with firefox(self.folder) as browser:
+        with firefox() as browser:
             browser.ask("WebDriver:Navigate", url=self.with_walk(page, steps))
             return str(browser.ask("WebDriver:ExecuteAsyncScript", script=WAITING, args=[])["value"])
 

@@ -1,8 +1,10 @@
 """The page in headless Chromium with a real mouse and keyboard, its roles and names, and its two other styles."""
+import time
 import unittest
+from collections.abc import Callable
 from typing import Any
 
-from tests.chromium import CHROMIUM, Tab, chromium
+from tests.chromium import CHROMIUM, SECONDS, Tab, chromium
 from tests.pages import Pages
 from tests.shows import EXAMPLES
 
@@ -34,31 +36,56 @@ class Input(Pages):
         found: list[float] = self.tab.valued(BOX % element)
         return found
 
-    def click(self, name: str, text: str, row: str = "") -> str:
-        """Clicks a button within an element, in a row with a text, and returns the details that are shown."""
+    def until(self, holds: Callable[[], bool], told: Callable[[], object]) -> None:
+        """Waits until something holds, since a browser may pass events on with its next frame."""
+        end = time.monotonic() + SECONDS
+        while not holds():
+            if time.monotonic() > end:
+                self.fail(f"it is {told()}")
+            time.sleep(0.02)
+
+    def has_view(self, wanted: list[float]) -> None:
+        """Waits until this is in view."""
+        self.until(lambda: self.view() == wanted, self.view)
+
+    def details(self) -> str:
+        """Returns the details that are shown."""
+        found: str = self.tab.valued("document.getElementById('details').textContent")
+        return found
+
+    def status(self) -> str:
+        """Returns what the page announces."""
+        found: str = self.tab.valued("document.getElementById('status').textContent")
+        return found
+
+    def shows(self, text: str) -> None:
+        """Waits until the details have a text."""
+        self.until(lambda: text in self.details(), self.details)
+
+    def click(self, name: str, text: str, row: str = "") -> None:
+        """Clicks a button within an element, in a row with a text."""
         x, y, width, height = self.place(BUTTON % (name, text, row))
         self.tab.click(x + width / 2, y + height / 2)
-        details: str = self.tab.valued("document.getElementById('details').textContent")
-        return details
 
     def test_the_mouse(self) -> None:
         """A drag moves the view with the pointer, the wheel zooms at the pointer, and with Shift it moves."""
         self.tab.open(self.page(*TEN))
         x, y, width, height = self.place(PICTURE)
-        scale = self.tab.valued("explorer.view.span / explorer.view.width")
+        scale: float = self.tab.valued("explorer.view.span / explorer.view.width")
         self.assertEqual(self.view(), [0, 30_000])
         at = (x + 400, y + height / 2)
         self.tab.mouse("mouseWheel", *at, deltaX=0, deltaY=-1000)
+        self.until(lambda: self.view()[1] < 15_000, self.view)
         start, span = self.view()
-        self.assertLess(span, 15_000)
         pointed = (400 - 130) * scale
         self.assertAlmostEqual(start + (400 - 130) * span / (30_000 / scale), pointed, delta=1)
+        wanted = start - 100 * span / (30_000 / scale)
         self.tab.drag(at, (at[0] + 100, at[1]))
+        self.until(lambda: abs(self.view()[0] - wanted) <= 1, self.view)
         moved, same = self.view()
-        self.assertAlmostEqual(start - moved, 100 * span / (30_000 / scale), delta=1)
         self.assertEqual(same, span)
         self.tab.mouse("mouseWheel", *at, deltaX=0, deltaY=200, modifiers=8)
-        self.assertGreater(self.view()[0], moved)
+        self.until(lambda: self.view()[0] > moved, self.view)
         self.assertEqual(self.view()[1], span)
 
     def test_a_click_on_a_frame(self) -> None:
@@ -67,7 +94,7 @@ class Input(Pages):
         x, y, width, _ = self.place(PICTURE)
         # Slot 19 has the macroticks 1080 to 1140 of 5000, and the lane of channel A is 56 to 120 pixels below the top.
         self.tab.click(x + 130 + (width - 130) * 1110 / 5000, y + 100)
-        self.assertIn("Slot 19 on A in cycle", self.tab.valued("document.getElementById('details').textContent"))
+        self.shows("Slot 19 on A in cycle")
 
     def test_the_keyboard(self) -> None:
         """Tab reaches each control and the picture, whose keys move, zoom and find errors."""
@@ -82,31 +109,33 @@ class Input(Pages):
             self.assertIn(name, reached)
         self.assertEqual(reached[-1], "picture")
         self.tab.press("1", "1", 49)
-        self.assertEqual(self.view()[1], 5_000)
+        self.until(lambda: self.view()[1] == 5_000, self.view)
         self.tab.press("End", code=35)
-        self.assertEqual(self.view(), [25_000, 5_000])
+        self.has_view([25_000, 5_000])
         self.tab.press("ArrowLeft", code=37)
-        self.assertEqual(self.view(), [24_375, 5_000])
+        self.has_view([24_375, 5_000])
         self.tab.press("0", "0", 48)
-        self.assertEqual(self.view(), [0, 30_000])
+        self.has_view([0, 30_000])
         self.tab.press("n", "n", 78)
-        self.assertEqual(self.tab.valued("document.getElementById('status').textContent"),
-                         "Slot 19 on A in cycle 3")
+        self.until(lambda: self.status() == "Slot 19 on A in cycle 3", self.status)
 
     def test_the_fate_of_a_commit_in_three_clicks(self) -> None:
         """The pedal's commit of cycle 3 arrived on B 1,080 us after its cycle began, and the engine read it."""
         self.tab.open(self.page(*TEN))
         self.click("nodes", "brakes (3)")
-        way = self.click("details", "cycle 3", "pedal (0)")
-        self.assertIn("cycle 316,080 µs1,080 µs19Abit flippednone", way)
-        self.assertIn("cycle 316,080 µs1,080 µs19Barrivedgateway (0) pedal (9), engine (1) pedal (10)", way)
-        self.assertIn("engine (1)0cycle 4readengine (1) pedal (10)20,000 µs5,000 µs", way)
-        self.assertIn("40readpedal (10)x01900", self.click("details", "engine (1)"))
+        self.shows("brakes (3)")
+        self.click("details", "cycle 3", "pedal (0)")
+        self.shows("cycle 316,080 µs1,080 µs19Abit flippednone")
+        self.shows("cycle 316,080 µs1,080 µs19Barrivedgateway (0) pedal (9), engine (1) pedal (10)")
+        self.shows("engine (1)0cycle 4readengine (1) pedal (10)20,000 µs5,000 µs")
+        self.click("details", "engine (1)")
+        self.shows("40readpedal (10)x01900")
 
     def test_names_for_a_screen_reader(self) -> None:
         """Each control, region and picture has a role and a name, and the status is announced."""
         self.tab.open(self.page(*TEN))
         self.click("nodes", "brakes (3)")
+        self.shows("brakes (3)")
         nodes = self.tab.ask("Accessibility.getFullAXTree")["nodes"]
         found = [(its["role"]["value"], its.get("name", {}).get("value", "")) for its in nodes if not its["ignored"]]
         roles = {role for role, _ in found}
