@@ -90,13 +90,7 @@ impl TxBuffer {
         ensures { result ≡ offer_of self.now }
     {
         match self.mode {
-            Mode::Event => {
-                if self.tally.pending == 1 {
-                    self.entry()
-                } else {
-                    None
-                }
-            }
+            Mode::Event => self.pending(),
             Mode::State => self.entry(),
             Mode::Receive => None,
         }
@@ -107,6 +101,17 @@ impl TxBuffer {
         ensures { result ≡ entry_of self.now }
     {
         self.last.as_ref().map(|commit| commit.entry)
+    }
+
+    /// Returns the entry of the held commit, if it is pending.
+    pub fn pending(&self) -> Option<u32>
+        ensures { result ≡ pending_of self.now }
+    {
+        if self.tally.pending == 1 {
+            self.entry()
+        } else {
+            None
+        }
     }
 
     /// Returns the payload of the held commit, sent or not.

@@ -503,7 +503,7 @@ impl Sealed {
     }
 
     /// Returns the bytes of the longest transmission that passed on the channel, up to 262, or 0.
-    pub(crate) fn longest(&self, channel: Channel) -> u16
+    pub fn longest(&self, channel: Channel) -> u16
         ensures value { result ≡ longest channel self.now.sent }
         ensures few { result ≤ 262 }
     {

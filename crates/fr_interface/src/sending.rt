@@ -45,6 +45,13 @@ pub(crate) fn commit_at(buffers: &[TxBuffer], number: u8) -> Option<Source>
     Some(Source::Commit(entry))
 }
 
+/// Returns the pending commit of the buffer of this number.
+pub(crate) fn pending_at(buffers: &[TxBuffer], number: u8) -> Option<u32>
+    ensures { result ≡ pending_at buffers.now number }
+{
+    buffers.get(usize::from(number))?.pending()
+}
+
 /// Returns the tally of the commits on the buffer of this number.
 pub(crate) fn tally_at(buffers: &[TxBuffer], number: u8) -> Option<Tally>
     ensures value { result ≡ option_map (λ b. b.tally) (slice_get buffers.now number) }

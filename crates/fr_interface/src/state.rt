@@ -12,7 +12,9 @@ use crate::observed::{Told, arrive_all, count_seen, store_all};
 use crate::offers::{Outgoing, outgoing_on, spelled_by};
 use crate::opening::Opening;
 use crate::receiving::{arrival_at, observed_at, pop_from, receive_buffers, receive_queue};
-use crate::sending::{commit_at, commit_to, send_from, tally_at, transmit_buffers, withdraw_from};
+use crate::sending::{
+    commit_at, commit_to, pending_at, send_from, tally_at, transmit_buffers, withdraw_from,
+};
 use crate::source::Source;
 use fr_buffers::queue::ReceiveQueue;
 use fr_buffers::receive::RxBuffer;
@@ -66,7 +68,7 @@ impl Model for InterfaceState {
 
 impl InterfaceState {
     ghost use Rattle.std.specs.Prelude.{◌≡◌, ◌+◌, ◌^◌, ◌≤◌, ◌<◌, [], None, length, count_by, IfOk, IfSome, OnOk};
-    ghost use Rattle.std.specs.Prelude.{OnErr, option_map, slice_get};
+    ghost use Rattle.std.specs.Prelude.{IsSome, OnErr, option_map, slice_get};
     ghost use Rattle.std.specs.Result.{result_err};
     ghost use Rattle.fr_journal.specs.declared.entry.Entry.TheVariants as entries;
     ghost use Rattle.fr_journal.specs.Entries.{is_host, is_slot, IsOffered};
@@ -76,9 +78,10 @@ impl InterfaceState {
     ghost use Rattle.fr_interface.specs.Standing.{read_refused, fetch_refused, observe_refused, entries_before};
     ghost use Rattle.fr_interface.specs.Standing.{withdraw_refused, pop_refused, oldest_at, source_at, tally_at};
     ghost use Rattle.fr_interface.specs.Standing.{received_at, KeepsTerms};
-    ghost use Rattle.fr_slots.specs.Plans.{with_limits};
+    ghost use Rattle.fr_slots.specs.Plans.{buffer_at, with_limits};
     ghost use Rattle.fr_interface.specs.Sending.{outgoing_on, pending_at, frame_by};
-    ghost use Rattle.fr_journal.specs.Offers.{IsHandedOut, bytes_of};
+    ghost use Rattle.fr_journal.specs.Fate.{pending_commit};
+    ghost use Rattle.fr_journal.specs.Offers.{IsHandedOut, bytes_of, offered};
     ghost use Rattle.fr_interface.specs.Calls.{call_refusal, call_answer, call_entry};
     ghost use Rattle.fr_interface.specs.Handing.{offer_of};
 
@@ -324,6 +327,14 @@ impl InterfaceState {
         }
     }
 
+    /// Returns the node's offer on the channel in a window, if the window is fetched now.
+    pub fn offered(&self, window: &Window, channel: Channel) -> Offered
+        ensures value { result ≡ (outgoing_on self.now.plan self.now.transmit window.now channel).offered }
+        ensures history { ForEachHistory self.now (λ s. result ≡ offered s.plan s.entries window.now channel) }
+    {
+        self.outgoing_on(window, channel).offered
+    }
+
     /// Opens a window as `Interface::fetch_offered` does, and returns the node's offers on both channels.
     pub fn fetch_offered(&mut self, window: &Window) -> Result<(Offered, Offered), SlotError>
         ensures refusal { result_err result ≡ fetch_refused self.old window.now }
@@ -426,6 +437,16 @@ impl InterfaceState {
         } else {
             commit_at(&self.transmit, buffer)
         }
+    }
+
+    /// Returns the entry of a transmit buffer's pending commit, which was neither sent nor withdrawn. Returns none if no
+    /// commit is pending, and for a buffer that isn't a transmit buffer of the plan.
+    pub fn pending(&self, buffer: u8) -> Option<u32>
+        ensures value { result ≡ pending_at self.now.transmit buffer }
+        ensures history { ForEachHistory self.now (λ s. IsSome (buffer_at s.plan buffer)
+            → result ≡ pending_commit buffer s.entries) }
+    {
+        pending_at(&self.transmit, buffer)
     }
 
     /// Returns the tally of the commits on a transmit buffer.

@@ -69,16 +69,16 @@ impl LiveWorld {
         self.machine.step(event)
     }
 
-    /// Executes one event as `step` does, without its answer, and fails as that does. An event of a controller or of the
-    /// bus moves no room for a frame.
+    /// Executes one event as `step` does, without its answer, and fails as that does. An event of a controller or of
+    /// the bus moves no room for a frame.
     pub fn apply(&mut self, event: &Event) -> Result<(), StepError>
         ensures { AppliesAlike self.old event.now result self.new }
     {
         self.machine.apply(event)
     }
 
-    /// Makes a call of a task at the node's interface, as `step` does for the event of the call, and fails as that does.
-    /// The answer also has the origin of a frame.
+    /// Makes a call of a task at the node's interface, as `step` does for the event of the call, and fails as that
+    /// does. The answer also has the origin of a frame.
     pub fn call(&mut self, node: NodeId, task: TaskId, call: &Call) -> Result<Answer, StepError>
         ensures steps { StepsAlike self.old (event_of node task call.now) (with_answer result) self.new }
         ensures answer { ForEachWorld self.old (λ w. IfOk result

@@ -28,8 +28,10 @@ fn write_nodes<W: Write>(writer: &mut W, interfaces: &[Interface]) -> io::Result
     Ok(())
 }
 
-/// Writes the number of windows and the line `settled`.
-fn write_settled<W: Write>(writer: &mut W, windows: usize) -> io::Result<()>
+/// Writes the end of an outcome: the number of windows and the line `settled` (project-defined).
+///
+/// Fails if the writer fails. Then a part of the text may have gone out.
+pub fn write_settled<W: Write>(writer: &mut W, windows: u64) -> io::Result<()>
     ensures { OnOk result (Appends (W.contents writer.old) (W.contents writer.new) (settled_text windows)) }
 {
     // A single-threaded run has `settled` without a cross-check: its agreement is proved.
@@ -50,5 +52,5 @@ pub fn write_outcome<W: Write>(
         (Appends (W.contents writer.old) (W.contents writer.new) (outcome_text interfaces.now windows)) }
 {
     write_nodes(writer, interfaces)?;
-    write_settled(writer, windows)
+    write_settled(writer, windows as u64)
 }
