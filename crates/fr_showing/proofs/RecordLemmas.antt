@@ -1,4 +1,4 @@
--- The record, one window more.
+-- What is said of each window, one window more.
 use Rattle.std.proofs.Common.{◌≡◌, ℕ, ◌+◌, ◌-◌, ◌<◌, cond, List, [], ◌∷◌, ◌++◌, length, take, get_or, Option, sym, ap}
 use Rattle.std.proofs.Common.{subst, ◌∙◌, arith}
 use Rattle.std.specs.Io.KnownBytes.{Appends}
@@ -7,10 +7,8 @@ use Rattle.std.proofs.lemmas.List.{take_more}
 use Rattle.std.proofs.lemmas.List.Sums.{sum_by-append}
 use Rattle.fr_bus.specs.Record.{Recorded}
 use Rattle.fr_bus.specs.Windows.{begins_cycle, cycles_begun}
-use Rattle.fr_scenario.specs.Contents.{Contents}
-use Rattle.fr_showing.specs.RecordText.{record_text, window_after, window_text}
+use Rattle.fr_showing.specs.EachWindow.{each_window, said_after}
 use Rattle.fr_slots.proofs.HistoryLemmas.{each_after-snoc}
-use Rattle.fr_slots.specs.Parameters.{Parameters}
 
 module _ (rs : List Recorded) (n : ℕ) (r : Recorded) (lt : n < length rs) (is : r ≡ get_or rs n r) where
   pub passed : take (n + 1) rs ≡ take n rs ++ r ∷ []
@@ -23,16 +21,15 @@ module _ (rs : List Recorded) (n : ℕ) (r : Recorded) (lt : n < length rs) (is 
         (take n rs) (r ∷ []),
   )
 
-  pub window_more : (s : Contents) (p : Parameters) (begun : ℕ) (old mid new : Option (List ℕ))
+  pub window_more : (said : ℕ → Recorded → List ℕ) (begun : ℕ) (old mid new : Option (List ℕ))
       → begun ≡ cycles_begun (take (n + 1) rs)
-      → Appends old mid (record_text s p (take n rs)) → Appends mid new (window_text s p (begun - 1) r)
-      → Appends old new (record_text s p (take (n + 1) rs))
-  window_more s p begun old mid new begun_is before more =
+      → Appends old mid (each_window said (take n rs)) → Appends mid new (said (begun - 1) r)
+      → Appends old new (each_window said (take (n + 1) rs))
+  window_more said begun old mid new begun_is before more =
       let cycle : begun ≡ cycles_begun (take n rs ++ r ∷ []) = begun_is ∙ ap cycles_begun passed in
-      let text : window_text s p (begun - 1) r ≡ window_after s p (take n rs) r =
-      ap (λ (b : ℕ). window_text s p (b - 1) r) cycle in
-      let all : record_text s p (take (n + 1) rs) ≡ record_text s p (take n rs) ++ window_after s p (take n rs) r =
-      ap (record_text s p) passed ∙ each_after-snoc (window_after s p) (take n rs) r in
+      let text : said (begun - 1) r ≡ said_after said (take n rs) r = ap (λ (b : ℕ). said (b - 1) r) cycle in
+      let all : each_window said (take (n + 1) rs) ≡ each_window said (take n rs) ++ said_after said (take n rs) r =
+      ap (each_window said) passed ∙ each_after-snoc (said_after said) (take n rs) r in
       subst (λ (t : List ℕ). Appends old new t) (sym all)
-      (Appends-trans old mid new (record_text s p (take n rs)) (window_after s p (take n rs) r) before
+      (Appends-trans old mid new (each_window said (take n rs)) (said_after said (take n rs) r) before
       (subst (λ (t : List ℕ). Appends mid new t) text more))

@@ -17,7 +17,9 @@ use Rattle.fr_capture.specs.declared.takers.Taker.{Taker}
 use Rattle.fr_showing.specs.Ends.{ended_word, offer_end}
 use Rattle.fr_showing.specs.Fates.{became, cycles_of, sendings}
 use Rattle.fr_capture.specs.Takers.{takers_word}
-use Rattle.fr_showing.specs.Takers.{takers_in}
+use Rattle.fr_schedule.specs.Descriptions.{Description}
+use Rattle.fr_showing.specs.Takers.{takers_by_plans, takers_in}
+use Rattle.fr_slots.specs.declared.channel.Channel.{Channel}
 use Rattle.fr_slots.specs.Admission.{letter_of}
 use Rattle.fr_slots.specs.History.{each_after}
 use Rattle.fr_slots.specs.Windows.{slot_of}
@@ -93,6 +95,26 @@ sending_words w node s =
 -- the same after a space
 unfoldable pub sending_text : WorldState → ℕ → Sending → List ℕ
 sending_text w node s = 32 ∷ line_of (sending_words w node s)
+
+-- ---- the same by a cluster and a recorded window
+
+-- the receivers of a transmission with this end, by the plans of all nodes
+unfoldable pub received_text : Description → Recorded → Channel → Option End → List ℕ
+received_text d r channel end = takers_word (takers_by end (takers_by_plans d.params r channel 0 d.plans))
+
+-- the end of the node's offer
+abbrev pub end_on : Description → Recorded → ℕ → Channel → Option End
+end_on d r node channel = offer_end d.params (Some r) channel node
+
+-- a cycle of the run, and the words of the node's transmission in the recorded window
+abbrev pub words_by : Description → Recorded → ℕ → ℕ → Channel → List (List ℕ)
+words_by d r cycle node channel =
+    decimal cycle ∷ optional_number (slot_of r.window channel) ∷ letter_of channel
+    ∷ ended_word (end_on d r node channel)
+    ∷ received_text d r channel (end_on d r node channel)
+    ∷ []
+
+-- ---- the sendings of a commit
 
 abbrev pub sendings_text : WorldState → ℕ → List Entry → ℕ → List ℕ
 sendings_text w node entries commit = flat_map (sending_text w node) (sendings entries commit)

@@ -2,6 +2,7 @@ pub mod AnswerSteps
 pub mod AnswerText
 pub mod CommitSteps
 pub mod CommitText
+pub mod EachWindow
 pub mod Ends
 pub mod FateSteps
 pub mod Fates
@@ -10,4 +11,5 @@ pub mod Listening
 pub mod Origins
 pub mod RecordText
 pub mod Shows
+pub mod Spans
 pub mod Takers

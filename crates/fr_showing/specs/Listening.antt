@@ -1,14 +1,13 @@
 -- The records of a capture of the bus, as a passive listener receives it (project-defined). The time is counted in
 -- microseconds from the start of the run, and a macrotick takes a microsecond.
-use Rattle.std.specs.Prelude.{ℕ, ◌+◌, ◌-◌, ◌*◌, List, [], ◌∷◌, ◌++◌}
+use Rattle.std.specs.Prelude.{ℕ, ◌+◌, ◌*◌, List, [], ◌++◌}
 use Rattle.fr_bus.specs.Record.{Recorded, heard}
-use Rattle.fr_bus.specs.Windows.{cycles_begun}
 use Rattle.fr_capture.specs.Moments.{start_of}
 use Rattle.fr_capture.specs.Pcap.{file_header, record_with}
+use Rattle.fr_showing.specs.EachWindow.{each_window}
 use Rattle.fr_frame.specs.Refusal.{refusal}
 use Rattle.fr_slots.specs.declared.channel.Channel.{Channel}
 use Rattle.fr_slots.specs.declared.channel.Channel.TheVariants.{A, B}
-use Rattle.fr_slots.specs.History.{each_after}
 use Rattle.fr_slots.specs.Parameters.{Parameters}
 use Rattle.fr_slots.specs.Windows.{Opportunity}
 use Rattle.fr_status.specs.Forms.{Seen}
@@ -35,13 +34,9 @@ channel_records p cycle r channel = heard_record (begins_at p cycle r.window) ch
 abbrev pub window_records : Parameters → ℕ → Recorded → List ℕ
 window_records p cycle r = channel_records p cycle r A ++ channel_records p cycle r B
 
--- a window after those before it, in its cycle of the run
-abbrev pub records_after : Parameters → List Recorded → Recorded → List ℕ
-records_after p before r = window_records p (cycles_begun (before ++ r ∷ []) - 1) r
-
 -- all windows of a record, in their order
 abbrev pub all_records : Parameters → List Recorded → List ℕ
-all_records p rs = each_after (records_after p) [] rs
+all_records p rs = each_window (window_records p) rs
 
 abbrev pub capture_of : Parameters → List Recorded → List ℕ
 capture_of p rs = file_header ++ all_records p rs

@@ -1,23 +1,22 @@
 -- The bus's record, a line for each transmission and each flipped bit, with the line of the scenario from which it
 -- comes (project-defined).
-use Rattle.std.specs.Prelude.{ℕ, ◌-◌, List, [], ◌∷◌, ◌++◌, codes, Option, Some, None, if◌then◌else◌}
+use Rattle.std.specs.Prelude.{ℕ, List, [], ◌∷◌, ◌++◌, codes, Option, Some, None, if◌then◌else◌}
 use Rattle.std.specs.Fmt.{decimal}
 use Rattle.std.specs.List.{flat_map}
 use Rattle.fr_bus.specs.declared.outcome.Sent.{Sent}
 use Rattle.fr_bus.specs.Record.{Recorded, corrupt_on}
-use Rattle.fr_bus.specs.Windows.{cycles_begun}
 use Rattle.fr_frame.specs.Decoding.{decoded}
 use Rattle.fr_frame.specs.Fields.{Fields}
 use Rattle.fr_lines.specs.Parts.{absent, indicators, optional_number}
 use Rattle.fr_lines.specs.Spelling.{line_text}
 use Rattle.fr_scenario.specs.Contents.{Contents}
 use Rattle.fr_session.specs.RecordWords.{fate_word, kind_word}
+use Rattle.fr_showing.specs.EachWindow.{each_window}
 use Rattle.fr_showing.specs.Ends.{end_of, end_word}
 use Rattle.fr_showing.specs.Origins.{origin_of_bit, origin_of_sent}
 use Rattle.fr_slots.specs.Admission.{letter_of}
 use Rattle.fr_slots.specs.declared.channel.Channel.{Channel}
 use Rattle.fr_slots.specs.declared.channel.Channel.TheVariants.{A, B}
-use Rattle.fr_slots.specs.History.{each_after}
 use Rattle.fr_slots.specs.Parameters.{Parameters}
 use Rattle.fr_slots.specs.Windows.{Opportunity, slot_of, is_static}
 use Rattle.fr_text.specs.Spaces.{line_of}
@@ -85,10 +84,6 @@ window_text s p cycle r =
     flat_map (sent_line s p cycle r) r.sent ++ bit_lines s cycle r A (corrupt_on r A)
     ++ bit_lines s cycle r B (corrupt_on r B)
 
--- a window after those before it, in its cycle of the run
-abbrev pub window_after : Contents → Parameters → List Recorded → Recorded → List ℕ
-window_after s p before r = window_text s p (cycles_begun (before ++ r ∷ []) - 1) r
-
 -- all windows of the record of a run with a scenario, in their order
 abbrev pub record_text : Contents → Parameters → List Recorded → List ℕ
-record_text s p rs = each_after (window_after s p) [] rs
+record_text s p rs = each_window (window_text s p) rs

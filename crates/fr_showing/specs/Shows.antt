@@ -21,11 +21,13 @@ use Rattle.fr_schedule.specs.Descriptions.{Description}
 use Rattle.fr_showing.specs.AnswerText.{answer_line}
 use Rattle.fr_showing.specs.CommitText.{commit_line, commits}
 use Rattle.fr_showing.specs.declared.show.Notes.{Notes}
-use Rattle.fr_showing.specs.declared.shown.Shown.TheVariants.{Outcome, Answers, Commits, Record, Heard, Matrix, Trace}
+use Rattle.fr_showing.specs.declared.shown.Shown.TheVariants.{Outcome, Answers, Commits, Record, Windows, Heard, Matrix}
+use Rattle.fr_showing.specs.declared.shown.Shown.TheVariants.{Trace}
 use Rattle.fr_showing.specs.declared.shown.Shown.{Shown}
 use Rattle.fr_showing.specs.Idle.{idle_lines}
 use Rattle.fr_showing.specs.Listening.{capture_of}
 use Rattle.fr_showing.specs.RecordText.{record_text}
+use Rattle.fr_showing.specs.Spans.{spans_text}
 use Rattle.fr_trace.specs.TraceText.{trace_text}
 
 -- ---- the texts
@@ -42,6 +44,8 @@ IsShown Answers file text = text ≡ flat_map (answer_line file.played.world) fi
 IsShown Commits file text = text ≡ flat_map (commit_line file.played.world) (commits file.played.world)
 IsShown Record file text =
     text ≡ record_text file.scenario file.played.world.bus.cluster.params file.played.world.bus.sealed
+IsShown Windows file text =
+    text ≡ spans_text file.played.world.bus.cluster.params file.played.world.bus.sealed
 IsShown Heard file text =
     text ≡ capture_of file.played.world.bus.cluster.params file.played.world.bus.sealed
 IsShown (Matrix view) file text =
@@ -60,6 +64,7 @@ LacksNode Outcome file = ⊥
 LacksNode Answers file = ⊥
 LacksNode Commits file = ⊥
 LacksNode Record file = ⊥
+LacksNode Windows file = ⊥
 LacksNode Heard file = ⊥
 LacksNode (Matrix view) file = LacksViewer view.node file.played.world
 LacksNode (Trace node) file = slice_get file.played.world.interfaces node ≡ None

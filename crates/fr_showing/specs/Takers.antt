@@ -21,6 +21,12 @@ takers_from p r channel node [] = []
 takers_from p r channel node (s ∷ ss) =
     takers_at p s.plan r channel node ++ takers_from p r channel (node + 1) ss
 
+-- the same by the plans of the nodes from this one on
+abbrev pub takers_by_plans : Parameters → Recorded → Channel → ℕ → List Plan → List Taker
+takers_by_plans p r channel node [] = []
+takers_by_plans p r channel node (plan ∷ plans) =
+    takers_at p plan r channel node ++ takers_by_plans p r channel (node + 1) plans
+
 abbrev pub takers_in : Parameters → List State → Option Recorded → Channel → List Taker
 takers_in p interfaces None channel = []
 takers_in p interfaces (Some r) channel = takers_from p r channel 0 interfaces

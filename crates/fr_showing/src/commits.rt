@@ -65,7 +65,7 @@ fn end_in(world: &World, node: usize, sending: &Sending) -> Option<End>
 }
 
 /// Returns whether a transmission with this end can be stored.
-fn is_takeable(end: Option<End>) -> bool
+pub(crate) fn is_takeable(end: Option<End>) -> bool
     ensures { result ≡ is_takeable end }
 {
     matches!(end, Some(End::Alone | End::Turned))

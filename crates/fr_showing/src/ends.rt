@@ -1,5 +1,5 @@
 //! The ends of transmissions.
-ghost use Rattle.std.specs.Prelude.{◌≡◌, ◌≤◌, count_by, option_map, slice_get};
+ghost use Rattle.std.specs.Prelude.{◌≡◌, ◌≤◌, count_by, option_map, slice_get, Some};
 ghost use Rattle.std.specs.List.{find};
 ghost use Rattle.fr_bus.specs.Outcome.{passed_on};
 ghost use Rattle.fr_bus.specs.Record.{is_offer_of};
@@ -113,6 +113,14 @@ pub(crate) fn sent_in(sealed: &Sealed) -> &[Sent]
     sealed.sent.as_slice()
 }
 
+/// Returns the end of the node's offer on the channel in the window, if there was one.
+pub(crate) fn end_on(params: &Params, sealed: &Sealed, channel: Channel, node: usize) -> Option<End>
+    ensures { result ≡ offer_end params.now (Some sealed.now) channel node }
+{
+    let sent = offer_of(channel, node, sent_in(sealed))?;
+    Some(end_of(params, sealed, sent))
+}
+
 /// Returns the end of the node's offer on the channel in the window of this number, if there was one.
 pub(crate) fn offer_end(
     params: &Params,
@@ -124,8 +132,7 @@ pub(crate) fn offer_end(
     ensures { result ≡ offer_end params.now (slice_get windows.now window) channel node }
 {
     let sealed = sealed_at(windows, window as usize)?;
-    let sent = offer_of(channel, node, sent_in(sealed))?;
-    Some(end_of(params, sealed, sent))
+    end_on(params, sealed, channel, node)
 }
 
 /// Returns the word of the end of a transmission, if there was one.

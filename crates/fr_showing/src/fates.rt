@@ -15,7 +15,7 @@ use fr_slots::window::Window;
 
 /// The fate of a commit, with the cycle of the run and the number of the entry that decided it.
 #[derive(Clone, Copy)]
-pub(crate) enum Became {
+pub enum Became {
     /// A later fetch handed it to the bus.
     Sent,
     /// A later withdraw withdrew it.
@@ -28,13 +28,13 @@ pub(crate) enum Became {
 
 /// A commit as it was handed to the bus on one channel.
 #[derive(Clone, Copy)]
-pub(crate) struct Sending {
+pub struct Sending {
     /// The cycle of the run, from 0.
-    pub(crate) cycle: u32,
+    pub cycle: u32,
     /// The window.
-    pub(crate) window: Window,
+    pub window: Window,
     /// The channel.
-    pub(crate) channel: Channel,
+    pub channel: Channel,
 }
 
 /// Returns the number of cycles that began up to this entry and with it, from the number before.

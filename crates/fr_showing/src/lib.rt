@@ -16,6 +16,8 @@
 //! - `Ends`, `Takers`: the end of a transmission and its receivers.
 //! - `RecordText`, `Origins`: the lines of a record, and the scenario line of each.
 //! - `Listening`: the records of a capture of the bus.
+//! - `Spans`: the windows, with their times and the lengths of slots.
+//! - `EachWindow`: what is said of each window of a record, in its cycle of the run.
 //! - `Idle`, `Shows`: fault lines without effect; the output for a run.
 //!
 //! Modules that follow the steps of the code, for private functions, with the module that has the meaning:
@@ -26,9 +28,10 @@
 //! # Inner workings
 //!
 //! 1. `show_run` (`show`) makes the text in memory (`shown`) and hands it to the writer at once. The texts come from
-//!    `write_outcome`, `write_answers`, `write_commits`, `write_record`, `write_capture`, `matrix_of` of
-//!    `fr_matrix` or `write_trace` of `fr_trace`.
-//! 2. `idle_lines` returns the numbers of the fault lines without effect, by one walk along the record for each.
+//!    `write_outcome`, `write_answers`, `write_commits`, `write_record`, `write_spans`, `write_capture`, `matrix_of`
+//!    of `fr_matrix` or `write_trace` of `fr_trace`.
+//! 2. `write_sending` (`sending`) writes a node's transmission in a recorded window, for a run without history.
+//! 3. `idle_lines` returns the numbers of the fault lines without effect, by one walk along the record for each.
 //!
 //! To show something new of a run, call `play_file` or `play`. Both return the world with all journals, the record and
 //! the calls. The first also returns the scenario with the number of each fault line.
@@ -37,12 +40,14 @@
 pub mod answers;
 pub mod commits;
 pub mod ends;
-mod fates;
+pub mod fates;
 pub mod idle;
 pub mod listener;
 mod origins;
 mod parts;
 pub mod record;
+pub mod sending;
 pub mod show;
 pub mod shown;
+pub mod spans;
 mod takers;

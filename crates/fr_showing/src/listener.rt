@@ -17,7 +17,7 @@ use std::io;
 use std::io::Write;
 
 /// Returns the time at which a window of this cycle of the run begins, in microseconds.
-fn begins_at(params: &Params, cycle: u32, window: &Window) -> u64
+pub(crate) fn begins_at(params: &Params, cycle: u32, window: &Window) -> u64
     ensures value { result ≡ begins_at params.now cycle window.now }
     ensures few { result < 2 ^ 32 * 1000000 }
 {
@@ -58,7 +58,7 @@ pub fn write_window<W: Write>(
 }
 
 /// Returns the number of cycles that began up to this window and with it. `begun` of `all` cycles began before it.
-fn begun_with(begun: u16, all: u16, sealed: &Sealed) -> u16
+pub(crate) fn begun_with(begun: u16, all: u16, sealed: &Sealed) -> u16
     ensures { result ≡ (if begins_cycle sealed.now && nat_lt begun all then begun + 1 else begun) }
 {
     if opens_cycle(&sealed.window) && begun < all {

@@ -26,7 +26,7 @@ use std::io;
 use std::io::Write;
 
 /// Writes the minislot of a window, and a dash for a static one.
-fn write_minislot<W: Write>(writer: &mut W, window: &Window) -> io::Result<()>
+pub(crate) fn write_minislot<W: Write>(writer: &mut W, window: &Window) -> io::Result<()>
     ensures { Writes W.contents writer.old writer.new result (minislot_word window.now) }
 {
     if window.is_static() {

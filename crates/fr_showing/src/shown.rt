@@ -10,6 +10,7 @@ ghost use Rattle.fr_showing.specs.CommitText.{commit_line, commits};
 ghost use Rattle.fr_showing.specs.Listening.{capture_of};
 ghost use Rattle.fr_showing.specs.RecordText.{record_text};
 ghost use Rattle.fr_matrix.specs.Cells.{IsMatrix};
+ghost use Rattle.fr_showing.specs.Spans.{spans_text};
 ghost use Rattle.fr_showing.specs.Shows.{HasViewer, IsShown, LacksNode, LacksViewer};
 ghost use Rattle.fr_trace.specs.TraceText.{trace_text};
 
@@ -18,6 +19,7 @@ use crate::commits::write_commits;
 use crate::listener::write_capture;
 use crate::parts::params_of;
 use crate::record::write_record;
+use crate::spans::write_spans;
 use fr_core::world::World;
 use fr_files::error::BenchError;
 use fr_interface::interface::Interface;
@@ -44,6 +46,8 @@ pub enum Shown {
     Commits,
     /// A line for each transmission and each flipped bit, with the number of the scenario's line.
     Record,
+    /// A line for each window, with its first macrotick and the length of each channel's slot.
+    Windows,
     /// A capture of the frames at a passive listener on the bus.
     Heard,
     /// A picture of the transmissions on a channel, or of a node's observations there.
@@ -100,6 +104,19 @@ fn record_in(alloc: Global, scenario: &Scenario, world: &World) -> Result<Vec<u8
 {
     let mut text = Vec::new(alloc);
     match write_record(&mut text, scenario, params_of(world), world.bus()) {
+        Ok(()) => Ok(text),
+        Err(_) => Err(PlayError::Text(BenchError::Memory)),
+    }
+}
+
+/// Returns the windows of a run.
+fn windows_in(alloc: Global, world: &World) -> Result<Vec<u8>, PlayError>
+    ensures text { IfOk result (λ text. text.items
+        ≡ spans_text world.now.bus.cluster.params world.now.bus.sealed) }
+    ensures refused { IfErr result (λ e. e ≡ refusal.Text bench.Memory) }
+{
+    let mut text = Vec::new(alloc);
+    match write_spans(&mut text, params_of(world), world.bus()) {
         Ok(()) => Ok(text),
         Err(_) => Err(PlayError::Text(BenchError::Memory)),
     }
@@ -170,6 +187,7 @@ pub fn text_of(alloc: Global, shown: Shown, file: &PlayedFile) -> Result<Vec<u8>
         Shown::Answers => answers_in(alloc, played),
         Shown::Commits => commits_in(alloc, &played.world),
         Shown::Record => record_in(alloc, scenario, &played.world),
+        Shown::Windows => windows_in(alloc, &played.world),
         Shown::Heard => heard_in(alloc, &played.world),
         Shown::Matrix(view) => matrix_in(alloc, &played.world, &view),
         Shown::Trace(node) => match interface_of(&played.world, node) {

@@ -5,7 +5,7 @@ ghost use Rattle.fr_bus.specs.Record.{seen_by};
 ghost use Rattle.fr_journal.specs.Held.{data_frame_seen, with_data};
 ghost use Rattle.fr_capture.specs.Takers.{after_commas, takers_word};
 ghost use Rattle.fr_capture.specs.TakerSteps.{is_any};
-ghost use Rattle.fr_showing.specs.Takers.{takers_from, takers_at};
+ghost use Rattle.fr_showing.specs.Takers.{takers_at, takers_by_plans, takers_from};
 ghost use Rattle.fr_slots.specs.declared.channel.Channel.TheVariants as on;
 ghost use Rattle.fr_text.specs.Writing.{Writes};
 
@@ -127,6 +127,44 @@ pub(crate) fn write_takers<'a, W: Write>(
         (takers_word (takers_from sent.now.params.now sent.now.sealed.now sent.now.channel 0 interfaces.now)) }
 {
     if write_nodes(writer, interfaces, sent)? {
+        Ok(())
+    } else {
+        write!(writer, "-")
+    }
+}
+
+/// Writes the receivers of the transmission at the nodes of these plans, and returns whether there were any.
+fn write_planned<'a, W: Write>(
+    writer: &mut W,
+    plans: &'a [NodePlan],
+    sent: &Transmission<'a>,
+) -> io::Result<bool>
+    requires { length plans.now ≤ 16 }
+    ensures text { Writes W.contents writer.old writer.new result
+        (after_commas false (takers_by_plans sent.now.params.now sent.now.sealed.now sent.now.channel 0 plans.now)) }
+    ensures any { IfOk result (λ now. now
+        ≡ is_any (takers_by_plans sent.now.params.now sent.now.sealed.now sent.now.channel 0 plans.now)) }
+{
+    let mut any = false;
+    for (number, plan) in plans.iter().enumerate() {
+        let node = NodeId::from_number(number as u8);
+        let takers = takers_at(plan, sent, node);
+        any = write_more(writer, any, &takers)?;
+    }
+    Ok(any)
+}
+
+/// Writes the receivers of the transmission at the nodes of these plans, as `write_takers` does.
+pub(crate) fn write_takers_by_plans<'a, W: Write>(
+    writer: &mut W,
+    plans: &'a [NodePlan],
+    sent: &Transmission<'a>,
+) -> io::Result<()>
+    requires { length plans.now ≤ 16 }
+    ensures { Writes W.contents writer.old writer.new result
+        (takers_word (takers_by_plans sent.now.params.now sent.now.sealed.now sent.now.channel 0 plans.now)) }
+{
+    if write_planned(writer, plans, sent)? {
         Ok(())
     } else {
         write!(writer, "-")

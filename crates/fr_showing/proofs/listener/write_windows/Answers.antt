@@ -3,7 +3,8 @@ use Rattle.std.proofs.KnownBytes.{Appends-nil}
 use Rattle.fr_bus.specs.Windows.{cycles_begun}
 use Rattle.fr_slots.specs.History.{each_after}
 use Rattle.std.specs.Io.KnownBytes.{Appends}
-use Rattle.fr_showing.proofs.ListenerLemmas.{counted_more, window_more}
+use Rattle.fr_showing.proofs.ListenerLemmas.{counted_more}
+use Rattle.fr_showing.proofs.RecordLemmas.{window_more}
 use Rattle.fr_showing.specs.Listening.{window_records}
 use Rattle.fr_showing.proofs.listener.write_windows.Goals as goal
 
@@ -26,7 +27,7 @@ loop-sealed-preserved g c =
     record {
       begun = begun;
       written =
-          window_more rs n r lt at c.args.params.now c.begun_with-begun.result (g.W.Write.contents c.args.writer.now)
+          window_more rs n r lt at (window_records c.args.params.now) c.begun_with-begun.result (g.W.Write.contents c.args.writer.now)
           (g.W.Write.contents c.loop-sealed.writer) (g.W.Write.contents c.write_window.new.writer) begun
           c.loop-sealed.invariant.written
           (subst (λ (k : ℕ). Appends (g.W.Write.contents c.loop-sealed.writer)

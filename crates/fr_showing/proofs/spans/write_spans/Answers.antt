@@ -1,0 +1,36 @@
+use Rattle.std.proofs.Common.{◌≡◌, ℕ, ◌+◌, ◌<◌, get_or, length, take, refl, subst, ◌∙◌}
+use Rattle.std.proofs.KnownBytes.{Appends-nil}
+use Rattle.fr_bus.specs.Windows.{cycles_begun}
+use Rattle.fr_slots.specs.History.{each_after}
+use Rattle.std.specs.Io.KnownBytes.{Appends}
+use Rattle.fr_showing.proofs.ListenerLemmas.{counted_more}
+use Rattle.fr_showing.proofs.RecordLemmas.{window_more}
+use Rattle.fr_showing.specs.Spans.{span_line}
+use Rattle.fr_showing.proofs.spans.write_spans.Goals as goal
+
+pub loop-sealed-init : goal.loop-sealed-init
+unfolding each_after
+loop-sealed-init g c = record { begun = refl; written = Appends-nil (g.W.Write.contents c.args.writer.now) }
+
+pub loop-sealed-preserved : goal.loop-sealed-preserved
+loop-sealed-preserved g c =
+    let rs = c.args.bus.now.sealed in
+    let n : ℕ = c.loop-sealed.sealed-index in
+    let r = c.sealed-item.result in
+    let same = c.record-sealed-items.ensures.value in
+    let lt : n < length rs = subst (λ l. n < length l) same c.loop-sealed-test.true in
+    let at : r ≡ get_or rs n r = subst (λ l. r ≡ get_or l n r) same c.sealed-item.is in
+    let begun : c.begun_with-begun.result ≡ cycles_begun (take (n + 1) rs) =
+    c.begun_with-begun.ensures
+    ∙ counted_more rs n r lt at c.loop-sealed.begun c.cycles_begun-all.result c.loop-sealed.invariant.begun
+    c.cycles_begun-all.ensures in
+    record {
+      begun = begun;
+      written =
+          window_more rs n r lt at (span_line c.args.params.now) c.begun_with-begun.result (g.W.Write.contents c.args.writer.now)
+          (g.W.Write.contents c.loop-sealed.writer) (g.W.Write.contents c.write_window.new.writer) begun
+          c.loop-sealed.invariant.written
+          (subst (λ (k : ℕ). Appends (g.W.Write.contents c.loop-sealed.writer)
+          (g.W.Write.contents c.write_window.new.writer) (span_line c.args.params.now k r))
+          (c.from.ensures ∙ c.saturating_sub.ensures) c.in_ok-write_window.ensures);
+    }
