@@ -3,6 +3,8 @@ pub mod CycleLemmas
 pub mod MovingLemmas
 pub mod ReportLemmas
 mod NumberLemmas
+mod OutcomeLemmas
 pub mod ReplyLemmas
 pub mod SessionLemmas
 pub mod OpeningLemmas
+pub mod TapLemmas

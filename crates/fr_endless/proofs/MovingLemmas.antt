@@ -1,6 +1,6 @@
 -- Each world with its history moves as the kept data do.
 use Rattle.std.proofs.Common.{◌≡◌, ℕ, ◌+◌, ◌<◌, ◌≤◌, Bool, true, false, cond, List, [], ◌∷◌, ◌++◌, length, take, get_or}
-use Rattle.std.proofs.Common.{Option, Some, None, Result, Ok, Err, refl, sym, ap, subst, ◌∙◌, inl, inr}
+use Rattle.std.proofs.Common.{Option, Some, None, Result, refl, sym, ap, subst, ◌∙◌, inl, inr}
 use Rattle.std.proofs.lemmas.List.{take_all, take_more}
 use Rattle.std.specs.List.{flat_map}
 use Rattle.fr_bus.specs.Standing.{bare}
@@ -8,16 +8,15 @@ use Rattle.fr_bus.specs.States.{collecting_of}
 use Rattle.fr_core.specs.declared.error.StepError.{StepError}
 use Rattle.fr_core.specs.declared.event.Event.{Event}
 use Rattle.fr_core.specs.declared.event.Event.TheVariants.{Inject, Advance}
-use Rattle.fr_core.specs.declared.event.Reply.{Reply}
 use Rattle.fr_core.specs.declared.event.Reply.TheVariants.{Done}
 use Rattle.fr_core.specs.Runs.{Answer, StepsAll}
-use Rattle.fr_core.specs.Steps.{Steps, answered, step_reply}
+use Rattle.fr_core.specs.Steps.{Applies, Steps, answered, step_reply}
 use Rattle.fr_core.specs.Worlds.{WorldState}
 use Rattle.fr_endless.proofs.AlikeLemmas.{opened_same, begun_same, collecting_is}
-use Rattle.fr_endless.specs.Alike.{Alike, run_cycle_by}
-use Rattle.fr_live.specs.LiveSteps.{AppliesAlike, StepsAlike}
-use Rattle.fr_live.specs.LiveWorlds.{LiveState}
-use Rattle.fr_playing.proofs.MovingLemmas.{does_none, does_more, found_so, strikes_none, strikes_some, within_none, within_more}
+use Rattle.fr_endless.specs.Alike.{run_cycle_by}
+use Rattle.fr_endless.specs.Taps.{ToldAlike, ToldState}
+use Rattle.fr_playing.proofs.MovingLemmas.{does_none, does_more, found_so, strikes_none, strikes_some, within_none}
+use Rattle.fr_playing.proofs.MovingLemmas.{within_more}
 use Rattle.fr_playing.proofs.MovingLemmas.{passes_none, passes_more}
 use Rattle.fr_playing.proofs.StrikingLemmas.{flat-more, steps_append, tries_none}
 use Rattle.fr_playing.specs.Moving.{first_refusal, hindrance, Strikes, DoesAll, MovesOn, is_at_cycle, WithinCycle}
@@ -40,33 +39,33 @@ tries_append old xs mid ys new first second =
     (first.0 ++ second.0, steps_append old xs first.0 mid ys second.0 new first.1 second.1)
 
 module _ (cycle : ℕ) (window : Opportunity) where
-  pub strike_one : (l new : LiveState) (line : FaultLine) (answer : Answer) → strikes line cycle window ≡ true
-      → StepsAlike l (Inject line.fault) answer new
-      → Alike l (λ w v. Tries w (strike_events cycle window line) v) new
-  strike_one l new line answer occurs step w is =
-      let got = step w is in (
+  pub strike_one : (l new : ToldState) (line : FaultLine) (answer : Answer) → strikes line cycle window ≡ true
+      → ToldAlike l (λ w v. Steps w (Inject line.fault) answer v) new
+      → ToldAlike l (λ w v. Tries w (strike_events cycle window line) v) new
+  strike_one l new line answer occurs step s w is =
+      let got = step s w is in (
         got.0,
         subst (λ (b : Bool). Tries w (cond b (Inject line.fault ∷ []) []) got.0) (sym occurs)
             (tries_one w (Inject line.fault) answer got.0 got.1),
         got.2,
       )
 
-  pub strike_none : (l : LiveState) (line : FaultLine) → strikes line cycle window ≡ false
-      → Alike l (λ w v. Tries w (strike_events cycle window line) v) l
-  strike_none l line absent w is =
+  pub strike_none : (l : ToldState) (line : FaultLine) → strikes line cycle window ≡ false
+      → ToldAlike l (λ w v. Tries w (strike_events cycle window line) v) l
+  strike_none l line absent s w is =
       (w, subst (λ (b : Bool). Tries w (cond b (Inject line.fault ∷ []) []) w) (sym absent) (tries_none w), is)
 
-  pub tried_none : (l : LiveState) → Alike l (λ w v. Tries w (flat_map (strike_events cycle window) []) v) l
-  tried_none l w is = (w, tries_none w, is)
+  pub tried_none : (l : ToldState) → ToldAlike l (λ w v. Tries w (flat_map (strike_events cycle window) []) v) l
+  tried_none l s w is = (w, tries_none w, is)
 
-  pub tried_more : (l mid new : LiveState) (faults : List FaultLine) (i : ℕ) (line : FaultLine) → i < length faults
+  pub tried_more : (l mid new : ToldState) (faults : List FaultLine) (i : ℕ) (line : FaultLine) → i < length faults
       → line ≡ get_or faults i line
-      → Alike l (λ w v. Tries w (flat_map (strike_events cycle window) (take i faults)) v) mid
-      → Alike mid (λ w v. Tries w (strike_events cycle window line) v) new
-      → Alike l (λ w v. Tries w (flat_map (strike_events cycle window) (take (i + 1) faults)) v) new
-  tried_more l mid new faults i line lt line_is so_far next w is =
-      let first = so_far w is in
-      let second = next first.0 first.2 in
+      → ToldAlike l (λ w v. Tries w (flat_map (strike_events cycle window) (take i faults)) v) mid
+      → ToldAlike mid (λ w v. Tries w (strike_events cycle window line) v) new
+      → ToldAlike l (λ w v. Tries w (flat_map (strike_events cycle window) (take (i + 1) faults)) v) new
+  tried_more l mid new faults i line lt line_is so_far next s w is =
+      let first = so_far s w is in
+      let second = next s first.0 first.2 in
       let xs = flat_map (strike_events cycle window) (take i faults) in (
         second.0,
         subst (λ (events : List Event). Tries w events second.0)
@@ -75,40 +74,42 @@ module _ (cycle : ℕ) (window : Opportunity) where
         second.2,
       )
 
-  pub tried_all : (l new : LiveState) (faults : List FaultLine) (i : ℕ) → length faults ≤ i
-      → Alike l (λ w v. Tries w (flat_map (strike_events cycle window) (take i faults)) v) new
-      → Alike l (λ w v. Tries w (flat_map (strike_events cycle window) faults) v) new
+  pub tried_all : (l new : ToldState) (faults : List FaultLine) (i : ℕ) → length faults ≤ i
+      → ToldAlike l (λ w v. Tries w (flat_map (strike_events cycle window) (take i faults)) v) new
+      → ToldAlike l (λ w v. Tries w (flat_map (strike_events cycle window) faults) v) new
   tried_all l new faults i all so_far =
-      subst (λ (lines : List FaultLine). Alike l (λ w v. Tries w (flat_map (strike_events cycle window) lines) v) new)
+      subst (λ (lines : List FaultLine). ToldAlike l (λ w v. Tries w (flat_map (strike_events cycle window) lines) v)
+      new)
       (take_all i faults all) so_far
 
 -- ---- the open window
 
-pub strikes_open : (l new : LiveState) (faults : List FaultLine) (window : Opportunity) (cycle : ℕ)
-    → collecting_of (bare l.bus.bus) ≡ Some window → cycle ≡ run_cycle_by l.bus.bus.course.begun window
-    → Alike l (λ w v. Tries w (flat_map (strike_events cycle window) faults) v) new
-    → Alike l (λ w v. Strikes faults w v) new
-strikes_open l new faults window cycle opened cycle_is tries w is =
-    let got = tries w is in
-    let run_cycle = cycle_is ∙ ap (λ (n : ℕ). run_cycle_by n window) (sym (begun_same l w is)) in
-    (got.0, strikes_some faults w window cycle got.0 (collecting_is l w is ∙ opened) run_cycle got.1, got.2)
+pub strikes_open : (l new : ToldState) (faults : List FaultLine) (window : Opportunity) (cycle : ℕ)
+    → collecting_of (bare l.live.bus.bus) ≡ Some window → cycle ≡ run_cycle_by l.live.bus.bus.course.begun window
+    → ToldAlike l (λ w v. Tries w (flat_map (strike_events cycle window) faults) v) new
+    → ToldAlike l (λ w v. Strikes faults w v) new
+strikes_open l new faults window cycle opened cycle_is tries s w is =
+    let got = tries s w is in
+    let run_cycle = cycle_is ∙ ap (λ (n : ℕ). run_cycle_by n window) (sym (begun_same l.live w is.leads)) in
+    (got.0, strikes_some faults w window cycle got.0 (collecting_is l.live w is.leads ∙ opened) run_cycle got.1, got.2)
 
-pub strikes_nothing : (l : LiveState) (faults : List FaultLine) → collecting_of (bare l.bus.bus) ≡ None
-    → Alike l (λ w v. Strikes faults w v) l
-strikes_nothing l faults none w is = (w, strikes_none faults w (collecting_is l w is ∙ none), is)
+pub strikes_nothing : (l : ToldState) (faults : List FaultLine) → collecting_of (bare l.live.bus.bus) ≡ None
+    → ToldAlike l (λ w v. Strikes faults w v) l
+strikes_nothing l faults none s w is = (w, strikes_none faults w (collecting_is l.live w is.leads ∙ none), is)
 
 -- ---- the events
 
-pub did_none : (l : LiveState) → Alike l (λ w v. DoesAll w [] None v) l
-did_none l w is = (w, does_none w, is)
+pub did_none : (l : ToldState) → ToldAlike l (λ w v. DoesAll w [] None v) l
+did_none l s w is = (w, does_none w, is)
 
-pub did_more : (l mid new : LiveState) (events : List Event) (i : ℕ) (event : Event) (found after : Option StepError)
+pub did_more : (l mid new : ToldState) (events : List Event) (i : ℕ) (event : Event) (found after : Option StepError)
     (outcome : Result (Unit {0}) StepError) → i < length events → event ≡ get_or events i event
-    → after ≡ first_refusal found (answered Done outcome) → Alike l (λ w v. DoesAll w (take i events) found v) mid
-    → AppliesAlike mid event outcome new → Alike l (λ w v. DoesAll w (take (i + 1) events) after v) new
-did_more l mid new events i event found after outcome lt event_is found_is so_far step w is =
-    let first = so_far w is in
-    let second = step first.0 first.2 in
+    → after ≡ first_refusal found (answered Done outcome) → ToldAlike l (λ w v. DoesAll w (take i events) found v) mid
+    → ToldAlike mid (λ w v. Applies w event outcome v) new → ToldAlike l
+    (λ w v. DoesAll w (take (i + 1) events) after v) new
+did_more l mid new events i event found after outcome lt event_is found_is so_far step s w is =
+    let first = so_far s w is in
+    let second = step s first.0 first.2 in
     let answer = answered (step_reply first.0 event) outcome in
     let after_is = found_is ∙ found_so found outcome Done (step_reply first.0 event) in
     let more : take (i + 1) events ≡ take i events ++ event ∷ [] =
@@ -121,43 +122,46 @@ did_more l mid new events i event found after outcome lt event_is found_is so_fa
       second.2,
     )
 
-pub did_all : (l new : LiveState) (events : List Event) (i : ℕ) (found : Option StepError) → length events ≤ i
-    → Alike l (λ w v. DoesAll w (take i events) found v) new → Alike l (λ w v. DoesAll w events found v) new
+pub did_all : (l new : ToldState) (events : List Event) (i : ℕ) (found : Option StepError) → length events ≤ i
+    → ToldAlike l (λ w v. DoesAll w (take i events) found v) new → ToldAlike l (λ w v. DoesAll w events found v) new
 did_all l new events i found all so_far =
-    subst (λ (es : List Event). Alike l (λ w v. DoesAll w es found v) new) (take_all i events all) so_far
+    subst (λ (es : List Event). ToldAlike l (λ w v. DoesAll w es found v) new) (take_all i events all) so_far
 
 -- ---- windows
 
 module _ (faults : List FaultLine) (due : List Event) where
-  pub moved_on : (l a b new : LiveState) (found hinders : Option StepError) (last : Answer)
-      → Alike l (λ w v. Strikes faults w v) a → Alike a (λ w v. DoesAll w due found v) b → StepsAlike b Advance last new
-      → hinders ≡ hindrance found last → Alike l (λ w v. MovesOn faults due w hinders v) new
-  moved_on l a b new found hinders last strikes does step hinders_is w is =
-      let first = strikes w is in
-      let second = does first.0 first.2 in
-      let third = step second.0 second.2 in
+  pub moved_on : (l a b new : ToldState) (found hinders : Option StepError) (last : Answer)
+      → ToldAlike l (λ w v. Strikes faults w v) a → ToldAlike a (λ w v. DoesAll w due found v) b
+      → ToldAlike b (λ w v. Steps w Advance last v) new
+      → hinders ≡ hindrance found last → ToldAlike l (λ w v. MovesOn faults due w hinders v) new
+  moved_on l a b new found hinders last strikes does step hinders_is s w is =
+      let first = strikes s w is in
+      let second = does s first.0 first.2 in
+      let third = step s second.0 second.2 in
       (third.0, (first.0, second.0, found, last, first.1, second.1, third.1, hinders_is), third.2)
 
-  pub within_start : (l : LiveState) → Alike l (λ w v. WithinCycle faults due 0 w v) l
-  within_start l w is = (w, within_none faults due w, is)
+  pub within_start : (l : ToldState) → ToldAlike l (λ w v. WithinCycle faults due 0 w v) l
+  within_start l s w is = (w, within_none faults due w, is)
 
-  module _ (l mid new : LiveState) (count : ℕ) (so_far : Alike l (λ w v. WithinCycle faults due count w v) mid) where
-    pub within_next : (found : Option StepError) → Alike mid (λ w v. MovesOn faults due w found v) new → found ≡ None
-        → is_at_cycle new.bus.bus.opened ≡ false → Alike l (λ w v. WithinCycle faults due (count + 1) w v) new
-    within_next found moves none within w is =
-        let first = so_far w is in
-        let second = moves first.0 first.2 in (
+  module _ (l mid new : ToldState) (count : ℕ)
+      (so_far : ToldAlike l (λ w v. WithinCycle faults due count w v) mid) where
+    pub within_next : (found : Option StepError) → ToldAlike mid (λ w v. MovesOn faults due w found v) new →
+        found ≡ None
+        → is_at_cycle new.live.bus.bus.opened ≡ false → ToldAlike l (λ w v. WithinCycle faults due (count + 1) w v) new
+    within_next found moves none within s w is =
+        let first = so_far s w is in
+        let second = moves s first.0 first.2 in (
           second.0,
           within_more faults due count found w first.0 second.0 first.1 second.1 none
-              (ap is_at_cycle (opened_same new second.0 second.2) ∙ within),
+              (ap is_at_cycle (opened_same new.live second.0 second.2.leads) ∙ within),
           second.2,
         )
 
-    pub cycle_hindered : (error : StepError) → Alike mid (λ w v. MovesOn faults due w (Some error) v) new
-        → Alike l (λ w v. EndsCycle faults due w (Some error) v) new
-    cycle_hindered error moves w is =
-        let first = so_far w is in
-        let second = moves first.0 first.2 in (
+    pub cycle_hindered : (error : StepError) → ToldAlike mid (λ w v. MovesOn faults due w (Some error) v) new
+        → ToldAlike l (λ w v. EndsCycle faults due w (Some error) v) new
+    cycle_hindered error moves s w is =
+        let first = so_far s w is in
+        let second = moves s first.0 first.2 in (
           second.0,
           inl (
             count,
@@ -170,50 +174,53 @@ module _ (faults : List FaultLine) (due : List Event) where
           second.2,
         )
 
-    pub cycle_ended : (found : Option StepError) → Alike mid (λ w v. MovesOn faults due w found v) new → found ≡ None
-        → is_at_cycle new.bus.bus.opened ≡ true → Alike l (λ w v. EndsCycle faults due w None v) new
-    cycle_ended found moves none at w is =
-        let first = so_far w is in
-        let second = moves first.0 first.2 in (
+    pub cycle_ended : (found : Option StepError) → ToldAlike mid (λ w v. MovesOn faults due w found v) new →
+        found ≡ None
+        → is_at_cycle new.live.bus.bus.opened ≡ true → ToldAlike l (λ w v. EndsCycle faults due w None v) new
+    cycle_ended found moves none at s w is =
+        let first = so_far s w is in
+        let second = moves s first.0 first.2 in (
           second.0,
           inl (
             count,
             first.0,
             first.1,
             subst (λ (f : Option StepError). MovesOn faults due first.0 f second.0) none second.1,
-            λ same. ap is_at_cycle (opened_same new second.0 second.2) ∙ at,
+            λ same. ap is_at_cycle (opened_same new.live second.0 second.2.leads) ∙ at,
           ),
           second.2,
         )
 
-  pub cycle_full : (l new : LiveState) (count : ℕ) → Alike l (λ w v. WithinCycle faults due count w v) new
-      → count ≡ most_windows → Alike l (λ w v. EndsCycle faults due w None v) new
-  cycle_full l new count so_far full w is =
-      let got = so_far w is in
+  pub cycle_full : (l new : ToldState) (count : ℕ) → ToldAlike l (λ w v. WithinCycle faults due count w v) new
+      → count ≡ most_windows → ToldAlike l (λ w v. EndsCycle faults due w None v) new
+  cycle_full l new count so_far full s w is =
+      let got = so_far s w is in
       (got.0, inr (subst (λ (n : ℕ). WithinCycle faults due n w got.0) full got.1, refl), got.2)
 
   -- ---- cycles
 
-  pub passed_none : (l : LiveState) → Alike l (λ w v. PassesCycles faults due 0 w v) l
-  passed_none l w is = (w, passes_none faults due w, is)
+  pub passed_none : (l : ToldState) → ToldAlike l (λ w v. PassesCycles faults due 0 w v) l
+  passed_none l s w is = (w, passes_none faults due w, is)
 
-  module _ (l mid new : LiveState) (count : ℕ) (so_far : Alike l (λ w v. PassesCycles faults due count w v) mid) where
-    pub passed_more : (found : Option StepError) → Alike mid (λ w v. EndsCycle faults due w found v) new → found ≡ None
-        → Alike l (λ w v. PassesCycles faults due (count + 1) w v) new
-    passed_more found ends none w is =
-        let first = so_far w is in
-        let second = ends first.0 first.2 in
+  module _ (l mid new : ToldState) (count : ℕ)
+      (so_far : ToldAlike l (λ w v. PassesCycles faults due count w v) mid) where
+    pub passed_more : (found : Option StepError) → ToldAlike mid (λ w v. EndsCycle faults due w found v) new →
+        found ≡ None
+        → ToldAlike l (λ w v. PassesCycles faults due (count + 1) w v) new
+    passed_more found ends none s w is =
+        let first = so_far s w is in
+        let second = ends s first.0 first.2 in
         (second.0, passes_more faults due count found w first.0 second.0 first.1 second.1 none, second.2)
 
     pub run_hindered : (cycles : ℕ) (error : StepError) → count < cycles
-        → Alike mid (λ w v. EndsCycle faults due w (Some error) v) new
-        → Alike l (λ w v. RunsCycles faults due cycles w (Some error) v) new
-    run_hindered cycles error fewer ends w is =
-        let first = so_far w is in
-        let second = ends first.0 first.2 in
+        → ToldAlike mid (λ w v. EndsCycle faults due w (Some error) v) new
+        → ToldAlike l (λ w v. RunsCycles faults due cycles w (Some error) v) new
+    run_hindered cycles error fewer ends s w is =
+        let first = so_far s w is in
+        let second = ends s first.0 first.2 in
         (second.0, (count, first.0, fewer, first.1, second.1), second.2)
 
-  pub run_over : (l new : LiveState) (count cycles : ℕ) → Alike l (λ w v. PassesCycles faults due count w v) new
-      → count ≡ cycles → Alike l (λ w v. RunsCycles faults due cycles w None v) new
-  run_over l new count cycles so_far all w is =
-      let got = so_far w is in (got.0, subst (λ (n : ℕ). PassesCycles faults due n w got.0) all got.1, got.2)
+  pub run_over : (l new : ToldState) (count cycles : ℕ) → ToldAlike l (λ w v. PassesCycles faults due count w v) new
+      → count ≡ cycles → ToldAlike l (λ w v. RunsCycles faults due cycles w None v) new
+  run_over l new count cycles so_far all s w is =
+      let got = so_far s w is in (got.0, subst (λ (n : ℕ). PassesCycles faults due n w got.0) all got.1, got.2)

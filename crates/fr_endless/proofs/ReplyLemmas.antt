@@ -8,12 +8,11 @@ use Rattle.fr_core.specs.declared.error.StepError.{StepError}
 use Rattle.fr_core.specs.declared.event.Event.{Event}
 use Rattle.fr_core.specs.Runs.{Answer}
 use Rattle.fr_endless.proofs.AlikeLemmas.{now_same, moved_same, last_same, time_same}
-use Rattle.fr_endless.specs.Alike.{Alike}
 use Rattle.fr_endless.specs.Answers.{if_numbered, kept_time, no_history_text, IsReportOf, IsStatusOf}
 use Rattle.fr_endless.specs.Serving.{DoesAlike, DoesAlikeIf}
+use Rattle.fr_endless.specs.Taps.{ToldAlike, ToldState}
 use Rattle.fr_lines.specs.Spelling.{line_text}
-use Rattle.fr_live.specs.LiveSteps.{StepsAlike}
-use Rattle.fr_live.specs.LiveWorlds.{LiveState}
+use Rattle.fr_core.specs.Steps.{Steps}
 use Rattle.fr_playing.specs.Moving.{MovesOn, RunsCycles}
 use Rattle.fr_runs.specs.declared.fault_line.FaultLine.{FaultLine}
 use Rattle.fr_session.specs.declared.request.Request.{Request}
@@ -37,7 +36,7 @@ module _ {W A E : Type 0} (contents : W → Option (List ℕ)) (old new : W) (re
   replied_so IsReply IsAnswer so told = (told.0, so told.0 told.1, told.2)
 
   -- a request that is this one
-  pub asked_so : (terms : Terms) (l left : LiveState) (kept keeps : List FaultLine) (given asked : Request)
+  pub asked_so : (terms : Terms) (l left : ToldState) (kept keeps : List FaultLine) (given asked : Request)
       → given ≡ asked → Replies contents old new result (λ reply. DoesAlike terms l kept asked reply left keeps)
       → Replies contents old new result (λ reply. DoesAlike terms l kept given reply left keeps)
   asked_so terms l left kept keeps given asked is told =
@@ -45,7 +44,7 @@ module _ {W A E : Type 0} (contents : W → Option (List ℕ)) (old new : W) (re
       (sym is) told
 
   -- a line that is this request, or none
-  pub asked_if : (terms : Terms) (l left : LiveState) (kept keeps : List FaultLine) (number : ℕ)
+  pub asked_if : (terms : Terms) (l left : ToldState) (kept keeps : List FaultLine) (number : ℕ)
       (given asked : Option Request) → given ≡ asked
       → Replies contents old new result (λ reply. DoesAlikeIf terms l kept number asked reply left keeps)
       → Replies contents old new result (λ reply. DoesAlikeIf terms l kept number given reply left keeps)
@@ -53,88 +52,90 @@ module _ {W A E : Type 0} (contents : W → Option (List ℕ)) (old new : W) (re
       subst (λ (r : Option Request). Replies contents old new result
       (λ reply. DoesAlikeIf terms l kept number r reply left keeps)) (sym is) told
 
-module _ (terms : Terms) (l new : LiveState) (kept : List FaultLine) where
-  pub event_so : (event : Event) (answer : Answer) → StepsAlike l event answer new
+module _ (terms : Terms) (l new : ToldState) (kept : List FaultLine) where
+  pub event_so : (event : Event) (answer : Answer) → ToldAlike l (λ w v. Steps w event answer v) new
       → DoesAlike terms l kept (request.Event event) (answer_text answer) new kept
-  event_so event answer steps w is =
-      let got = steps w is in (got.0, (answer, got.1, refl, refl), got.2)
+  event_so event answer steps s w is =
+      let got = steps s w is in (got.0, (answer, got.1, refl, refl), got.2)
 
   pub window_so : (faults : List FaultLine) (bus : LiveStanding) (hinders : Option StepError) → faults ≡ kept
-      → bus ≡ new.bus → Alike l (λ w v. MovesOn faults terms.due w hinders v) new
+      → bus ≡ new.live.bus → ToldAlike l (λ w v. MovesOn faults terms.due w hinders v) new
       → DoesAlike terms l kept request.Window (moved_text hinders (bare bus.bus)) new kept
-  window_so faults bus hinders faults_are bus_is moves w is =
-      let got = moves w is in (
+  window_so faults bus hinders faults_are bus_is moves s w is =
+      let got = moves s w is in (
         got.0,
         (
           hinders,
           subst (λ (f : List FaultLine). MovesOn f terms.due w hinders got.0) faults_are got.1,
-          ap (λ (b : LiveStanding). moved_text hinders (bare b.bus)) bus_is ∙ moved_same new got.0 got.2 hinders,
+          ap (λ (b : LiveStanding). moved_text hinders (bare b.bus)) bus_is ∙ moved_same new.live got.0 got.2.leads
+              hinders,
           refl,
         ),
         got.2,
       )
 
   pub run_so : (faults : List FaultLine) (bus : LiveStanding) (cycles : ℕ) (hinders : Option StepError) → faults ≡ kept
-      → bus ≡ new.bus → Alike l (λ w v. RunsCycles faults terms.due cycles w hinders v) new
+      → bus ≡ new.live.bus → ToldAlike l (λ w v. RunsCycles faults terms.due cycles w hinders v) new
       → DoesAlike terms l kept (request.Run cycles) (moved_text hinders (bare bus.bus)) new kept
-  run_so faults bus cycles hinders faults_are bus_is runs w is =
-      let got = runs w is in (
+  run_so faults bus cycles hinders faults_are bus_is runs s w is =
+      let got = runs s w is in (
         got.0,
         (
           hinders,
           subst (λ (f : List FaultLine). RunsCycles f terms.due cycles w hinders got.0) faults_are got.1,
-          ap (λ (b : LiveStanding). moved_text hinders (bare b.bus)) bus_is ∙ moved_same new got.0 got.2 hinders,
+          ap (λ (b : LiveStanding). moved_text hinders (bare b.bus)) bus_is ∙ moved_same new.live got.0 got.2.leads
+              hinders,
           refl,
         ),
         got.2,
       )
 
-module _ (terms : Terms) (l : LiveState) (kept : List FaultLine) where
+module _ (terms : Terms) (l : ToldState) (kept : List FaultLine) where
   pub line_so : (line : FaultLine) (keeps : List FaultLine) (reply : List ℕ)
       → KeepsLine terms.cluster terms.cycles kept line reply keeps
       → DoesAlike terms l kept (request.Fault line) reply l keeps
-  line_so line keeps reply does w is = (w, (does, refl), is)
+  line_so line keeps reply does s w is = (w, (does, refl), is)
 
   pub both_so : (a b : FaultLine) (keeps : List FaultLine) (reply : List ℕ)
       → KeepsBoth terms.cluster terms.cycles kept a b reply keeps
       → DoesAlike terms l kept (request.Faults a b) reply l keeps
-  both_so a b keeps reply does w is = (w, (does, refl), is)
+  both_so a b keeps reply does s w is = (w, (does, refl), is)
 
   pub forget_so : (keeps : List FaultLine) → keeps ≡ []
       → DoesAlike terms l kept request.Forget (line_text done_words) l keeps
-  forget_so keeps none w is = (w, (refl, ap (state_of w) none), is)
+  forget_so keeps none s w is = (w, (refl, ap (state_of w) none), is)
 
-  pub now_so : (bus : LiveStanding) → bus ≡ l.bus
+  pub now_so : (bus : LiveStanding) → bus ≡ l.live.bus
       → DoesAlike terms l kept request.Now (now_text (bare bus.bus)) l kept
-  now_so bus bus_is w is =
-      (w, (refl, ap (λ (b : LiveStanding). now_text (bare b.bus)) bus_is ∙ now_same l w is), is)
+  now_so bus bus_is s w is =
+      (w, (refl, ap (λ (b : LiveStanding). now_text (bare b.bus)) bus_is ∙ now_same l.live w is.leads), is)
 
-  pub at_so : (bus : LiveStanding) (p : Parameters) → bus ≡ l.bus → p ≡ terms.cluster.params
+  pub at_so : (bus : LiveStanding) (p : Parameters) → bus ≡ l.live.bus → p ≡ terms.cluster.params
       → DoesAlike terms l kept request.At (kept_time p bus) l kept
-  at_so bus p bus_is p_is w is =
-      (w, (refl, ap₂ kept_time p_is bus_is ∙ time_same l w is terms.cluster.params), is)
+  at_so bus p bus_is p_is s w is =
+      (w, (refl, ap₂ kept_time p_is bus_is ∙ time_same l.live w is.leads terms.cluster.params), is)
 
-  pub status_so : (node : ℕ) (channel : Channel) (reply : List ℕ) → IsStatusOf l node channel reply
+  pub status_so : (node : ℕ) (channel : Channel) (reply : List ℕ) → IsStatusOf l.live node channel reply
       → DoesAlike terms l kept (request.Status node channel) reply l kept
-  status_so node channel reply counts w is = (w, (refl, counts w is), is)
+  status_so node channel reply counts s w is = (w, (refl, counts w is.leads), is)
 
-  pub report_so : (node : ℕ) (reply : List ℕ) → IsReportOf l node reply
+  pub report_so : (node : ℕ) (reply : List ℕ) → IsReportOf l.live node reply
       → DoesAlike terms l kept (request.Report node) reply l kept
-  report_so node reply reports w is = (w, (refl, reports w is), is)
+  report_so node reply reports s w is = (w, (refl, reports w is.leads), is)
 
   pub trace_so : (node : ℕ) → DoesAlike terms l kept (request.Trace node) no_history_text l kept
-  trace_so node w is = (w, (refl, refl), is)
+  trace_so node s w is = (w, (refl, refl), is)
 
   pub origin_so : (node : ℕ) → DoesAlike terms l kept (request.Origin node) no_history_text l kept
-  origin_so node w is = (w, (refl, refl), is)
+  origin_so node s w is = (w, (refl, refl), is)
 
-  pub record_so : (bus : LiveStanding) (window : ℕ) → bus ≡ l.bus → (reply : List ℕ)
+  pub record_so : (bus : LiveStanding) (window : ℕ) → bus ≡ l.live.bus → (reply : List ℕ)
       → IsRecordOf (if_numbered window bus.last) reply
       → DoesAlike terms l kept (request.Record window) reply l kept
-  record_so bus window bus_is reply recorded w is =
+  record_so bus window bus_is reply recorded s w is =
       let last : bus.last ≡ last_recorded w.bus =
-      ap (λ (b : LiveStanding). b.last) bus_is ∙ sym (last_same l w is) in
+      ap (λ (b : LiveStanding). b.last) bus_is ∙ sym (last_same l.live w is.leads) in
       (w, (refl, subst (λ (o : Option Recorded). IsRecordOf (if_numbered window o) reply) last recorded), is)
 
   pub bad_line_so : (number : ℕ) → DoesAlikeIf terms l kept number None (line_text (bad_line_words number)) l kept
-  bad_line_so number w is = (w, (refl, refl), is)
+  bad_line_so number s w is = (w, (refl, refl), is)

@@ -113,6 +113,16 @@ count_none (s ∷ ss) zero at = absurd (let none_is : ⊥ = cc in none_is)
 count_none (s ∷ ss) (suc n) at = let rest = count_none ss n at in omega (arith, rest)
 
 module _ (l : LiveState) (n : ℕ) where
+  -- the report by the kept data is that of the node in each world
+  pub node_same : (h : Standing) (count : ℕ) (buffers : List ℕ) → n < length l.interfaces
+      → h ≡ get_or l.interfaces n h → ((w : WorldState) → IsWorldHistory l w → buffers ≡ buffers_each w.interfaces)
+      → slice_get buffers n ≡ Some count → (w : WorldState) → IsWorldHistory l w
+      → kept_report h count ≡ report_text (interface_at w n)
+  node_same h count buffers lt at each got w is =
+      let counted = count_got w.interfaces n count (ap (λ (bs : List ℕ). slice_get bs n) (sym (each w is)) ∙ got) in
+      report_same h (interface_at w n) (history_got l.interfaces w.interfaces n h is.leads.interfaces_are lt at) count
+      counted.1
+
   -- the block of a report by the kept data is that of each world
   pub block_same : (h : Standing) (count : ℕ) (buffers : List ℕ) → n < length l.interfaces
       → h ≡ get_or l.interfaces n h → ((w : WorldState) → IsWorldHistory l w → buffers ≡ buffers_each w.interfaces)
@@ -120,8 +130,7 @@ module _ (l : LiveState) (n : ℕ) where
       → IsReportOf l n reply
   block_same h count buffers lt at each got reply block w is =
       let counted = count_got w.interfaces n count (ap (λ (bs : List ℕ). slice_get bs n) (sym (each w is)) ∙ got) in
-      let history = history_got l.interfaces w.interfaces n h is.leads.interfaces_are lt at in
-      let text = report_same h (interface_at w n) history count counted.1 in
+      let text = node_same h count buffers lt at each got w is in
       let has : has_node w n ≡ true = lt-ltb n (length w.interfaces) counted.0 in
       subst (λ (b : Bool). IsBlockIf b (report_text (interface_at w n)) reply) (sym has)
       (subst (λ (t : List ℕ). IsBlock t reply) text block)

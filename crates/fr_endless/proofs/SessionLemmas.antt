@@ -1,21 +1,30 @@
 -- An endless session continues by one line.
 use Rattle.std.proofs.Common.{◌≡◌, ℕ, ◌+◌, true, false, List, [], ◌∷◌, ◌++◌, length, Option, Some, None, refl, sym, ap}
-use Rattle.std.proofs.Common.{Result, Ok, Err}
-use Rattle.std.specs.Prelude.{IfErr, OnOk}
+use Rattle.std.proofs.Common.{Result, Ok, Err, inl, inr}
+use Rattle.std.proofs.KnownBytes.{Keeps-refl}
+use Rattle.std.specs.Prelude.{IfErr, IsErr, OnOk}
 use Rattle.std.proofs.Common.{subst, ◌∙◌, append_assoc, arith, length-append}
 use Rattle.std.proofs.lemmas.List.{append-nil}
 use Rattle.std.specs.List.{flat_map}
 use Rattle.std.specs.Io.KnownBytes.{Appends, Keeps}
 use Rattle.fr_endless.specs.Alike.{Alike}
-use Rattle.fr_endless.specs.Serving.{AnswersNextAlike, Does, DoesAlikeIf, EndsEndless, FailsNextAlike, Served}
-use Rattle.fr_endless.specs.Serving.{ServedEndless, Serves}
-use Rattle.fr_live.specs.LiveWorlds.{IsWorldHistory, LiveState}
+use Rattle.fr_capture.specs.Pcap.{file_header}
+use Rattle.fr_core.specs.Worlds.{WorldState}
+use Rattle.fr_endless.proofs.TapLemmas.{told_header, told_then_flushed}
+use Rattle.fr_endless.specs.declared.error.EndlessError.{EndlessError}
+use Rattle.fr_endless.specs.declared.error.EndlessError.TheVariants as failure
+use Rattle.fr_endless.specs.declared.taps.Tap.{Tap}
+use Rattle.fr_endless.specs.Serving.{AnswersNextAlike, Does, DoesAlikeIf, DoesEndlessIf, EndsBefore, EndsByFile}
+use Rattle.fr_endless.specs.Serving.{EndsEndless, FailsNextAlike, IsAfterMemory, IsOfLine, KeepsUnlessSent, Served}
+use Rattle.fr_endless.specs.Serving.{ServedEndless, Serves, TellsUnless}
+use Rattle.fr_endless.specs.Taps.{AddsBoth, IsToldHistory, TapsState, Tells, ToldAlike, ToldState, start_of, with_taps}
+use Rattle.fr_live.specs.LiveWorlds.{LiveState}
 use Rattle.fr_runs.specs.declared.fault_line.FaultLine.{FaultLine}
-use Rattle.fr_session.proofs.CutLemmas.{ends_full, ends_greeting, ends_reading, ends_writing}
+use Rattle.fr_session.proofs.CutLemmas.{ends_full, ends_greeting, ends_reading, ends_writing, sent_so}
+use Rattle.fr_session.proofs.CutLemmas.{unsent_so}
 use Rattle.fr_session.proofs.LineLemmas.{front_asks}
 use Rattle.fr_session.proofs.SessionLemmas.{SoFarBy, are_lines_more, feeds_more, appends_more, appends_kept}
-use Rattle.fr_session.specs.Cuts.{EndsEarly, IsFront}
-use Rattle.fr_session.specs.declared.error.SessionError.{SessionError}
+use Rattle.fr_session.specs.Cuts.{Hands, IsFront, Sends}
 use Rattle.fr_session.specs.declared.error.SessionError.TheVariants.{Read, Write, Memory}
 use Rattle.fr_session.specs.Lines.{Comes, ComesFront, with_feed}
 use Rattle.fr_session.specs.Reading.{asked_in}
@@ -100,47 +109,49 @@ so_far_over terms (Some text) (Some left) left' before after after' number old n
 
 -- ---- by the kept data
 
-abbrev pub SoFarAlike : Terms → Option (List ℕ) → Option (List ℕ) → Option (List ℕ) → Option (List ℕ) → ℕ → LiveState
-    → List FaultLine → LiveState → List FaultLine → Type 0
+abbrev pub SoFarAlike : Terms → Option (List ℕ) → Option (List ℕ) → Option (List ℕ) → Option (List ℕ) → ℕ → ToldState
+    → List FaultLine → ToldState → List FaultLine → Type 0
 SoFarAlike terms text left before after number old kept new keeps =
-    Alike old (λ w v. SoFar terms text left before after number (state_of w kept) (state_of v keeps)) new
+    ToldAlike old (λ w v. SoFar terms text left before after number (state_of w kept) (state_of v keeps)) new
 
-pub begins : (terms : Terms) (text before after : Option (List ℕ)) (l : LiveState) (kept : List FaultLine)
+pub begins : (terms : Terms) (text before after : Option (List ℕ)) (l : ToldState) (kept : List FaultLine)
     → Appends before after greeting → SoFarAlike terms text text before after 1 l kept l kept
-begins terms text before after l kept told w is =
+begins terms text before after l kept told s w is =
     (w, so_far_none terms text before after (state_of w kept) told, is)
 
 pub goes_on : (terms : Terms) (text left left' before after after' : Option (List ℕ)) (number : ℕ)
-    (l mid new : LiveState)
+    (l mid new : ToldState)
     (first kept keeps : List FaultLine)
     → SoFarAlike terms text left before after number l first mid kept
     → AnswersNextAlike terms true left left' after after' number mid kept new keeps
     → SoFarAlike terms text left' before after' (number + 1) l first new keeps
-goes_on terms text left left' before after after' number l mid new first kept keeps so_far next w is =
+goes_on terms text left left' before after after' number l mid new first kept keeps so_far next s w is =
     let (line, reply, comes, does, tells) = next in
-    let got = so_far w is in
-    let did = does got.0 got.2 in (
+    let got = so_far s w is in
+    let did = does s got.0 got.2 in (
       did.0,
       so_far_more terms text left left' before after after' number (state_of w first) (state_of got.0 kept)
           (state_of did.0 keeps) line reply got.1 comes did.1 tells,
       did.2,
     )
 
-pub ends : (terms : Terms) (text left left' before after after' : Option (List ℕ)) (number : ℕ) (l mid new : LiveState)
+pub ends : (terms : Terms) (text left left' before after after' : Option (List ℕ)) (number : ℕ) (l mid new : ToldState)
     (first kept keeps : List FaultLine)
     → SoFarAlike terms text left before after number l first mid kept
     → AnswersNextAlike terms false left left' after after' number mid kept new keeps
-    → Alike l (λ w v. Served terms text before after' (state_of w first) (state_of v keeps)) new
+    → ToldAlike l (λ w v. Served terms text before after' (state_of w first) (state_of v keeps)) new
 ends terms text left left' before after after' number l mid new first kept keeps so_far next =
-    subst (λ (x : LiveState). Alike l (λ w v. Served terms text before after' (state_of w first) (state_of v keeps)) x)
+    subst (λ (x : ToldState). ToldAlike l (λ w v. Served terms text before after' (state_of w first) (state_of v keeps))
+    x)
     (sym next.1)
-    (subst (λ (f : List FaultLine). Alike l (λ w v. Served terms text before after' (state_of w first) (state_of v f))
+    (subst (λ (f : List FaultLine). ToldAlike l
+    (λ w v. Served terms text before after' (state_of w first) (state_of v f))
     mid)
     (sym next.2) over)
   where
-    over : Alike l (λ w v. Served terms text before after' (state_of w first) (state_of v kept)) mid
-    over w is =
-        let got = so_far w is in (
+    over : ToldAlike l (λ w v. Served terms text before after' (state_of w first) (state_of v kept)) mid
+    over s w is =
+        let got = so_far s w is in (
           got.0,
           so_far_over terms text left left' before after after' number (state_of w first) (state_of got.0 kept) got.1
               next.0 next.3,
@@ -149,7 +160,7 @@ ends terms text left left' before after after' number l mid new first kept keeps
 
 -- a line of which the front was kept is answered by its front
 pub answered_front : (terms : Terms) (text left before after : Option (List ℕ)) (number : ℕ) (front : List ℕ)
-    (old : LiveState) (kept : List FaultLine) (new : LiveState) (keeps : List FaultLine)
+    (old : ToldState) (kept : List FaultLine) (new : ToldState) (keeps : List FaultLine)
     → ComesFront true text left front
     → (reply : List ℕ) × DoesAlikeIf terms old kept number (asked_in front) reply new keeps × Appends before after reply
     → AnswersNextAlike terms true text left before after number old kept new keeps
@@ -163,33 +174,41 @@ answered_front terms text left before after number front old kept new keeps come
       tells,
     )
 
--- a session from an opening world, of which no line is kept
+-- a session from an opening world, of which no line is kept; the files got what they have before the first window
 pub opened_so : {A E : Type 0} (r : Result A E) (terms given : Terms) (text before after : Option (List ℕ))
-    (l new : LiveState) (first keeps : List FaultLine) → given ≡ terms → first ≡ []
-    → OnOk r (Alike l (λ w v. Served given text before after (state_of w first) (state_of v keeps)) new)
-    → OnOk r (Alike l (λ w v. ServedEndless terms text before after w v) new)
-opened_so (Err e) terms given text before after l new first keeps same none served = tt
-opened_so (Ok x) terms given text before after l new first keeps same none served = λ w is.
-    let got = served w is in (
+    (l m : LiveState) (old begun new : TapsState) (first keeps : List FaultLine) → given ≡ terms → first ≡ []
+    → AddsBoth old begun [] file_header
+    → OnOk r (ToldAlike (with_taps l begun)
+    (λ w v. Served given text before after (state_of w first) (state_of v keeps))
+    (with_taps m new))
+    → OnOk r (Alike l (λ w v. ServedEndless terms text before after w v × Tells old new w v) m)
+opened_so (Err e) terms given text before after l m old begun new first keeps same none adds served = tt
+opened_so (Ok x) terms given text before after l m old begun new first keeps same none adds served = λ w is.
+    let start : IsToldHistory (start_of old w) (with_taps l begun) w =
+    record { leads = is; is_told = told_header old begun w adds } in
+    let got = served (start_of old w) w start in (
       got.0,
       (
-        keeps,
-        subst (λ (t : Terms). Served t text before after (state_of w []) (state_of got.0 keeps)) same
-            (subst (λ (f : List FaultLine). Served given text before after (state_of w f) (state_of got.0 keeps)) none
-            got.1),
+        (
+          keeps,
+          subst (λ (t : Terms). Served t text before after (state_of w []) (state_of got.0 keeps)) same
+              (subst (λ (f : List FaultLine). Served given text before after (state_of w f) (state_of got.0 keeps)) none
+              got.1),
+        ),
+        got.2.is_told,
       ),
-      got.2,
+      got.2.leads,
     )
 
 -- ---- a stream fails
 
 -- a line of which the front was kept is answered by its front, in part
 pub failed_front_alike : (terms : Terms) (text left before after : Option (List ℕ)) (number : ℕ) (start : List ℕ)
-    (old : LiveState) (kept : List FaultLine) (new : LiveState) (keeps : List FaultLine)
+    (old : ToldState) (kept : List FaultLine) (new : ToldState) (keeps : List FaultLine)
     → ComesFront true text left start
     → (reply : List ℕ) × DoesAlikeIf terms old kept number (asked_in start) reply new keeps
     × ((front : List ℕ) × IsFront front reply × Appends before after front)
-    → FailsNextAlike terms Write text left before after number old kept new keeps
+    → FailsNextAlike terms (failure.Session Write) text left before after number old kept new keeps
 failed_front_alike terms text left before after number start old kept new keeps comes answered =
     let (line, whole, is) = comes in
     let (reply, does, told) = answered in (
@@ -202,67 +221,202 @@ failed_front_alike terms text left before after number start old kept new keeps 
       told.2,
     )
 
-pub ends_greeting_alike : (terms : Terms) (text before after : Option (List ℕ)) (front : List ℕ) (l : LiveState)
+-- a line of which the front was kept is executed, and a file fails
+pub failed_file_alike : (terms : Terms) (text left before after : Option (List ℕ)) (number : ℕ) (start : List ℕ)
+    (tap : Tap) (old : ToldState) (kept : List FaultLine) (new : ToldState) (keeps : List FaultLine)
+    → ComesFront true text left start
+    → (reply : List ℕ) × DoesAlikeIf terms old kept number (asked_in start) reply new keeps
+    × ((front : List ℕ) × IsFront front reply × Appends before after front)
+    → Keeps before after → FailsNextAlike terms (failure.Tap tap) text left before after number old kept new keeps
+failed_file_alike terms text left before after number start tap old kept new keeps comes answered unwritten =
+    let (line, whole, is) = comes in
+    let (reply, does, told) = answered in (
+      line,
+      reply,
+      whole,
+      subst (λ asked. DoesAlikeIf terms old kept number asked reply new keeps) (ap asked_in is ∙ front_asks line) does,
+      unwritten,
+    )
+
+-- the same for each error of a line
+pub failed_line_alike : (terms : Terms) (error : EndlessError) (text left before after : Option (List ℕ)) (number : ℕ)
+    (start : List ℕ) (old : ToldState) (kept : List FaultLine) (new : ToldState) (keeps : List FaultLine)
+    → ComesFront true text left start → IsOfLine error
+    → (reply : List ℕ) × DoesAlikeIf terms old kept number (asked_in start) reply new keeps
+    × ((front : List ℕ) × IsFront front reply × Appends before after front)
+    → KeepsUnlessSent {A = Unit {0}} (Err error) before after
+    → FailsNextAlike terms error text left before after number old kept new keeps
+failed_line_alike terms (failure.Session Read) text left before after number start old kept new keeps comes line
+    answered unsent = absurd line
+failed_line_alike terms (failure.Session Write) text left before after number start old kept new keeps comes line
+    answered unsent = failed_front_alike terms text left before after number start old kept new keeps comes answered
+failed_line_alike terms (failure.Session Memory) text left before after number start old kept new keeps comes line
+    answered unsent = absurd line
+failed_line_alike terms (failure.Tap tap) text left before after number start old kept new keeps comes line answered
+    unsent =
+    failed_file_alike terms text left before after number start tap old kept new keeps comes answered unsent
+
+-- ---- a line is answered, and then the files are flushed
+
+-- a reply that was prepared is sent
+pub sent_told : {W A E : Type 0} (contents : W → Option (List ℕ)) (old new : W) (result : Result A E)
+    (empty prepared : List ℕ) (terms : Terms) (l : ToldState) (m : LiveState) (mid flushed : TapsState)
+    (kept keeps : List FaultLine) (number : ℕ) (line items : List ℕ) → line ≡ items → empty ≡ []
+    → (reply : List ℕ) × DoesAlikeIf terms l kept number (asked_in line) reply (with_taps m mid) keeps
+    × (prepared ≡ empty ++ reply)
+    → AddsBoth mid flushed [] [] → Hands contents old new result prepared
+    → Sends contents old new result
+    (λ reply. DoesAlikeIf terms l kept number (asked_in items) reply (with_taps m flushed) keeps)
+sent_told contents old new result empty prepared terms l m mid flushed kept keeps number line items same none answered
+    adds hands =
+    let (reply, does, is) = answered in
+    sent_so contents old new result empty prepared
+    (λ line reply. DoesAlikeIf terms l kept number (asked_in line) reply (with_taps m flushed) keeps) line items same
+    none (
+      reply,
+      told_then_flushed l m mid flushed
+          (λ w v. DoesEndlessIf terms (state_of w kept) number (asked_in line) reply (state_of v keeps)) does adds,
+      is,
+    ) hands
+
+-- nothing is sent
+pub unsent_told : {W A E : Type 0} (contents : W → Option (List ℕ)) (w : W) (result : Result A E)
+    (terms : Terms) (l : ToldState) (m : LiveState) (mid flushed : TapsState) (kept keeps : List FaultLine) (number : ℕ)
+    (line items reply : List ℕ) → IsErr result → line ≡ items
+    → DoesAlikeIf terms l kept number (asked_in line) reply (with_taps m mid) keeps → AddsBoth mid flushed [] []
+    → Sends contents w w result
+    (λ reply. DoesAlikeIf terms l kept number (asked_in items) reply (with_taps m flushed) keeps)
+unsent_told contents w result terms l m mid flushed kept keeps number line items reply failed same does adds =
+    unsent_so contents w result
+    (λ line reply. DoesAlikeIf terms l kept number (asked_in line) reply (with_taps m flushed) keeps) line items reply
+    failed same
+    (told_then_flushed l m mid flushed
+    (λ w v. DoesEndlessIf terms (state_of w kept) number (asked_in line) reply (state_of v keeps)) does adds)
+
+pub ends_greeting_alike : (terms : Terms) (text before after : Option (List ℕ)) (front : List ℕ) (l : ToldState)
     (kept : List FaultLine) → IsFront front greeting → Appends before after front
-    → Alike l (λ w v. EndsEarly (Does terms) (Serves terms) Write text text before after (state_of w kept)
+    → ToldAlike l (λ w v. EndsBefore terms (failure.Session Write) text text before after (state_of w kept)
     (state_of v kept)) l
-ends_greeting_alike terms text before after front l kept is told w leads =
+ends_greeting_alike terms text before after front l kept is told s w leads =
     (w, ends_greeting (Does terms) (Serves terms) text before after front (state_of w kept) is told, leads)
 
-pub ends_so_alike : (terms : Terms) (error : SessionError) (text left left' before after after' : Option (List ℕ))
-    (number : ℕ) (l mid new : LiveState) (first kept keeps : List FaultLine)
+ends_by_file : (terms : Terms) (text left left' before after after' : Option (List ℕ)) (number : ℕ)
+    (old mid new : SessionState) (line reply : List ℕ) → SoFar terms text left before after number old mid
+    → Comes true left left' line → Does terms mid number line reply new → Keeps after after'
+    → EndsByFile terms text left' before after' old new
+ends_by_file terms None left left' before after after' number old mid new line reply so_far comes does keeps = tt
+ends_by_file terms (Some text) None left' before after after' number old mid new line reply so_far comes does keeps =
+    absurd so_far
+ends_by_file terms (Some text) (Some left) None before after after' number old mid new line reply so_far comes does
+    keeps = absurd comes
+ends_by_file terms (Some text) (Some left) (Some left') before after after' number old mid new line reply so_far comes
+    does keeps =
+    let (lines, replies, are, all, count, serves, told) = so_far in inr (
+      lines,
+      line,
+      replies,
+      reply,
+      mid,
+      are ∙ ap (λ l. flat_map with_feed lines ++ l) comes.0 ∙ sym (feeds_more lines line left'),
+      are_lines_more lines line all comes.1,
+      serves,
+      subst (λ k. Does terms mid k line reply new) count does,
+      appends_kept before after after' (greeting ++ replies) told keeps,
+    )
+
+pub ends_so_alike : (terms : Terms) (error : EndlessError) (text left left' before after after' : Option (List ℕ))
+    (number : ℕ) (l mid new : ToldState) (first kept keeps : List FaultLine)
     → SoFarAlike terms text left before after number l first mid kept
     → FailsNextAlike terms error left left' after after' number mid kept new keeps
-    → Alike l (λ w v. EndsEarly (Does terms) (Serves terms) error text left' before after' (state_of w first)
-    (state_of v keeps)) new
-ends_so_alike terms Read text left left' before after after' number l mid new first kept keeps so_far fails w is =
+    → ToldAlike l (λ w v. EndsBefore terms error text left' before after' (state_of w first) (state_of v keeps)) new
+ends_so_alike terms (failure.Session Read) text left left' before after after' number l mid new first kept keeps so_far
+    fails s w is =
     let (taken, told, same, lines) = fails in
     let (part, plain, takes) = taken in
-    let got = so_far w is in (
+    let got = so_far s w is in (
       got.0,
       ends_reading (Does terms) (Serves terms) text left left' before after after' number (state_of w first)
           (state_of got.0 kept) (state_of got.0 keeps) part got.1 plain takes told (ap (state_of got.0) lines),
-      subst (λ (x : LiveState). IsWorldHistory x got.0) (sym same) got.2,
+      subst (λ (x : ToldState). IsToldHistory s x got.0) (sym same) got.2,
     )
-ends_so_alike terms Write text left left' before after after' number l mid new first kept keeps so_far fails w is =
+ends_so_alike terms (failure.Session Write) text left left' before after after' number l mid new first kept keeps so_far
+    fails s w is =
     let (line, reply, front, comes, does, is_front, tells) = fails in
-    let got = so_far w is in
-    let did = does got.0 got.2 in (
+    let got = so_far s w is in
+    let did = does s got.0 got.2 in (
       did.0,
       ends_writing (Does terms) (Serves terms) text left left' before after after' number (state_of w first)
           (state_of got.0 kept) (state_of did.0 keeps) line reply front got.1 comes did.1 is_front tells,
       did.2,
     )
-ends_so_alike terms Memory text left left' before after after' number l mid new first kept keeps so_far fails w is =
-    absurd fails
+ends_so_alike terms (failure.Session Memory) text left left' before after after' number l mid new first kept keeps
+    so_far fails s w is = absurd fails
+ends_so_alike terms (failure.Tap tap) text left left' before after after' number l mid new first kept keeps so_far fails
+    s w is =
+    let (line, reply, comes, does, keeps_bytes) = fails in
+    let got = so_far s w is in
+    let did = does s got.0 got.2 in (
+      did.0,
+      ends_by_file terms text left left' before after after' number (state_of w first) (state_of got.0 kept)
+          (state_of did.0 keeps) line reply got.1 comes did.1 keeps_bytes,
+      did.2,
+    )
 
-pub ends_full_alike : (terms : Terms) (text left before after : Option (List ℕ)) (number : ℕ) (l new : LiveState)
+pub ends_full_alike : (terms : Terms) (text left before after : Option (List ℕ)) (number : ℕ) (l new : ToldState)
     (first kept : List FaultLine) → SoFarAlike terms text left before after number l first new kept
-    → Alike l (λ w v. EndsEarly (Does terms) (Serves terms) Read text left before after (state_of w first)
+    → ToldAlike l (λ w v. EndsBefore terms (failure.Session Read) text left before after (state_of w first)
     (state_of v kept)) new
-ends_full_alike terms text left before after number l new first kept so_far w is =
-    let got = so_far w is in (
+ends_full_alike terms text left before after number l new first kept so_far s w is =
+    let got = so_far s w is in (
       got.0,
-      ends_full (Does terms) (Serves terms) text left before after number (state_of w first) (state_of got.0 kept) got.1,
+      ends_full (Does terms) (Serves terms) text left before after number (state_of w first) (state_of got.0 kept)
+          got.1,
       got.2,
     )
+
+tells_unless : (error : EndlessError) (old new : TapsState) (w v : WorldState) → IsAfterMemory error
+    → Tells old new w v → TellsUnless error old new w v
+tells_unless (failure.Session Read) old new w v after tells = tells
+tells_unless (failure.Session Write) old new w v after tells = tells
+tells_unless (failure.Session Memory) old new w v after tells = absurd after
+tells_unless (failure.Tap tap) old new w v after tells = tells
 
 -- a session from an opening world, of which no line is kept, that ends with an error
-pub ended_so : {A : Type 0} (r : Result A SessionError) (terms given : Terms) (text left before after : Option (List ℕ))
-    (l new : LiveState) (first keeps : List FaultLine) → given ≡ terms → first ≡ []
-    → IfErr r (λ error. Alike l (λ w v. EndsEarly (Does given) (Serves given) error text left before after
-    (state_of w first) (state_of v keeps)) new)
-    → IfErr r (λ error. Alike l (λ w v. EndsEndless terms error text left before after w v) new)
-ended_so (Ok x) terms given text left before after l new first keeps same none ends = tt
-ended_so (Err error) terms given text left before after l new first keeps same none ends = λ w is.
-    let got = ends w is in (
+pub ended_so : {A : Type 0} (r : Result A EndlessError) (terms given : Terms)
+    (text left before after : Option (List ℕ)) (l m : LiveState) (old begun new : TapsState)
+    (first keeps : List FaultLine) → given ≡ terms → first ≡ [] → AddsBoth old begun [] file_header
+    → IfErr r IsAfterMemory
+    → IfErr r (λ error. ToldAlike (with_taps l begun) (λ w v. EndsBefore given error text left before after
+    (state_of w first) (state_of v keeps)) (with_taps m new))
+    → IfErr r (λ error. Alike l (λ w v. EndsEndless terms error text left before after w v
+    × TellsUnless error old new w v) m)
+ended_so (Ok x) terms given text left before after l m old begun new first keeps same none adds later gives = tt
+ended_so (Err error) terms given text left before after l m old begun new first keeps same none adds later gives =
+    λ w is.
+    let start : IsToldHistory (start_of old w) (with_taps l begun) w =
+    record { leads = is; is_told = told_header old begun w adds } in
+    let got = gives (start_of old w) w start in (
       got.0,
       (
-        keeps,
-        subst (λ (t : Terms). EndsEarly (Does t) (Serves t) error text left before after (state_of w [])
-            (state_of got.0 keeps)) same
-            (subst (λ (f : List FaultLine). EndsEarly (Does given) (Serves given) error text left before after
-            (state_of w f) (state_of got.0 keeps)) none got.1),
+        (
+          keeps,
+          subst (λ (t : Terms). EndsBefore t error text left before after (state_of w []) (state_of got.0 keeps)) same
+              (subst (λ (f : List FaultLine). EndsBefore given error text left before after (state_of w f)
+              (state_of got.0 keeps)) none got.1),
+        ),
+        tells_unless error old new w got.0 later got.2.is_told,
       ),
-      got.2,
+      got.2.leads,
     )
+
+-- the header of the capture couldn't be written
+pub unopened_so : (terms : Terms) (text before : Option (List ℕ)) (l : LiveState) (old new : TapsState) (tap : Tap)
+    → AddsBoth old new [] file_header
+    → Alike l (λ w v. EndsEndless terms (failure.Tap tap) text text before before w v × Tells old new w v) l
+unopened_so terms text before l old new tap adds w is =
+    (w, (([], ends_unopened terms text before (state_of w [])), told_header old new w adds), is)
+  where
+    ends_unopened : (terms : Terms) (text bytes : Option (List ℕ)) (x : SessionState)
+        → EndsByFile terms text text bytes bytes x x
+    ends_unopened terms None bytes x = tt
+    ends_unopened terms (Some text) bytes x = inl (refl, Keeps-refl bytes, refl)

@@ -1,6 +1,7 @@
 -- Replies by the data that a world without history keeps (project-defined).
 use Rattle.std.specs.Prelude.{◌≡◌, ℕ, zero, suc, ◌+◌, ◌==◌, List, [], ◌∷◌, ◌++◌, codes, length, Option, Some, None}
 use Rattle.std.specs.Prelude.{if◌then◌else◌, option_map}
+use Rattle.std.specs.Fmt.{decimal}
 use Rattle.fr_bus.specs.Record.{Recorded}
 use Rattle.fr_bus.specs.Standing.{LiveStanding}
 use Rattle.fr_interface.specs.Standing.{Standing, tally_at, received_at}
@@ -42,6 +43,10 @@ kept_report h count =
     (buffer_lines h count
     ++ queue_line (option_map (λ q. length q.frames) h.queue) (option_map (λ q. q.lost) h.queue))
     ++ channel_lines h.counters
+
+-- the line of a node with so many buffers, and its report, as in the outcome of a run
+abbrev pub kept_node : ℕ → Standing → ℕ → List ℕ
+kept_node node h count = line_text (codes "node" ∷ decimal node ∷ []) ++ kept_report h count
 
 -- the block of the report of a node, in each world with its history
 abbrev pub IsReportOf : LiveState → ℕ → List ℕ → Type 0

@@ -1,21 +1,25 @@
 -- The effect of an endless session on the lines that it reads (project-defined).
-use Rattle.std.specs.Prelude.{◌≡◌, ℕ, ◌+◌, Bool, true, false, List, [], ◌∷◌, ◌++◌, Option, Some, None, Result, Ok, Err}
+use Rattle.std.specs.Prelude.{⊤, ◌≡◌, ◌⊎◌, ℕ, ◌+◌, Bool, true, false, List, [], ◌∷◌, ◌++◌, length, Option, Some, None}
+use Rattle.std.specs.Prelude.{Result, Ok, Err}
 use Rattle.std.specs.Io.KnownBytes.{Appends, Keeps}
+use Rattle.std.specs.List.{flat_map}
 use Rattle.fr_bus.specs.Standing.{roomless}
 use Rattle.fr_bus.specs.States.{last_recorded}
-use Rattle.fr_endless.specs.Alike.{Alike}
 use Rattle.fr_endless.specs.Answers.{if_numbered, no_history_text}
+use Rattle.fr_endless.specs.declared.error.EndlessError.{EndlessError}
+use Rattle.fr_endless.specs.declared.error.EndlessError.TheVariants as failure
+use Rattle.fr_endless.specs.declared.taps.Tap.{Tap}
+use Rattle.fr_endless.specs.Taps.{TapsState, Tells, ToldAlike, ToldState}
 use Rattle.fr_core.specs.Worlds.{WorldState}
 use Rattle.fr_lines.specs.Spelling.{line_text}
 use Rattle.fr_live.specs.LiveWorlds.{LiveState, ForEachWorld}
 use Rattle.fr_runs.specs.declared.fault_line.FaultLine.{FaultLine}
 use Rattle.fr_schedule.specs.Descriptions.{Description}
-use Rattle.fr_session.specs.declared.error.SessionError.{SessionError}
 use Rattle.fr_session.specs.declared.error.SessionError.TheVariants.{Read, Write, Memory}
 use Rattle.fr_session.specs.declared.request.Request.{Request}
 use Rattle.fr_session.specs.declared.request.Request.TheVariants as request
 use Rattle.fr_session.specs.Cuts.{EndsEarly, IsFront}
-use Rattle.fr_session.specs.Lines.{IsCut, Comes, TakesPart}
+use Rattle.fr_session.specs.Lines.{AreLines, IsCut, Comes, TakesPart, with_feed}
 use Rattle.fr_session.specs.Queries.{IsRecordOf}
 use Rattle.fr_session.specs.Reading.{asked_in}
 use Rattle.fr_session.specs.Replies.{bad_line_words, greeting}
@@ -80,49 +84,122 @@ ServedEndless terms text before after old new =
 abbrev pub IsOf : Description → ℕ → LiveState → Type 0
 IsOf d cycles l = ForEachWorld l (λ w. (roomless w.bus.cluster ≡ roomless d) × (w.bus.cycles ≡ cycles))
 
--- the request of each world that leads to the data gets this reply
-abbrev pub DoesAlike : Terms → LiveState → List FaultLine → Request → List ℕ → LiveState → List FaultLine → Type 0
+-- The request of each world that leads to the data gets this reply, and the files get the windows that it seals.
+abbrev pub DoesAlike : Terms → ToldState → List FaultLine → Request → List ℕ → ToldState → List FaultLine → Type 0
 DoesAlike terms old kept asked reply new keeps =
-    Alike old (λ w v. DoesEndless terms (state_of w kept) asked reply (state_of v keeps)) new
+    ToldAlike old (λ w v. DoesEndless terms (state_of w kept) asked reply (state_of v keeps)) new
 
-abbrev pub DoesAlikeIf : Terms → LiveState → List FaultLine → ℕ → Option Request → List ℕ → LiveState
+abbrev pub DoesAlikeIf : Terms → ToldState → List FaultLine → ℕ → Option Request → List ℕ → ToldState
     → List FaultLine → Type 0
 DoesAlikeIf terms old kept number asked reply new keeps =
-    Alike old (λ w v. DoesEndlessIf terms (state_of w kept) number asked reply (state_of v keeps)) new
+    ToldAlike old (λ w v. DoesEndlessIf terms (state_of w kept) number asked reply (state_of v keeps)) new
 
 -- the next line, if a whole one comes, is taken and answered before any byte after it is taken
 abbrev pub AnswersNextAlike : Terms → Bool → Option (List ℕ) → Option (List ℕ) → Option (List ℕ) → Option (List ℕ) → ℕ
-    → LiveState → List FaultLine → LiveState → List FaultLine → Type 0
+    → ToldState → List FaultLine → ToldState → List FaultLine → Type 0
 AnswersNextAlike terms true text left before after number old kept new keeps =
     (line : List ℕ) × (reply : List ℕ) × Comes true text left line
     × DoesAlikeIf terms old kept number (asked_in line) reply new keeps × Appends before after reply
 AnswersNextAlike terms false text left before after number old kept new keeps =
     Comes false text left [] × (new ≡ old) × (keeps ≡ kept) × Keeps before after
 
--- the next line isn't answered whole
-abbrev pub FailsNextAlike : Terms → SessionError → Option (List ℕ) → Option (List ℕ) → Option (List ℕ)
-    → Option (List ℕ) → ℕ → LiveState → List FaultLine → LiveState → List FaultLine → Type 0
-FailsNextAlike terms Read text left before after number old kept new keeps =
+-- The next line isn't answered whole. If a file fails, the line is executed, and nothing of its reply is written.
+abbrev pub FailsNextAlike : Terms → EndlessError → Option (List ℕ) → Option (List ℕ) → Option (List ℕ)
+    → Option (List ℕ) → ℕ → ToldState → List FaultLine → ToldState → List FaultLine → Type 0
+FailsNextAlike terms (failure.Session Read) text left before after number old kept new keeps =
     TakesPart text left × Keeps before after × (new ≡ old) × (keeps ≡ kept)
-FailsNextAlike terms Write text left before after number old kept new keeps =
+FailsNextAlike terms (failure.Session Write) text left before after number old kept new keeps =
     (line : List ℕ) × (reply : List ℕ) × (front : List ℕ) × Comes true text left line
     × DoesAlikeIf terms old kept number (asked_in line) reply new keeps × IsFront front reply
     × Appends before after front
-FailsNextAlike terms Memory text left before after number old kept new keeps = ⊥
+FailsNextAlike terms (failure.Session Memory) text left before after number old kept new keeps = ⊥
+FailsNextAlike terms (failure.Tap tap) text left before after number old kept new keeps =
+    (line : List ℕ) × (reply : List ℕ) × Comes true text left line
+    × DoesAlikeIf terms old kept number (asked_in line) reply new keeps × Keeps before after
+
+-- ---- a file fails
+
+-- the header of a capture can't be written, so that nothing is taken or answered
+abbrev pub EndsUnopened : List ℕ → List ℕ → Option (List ℕ) → Option (List ℕ) → SessionState → SessionState → Type 0
+EndsUnopened text left before after old new = (left ≡ text) × Keeps before after × (new ≡ old)
+
+-- The lines are answered, and then one more line is executed. Nothing of its reply is written.
+abbrev pub EndsUnanswered : Terms → List ℕ → List ℕ → Option (List ℕ) → Option (List ℕ) → SessionState → SessionState
+    → Type 0
+EndsUnanswered terms text left before after old new =
+    (lines : List (List ℕ)) × (line : List ℕ) × (replies : List ℕ) × (reply : List ℕ) × (between : SessionState)
+    × (text ≡ flat_map with_feed (lines ++ line ∷ []) ++ left) × AreLines (lines ++ line ∷ [])
+    × Serves terms old 1 lines replies between × Does terms between (1 + length lines) line reply new
+    × Appends before after (greeting ++ replies)
+
+-- the effect of a session on a text, of which this is left, when a file fails
+abbrev pub EndsByFile : Terms → Option (List ℕ) → Option (List ℕ) → Option (List ℕ) → Option (List ℕ) → SessionState
+    → SessionState → Type 0
+EndsByFile terms None left before after old new = ⊤
+EndsByFile terms (Some text) None before after old new = ⊥
+EndsByFile terms (Some text) (Some left) before after old new =
+    EndsUnopened text left before after old new ⊎ EndsUnanswered terms text left before after old new
+
+-- ---- any failure
+
+-- the effect of a session on a text, when the session ends with the error
+abbrev pub EndsBefore : Terms → EndlessError → Option (List ℕ) → Option (List ℕ) → Option (List ℕ) → Option (List ℕ)
+    → SessionState → SessionState → Type 0
+EndsBefore terms (failure.Session error) text left before after old new =
+    EndsEarly (Does terms) (Serves terms) error text left before after old new
+EndsBefore terms (failure.Tap tap) text left before after old new = EndsByFile terms text left before after old new
 
 -- a session from an opening world to another world, with any fault lines kept there, that ends with the error
-abbrev pub EndsEndless : Terms → SessionError → Option (List ℕ) → Option (List ℕ) → Option (List ℕ)
+abbrev pub EndsEndless : Terms → EndlessError → Option (List ℕ) → Option (List ℕ) → Option (List ℕ)
     → Option (List ℕ) → WorldState → WorldState → Type 0
 EndsEndless terms error text left before after old new =
-    (kept : List FaultLine) × EndsEarly (Does terms) (Serves terms) error text left before after (opening old)
-    (state_of new kept)
+    (kept : List FaultLine) × EndsBefore terms error text left before after (opening old) (state_of new kept)
+
+-- the file that failed: none if the session ended with its input or by a stream
+abbrev pub FailedBy : {A : Type 0} → Result A EndlessError → Option Tap → Option Tap → Type 0
+FailedBy (Ok done) before after = after ≡ None
+FailedBy (Err (failure.Session Read)) before after = after ≡ None
+FailedBy (Err (failure.Session Write)) before after = after ≡ None
+FailedBy (Err (failure.Session Memory)) before after = after ≡ before
+FailedBy (Err (failure.Tap tap)) before after = after ≡ Some tap
+
+-- ---- the errors of parts of a session
+
+-- a line that was read isn't answered whole
+abbrev pub IsOfLine : EndlessError → Type 0
+IsOfLine (failure.Session Read) = ⊥
+IsOfLine (failure.Session Write) = ⊤
+IsOfLine (failure.Session Memory) = ⊥
+IsOfLine (failure.Tap tap) = ⊤
+
+-- nothing is written if a file failed
+abbrev pub KeepsUnlessSent : {A : Type 0} → Result A EndlessError → Option (List ℕ) → Option (List ℕ) → Type 0
+KeepsUnlessSent (Ok done) before after = ⊤
+KeepsUnlessSent (Err (failure.Session error)) before after = ⊤
+KeepsUnlessSent (Err (failure.Tap tap)) before after = Keeps before after
+
+-- the allocations of the session have succeeded
+abbrev pub IsAfterMemory : EndlessError → Type 0
+IsAfterMemory (failure.Session Read) = ⊤
+IsAfterMemory (failure.Session Write) = ⊤
+IsAfterMemory (failure.Session Memory) = ⊥
+IsAfterMemory (failure.Tap tap) = ⊤
 
 -- ---- a failed allocation
 
+-- the header of a capture is written unless an allocation failed
+abbrev pub TellsUnless : EndlessError → TapsState → TapsState → WorldState → WorldState → Type 0
+TellsUnless (failure.Session Read) old new w v = Tells old new w v
+TellsUnless (failure.Session Write) old new w v = Tells old new w v
+TellsUnless (failure.Session Memory) old new w v = new ≡ old
+TellsUnless (failure.Tap tap) old new w v = Tells old new w v
+
 -- if an allocation fails, nothing was taken or written, and the data are unchanged
-abbrev pub IsUntouched : {A : Type 0} → Result A SessionError → Option (List ℕ) → Option (List ℕ) → Option (List ℕ)
-    → Option (List ℕ) → LiveState → LiveState → Type 0
-IsUntouched (Ok done) text left before after old new = Unit {0}
-IsUntouched (Err Read) text left before after old new = Unit {0}
-IsUntouched (Err Write) text left before after old new = Unit {0}
-IsUntouched (Err Memory) text left before after old new = Keeps text left × Keeps before after × (new ≡ old)
+abbrev pub IsUntouched : {A : Type 0} → Result A EndlessError → Option (List ℕ) → Option (List ℕ) → Option (List ℕ)
+    → Option (List ℕ) → ToldState → ToldState → Type 0
+IsUntouched (Ok done) text left before after old new = ⊤
+IsUntouched (Err (failure.Session Read)) text left before after old new = ⊤
+IsUntouched (Err (failure.Session Write)) text left before after old new = ⊤
+IsUntouched (Err (failure.Session Memory)) text left before after old new =
+    Keeps text left × Keeps before after × (new ≡ old)
+IsUntouched (Err (failure.Tap tap)) text left before after old new = ⊤

@@ -3,7 +3,8 @@
 //!
 //! ```text
 //! let mut world = EndlessWorld::new(alloc, &cluster, greatest_cycles(&cluster), &Room::greatest())?;
-//! serve_endless(alloc, &cluster, cycles, &mut world, &mut reader, &mut writer)?;
+//! let mut taps = Taps::new(alloc, cluster.params(), Some(record_file), None)?;
+//! serve_endless(alloc, &cluster, cycles, &mut world, &mut taps, &mut reader, &mut writer)?;
 //! // run 1024              open 7168 0 0 1 1
 //! // record 7167           lines 1 ..
 //! // record 0              refused NoWindow
@@ -15,10 +16,15 @@
 //! # Definitions
 //!
 //! - `Alike`: what happens to each world with its history, when only its kept data are there.
-//! - `Answers`: the replies that a session with history gives in another way.
+//! - `Answers`: the replies that a session with history gives in another way, and a node in an outcome.
 //! - `Serving`: an endless session.
+//! - `Taps`: the files to which a session writes the windows that it seals, and what they have of them.
 //!
 //! # Inner workings
+//!
+//! A *tap* is a file to which a session writes each window that it seals, as `fr_view record` or `fr_view bus` has it.
+//! `step_told` and `apply_told` (`telling`) execute an event, and after a seal add the last window to both `Taps`. If a
+//! file fails, the request is executed to its end, and the session ends in place of the reply.
 //!
 //! An `EndlessWorld` is a `LiveWorld` (`fr_live`) with the number of buffers of each node, which a report needs. The
 //! requests are those of `fr_session`, read and written by its functions, and kept fault lines are its `KeptLines`.
@@ -26,9 +32,13 @@
 //! whole histories that lead to the kept data, and of the relations that `fr_session` defines on them.
 #![tactic(auto)]
 
+pub mod error;
 mod moving;
+pub mod outcome;
 mod queries;
 mod report;
 pub mod session;
 pub mod striking;
+pub mod taps;
+mod telling;
 pub mod world;

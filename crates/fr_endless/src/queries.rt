@@ -54,7 +54,7 @@ pub(crate) fn write_moved<W: Write>(
 }
 
 /// Returns the number of sealed windows, by the last of them.
-fn windows_by(last: Option<&Sealed>) -> u64
+pub(crate) fn windows_by(last: Option<&Sealed>) -> u64
     ensures { result ≡ windows_by (option_map (λ s. s.now) last.entry) }
 {
     match last {
@@ -102,7 +102,7 @@ fn write_report_block<W: BlockWriter>(
 }
 
 /// Returns the number at this place.
-fn count_at(buffers: &[u8], place: usize) -> Option<u8>
+pub(crate) fn count_at(buffers: &[u8], place: usize) -> Option<u8>
     ensures { result ≡ slice_get buffers.now place }
 {
     buffers.get(place).copied()

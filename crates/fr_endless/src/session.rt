@@ -2,18 +2,23 @@
 ghost use Rattle.std.specs.Prelude.{◌≡◌, IfErr, OnOk, min};
 ghost use Rattle.fr_core.specs.Headline.{Headline};
 ghost use Rattle.fr_endless.specs.Alike.{Alike};
-ghost use Rattle.fr_endless.specs.Serving.{DoesAlike, DoesAlikeIf, EndsEndless, IsOf, IsUntouched, ServedEndless};
+ghost use Rattle.fr_endless.specs.Serving.{DoesAlike, DoesAlikeIf, EndsEndless, FailedBy, IsOf, IsUntouched};
+ghost use Rattle.fr_endless.specs.Serving.{ServedEndless, TellsUnless};
+ghost use Rattle.fr_endless.specs.Taps.{Tells, with_taps};
 ghost use Rattle.fr_live.specs.LiveWorlds.{ForEachWorld};
 ghost use Rattle.fr_session.specs.Queries.{Replies};
 ghost use Rattle.fr_session.specs.Reading.{asked_in};
 ghost use Rattle.fr_session.specs.Sessions.{terms_of};
 ghost use Rattle.fr_session.specs.TermsFields.{terms_in};
 
+use crate::error::EndlessError;
 use crate::moving::{finish_cycles, finish_window};
 use crate::queries::{
     write_at, write_last, write_moved, write_no_history, write_node_report, write_node_status,
     write_now,
 };
+use crate::taps::Taps;
+use crate::telling::step_told;
 use crate::world::EndlessWorld;
 use fr_playing::moving::window_events;
 use fr_schedule::cluster::Cluster;
@@ -42,19 +47,20 @@ struct EndlessSession {
 }
 
 /// Executes the request, and writes the reply.
-fn do_request<W: BlockWriter>(
+fn do_request<F: Write + Drop, W: BlockWriter>(
     terms: &Terms<'_>,
     faults: &mut KeptLines,
     world: &mut EndlessWorld,
+    taps: &mut Taps<F>,
     request: Request,
     writer: &mut W,
 ) -> io::Result<()>
     ensures { Replies W.contents writer.old writer.new result (λ reply. DoesAlike (terms_in terms.now)
-        world.old faults.old request reply world.new faults.new) }
+        (with_taps world.old taps.old) faults.old request reply (with_taps world.new taps.new) faults.new) }
 {
     match request {
         Request::Event(event) => {
-            let answer = world.step(&event);
+            let answer = step_told(world, taps, &event);
             write_answer(writer, &answer)
         }
         Request::Fault(line) => keep_line(terms.cluster, terms.cycles, faults, line, writer),
@@ -64,11 +70,11 @@ fn do_request<W: BlockWriter>(
             write_done(writer)
         }
         Request::Window => {
-            let hindered = finish_window(world, faults.as_slice(), terms.events);
+            let hindered = finish_window(world, taps, faults.as_slice(), terms.events);
             write_moved(writer, world.bus(), hindered)
         }
         Request::Run(cycles) => {
-            let hindered = finish_cycles(world, faults.as_slice(), terms.events, cycles);
+            let hindered = finish_cycles(world, taps, faults.as_slice(), terms.events, cycles);
             write_moved(writer, world.bus(), hindered)
         }
         Request::Now => write_now(writer, world.bus()),
@@ -82,110 +88,136 @@ fn do_request<W: BlockWriter>(
 }
 
 /// Executes the request of the line of this number, and writes the reply.
-fn answer_line<W: BlockWriter>(
+fn answer_line<F: Write + Drop, W: BlockWriter>(
     terms: &Terms<'_>,
     faults: &mut KeptLines,
     world: &mut EndlessWorld,
+    taps: &mut Taps<F>,
     line: &[u8],
     number: u64,
     writer: &mut W,
 ) -> io::Result<()>
     ensures { Replies W.contents writer.old writer.new result (λ reply. DoesAlikeIf (terms_in terms.now)
-        world.old faults.old number (asked_in line.now) reply world.new faults.new) }
+        (with_taps world.old taps.old) faults.old number (asked_in line.now) reply (with_taps world.new taps.new)
+        faults.new) }
 {
     match request_of(terms.alloc, line) {
-        Some(request) => do_request(terms, faults, world, request, writer),
+        Some(request) => do_request(terms, faults, world, taps, request, writer),
         None => write_bad_line(writer, number),
     }
 }
 
 impl EndlessSession {
-    ghost use Rattle.std.specs.Prelude.{◌≡◌, IfOk, IfErr, OnOk};
+    ghost use Rattle.std.specs.Prelude.{◌≡◌, None, IfOk, IfErr, OnOk};
     ghost use Rattle.fr_core.specs.Headline.{Headline};
-    ghost use Rattle.fr_endless.specs.Alike.{Alike};
-    ghost use Rattle.fr_endless.specs.Serving.{AnswersNextAlike, Does, DoesAlikeIf, FailsNextAlike, Served, Serves};
+    ghost use Rattle.fr_endless.specs.Serving.{AnswersNextAlike, DoesAlikeIf, EndsBefore, FailedBy, FailsNextAlike};
+    ghost use Rattle.fr_endless.specs.Serving.{IsAfterMemory, IsOfLine, KeepsUnlessSent, Served};
+    ghost use Rattle.fr_endless.specs.Taps.{ToldAlike, with_taps};
     ghost use Rattle.fr_live.specs.LiveWorlds.{ForEachWorld};
-    ghost use Rattle.fr_session.specs.Cuts.{EndsEarly, Sends};
+    ghost use Rattle.fr_session.specs.Cuts.{Sends};
     ghost use Rattle.fr_session.specs.Reading.{asked_in};
-    ghost use Rattle.fr_session.specs.Sessions.{IsOfStream, state_of};
+    ghost use Rattle.fr_session.specs.Sessions.{state_of};
     ghost use Rattle.fr_session.specs.TermsFields.{terms_in};
 
-    /// Answers the line that was read, which has this number, and flushes the reply.
-    fn answer<W: Write>(
+    /// Answers the line that was read, which has this number, and flushes the files and then the reply.
+    fn answer<F: Write + Drop, W: Write>(
         &mut self,
         terms: &Terms<'_>,
         world: &mut EndlessWorld,
+        taps: &mut Taps<F>,
         number: u64,
         writer: &mut W,
-    ) -> io::Result<()>
-        ensures { Sends W.contents writer.old writer.new result (λ reply. DoesAlikeIf (terms_in terms.now)
-            world.old self.old.faults number (asked_in self.old.line.items) reply world.new self.new.faults) }
+    ) -> Result<(), EndlessError>
+        ensures sends { Sends W.contents writer.old writer.new result (λ reply. DoesAlikeIf (terms_in terms.now)
+            (with_taps world.old taps.old) self.old.faults number (asked_in self.old.line.items) reply
+            (with_taps world.new taps.new) self.new.faults) }
+        ensures unsent { KeepsUnlessSent result (W.contents writer.old) (W.contents writer.new) }
+        ensures failed { FailedBy result taps.old.failed taps.new.failed }
+        ensures line { IfErr result IsOfLine }
     {
         self.reply.clear(terms.alloc);
         let line = self.line.as_slice();
-        answer_line(
+        let answered = answer_line(
             terms,
             &mut self.faults,
             world,
+            taps,
             line,
             number,
             &mut self.reply,
-        )?;
-        self.reply.send(terms.alloc, writer)
+        );
+        taps.flush();
+        if let Some(tap) = taps.failed() {
+            return Err(EndlessError::Tap(tap));
+        }
+        match answered {
+            Ok(()) => {}
+            Err(_) => return Err(EndlessError::Session(SessionError::Write)),
+        }
+        match self.reply.send(terms.alloc, writer) {
+            Ok(()) => Ok(()),
+            Err(_) => Err(EndlessError::Session(SessionError::Write)),
+        }
     }
 
     /// Answers the next line, if there is a whole one. Returns whether there was.
-    fn answer_next<R: BufRead, W: Write>(
+    fn answer_next<F: Write + Drop, R: BufRead, W: Write>(
         &mut self,
         terms: &Terms<'_>,
         world: &mut EndlessWorld,
+        taps: &mut Taps<F>,
         number: u64,
         reader: &mut R,
         writer: &mut W,
-    ) -> Result<bool, SessionError>
+    ) -> Result<bool, EndlessError>
+        requires { taps.old.failed ≡ None }
         ensures answers { IfOk result (λ more. AnswersNextAlike (terms_in terms.now) more (R.remaining reader.old)
             (R.remaining reader.new) (W.contents writer.old) (W.contents writer.new) number
-            world.old self.old.faults world.new self.new.faults) }
+            (with_taps world.old taps.old) self.old.faults (with_taps world.new taps.new) self.new.faults) }
         ensures early { IfErr result (λ error. FailsNextAlike (terms_in terms.now) error (R.remaining reader.old)
-            (R.remaining reader.new) (W.contents writer.old) (W.contents writer.new) number world.old self.old.faults
-            world.new self.new.faults) }
+            (R.remaining reader.new) (W.contents writer.old) (W.contents writer.new) number
+            (with_taps world.old taps.old) self.old.faults (with_taps world.new taps.new) self.new.faults) }
+        ensures failed { FailedBy result taps.old.failed taps.new.failed }
     {
         match next_line(reader, &mut self.line) {
             Ok(true) => {}
             Ok(false) => return Ok(false),
-            Err(_) => return Err(SessionError::Read),
+            Err(_) => return Err(EndlessError::Session(SessionError::Read)),
         }
-        match self.answer(terms, world, number, writer) {
+        match self.answer(terms, world, taps, number, writer) {
             Ok(()) => Ok(true),
-            Err(_) => Err(SessionError::Write),
+            Err(error) => Err(error),
         }
     }
 
     /// Writes the first line, and answers each line of the reader.
-    fn answer_all<R: BufRead, W: Write>(
+    fn answer_all<F: Write + Drop, R: BufRead, W: Write>(
         &mut self,
         terms: &Terms<'_>,
         world: &mut EndlessWorld,
+        taps: &mut Taps<F>,
         reader: &mut R,
         writer: &mut W,
-    ) -> Result<(), SessionError>
-        ensures served { OnOk result (Alike world.old (λ w v. Served (terms_in terms.now) (R.remaining reader.old)
-            (W.contents writer.old) (W.contents writer.new) (state_of w self.old.faults)
-            (state_of v self.new.faults)) world.new) }
+    ) -> Result<(), EndlessError>
+        requires { taps.old.failed ≡ None }
+        ensures served { OnOk result (ToldAlike (with_taps world.old taps.old) (λ w v. Served (terms_in terms.now)
+            (R.remaining reader.old) (W.contents writer.old) (W.contents writer.new) (state_of w self.old.faults)
+            (state_of v self.new.faults)) (with_taps world.new taps.new)) }
         ensures headline { ForEachWorld world.new Headline }
-        ensures early { IfErr result (λ error. Alike world.old (λ w v. EndsEarly (Does (terms_in terms.now))
-            (Serves (terms_in terms.now)) error (R.remaining reader.old) (R.remaining reader.new)
-            (W.contents writer.old) (W.contents writer.new) (state_of w self.old.faults)
-            (state_of v self.new.faults)) world.new) }
-        ensures stream { IfErr result IsOfStream }
+        ensures early { IfErr result (λ error. ToldAlike (with_taps world.old taps.old) (λ w v. EndsBefore
+            (terms_in terms.now) error (R.remaining reader.old) (R.remaining reader.new) (W.contents writer.old)
+            (W.contents writer.new) (state_of w self.old.faults) (state_of v self.new.faults))
+            (with_taps world.new taps.new)) }
+        ensures failed { FailedBy result taps.old.failed taps.new.failed }
+        ensures stream { IfErr result IsAfterMemory }
     {
         // For the prover: the clause of this call.
         world.known();
         if greet(terms.alloc, &mut self.reply, writer).is_err() {
-            return Err(SessionError::Write);
+            return Err(EndlessError::Session(SessionError::Write));
         }
         for number in 1..u64::MAX {
-            let answered = self.answer_next(terms, world, number, reader, writer);
+            let answered = self.answer_next(terms, world, taps, number, reader, writer);
             // For the prover: the clause of this call.
             world.known();
             match answered {
@@ -196,7 +228,7 @@ impl EndlessSession {
         }
         // For the prover: the clause of this call.
         world.known();
-        Err(SessionError::Read)
+        Err(EndlessError::Session(SessionError::Read))
     }
 }
 
@@ -211,32 +243,42 @@ impl EndlessSession {
 /// A fault line names cycles 0 to 1023 of the run, or each cycle. It must suit a run of so many cycles, at most 1,024.
 /// A line that names each cycle takes effect in all of the run.
 ///
-/// Ends early as that session does.
-pub fn serve_endless<R: BufRead, W: Write>(
+/// The files get each window that the session seals: the record its lines, and the capture its records, after the
+/// header of the capture. By the time of a reply, the files have been flushed.
+///
+/// Ends early as that session does. It also ends early with `Tap` if a file fails: before the first line if the header
+/// can't be written, and otherwise in place of the reply to the request that sealed the window.
+pub fn serve_endless<F: Write + Drop, R: BufRead, W: Write>(
     alloc: Global,
     cluster: &Cluster,
     cycles: u32,
     world: &mut EndlessWorld,
+    taps: &mut Taps<F>,
     reader: &mut R,
     writer: &mut W,
-) -> Result<(), SessionError>
+) -> Result<(), EndlessError>
     requires { IsOf cluster.now cycles world.old }
     // Each world with its history that leads to the data is served so, and then leads to the data after the session.
+    // The files get the windows that it seals.
     ensures served { OnOk result (Alike world.old (λ w v. ServedEndless (terms_of cluster.now (min cycles 1024))
-        (R.remaining reader.old) (W.contents writer.old) (W.contents writer.new) w v) world.new) }
+        (R.remaining reader.old) (W.contents writer.old) (W.contents writer.new) w v
+        × Tells taps.old taps.new w v) world.new) }
     // A failed allocation ends the session only before its first line.
     ensures memory { IsUntouched result (R.remaining reader.old) (R.remaining reader.new) (W.contents writer.old)
-        (W.contents writer.new) world.old world.new }
-    // If a stream fails, the replies to the lines that were taken are written, the last one perhaps in part.
+        (W.contents writer.new) (with_taps world.old taps.old) (with_taps world.new taps.new) }
+    // If a stream or a file fails, the replies to the lines that were taken are written, but the last one perhaps not,
+    // or in part.
     ensures early { IfErr result (λ error. Alike world.old (λ w v. EndsEndless (terms_of cluster.now
         (min cycles 1024)) error (R.remaining reader.old) (R.remaining reader.new) (W.contents writer.old)
-        (W.contents writer.new) w v) world.new) }
+        (W.contents writer.new) w v × TellsUnless error taps.old taps.new w v) world.new) }
+    // Unless a file failed, the files have all of the windows.
+    ensures failed { FailedBy result taps.old.failed taps.new.failed }
     ensures headline { ForEachWorld world.new Headline }
 {
     let Ok(events) = window_events(alloc, cluster.nodes()) else {
         // For the prover: the clause of this call.
         world.known();
-        return Err(SessionError::Memory);
+        return Err(EndlessError::Session(SessionError::Memory));
     };
     let terms = Terms {
         alloc,
@@ -247,12 +289,18 @@ pub fn serve_endless<R: BufRead, W: Write>(
     let Ok(reply) = Prepared::new(alloc) else {
         // For the prover: the clause of this call.
         world.known();
-        return Err(SessionError::Memory);
+        return Err(EndlessError::Session(SessionError::Memory));
     };
+    taps.begin();
+    if let Some(tap) = taps.failed() {
+        // For the prover: the clause of this call.
+        world.known();
+        return Err(EndlessError::Tap(tap));
+    }
     let mut session = EndlessSession {
         faults: KeptLines::new(alloc),
         line: Line::new(),
         reply,
     };
-    session.answer_all(&terms, world, reader, writer)
+    session.answer_all(&terms, world, taps, reader, writer)
 }

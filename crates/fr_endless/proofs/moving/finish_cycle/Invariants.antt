@@ -1,6 +1,7 @@
-use Rattle.fr_endless.specs.Alike.{Alike}
+use Rattle.fr_endless.specs.Taps.{ToldAlike, with_taps}
 use Rattle.fr_playing.specs.Moving.{WithinCycle}
 use Rattle.fr_endless.proofs.moving.finish_cycle.Given as goal
 
 abbrev pub invariant-loop-count : goal.invariant-loop-count
-invariant-loop-count l = Alike l.fn.world (λ w v. WithinCycle l.faults l.events l.count w v) l.world
+invariant-loop-count g l = ToldAlike (with_taps l.fn.world l.fn.taps) (λ w v. WithinCycle l.faults l.events l.count w v)
+    (with_taps l.world l.taps)

@@ -1,25 +1,27 @@
 use Rattle.fr_endless.proofs.ReplyLemmas.{replied, replied_so, asked_so, event_so}
 use Rattle.fr_endless.proofs.ReplyLemmas.{line_so, both_so, forget_so, window_so, run_so}
 use Rattle.fr_endless.proofs.ReplyLemmas.{now_so, at_so, report_so, status_so, trace_so, origin_so, record_so}
+use Rattle.fr_endless.specs.Taps.{with_taps}
 use Rattle.fr_session.specs.TermsFields.{terms_in}
 use Rattle.fr_endless.proofs.session.do_request.Goals as goal
 
 pub returns-in-Event : goal.returns-in-Event
 returns-in-Event g c =
     let t = terms_in c.args.terms.now in
-    let l = c.args.world.now in
+    let l = with_taps c.args.world.now c.args.taps.now in
     let kept = c.args.faults.now in
     asked_so g.W.Write.contents c.args.writer.now c.write_answer.new.writer c.write_answer.result t l
-    c.step-answer.new.self kept
+    (with_taps c.step_told-answer.new.world c.step_told-answer.new.taps) kept
     kept c.args.request _ c.in-Event.is
     (replied g.W.Write.contents c.args.writer.now c.write_answer.new.writer c.write_answer.result _ _
-    (event_so t l c.step-answer.new.self kept c.in-Event.event c.step-answer.result c.step-answer.ensures)
+    (event_so t l (with_taps c.step_told-answer.new.world c.step_told-answer.new.taps) kept c.in-Event.event
+    c.step_told-answer.result c.step_told-answer.ensures)
     c.write_answer.ensures)
 
 pub returns-in-Fault : goal.returns-in-Fault
 returns-in-Fault g c =
     let t = terms_in c.args.terms.now in
-    let l = c.args.world.now in
+    let l = with_taps c.args.world.now c.args.taps.now in
     let kept = c.args.faults.now in
     asked_so g.W.Write.contents c.args.writer.now c.keep_line.new.writer c.keep_line.result t l l kept
     c.keep_line.new.kept c.args.request _ c.in-Fault.is
@@ -29,7 +31,7 @@ returns-in-Fault g c =
 pub returns-in-Faults : goal.returns-in-Faults
 returns-in-Faults g c =
     let t = terms_in c.args.terms.now in
-    let l = c.args.world.now in
+    let l = with_taps c.args.world.now c.args.taps.now in
     let kept = c.args.faults.now in
     asked_so g.W.Write.contents c.args.writer.now c.keep_both.new.writer c.keep_both.result t l l kept
     c.keep_both.new.kept c.args.request _ c.in-Faults.is
@@ -39,7 +41,7 @@ returns-in-Faults g c =
 pub returns-in-Forget : goal.returns-in-Forget
 returns-in-Forget g c =
     let t = terms_in c.args.terms.now in
-    let l = c.args.world.now in
+    let l = with_taps c.args.world.now c.args.taps.now in
     let kept = c.args.faults.now in
     asked_so g.W.Write.contents c.args.writer.now c.write_done.new.writer c.write_done.result t l l kept
     c.clear.new.self c.args.request _ c.in-Forget.is
@@ -49,33 +51,35 @@ returns-in-Forget g c =
 pub returns-in-Window : goal.returns-in-Window
 returns-in-Window g c =
     let t = terms_in c.args.terms.now in
-    let l = c.args.world.now in
+    let l = with_taps c.args.world.now c.args.taps.now in
     let kept = c.args.faults.now in
     asked_so g.W.Write.contents c.args.writer.now c.write_moved.new.writer c.write_moved.result t l
-    c.finish_window-hindered.new.world kept
+    (with_taps c.finish_window-hindered.new.world c.finish_window-hindered.new.taps) kept
     kept c.args.request _ c.in-Window.is
     (replied g.W.Write.contents c.args.writer.now c.write_moved.new.writer c.write_moved.result _ _
-    (window_so t l c.finish_window-hindered.new.world kept c.as_slice.result.now c.bus.result.now
+    (window_so t l (with_taps c.finish_window-hindered.new.world c.finish_window-hindered.new.taps) kept
+    c.as_slice.result.now c.bus.result.now
     c.finish_window-hindered.result c.as_slice.ensures c.bus.ensures c.finish_window-hindered.ensures)
     c.write_moved.ensures)
 
 pub returns-in-Run : goal.returns-in-Run
 returns-in-Run g c =
     let t = terms_in c.args.terms.now in
-    let l = c.args.world.now in
+    let l = with_taps c.args.world.now c.args.taps.now in
     let kept = c.args.faults.now in
     asked_so g.W.Write.contents c.args.writer.now c.write_moved-in-Run.new.writer c.write_moved-in-Run.result t l
-    c.finish_cycles-hindered.new.world kept
+    (with_taps c.finish_cycles-hindered.new.world c.finish_cycles-hindered.new.taps) kept
     kept c.args.request _ c.in-Run.is
     (replied g.W.Write.contents c.args.writer.now c.write_moved-in-Run.new.writer c.write_moved-in-Run.result _ _
-    (run_so t l c.finish_cycles-hindered.new.world kept c.as_slice-in-Run.result.now c.bus-in-Run.result.now
+    (run_so t l (with_taps c.finish_cycles-hindered.new.world c.finish_cycles-hindered.new.taps) kept
+    c.as_slice-in-Run.result.now c.bus-in-Run.result.now
     c.in-Run.cycles c.finish_cycles-hindered.result c.as_slice-in-Run.ensures c.bus-in-Run.ensures
     c.finish_cycles-hindered.ensures) c.write_moved-in-Run.ensures)
 
 pub returns-in-Now : goal.returns-in-Now
 returns-in-Now g c =
     let t = terms_in c.args.terms.now in
-    let l = c.args.world.now in
+    let l = with_taps c.args.world.now c.args.taps.now in
     let kept = c.args.faults.now in
     asked_so g.W.Write.contents c.args.writer.now c.write_now.new.writer c.write_now.result t l l kept
     kept c.args.request _ c.in-Now.is
@@ -85,7 +89,7 @@ returns-in-Now g c =
 pub returns-in-At : goal.returns-in-At
 returns-in-At g c =
     let t = terms_in c.args.terms.now in
-    let l = c.args.world.now in
+    let l = with_taps c.args.world.now c.args.taps.now in
     let kept = c.args.faults.now in
     asked_so g.W.Write.contents c.args.writer.now c.write_at.new.writer c.write_at.result t l l kept
     kept c.args.request _ c.in-At.is
@@ -96,7 +100,7 @@ returns-in-At g c =
 pub returns-in-Report : goal.returns-in-Report
 returns-in-Report g c =
     let t = terms_in c.args.terms.now in
-    let l = c.args.world.now in
+    let l = with_taps c.args.world.now c.args.taps.now in
     let kept = c.args.faults.now in
     asked_so g.W.Write.contents c.args.writer.now c.write_node_report.new.writer c.write_node_report.result t l l kept
     kept c.args.request _ c.in-Report.is
@@ -106,7 +110,7 @@ returns-in-Report g c =
 pub returns-in-Status : goal.returns-in-Status
 returns-in-Status g c =
     let t = terms_in c.args.terms.now in
-    let l = c.args.world.now in
+    let l = with_taps c.args.world.now c.args.taps.now in
     let kept = c.args.faults.now in
     asked_so g.W.Write.contents c.args.writer.now c.write_node_status.new.writer c.write_node_status.result t l l kept
     kept c.args.request _ c.in-Status.is
@@ -116,7 +120,7 @@ returns-in-Status g c =
 pub returns-in-Trace : goal.returns-in-Trace
 returns-in-Trace g c =
     let t = terms_in c.args.terms.now in
-    let l = c.args.world.now in
+    let l = with_taps c.args.world.now c.args.taps.now in
     let kept = c.args.faults.now in
     asked_so g.W.Write.contents c.args.writer.now c.write_no_history.new.writer c.write_no_history.result t l l kept
     kept c.args.request _ c.in-Trace.is
@@ -126,7 +130,7 @@ returns-in-Trace g c =
 pub returns-in-Origin : goal.returns-in-Origin
 returns-in-Origin g c =
     let t = terms_in c.args.terms.now in
-    let l = c.args.world.now in
+    let l = with_taps c.args.world.now c.args.taps.now in
     let kept = c.args.faults.now in
     asked_so g.W.Write.contents c.args.writer.now c.write_no_history-in-Origin.new.writer
     c.write_no_history-in-Origin.result t l l kept
@@ -138,7 +142,7 @@ returns-in-Origin g c =
 pub returns-in-Record : goal.returns-in-Record
 returns-in-Record g c =
     let t = terms_in c.args.terms.now in
-    let l = c.args.world.now in
+    let l = with_taps c.args.world.now c.args.taps.now in
     let kept = c.args.faults.now in
     asked_so g.W.Write.contents c.args.writer.now c.write_last.new.writer c.write_last.result t l l kept
     kept c.args.request _ c.in-Record.is
