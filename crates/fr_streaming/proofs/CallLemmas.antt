@@ -6,6 +6,7 @@ use Rattle.std.proofs.lemmas.Bool.{ne_eqb}
 use Rattle.std.proofs.lemmas.List.{take_all}
 use Rattle.std.specs.List.{flat_map}
 use Rattle.fr_bus.specs.States.{BusState}
+use Rattle.fr_core.specs.Agreement.{IsWorld}
 use Rattle.fr_core.specs.declared.error.StepError.{StepError}
 use Rattle.fr_core.specs.declared.event.Reply.{Reply}
 use Rattle.fr_core.specs.declared.script.Line.{Line}
@@ -16,8 +17,8 @@ use Rattle.fr_interface.specs.Calls.{call_answer}
 use Rattle.fr_interface.specs.declared.call.Answer.{Answer}
 use Rattle.fr_interface.specs.declared.call.Call.{Call}
 use Rattle.fr_live.specs.LiveSteps.{with_answer, StepsAlike}
-use Rattle.fr_live.specs.LiveWorlds.{ForEachWorld, LiveState}
-use Rattle.fr_playing.proofs.EntryLemmas.{host_done}
+use Rattle.fr_live.specs.LiveWorlds.{ForEachWorld, LiveState, IsWorldHistory}
+use Rattle.fr_playing.proofs.EntryLemmas.{host_done, host_there}
 use Rattle.fr_playing.proofs.PlayLemmas.{adds_append}
 use Rattle.fr_playing.proofs.StrikingLemmas.{flat-more}
 use Rattle.fr_playing.specs.Calls.{Asked, asked_in_line, asked_of, entries_in, AddsCalls, DoesCall, DoesCalls}
@@ -26,13 +27,19 @@ use Rattle.fr_scenario.specs.Contents.{Contents}
 use Rattle.fr_showing.specs.AnswerText.{answer_line, channel_answered, reply_line}
 use Rattle.fr_showing.specs.Listening.{capture_of}
 use Rattle.fr_showing.specs.RecordText.{record_text}
+use Rattle.fr_showing.specs.Spans.{spans_text}
 use Rattle.fr_slots.specs.declared.channel.Channel.{Channel}
-use Rattle.fr_slots.specs.Parameters.{Parameters}
+use Rattle.fr_schedule.specs.Descriptions.{Description}
 use Rattle.fr_streaming.proofs.KeptLemmas.{channel_kept, channel_told, kept_same}
 use Rattle.fr_streaming.proofs.LedLemmas.{made_executed}
+use Rattle.fr_streaming.proofs.LogCallLemmas.{call_logs}
 use Rattle.fr_streaming.proofs.TellLemmas.{breaks_after, goes_none, goes_then}
+use Rattle.fr_streaming.specs.CommitLog.{AddsToLog}
+use Rattle.fr_streaming.specs.declared.log.CallPlace.{CallPlace}
 use Rattle.fr_streaming.specs.declared.telling.Streamed.{Streamed}
-use Rattle.fr_streaming.specs.declared.telling.Streamed.TheVariants.{Answers, Record, Heard}
+use Rattle.fr_streaming.specs.declared.telling.Streamed.TheVariants.{Outcome, Answers, Commits, Record, Windows}
+use Rattle.fr_streaming.specs.declared.telling.Streamed.TheVariants.{Heard}
+use Rattle.fr_streaming.specs.LogSteps.{call_text, place_in, IsBetween}
 use Rattle.fr_streaming.specs.Streams.{asked, told_call, Breaks, Goes, MakesCalls, TellsBetween}
 
 -- ---- calls one after another
@@ -56,34 +63,46 @@ bus_kept : (w : WorldState) (call : ExecutedCall) (v : WorldState) → DoesCall 
 bus_kept w call v does =
     ap (λ (u : WorldState). u.bus) (does.0.2 ∙ host_done w call.node call.task call.call)
 
-call_told : (streamed : Streamed) (s : Contents) (p : Parameters) (w : WorldState) (made : ExecutedCall)
-    (v : WorldState) (answer : Answer) → DoesCall w made v
+call_told : (streamed : Streamed) (s : Contents) (d : Description) (l : LiveState) (w : WorldState)
+    (made : ExecutedCall) (v : WorldState) (place : CallPlace) (answer : Answer) → IsWorldHistory l w → IsWorld v
+    → DoesCall w made v → place ≡ place_in l made.node made.call
     → answer ≡ call_answer (interface_at w made.node) made.task made.call → made.reply ≡ reply_of answer
-    → TellsBetween streamed s p w (made ∷ []) v (told_call streamed (asked_of made) answer)
-call_told Answers s p w made v answer does is reply_is =
+    → TellsBetween streamed s d w (made ∷ []) v (told_call streamed (asked_of made) place answer)
+call_told Outcome s d l w made v place answer history world does place_is is reply_is = refl
+call_told Answers s d l w made v place answer history world does place_is is reply_is =
     ap₂ (λ (channel : Option Channel) (reply : Reply). reply_line channel (asked_of made) reply)
     (ap channel_answered is ∙ channel_told (interface_at w made.node) made.task made.call
     ∙ sym (channel_kept w made v v does (kept_same v.interfaces)))
     (sym reply_is)
     ∙ sym (append-nil (answer_line v made))
-call_told Record s p w made v answer does is reply_is =
-    ap (λ (b : BusState). record_text s p b.sealed) (bus_kept w made v does)
-    ∙ sym (append-nil (record_text s p w.bus.sealed))
-call_told Heard s p w made v answer does is reply_is =
-    ap (λ (b : BusState). capture_of p b.sealed) (bus_kept w made v does)
-    ∙ sym (append-nil (capture_of p w.bus.sealed))
+call_told Commits s d l w made v place answer history world does place_is is reply_is = λ between.
+    subst
+    (λ (x : CallPlace). IsBetween d v × AddsToLog w v (call_text made.node made.task x answer made.call))
+    (sym place_is)
+    (call_logs d l w v made.node made.task made.call answer history
+    (host_there w made.node made.task made.call does.0.0) does.0.0
+    (does.0.2 ∙ host_done w made.node made.task made.call) world is between)
+call_told Record s d l w made v place answer history world does place_is is reply_is =
+    ap (λ (b : BusState). record_text s d.params b.sealed) (bus_kept w made v does)
+    ∙ sym (append-nil (record_text s d.params w.bus.sealed))
+call_told Windows s d l w made v place answer history world does place_is is reply_is =
+    ap (λ (b : BusState). spans_text d.params b.sealed) (bus_kept w made v does)
+    ∙ sym (append-nil (spans_text d.params w.bus.sealed))
+call_told Heard s d l w made v place answer history world does place_is is reply_is =
+    ap (λ (b : BusState). capture_of d.params b.sealed) (bus_kept w made v does)
+    ∙ sym (append-nil (capture_of d.params w.bus.sealed))
 
 does_one : (w : WorldState) (made : ExecutedCall) (v : WorldState) → DoesCall w made v → DoesCalls w (made ∷ []) v
 unfolding DoesCalls
 does_one w made v does = (v, does, refl)
 
-module _ (streamed : Streamed) (s : Contents) (p : Parameters) where
+module _ (streamed : Streamed) (s : Contents) (d : Description) where
   pub called_one : (l new : LiveState) (node task cycle : ℕ) (call : Call) (r : Result Answer StepError)
-      (answer : Answer) → r ≡ Ok answer → StepsAlike l (event_of node task call) (with_answer r) new
+      (place : CallPlace) (answer : Answer) → place ≡ place_in l node call → r ≡ Ok answer → StepsAlike l (event_of node task call) (with_answer r) new
       → ForEachWorld l (λ w. IfOk r (λ (a : Answer). a ≡ call_answer (interface_at w node) task call))
       → Alike l (λ w v. (calls : List ExecutedCall) × MakesCalls (asked node task cycle call ∷ []) w calls v
-      × TellsBetween streamed s p w calls v (told_call streamed (asked node task cycle call) answer)) new
-  called_one l new node task cycle call r answer r_is step answers w history =
+      × TellsBetween streamed s d w calls v (told_call streamed (asked node task cycle call) place answer)) new
+  called_one l new node task cycle call r place answer place_is r_is step answers w history =
       let (v, steps, end) = step w history in
       let accepted : Steps w (event_of node task call) (Ok (reply_of answer)) v =
       subst (λ (x : Result Answer StepError). Steps w (event_of node task call) (with_answer x) v) r_is steps in
@@ -99,8 +118,15 @@ module _ (streamed : Streamed) (s : Contents) (p : Parameters) where
         entry = entries_in (slice_get w.interfaces node);
         reply = reply_of answer;
       } in
-      let does : DoesCall w made v = (accepted, refl) in
-      (v, (made ∷ [], (refl, does_one w made v does), call_told streamed s p w made v answer does answer_is refl), end)
+      let does : DoesCall w made v = (accepted, refl) in (
+        v,
+        (
+          made ∷ [],
+          (refl, does_one w made v does),
+          call_told streamed s d l w made v place answer history end.world_is does place_is answer_is refl,
+        ),
+        end,
+      )
 
   -- ---- a line
 
@@ -117,47 +143,47 @@ module _ (streamed : Streamed) (s : Contents) (p : Parameters) where
 
   pub line_goes : {A E : Type 0} (r : Result A E) (cycle node task : ℕ) (line : Line) (l n : LiveState)
       (a b : Option (List ℕ)) → line.cycle ≡ cycle
-      → OnOk r (Goes (TellsBetween streamed s p) (MakesCalls (asked node task line.cycle line.action ∷ [])) l a b n)
-      → OnOk r (Goes (TellsBetween streamed s p) (MakesCalls (asked_in_line cycle node task line)) l a b n)
+      → OnOk r (Goes (TellsBetween streamed s d) (MakesCalls (asked node task line.cycle line.action ∷ [])) l a b n)
+      → OnOk r (Goes (TellsBetween streamed s d) (MakesCalls (asked_in_line cycle node task line)) l a b n)
   line_goes r cycle node task line l n a b same goes =
-      subst (λ (xs : List Asked). OnOk r (Goes (TellsBetween streamed s p) (MakesCalls xs) l a b n))
+      subst (λ (xs : List Asked). OnOk r (Goes (TellsBetween streamed s d) (MakesCalls xs) l a b n))
       (sym (in_line cycle node task line same)) goes
 
   pub none_goes : (l : LiveState) (bytes : Option (List ℕ))
-      → Goes (TellsBetween streamed s p) (MakesCalls []) l bytes bytes l
-  none_goes l bytes = goes_none streamed s p (MakesCalls []) l bytes made_none
+      → Goes (TellsBetween streamed s d) (MakesCalls []) l bytes bytes l
+  none_goes l bytes = goes_none streamed s d (MakesCalls []) l bytes made_none
 
   pub line_passed : (cycle node task : ℕ) (line : Line) (l : LiveState) (bytes : Option (List ℕ))
       → (line.cycle ≡ cycle → ⊥)
-      → Goes (TellsBetween streamed s p) (MakesCalls (asked_in_line cycle node task line)) l bytes bytes l
+      → Goes (TellsBetween streamed s d) (MakesCalls (asked_in_line cycle node task line)) l bytes bytes l
   line_passed cycle node task line l bytes other =
-      subst (λ (xs : List Asked). Goes (TellsBetween streamed s p) (MakesCalls xs) l bytes bytes l)
+      subst (λ (xs : List Asked). Goes (TellsBetween streamed s d) (MakesCalls xs) l bytes bytes l)
       (sym (out_of_line cycle node task line other)) (none_goes l bytes)
 
   -- ---- lists of lines
 
   pub goes_more : {X : Type 0} (f : X → List Asked) (xs : List X) (i : ℕ) (x : X) (l m n : LiveState)
       (a b c : Option (List ℕ)) → i < length xs → x ≡ get_or xs i x
-      → Goes (TellsBetween streamed s p) (MakesCalls (flat_map f (take i xs))) l a b m
-      → Goes (TellsBetween streamed s p) (MakesCalls (f x)) m b c n
-      → Goes (TellsBetween streamed s p) (MakesCalls (flat_map f (take (i + 1) xs))) l a c n
+      → Goes (TellsBetween streamed s d) (MakesCalls (flat_map f (take i xs))) l a b m
+      → Goes (TellsBetween streamed s d) (MakesCalls (f x)) m b c n
+      → Goes (TellsBetween streamed s d) (MakesCalls (flat_map f (take (i + 1) xs))) l a c n
   goes_more f xs i x l m n a b c lt is first second =
       let front = flat_map f (take i xs) in
-      subst (λ (all : List Asked). Goes (TellsBetween streamed s p) (MakesCalls all) l a c n)
+      subst (λ (all : List Asked). Goes (TellsBetween streamed s d) (MakesCalls all) l a c n)
       (sym (flat-more f xs i x lt is))
-      (goes_then streamed s p (MakesCalls front) (MakesCalls (f x)) (MakesCalls (front ++ f x)) l m n a b c first second
+      (goes_then streamed s d (MakesCalls front) (MakesCalls (f x)) (MakesCalls (front ++ f x)) l m n a b c first second
       (made_executed front) (made_executed (f x))
       (λ w u v calls more end one two. made_append front (f x) w u v calls more one two))
 
   pub goes_all : {X : Type 0} (f : X → List Asked) (xs : List X) (i : ℕ) (l n : LiveState) (a b : Option (List ℕ))
-      → length xs ≤ i → Goes (TellsBetween streamed s p) (MakesCalls (flat_map f (take i xs))) l a b n
-      → Goes (TellsBetween streamed s p) (MakesCalls (flat_map f xs)) l a b n
+      → length xs ≤ i → Goes (TellsBetween streamed s d) (MakesCalls (flat_map f (take i xs))) l a b n
+      → Goes (TellsBetween streamed s d) (MakesCalls (flat_map f xs)) l a b n
   goes_all f xs i l n a b all given =
-      subst (λ (ys : List _). Goes (TellsBetween streamed s p) (MakesCalls (flat_map f ys)) l a b n)
+      subst (λ (ys : List _). Goes (TellsBetween streamed s d) (MakesCalls (flat_map f ys)) l a b n)
       (take_all i xs all) given
 
   pub breaks_more : (xs : List Asked) (l m : LiveState) (a b c : Option (List ℕ))
-      → Goes (TellsBetween streamed s p) (MakesCalls xs) l a b m → Breaks (TellsBetween streamed s p) m b c
-      → Breaks (TellsBetween streamed s p) l a c
+      → Goes (TellsBetween streamed s d) (MakesCalls xs) l a b m → Breaks (TellsBetween streamed s d) m b c
+      → Breaks (TellsBetween streamed s d) l a c
   breaks_more xs l m a b c first breaks =
-      breaks_after streamed s p (MakesCalls xs) l m a b c first (made_executed xs) breaks
+      breaks_after streamed s d (MakesCalls xs) l m a b c first (made_executed xs) breaks

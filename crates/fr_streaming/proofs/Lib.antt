@@ -1,6 +1,13 @@
 pub mod AlikeLemmas
 pub mod KeptLemmas
 pub mod LedLemmas
+pub mod JournalLemmas
+pub mod LogLemmas
+pub mod LogCallLemmas
+pub mod LogWindowLemmas
+pub mod LogEndLemmas
+pub mod LogTextLemmas
 pub mod TellLemmas
 pub mod CallLemmas
 pub mod StreamLemmas
+pub mod CommitLawLemmas

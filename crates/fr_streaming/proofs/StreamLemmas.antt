@@ -1,9 +1,10 @@
 -- The result of a run in a world without history, from the results of its parts.
 use Rattle.std.proofs.Common.{◌≡◌, ◌≤◌, ℕ, ◌&&◌, Bool, true, false, List, [], ◌++◌, length, Option, Some, None, Result}
-use Rattle.std.proofs.Common.{Ok, Err, refl, sym, ap, subst, ◌∙◌, append_assoc, inl, inr, arith}
+use Rattle.std.proofs.Common.{Ok, Err, refl, sym, ap, subst, ◌∙◌, append_assoc, append-nil, inl, inr, arith}
 use Rattle.std.specs.List.{list_all}
-use Rattle.std.specs.Prelude.{IfErr, OnOk, min, nat_le, is_some, ◌*◌}
+use Rattle.std.specs.Prelude.{min, nat_le, is_some, ◌*◌}
 use Rattle.std.proofs.lemmas.Bool.{le-leb, leb-true}
+use Rattle.std.proofs.lemmas.List.{length-map}
 use Rattle.std.specs.Result.{result_err}
 use Rattle.std.specs.Io.KnownBytes.{Appends}
 use Rattle.std.proofs.KnownBytes.{Appends-trans, Keeps-refl}
@@ -21,6 +22,7 @@ use Rattle.fr_files.proofs.InputLemmas.{for_text_map}
 use Rattle.fr_files.specs.declared.error.BenchError.TheVariants as bench
 use Rattle.fr_files.specs.Inputs.{ForText}
 use Rattle.fr_files.specs.Outputs.{FallsShort}
+use Rattle.fr_live.proofs.LeadLemmas.{as_many}
 use Rattle.fr_live.specs.LiveWorlds.{Entries, LiveState, ForEachWorld, IsWorldHistory, OpensLiveWorld}
 use Rattle.fr_names.specs.Names.{NamesOfNode}
 use Rattle.fr_outcome.specs.declared.file_error.FileError.{FileError}
@@ -41,20 +43,23 @@ use Rattle.fr_runs.specs.Refusing.{Refuses}
 use Rattle.fr_scenario.specs.Contents.{Contents}
 use Rattle.fr_schedule.specs.Descriptions.{Description}
 use Rattle.fr_slots.specs.Parameters.{Parameters}
+use Rattle.fr_slots.specs.Plans.{Plan}
 use Rattle.fr_endless.proofs.AlikeLemmas.{opened_same}
 use Rattle.fr_endless.specs.Alike.{Alike}
 use Rattle.fr_streaming.proofs.LedLemmas.{executes_none, whole_silent}
-use Rattle.fr_streaming.proofs.TellLemmas.{told_after, told_none, window_told}
+use Rattle.fr_streaming.proofs.LogLemmas.{plan_of, plans_are}
+use Rattle.fr_streaming.proofs.TellLemmas.{tells_none, told_after, window_told, Leads}
 use Rattle.fr_streaming.specs.declared.hindrance.Hindrance.{Hindrance}
 use Rattle.fr_streaming.specs.declared.hindrance.Hindrance.TheVariants as hindrance
+use Rattle.fr_streaming.specs.declared.log.NodeOffers.{NodeOffers}
 use Rattle.fr_streaming.specs.declared.telling.Streamed.{Streamed}
 use Rattle.fr_streaming.specs.declared.stream.StreamNotes.{StreamNotes}
 use Rattle.fr_streaming.specs.Runs.{error_of, kept_refusal, most_entries, opening, AddsStream, ChecksStream, Cuts}
 use Rattle.fr_streaming.specs.Runs.{cycles_named, CutsRun, CutsStream, CutsText, OpensStream, RefusesStream}
-use Rattle.fr_streaming.specs.Runs.{AreNotes, StreamIsRefused}
+use Rattle.fr_streaming.specs.Runs.{AreNotes}
 use Rattle.fr_streaming.specs.Runs.{Streams, TellsRun, TellsStream}
-use Rattle.fr_streaming.specs.Streams.{is_silent, told, told_last, told_opening, Breaks, Goes, TellsBetween}
-use Rattle.fr_streaming.specs.Streams.{WithoutCalls}
+use Rattle.fr_streaming.specs.Streams.{is_silent, offers_for, told_closing, told_last, told_opening, Breaks, Closes}
+use Rattle.fr_streaming.specs.Streams.{ClosesShort, Goes, IsTold, TellsBetween, WithoutCalls}
 
 -- ---- the world
 
@@ -150,20 +155,32 @@ none_of (Some x) b is none = absurd (let no : ⊥ = cc in no)
 
 -- ---- a window
 
+-- there is room for the offers of all nodes
+few_nodes : (l : LiveState) (w : WorldState) → IsWorldHistory l w → length l.interfaces ≤ 16
+few_nodes l w is =
+    let many = as_many l.interfaces w.interfaces is.leads.interfaces_are in
+    let plans = ap (length {A = Plan}) (plans_are w is.world_is) in
+    let each = length-map w.interfaces plan_of in
+    omega (arith, many, plans, each, is.leads.bus_is.of_bus.run.lawful.few_nodes)
+
 -- the kept data after a window have the text of each way that leads there
-pub window_shows : (streamed : Streamed) (s : Contents) (p : Parameters) (cycle nodes : ℕ) (faults : List FaultLine)
-    (due : List Event) (l n : LiveState) → due ≡ whole_window nodes
-    → Alike l (λ w v. PlaysWindow cycle faults due w v) n
+pub window_shows : (streamed : Streamed) (s : Contents) (d : Description) (cycle : ℕ) (faults : List FaultLine)
+    (due : List Event) (l n : LiveState) (os : List NodeOffers) → due ≡ whole_window (length d.plans)
+    → (length l.interfaces ≤ 16 → os ≡ offers_for streamed l) → Alike l (λ w v. PlaysWindow cycle faults due w v) n
     → Alike l (λ w v. (calls : List ExecutedCall) × WithoutCalls (PlaysWindow cycle faults due) w calls v
-    × TellsBetween streamed s p w calls v (told_last streamed s p n.bus.bus.course.begun n.bus.last)) n
-window_shows streamed s p cycle nodes faults due l n due_is plays w is =
+    × TellsBetween streamed s d w calls v (told_last streamed s d n.bus.bus.course.begun n.bus.last os)) n
+window_shows streamed s d cycle faults due l n os due_is os_are plays w is =
     let (v, one, end) = plays w is in (
       v,
       (
         [],
         (refl, one),
-        window_told s p streamed cycle nodes faults n w v
-            (subst (λ (es : List Event). PlaysWindow cycle faults es w v) due_is one) end,
+        subst
+            (λ (offers : List NodeOffers). TellsBetween streamed s d w [] v
+            (told_last streamed s d n.bus.bus.course.begun n.bus.last offers))
+            (sym (os_are (few_nodes l w is)))
+            (window_told s d streamed cycle (length d.plans) faults l n w v refl
+            (subst (λ (es : List Event). PlaysWindow cycle faults es w v) due_is one) is end),
       ),
       end,
     )
@@ -175,15 +192,14 @@ due_silent due nodes is = ap (list_all is_silent) is ∙ whole_silent nodes
 -- ---- the whole run
 
 module _ (streamed : Streamed) (d : Description) (s : Contents) (cycles : ℕ) where
-  pub streamed_all : (due : List Event) (l n : LiveState) (a b c : Option (List ℕ))
+  pub streamed_all : (due : List Event) (l n : LiveState) (a b c e : Option (List ℕ))
       → due ≡ whole_window (length d.plans) → OpensStream d cycles (Ok l) → Appends a b (told_opening streamed)
-      → Goes (TellsBetween streamed s d.params) (PlaysCycles s.scripts s.faults due cycles) l b c n
-      → n.bus.bus.opened ≡ None → ForEachWorld n Headline → AddsStream d cycles streamed s a c
-  streamed_all due l n a b c due_is opens begins goes over headline =
+      → Goes (TellsBetween streamed s d) (PlaysCycles s.scripts s.faults due cycles) l b c n
+      → n.bus.bus.opened ≡ None → ForEachWorld n Headline → Closes streamed n c e → AddsStream d cycles streamed s a e
+  streamed_all due l n a b c e due_is opens begins goes over headline closes =
       let (text, adds, each) = goes in
-      let (v, (calls, plays, tells), is) = each (opening d cycles) opens.1 in
-      let whole : told streamed s d.params v calls ≡ told_opening streamed ++ text =
-      told_after s d.params streamed (opening d cycles) calls v text refl tells in (
+      let (closing, ends, closing_is) = closes in
+      let (v, (calls, plays, tells), is) = each (opening d cycles) opens.1 in (
         v,
         calls,
         record {
@@ -193,38 +209,76 @@ module _ (streamed : Streamed) (d : Description) (s : Contents) (cycles : ℕ) w
           over = opened_same n v is ∙ over;
           headline = headline v is;
         },
-        subst (Appends a c) (sym whole) (Appends-trans a b c (told_opening streamed) text begins adds),
+        (
+          (told_opening streamed ++ text) ++ told_closing streamed v,
+          told_after s d streamed cycles calls v text opens.1.world_is tells,
+          subst (λ (t : List ℕ). Appends a e ((told_opening streamed ++ text) ++ t)) (closing_is v is)
+              (Appends-trans a c e (told_opening streamed ++ text) closing
+              (Appends-trans a b c (told_opening streamed) text begins adds) ends),
+        ),
       )
 
 -- ---- what was written before an error
 
 module _ (d : Description) (s : Contents) (cycles : ℕ) (streamed : Streamed) where
   pub cuts_of : (l : LiveState) (a b c : Option (List ℕ)) → OpensStream d cycles (Ok l)
-      → Appends a b (told_opening streamed) → Breaks (TellsBetween streamed s d.params) l b c
+      → Appends a b (told_opening streamed) → Breaks (TellsBetween streamed s d) l b c
       → Cuts d s cycles streamed a c
   cuts_of l a b c opens begins breaks =
       let (text, adds, each) = breaks in
-      let (v, calls, rest, executes, tells) = each (opening d cycles) opens.1 in (
+      let (v, calls, rest, executes, tells) = each (opening d cycles) opens.1 in
+      let begun = told_opening streamed in
+      let closing = told_closing streamed v in (
         v,
         calls,
-        told_opening streamed ++ text,
-        rest,
+        begun ++ text,
+        rest ++ closing,
         executes,
-        told_after s d.params streamed (opening d cycles) calls v (text ++ rest) refl tells
-            ∙ sym (append_assoc (told_opening streamed) text rest),
-        Appends-trans a b c (told_opening streamed) text begins adds,
+        subst (IsTold streamed s d.params v calls)
+            (ap (λ (t : List ℕ). t ++ closing) (sym (append_assoc begun text rest))
+            ∙ append_assoc (begun ++ text) rest closing)
+            (told_after s d streamed cycles calls v (text ++ rest) opens.1.world_is tells),
+        Appends-trans a b c begun text begins adds,
       )
 
-  pub cuts_opening : (a b : Option (List ℕ)) → FallsShort a b (told_opening streamed) → Cuts d s cycles streamed a b
-  cuts_opening a b short =
-      let (front, rest, is, missing, adds) = short in (
-        opening d cycles,
+  pub cuts_opening : (l : LiveState) (a b : Option (List ℕ)) → OpensStream d cycles (Ok l)
+      → FallsShort a b (told_opening streamed) → Cuts d s cycles streamed a b
+  cuts_opening l a b opens short =
+      let (front, rest, is, missing, adds) = short in
+      let start = opening d cycles in
+      let closing = told_closing streamed start in (
+        start,
         [],
         front,
-        rest,
-        executes_none (opening d cycles),
-        told_none s d.params streamed (opening d cycles) refl ∙ is,
+        rest ++ closing,
+        executes_none start,
+        subst (IsTold streamed s d.params start [])
+            (ap (λ (t : List ℕ). t ++ closing) (append-nil (told_opening streamed) ∙ is)
+            ∙ append_assoc front rest closing)
+            (told_after s d streamed cycles [] start [] opens.1.world_is (tells_none s d streamed start)),
         adds,
+      )
+
+  pub cuts_closing : (R : WorldState → List ExecutedCall → WorldState → Type 0) (l n : LiveState)
+      (a b c e : Option (List ℕ)) → OpensStream d cycles (Ok l) → Appends a b (told_opening streamed)
+      → Goes (TellsBetween streamed s d) R l b c n → Leads R → ClosesShort streamed n c e
+      → Cuts d s cycles streamed a e
+  cuts_closing R l n a b c e opens begins goes leads closes =
+      let (text, adds, each) = goes in
+      let (front, ends, short) = closes in
+      let (v, (calls, one, tells), is) = each (opening d cycles) opens.1 in
+      let (rest, closing_is) = short v is in
+      let begun = told_opening streamed in (
+        v,
+        calls,
+        (begun ++ text) ++ front,
+        rest,
+        leads (opening d cycles) calls v one,
+        subst (IsTold streamed s d.params v calls)
+            (ap (λ (t : List ℕ). (begun ++ text) ++ t) (sym closing_is)
+            ∙ sym (append_assoc (begun ++ text) front rest))
+            (told_after s d streamed cycles calls v text opens.1.world_is tells),
+        Appends-trans a c e (begun ++ text) front (Appends-trans a b c begun text begins adds) ends,
       )
 
   pub cuts_hindered : (h : Hindrance) (a b : Option (List ℕ)) → Cuts d s cycles streamed a b

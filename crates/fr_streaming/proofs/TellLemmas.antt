@@ -11,6 +11,7 @@ use Rattle.std.proofs.lemmas.List.{length-append}
 use Rattle.fr_bus.specs.Record.{Recorded}
 use Rattle.fr_bus.specs.Windows.{cycles_begun}
 use Rattle.fr_capture.specs.Pcap.{file_header}
+use Rattle.fr_core.specs.Agreement.{IsWorld}
 use Rattle.fr_core.specs.declared.event.Event.{Event}
 use Rattle.fr_core.specs.Scripts.{Scripted}
 use Rattle.fr_core.specs.Worlds.{WorldState}
@@ -28,20 +29,30 @@ use Rattle.fr_playing.specs.Windows.{PlaysWindow, PlaysWithin, PlaysWindows}
 use Rattle.fr_runs.specs.declared.fault_line.FaultLine.{FaultLine}
 use Rattle.fr_scenario.specs.Contents.{Contents}
 use Rattle.fr_showing.specs.AnswerText.{answer_line}
-use Rattle.fr_showing.specs.Listening.{capture_of, records_after, window_records}
-use Rattle.fr_showing.specs.RecordText.{record_text, window_after, window_text}
+use Rattle.fr_showing.specs.Listening.{capture_of, window_records}
+use Rattle.fr_showing.specs.EachWindow.{each_window, said_after}
+use Rattle.fr_showing.specs.Spans.{span_line, spans_text}
+use Rattle.fr_outcome.specs.OutcomeText.{outcome_text}
+use Rattle.fr_showing.specs.RecordText.{record_text, window_text}
 use Rattle.fr_slots.proofs.HistoryLemmas.{each_after-snoc}
 use Rattle.fr_slots.proofs.PlaceLemmas.{get-after}
 use Rattle.fr_slots.specs.History.{each_after}
-use Rattle.fr_slots.specs.Parameters.{Parameters}
+use Rattle.fr_schedule.specs.Descriptions.{Description}
 use Rattle.fr_streaming.proofs.AlikeLemmas.{ok_as}
 use Rattle.fr_streaming.proofs.KeptLemmas.{executes_keeps, lines_kept}
+use Rattle.fr_streaming.proofs.LogEndLemmas.{log_is, opening_between}
+use Rattle.fr_streaming.proofs.LogLemmas.{adds_none, adds_then}
+use Rattle.fr_streaming.proofs.LogWindowLemmas.{window_last}
 use Rattle.fr_streaming.proofs.LedLemmas.{err_as, executes_none, executes_then, made_executed, window_executed}
 use Rattle.fr_streaming.proofs.LedLemmas.{windows_executed, within_executed, cycle_executed, cycles_executed}
 use Rattle.fr_streaming.specs.declared.telling.Streamed.{Streamed}
-use Rattle.fr_streaming.specs.declared.telling.Streamed.TheVariants.{Answers, Record, Heard}
-use Rattle.fr_streaming.specs.Streams.{is_silent, told, told_last, told_opening, Breaks, Executes, Goes, MakesCalls}
-use Rattle.fr_streaming.specs.Streams.{TellsBetween, WithoutCalls}
+use Rattle.fr_streaming.specs.declared.telling.Streamed.TheVariants.{Outcome, Answers, Commits, Record, Windows}
+use Rattle.fr_streaming.specs.declared.telling.Streamed.TheVariants.{Heard}
+use Rattle.fr_streaming.specs.CommitLog.{AddsToLog}
+use Rattle.fr_streaming.specs.LogSteps.{IsBetween}
+use Rattle.fr_streaming.specs.Runs.{opening}
+use Rattle.fr_streaming.specs.Streams.{is_silent, offers_for, told_closing, told_last, told_opening, Breaks, Executes}
+use Rattle.fr_streaming.specs.Streams.{Goes, IsTold, MakesCalls, TellsBetween, WithoutCalls}
 
 -- ---- one more window
 
@@ -65,61 +76,87 @@ sealed_more cycle nodes faults l w v plays is =
       ap cycles_begun (sym grows) ∙ begun_same l v is,
     )
 
-module _ (s : Contents) (p : Parameters) where
-  pub told_none : (streamed : Streamed) (w : WorldState) → w.bus.sealed ≡ []
-      → told streamed s p w [] ≡ told_opening streamed
+module _ (s : Contents) (d : Description) where
+  -- what the view has of a way from the start is the view without its opening and its closing
+  pub told_after : (streamed : Streamed) (cycles : ℕ) (calls : List ExecutedCall) (v : WorldState) (text : List ℕ)
+      → IsWorld (opening d cycles) → TellsBetween streamed s d (opening d cycles) calls v text
+      → IsTold streamed s d.params v calls (told_opening streamed ++ text ++ told_closing streamed v)
   unfolding each_after
-  told_none Answers w none = refl
-  told_none Record w none = ap (record_text s p) none
-  told_none Heard w none = ap (capture_of p) none ∙ append-nil file_header
-
-  -- what the view has of a way from a world without windows is the view without its opening
-  pub told_after : (streamed : Streamed) (w : WorldState) (calls : List ExecutedCall) (v : WorldState) (text : List ℕ)
-      → w.bus.sealed ≡ [] → TellsBetween streamed s p w calls v text
-      → told streamed s p v calls ≡ told_opening streamed ++ text
-  told_after Answers w calls v text none tells = sym tells
-  told_after Record w calls v text none tells = tells ∙ ap (λ (t : List ℕ). t ++ text) (told_none Record w none)
-  told_after Heard w calls v text none tells = tells ∙ ap (λ (t : List ℕ). t ++ text) (told_none Heard w none)
+  told_after Outcome cycles calls v text world tells =
+      ap (λ (t : List ℕ). t ++ outcome_text v.interfaces (length v.bus.sealed)) tells
+  told_after Answers cycles calls v text world tells = append-nil text ∙ tells
+  told_after Commits cycles calls v text world tells =
+      let (between, adds) = tells (opening_between d cycles world) in
+      (text, log_is d cycles v text adds, refl)
+  told_after Record cycles calls v text world tells = append-nil text ∙ sym tells
+  told_after Windows cycles calls v text world tells = append-nil text ∙ sym tells
+  told_after Heard cycles calls v text world tells =
+      ap (λ (t : List ℕ). file_header ++ t) (append-nil text)
+      ∙ ap (λ (t : List ℕ). t ++ text) (sym (append-nil file_header)) ∙ sym tells
 
   -- what the kept data have of the window that was sealed last
-  pub window_told : (streamed : Streamed) (cycle nodes : ℕ) (faults : List FaultLine) (l : LiveState)
-      (w v : WorldState) → PlaysWindow cycle faults (whole_window nodes) w v → IsWorldHistory l v
-      → TellsBetween streamed s p w [] v (told_last streamed s p l.bus.bus.course.begun l.bus.last)
-  window_told Answers cycle nodes faults l w v plays is = refl
-  window_told Record cycle nodes faults l w v plays is =
-      let (made, grows, last, begun) = sealed_more cycle nodes faults l w v plays is in
-      ap (record_text s p) grows ∙ each_after-snoc (window_after s p) w.bus.sealed made
-      ∙ ap (λ (n : ℕ). record_text s p w.bus.sealed ++ window_text s p (n - 1) made) begun
-      ∙ ap (λ (o : Option Recorded). record_text s p w.bus.sealed ++ told_last Record s p l.bus.bus.course.begun o)
-      (sym last)
-  window_told Heard cycle nodes faults l w v plays is =
-      let (made, grows, last, begun) = sealed_more cycle nodes faults l w v plays is in
-      ap (capture_of p) grows
-      ∙ ap (λ (t : List ℕ). file_header ++ t) (each_after-snoc (records_after p) w.bus.sealed made)
-      ∙ sym (append_assoc file_header (each_after (records_after p) [] w.bus.sealed)
-      (records_after p w.bus.sealed made))
-      ∙ ap (λ (n : ℕ). capture_of p w.bus.sealed ++ window_records p (n - 1) made) begun
-      ∙ ap (λ (o : Option Recorded). capture_of p w.bus.sealed ++ told_last Heard s p l.bus.bus.course.begun o)
-      (sym last)
+  pub window_told : (streamed : Streamed) (cycle nodes : ℕ) (faults : List FaultLine) (l n : LiveState)
+      (w v : WorldState) → nodes ≡ length d.plans → PlaysWindow cycle faults (whole_window nodes) w v
+      → IsWorldHistory l w → IsWorldHistory n v
+      → TellsBetween streamed s d w [] v
+      (told_last streamed s d n.bus.bus.course.begun n.bus.last (offers_for streamed l))
+  window_told Outcome cycle nodes faults l n w v nodes_is plays from is = refl
+  window_told Answers cycle nodes faults l n w v nodes_is plays from is = refl
+  window_told Commits cycle nodes faults l n w v nodes_is plays from is = λ between.
+      let (made, last, logs) = window_last d cycle nodes faults l n w v nodes_is plays from is between in
+      subst
+      (λ (o : Option Recorded). IsBetween d v × AddsToLog w v (told_last Commits s d n.bus.bus.course.begun o
+      (offers_for Commits l))) (sym last) logs
+  window_told Record cycle nodes faults l n w v nodes_is plays from is =
+      let (made, grows, last, begun) = sealed_more cycle nodes faults n w v plays is in
+      ap (record_text s d.params) grows ∙ each_after-snoc (said_after (window_text s d.params)) w.bus.sealed made
+      ∙ ap (λ (k : ℕ). record_text s d.params w.bus.sealed ++ window_text s d.params (k - 1) made) begun
+      ∙ ap (λ (o : Option Recorded). record_text s d.params w.bus.sealed
+      ++ told_last Record s d n.bus.bus.course.begun o []) (sym last)
+  window_told Windows cycle nodes faults l n w v nodes_is plays from is =
+      let (made, grows, last, begun) = sealed_more cycle nodes faults n w v plays is in
+      ap (spans_text d.params) grows ∙ each_after-snoc (said_after (span_line d.params)) w.bus.sealed made
+      ∙ ap (λ (k : ℕ). spans_text d.params w.bus.sealed ++ span_line d.params (k - 1) made) begun
+      ∙ ap (λ (o : Option Recorded). spans_text d.params w.bus.sealed
+      ++ told_last Windows s d n.bus.bus.course.begun o []) (sym last)
+  window_told Heard cycle nodes faults l n w v nodes_is plays from is =
+      let (made, grows, last, begun) = sealed_more cycle nodes faults n w v plays is in
+      ap (capture_of d.params) grows
+      ∙ ap (λ (t : List ℕ). file_header ++ t) (each_after-snoc (said_after (window_records d.params)) w.bus.sealed made)
+      ∙ sym (append_assoc file_header (each_window (window_records d.params) w.bus.sealed)
+      (said_after (window_records d.params) w.bus.sealed made))
+      ∙ ap (λ (k : ℕ). capture_of d.params w.bus.sealed ++ window_records d.params (k - 1) made) begun
+      ∙ ap (λ (o : Option Recorded). capture_of d.params w.bus.sealed
+      ++ told_last Heard s d n.bus.bus.course.begun o []) (sym last)
 
   -- ---- one way after another
 
-  pub tells_none : (streamed : Streamed) (w : WorldState) → TellsBetween streamed s p w [] w []
+  pub tells_none : (streamed : Streamed) (w : WorldState) → TellsBetween streamed s d w [] w []
+  tells_none Outcome w = refl
   tells_none Answers w = refl
-  tells_none Record w = sym (append-nil (record_text s p w.bus.sealed))
-  tells_none Heard w = sym (append-nil (capture_of p w.bus.sealed))
+  tells_none Commits w = λ between. (between, adds_none w)
+  tells_none Record w = sym (append-nil (record_text s d.params w.bus.sealed))
+  tells_none Windows w = sym (append-nil (spans_text d.params w.bus.sealed))
+  tells_none Heard w = sym (append-nil (capture_of d.params w.bus.sealed))
 
   pub tells_then : (streamed : Streamed) (w u v : WorldState) (xs ys : List ExecutedCall) (a b : List ℕ)
-      → Executes w xs u → Executes u ys v → TellsBetween streamed s p w xs u a → TellsBetween streamed s p u ys v b
-      → TellsBetween streamed s p w (xs ++ ys) v (a ++ b)
+      → Executes w xs u → Executes u ys v → TellsBetween streamed s d w xs u a → TellsBetween streamed s d u ys v b
+      → TellsBetween streamed s d w (xs ++ ys) v (a ++ b)
+  tells_then Outcome w u v xs ys a b first second one two = ap₂ (λ (x y : List ℕ). x ++ y) one two
   tells_then Answers w u v xs ys a b first second one two =
       ap₂ (λ (x y : List ℕ). x ++ y)
       (one ∙ lines_kept w xs u v first (executes_keeps u ys v second)) two
       ∙ sym (flat_map-append (answer_line v) xs ys)
+  tells_then Commits w u v xs ys a b first second one two = λ between.
+      let (mid, adds) = one between in
+      let (end, more) = two mid in
+      (end, adds_then w u v a b adds more)
   tells_then Record w u v xs ys a b first second one two =
-      two ∙ ap (λ (t : List ℕ). t ++ b) one ∙ append_assoc (record_text s p w.bus.sealed) a b
+      two ∙ ap (λ (t : List ℕ). t ++ b) one ∙ append_assoc (record_text s d.params w.bus.sealed) a b
+  tells_then Windows w u v xs ys a b first second one two =
+      two ∙ ap (λ (t : List ℕ). t ++ b) one ∙ append_assoc (spans_text d.params w.bus.sealed) a b
   tells_then Heard w u v xs ys a b first second one two =
-      two ∙ ap (λ (t : List ℕ). t ++ b) one ∙ append_assoc (capture_of p w.bus.sealed) a b
+      two ∙ ap (λ (t : List ℕ). t ++ b) one ∙ append_assoc (capture_of d.params w.bus.sealed) a b
 
 -- ---- texts one after another
 
@@ -127,18 +164,18 @@ module _ (s : Contents) (p : Parameters) where
 abbrev pub Leads : (WorldState → List ExecutedCall → WorldState → Type 0) → Type 0
 Leads R = (w : WorldState) (calls : List ExecutedCall) (v : WorldState) → R w calls v → Executes w calls v
 
-module _ (streamed : Streamed) (s : Contents) (p : Parameters) where
+module _ (streamed : Streamed) (s : Contents) (d : Description) where
   pub goes_none : (R : WorldState → List ExecutedCall → WorldState → Type 0) (l : LiveState) (bytes : Option (List ℕ))
-      → ((w : WorldState) → R w [] w) → Goes (TellsBetween streamed s p) R l bytes bytes l
+      → ((w : WorldState) → R w [] w) → Goes (TellsBetween streamed s d) R l bytes bytes l
   goes_none R l bytes same =
-      ([], Appends-nil bytes, λ w is. (w, ([], same w, tells_none s p streamed w), is))
+      ([], Appends-nil bytes, λ w is. (w, ([], same w, tells_none s d streamed w), is))
 
   pub goes_then : (R S Q : WorldState → List ExecutedCall → WorldState → Type 0) (l m n : LiveState)
-      (a b c : Option (List ℕ)) → Goes (TellsBetween streamed s p) R l a b m
-      → Goes (TellsBetween streamed s p) S m b c n → Leads R → Leads S
+      (a b c : Option (List ℕ)) → Goes (TellsBetween streamed s d) R l a b m
+      → Goes (TellsBetween streamed s d) S m b c n → Leads R → Leads S
       → ((w u v : WorldState) (xs ys : List ExecutedCall) → IsWorldHistory n v → R w xs u → S u ys v
       → Q w (xs ++ ys) v)
-      → Goes (TellsBetween streamed s p) Q l a c n
+      → Goes (TellsBetween streamed s d) Q l a c n
   goes_then R S Q l m n a b c first second leads leads' joins =
       let (text, adds, each) = first in
       let (more, adds', each') = second in (
@@ -151,7 +188,7 @@ module _ (streamed : Streamed) (s : Contents) (p : Parameters) where
               (
                 xs ++ ys,
                 joins w u v xs ys end one two,
-                tells_then s p streamed w u v xs ys text more (leads w xs u one) (leads' u ys v two) tells_one
+                tells_then s d streamed w u v xs ys text more (leads w xs u one) (leads' u ys v two) tells_one
                     tells_two,
               ),
               end,
@@ -160,13 +197,13 @@ module _ (streamed : Streamed) (s : Contents) (p : Parameters) where
 
   -- ---- hindrances
 
-  pub breaks_none : (l : LiveState) (bytes : Option (List ℕ)) → Breaks (TellsBetween streamed s p) l bytes bytes
+  pub breaks_none : (l : LiveState) (bytes : Option (List ℕ)) → Breaks (TellsBetween streamed s d) l bytes bytes
   breaks_none l bytes =
-      ([], Appends-nil bytes, λ w is. (w, [], [], executes_none w, tells_none s p streamed w))
+      ([], Appends-nil bytes, λ w is. (w, [], [], executes_none w, tells_none s d streamed w))
 
   pub breaks_after : (R : WorldState → List ExecutedCall → WorldState → Type 0) (l m : LiveState)
-      (a b c : Option (List ℕ)) → Goes (TellsBetween streamed s p) R l a b m → Leads R
-      → Breaks (TellsBetween streamed s p) m b c → Breaks (TellsBetween streamed s p) l a c
+      (a b c : Option (List ℕ)) → Goes (TellsBetween streamed s d) R l a b m → Leads R
+      → Breaks (TellsBetween streamed s d) m b c → Breaks (TellsBetween streamed s d) l a c
   breaks_after R l m a b c goes leads breaks =
       let (text, adds, each) = goes in
       let (more, adds', each') = breaks in (
@@ -180,27 +217,27 @@ module _ (streamed : Streamed) (s : Contents) (p : Parameters) where
               xs ++ ys,
               rest,
               executes_then w xs u ys v before executes,
-              subst (TellsBetween streamed s p w (xs ++ ys) v) (sym (append_assoc text more rest))
-                  (tells_then s p streamed w u v xs ys text (more ++ rest) before executes tells_one tells_two),
+              subst (TellsBetween streamed s d w (xs ++ ys) v) (sym (append_assoc text more rest))
+                  (tells_then s d streamed w u v xs ys text (more ++ rest) before executes tells_one tells_two),
             ),
       )
 
   pub breaks_at : (R : WorldState → List ExecutedCall → WorldState → Type 0) (l m : LiveState) (a b : Option (List ℕ))
-      → Goes (TellsBetween streamed s p) R l a b m → Leads R → Breaks (TellsBetween streamed s p) l a b
+      → Goes (TellsBetween streamed s d) R l a b m → Leads R → Breaks (TellsBetween streamed s d) l a b
   breaks_at R l m a b goes leads = breaks_after R l m a b b goes leads (breaks_none m b)
 
   -- only a front of the text was written
   pub breaks_short : (R : WorldState → List ExecutedCall → WorldState → Type 0) (l m : LiveState)
       (a b : Option (List ℕ)) (text : List ℕ)
-      → Alike l (λ w v. (calls : List ExecutedCall) × R w calls v × TellsBetween streamed s p w calls v text) m
-      → Leads R → FallsShort a b text → Breaks (TellsBetween streamed s p) l a b
+      → Alike l (λ w v. (calls : List ExecutedCall) × R w calls v × TellsBetween streamed s d w calls v text) m
+      → Leads R → FallsShort a b text → Breaks (TellsBetween streamed s d) l a b
   breaks_short R l m a b text given leads short =
       let (front, rest, text_is, missing, adds) = short in (
         front,
         adds,
         λ w is.
             let (v, (calls, one, tells), end) = given w is in
-            (v, calls, rest, leads w calls v one, subst (TellsBetween streamed s p w calls v) text_is tells),
+            (v, calls, rest, leads w calls v one, subst (TellsBetween streamed s d w calls v) text_is tells),
       )
 
   -- ---- a text that is handed to the writer
@@ -208,16 +245,16 @@ module _ (streamed : Streamed) (s : Contents) (p : Parameters) where
   module _ {A E : Type 0} (r : Result A E) (R : WorldState → List ExecutedCall → WorldState → Type 0)
       (l n : LiveState) (a b : Option (List ℕ)) (handed text : List ℕ) (is : handed ≡ text)
       (given : Alike l
-      (λ w v. (calls : List ExecutedCall) × R w calls v × TellsBetween streamed s p w calls v text) n) where
-    pub handed_goes : OnOk r (Appends a b handed) → OnOk r (Goes (TellsBetween streamed s p) R l a b n)
+      (λ w v. (calls : List ExecutedCall) × R w calls v × TellsBetween streamed s d w calls v text) n) where
+    pub handed_goes : OnOk r (Appends a b handed) → OnOk r (Goes (TellsBetween streamed s d) R l a b n)
     handed_goes adds =
-        ok_as r (Appends a b handed) (Goes (TellsBetween streamed s p) R l a b n) adds
+        ok_as r (Appends a b handed) (Goes (TellsBetween streamed s d) R l a b n) adds
         (λ appends. (text, subst (Appends a b) is appends, given))
 
     pub handed_breaks : Leads R → OnErr r (FallsShort a b handed)
-        → OnErr r (Breaks (TellsBetween streamed s p) l a b)
+        → OnErr r (Breaks (TellsBetween streamed s d) l a b)
     handed_breaks leads short =
-        err_as r (FallsShort a b handed) (Breaks (TellsBetween streamed s p) l a b) short
+        err_as r (FallsShort a b handed) (Breaks (TellsBetween streamed s d) l a b) short
         (λ falls. breaks_short R l n a b text given leads (subst (FallsShort a b) is falls))
 
   -- ---- windows of a cycle
@@ -230,16 +267,16 @@ module _ (streamed : Streamed) (s : Contents) (p : Parameters) where
     no_calls xs ys none none' = ap₂ (λ (a b : List ExecutedCall). a ++ b) none none'
 
     pub windows_none : (l : LiveState) (bytes : Option (List ℕ))
-        → Goes (TellsBetween streamed s p) (WithoutCalls (PlaysWithin cycle faults due 0)) l bytes bytes l
+        → Goes (TellsBetween streamed s d) (WithoutCalls (PlaysWithin cycle faults due 0)) l bytes bytes l
     windows_none l bytes =
         goes_none (WithoutCalls (PlaysWithin cycle faults due 0)) l bytes
         (λ w. (refl, within_none cycle faults due w))
 
     pub windows_more : (l m n : LiveState) (a b c : Option (List ℕ)) (count : ℕ)
-        → Goes (TellsBetween streamed s p) (WithoutCalls (PlaysWithin cycle faults due count)) l a b m
-        → Goes (TellsBetween streamed s p) (WithoutCalls (PlaysWindow cycle faults due)) m b c n
+        → Goes (TellsBetween streamed s d) (WithoutCalls (PlaysWithin cycle faults due count)) l a b m
+        → Goes (TellsBetween streamed s d) (WithoutCalls (PlaysWindow cycle faults due)) m b c n
         → is_at_cycle n.bus.bus.opened ≡ false
-        → Goes (TellsBetween streamed s p) (WithoutCalls (PlaysWithin cycle faults due (count + 1))) l a c n
+        → Goes (TellsBetween streamed s d) (WithoutCalls (PlaysWithin cycle faults due (count + 1))) l a c n
     windows_more l m n a b c count first second within =
         goes_then (WithoutCalls (PlaysWithin cycle faults due count)) (WithoutCalls (PlaysWindow cycle faults due))
         (WithoutCalls (PlaysWithin cycle faults due (count + 1))) l m n a b c first second (within_leads count)
@@ -250,10 +287,10 @@ module _ (streamed : Streamed) (s : Contents) (p : Parameters) where
         ))
 
     pub windows_end : (l m n : LiveState) (a b c : Option (List ℕ)) (count : ℕ)
-        → Goes (TellsBetween streamed s p) (WithoutCalls (PlaysWithin cycle faults due count)) l a b m
-        → Goes (TellsBetween streamed s p) (WithoutCalls (PlaysWindow cycle faults due)) m b c n
+        → Goes (TellsBetween streamed s d) (WithoutCalls (PlaysWithin cycle faults due count)) l a b m
+        → Goes (TellsBetween streamed s d) (WithoutCalls (PlaysWindow cycle faults due)) m b c n
         → is_at_cycle n.bus.bus.opened ≡ true
-        → Goes (TellsBetween streamed s p) (WithoutCalls (PlaysWindows cycle faults due)) l a c n
+        → Goes (TellsBetween streamed s d) (WithoutCalls (PlaysWindows cycle faults due)) l a c n
     windows_end l m n a b c count first second ends =
         goes_then (WithoutCalls (PlaysWithin cycle faults due count)) (WithoutCalls (PlaysWindow cycle faults due))
         (WithoutCalls (PlaysWindows cycle faults due)) l m n a b c first second (within_leads count)
@@ -268,9 +305,9 @@ module _ (streamed : Streamed) (s : Contents) (p : Parameters) where
   module _ (scripts : List Scripted) (faults : List FaultLine) (due : List Event)
       (silent : list_all is_silent due ≡ true) where
     pub cycle_goes : {A E : Type 0} (r : Result A E) (cycle : ℕ) (l m n : LiveState) (a b c : Option (List ℕ))
-        → Goes (TellsBetween streamed s p) (MakesCalls (asked_in cycle scripts)) l a b m
-        → OnOk r (Goes (TellsBetween streamed s p) (WithoutCalls (PlaysWindows cycle faults due)) m b c n)
-        → OnOk r (Goes (TellsBetween streamed s p) (PlaysCycle cycle scripts faults due) l a c n)
+        → Goes (TellsBetween streamed s d) (MakesCalls (asked_in cycle scripts)) l a b m
+        → OnOk r (Goes (TellsBetween streamed s d) (WithoutCalls (PlaysWindows cycle faults due)) m b c n)
+        → OnOk r (Goes (TellsBetween streamed s d) (PlaysCycle cycle scripts faults due) l a c n)
     cycle_goes (Ok x) cycle l m n a b c called goes =
         goes_then (MakesCalls (asked_in cycle scripts)) (WithoutCalls (PlaysWindows cycle faults due))
         (PlaysCycle cycle scripts faults due) l m n a b c called goes (made_executed (asked_in cycle scripts))
@@ -282,14 +319,14 @@ module _ (streamed : Streamed) (s : Contents) (p : Parameters) where
     cycle_goes (Err e) cycle l m n a b c called goes = tt
 
     pub cycles_start : (l : LiveState) (bytes : Option (List ℕ))
-        → Goes (TellsBetween streamed s p) (PlaysCycles scripts faults due 0) l bytes bytes l
+        → Goes (TellsBetween streamed s d) (PlaysCycles scripts faults due 0) l bytes bytes l
     cycles_start l bytes =
         goes_none (PlaysCycles scripts faults due 0) l bytes (λ w. cycles_none scripts faults due [] w refl)
 
     pub cycles_next : (l m n : LiveState) (a b c : Option (List ℕ)) (count : ℕ)
-        → Goes (TellsBetween streamed s p) (PlaysCycles scripts faults due count) l a b m
-        → Goes (TellsBetween streamed s p) (PlaysCycle count scripts faults due) m b c n
-        → Goes (TellsBetween streamed s p) (PlaysCycles scripts faults due (count + 1)) l a c n
+        → Goes (TellsBetween streamed s d) (PlaysCycles scripts faults due count) l a b m
+        → Goes (TellsBetween streamed s d) (PlaysCycle count scripts faults due) m b c n
+        → Goes (TellsBetween streamed s d) (PlaysCycles scripts faults due (count + 1)) l a c n
     cycles_next l m n a b c count first second =
         goes_then (PlaysCycles scripts faults due count) (PlaysCycle count scripts faults due)
         (PlaysCycles scripts faults due (count + 1)) l m n a b c first second

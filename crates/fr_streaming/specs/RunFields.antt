@@ -19,4 +19,4 @@ faults_of run = run.scenario.now.faults
 
 -- what the view has of the way from a world to another, with these calls on it
 abbrev pub tells : Run → WorldState → List ExecutedCall → WorldState → List ℕ → Type 0
-tells run = TellsBetween run.streamed run.scenario.now run.cluster.now.params
+tells run = TellsBetween run.streamed run.scenario.now run.cluster.now

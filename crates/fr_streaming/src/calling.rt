@@ -5,6 +5,7 @@ ghost use Rattle.fr_streaming.specs.RunFields.{tells};
 ghost use Rattle.fr_streaming.specs.Streams.{asked, Breaks, Goes, MakesCalls};
 
 use crate::hindrance::Hindrance;
+use crate::log::place_in;
 use crate::telling::{Run, call_in, write_out};
 use fr_core::script::{Line, Script};
 use fr_endless::world::EndlessWorld;
@@ -25,11 +26,12 @@ fn show_call<W: Write>(
         (W.contents writer.new) world.new) }
     ensures early { OnErr result (Breaks (tells run.now) world.old (W.contents writer.old) (W.contents writer.new)) }
 {
+    let place = place_in(world, node, &line.action);
     let answer = match world.call(node, task, &line.action) {
         Ok(answer) => answer,
         Err(error) => return Err(Hindrance::from(error)),
     };
-    let text = call_in(run.alloc, run.streamed, node, task, line, answer)?;
+    let text = call_in(run.alloc, run.streamed, node, task, line, &place, answer)?;
     write_out(writer, text.as_slice())
 }
 

@@ -1,5 +1,5 @@
 //! Runs of a scenario without history: a view of the run is written as it goes, so that a run of hours needs the memory
-//! of one cycle. It is the answers of the calls, the record of the bus, or a capture of it.
+//! of one cycle. It is the answers of the calls, a log of the commits, the record of the bus, or a capture of it.
 //!
 //! ```text
 //! let notes = stream_run(alloc, &cluster, &names, &mut scenario_file, cycles, Streamed::Record, &mut output)?;
@@ -10,7 +10,13 @@
 //! # Definitions
 //!
 //! - `Streams`: the text of a view after some calls and windows, and what a run in a world without history has written.
+//! - `CommitLog`: the lines of the log of commits, by the journals of the world with its whole history.
+//! - `CommitLaws`: what happens to the commits of a journal; the log and the view of all commits after a run follow from
+//!   it.
 //! - `Runs`: the run of a scenario, and the reasons why there is none.
+//!
+//! `LogSteps` follows the steps of the code, for private functions. It has the lines of the log by the kept data; the
+//! meaning is in `CommitLog`.
 //!
 //! # Inner workings
 //!
@@ -18,11 +24,14 @@
 //! `show_lines` (`calling`) executes the lines of the scripts, and writes what the view has of each call.
 //! `show_windows` (`windows`) executes window after window by `play_window` (`playing`), and writes what the view has
 //! of the sealed one. The events are those of `fr_playing::play`, and each clause speaks of the world with its whole
-//! history that these events lead to.
+//! history that these events lead to. `log` has the lines of the log of commits: before a call and before a window the
+//! kept data of the interfaces tell what they will do to a commit. `laws` has clauses alone.
 #![tactic(auto)]
 
 mod calling;
 mod hindrance;
+pub mod laws;
+mod log;
 mod playing;
 pub mod stream;
 mod telling;

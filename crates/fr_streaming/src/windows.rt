@@ -9,7 +9,7 @@ ghost use Rattle.fr_streaming.specs.Streams.{Breaks, Goes, WithoutCalls};
 use crate::calling::show_lines;
 use crate::hindrance::Hindrance;
 use crate::playing::play_window;
-use crate::telling::{Run, last_in, write_out};
+use crate::telling::{Run, last_in, offers_for, write_out};
 use fr_bus::live::LiveBus;
 use fr_bus::windows::opens_cycle;
 use fr_endless::world::EndlessWorld;
@@ -41,9 +41,9 @@ fn show_window<W: Write>(
         (W.contents writer.new) world.new) }
     ensures early { OnErr result (Breaks (tells run.now) world.old (W.contents writer.old) (W.contents writer.new)) }
 {
+    let offers = offers_for(run.streamed, world);
     play_window(world, cycle, run.scenario.faults(), run.due)?;
-    let params = run.cluster.params();
-    let text = last_in(run.alloc, run.streamed, run.scenario, params, world.bus())?;
+    let text = last_in(run, world.bus(), offers.as_slice())?;
     write_out(writer, text.as_slice())
 }
 

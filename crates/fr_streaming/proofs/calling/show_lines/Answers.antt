@@ -8,13 +8,13 @@ use Rattle.fr_streaming.proofs.calling.show_lines.Goals as goal
 pub loop-script-init : goal.loop-script-init
 loop-script-init g c =
     let run = c.args.run.now in
-    none_goes run.streamed run.scenario.now run.cluster.now.params c.args.world.now
+    none_goes run.streamed run.scenario.now run.cluster.now c.args.world.now
     (g.W.Write.contents c.args.writer.now)
 
 pub loop-script-preserved : goal.loop-script-preserved
 loop-script-preserved g c =
     let run = c.args.run.now in
-    goes_more run.streamed run.scenario.now run.cluster.now.params (asked_in_script c.args.cycle) c.args.scripts.now
+    goes_more run.streamed run.scenario.now run.cluster.now (asked_in_script c.args.cycle) c.args.scripts.now
     c.loop-script.script-index c.script-item.result c.args.world.now c.loop-script.world c.show_script.new.world
     (g.W.Write.contents c.args.writer.now) (g.W.Write.contents c.loop-script.writer)
     (g.W.Write.contents c.show_script.new.writer) c.loop-script-test.true c.script-item.is c.loop-script.invariant
@@ -23,7 +23,7 @@ loop-script-preserved g c =
 pub returns-in_err-show_script-clause-early : goal.returns-in_err-show_script-clause-early
 returns-in_err-show_script-clause-early g c =
     let run = c.args.run.now in
-    on_err _ _ (breaks_more run.streamed run.scenario.now run.cluster.now.params
+    on_err _ _ (breaks_more run.streamed run.scenario.now run.cluster.now
     (flat_map (asked_in_script c.args.cycle) (take c.loop-script.script-index c.args.scripts.now)) c.args.world.now
     c.loop-script.world (g.W.Write.contents c.args.writer.now) (g.W.Write.contents c.loop-script.writer)
     (g.W.Write.contents c.show_script.new.writer) c.loop-script.invariant c.in_err-show_script.ensures.early)
@@ -31,6 +31,6 @@ returns-in_err-show_script-clause-early g c =
 pub returns-clause-goes : goal.returns-clause-goes
 returns-clause-goes g c =
     let run = c.args.run.now in
-    goes_all run.streamed run.scenario.now run.cluster.now.params (asked_in_script c.args.cycle) c.args.scripts.now
+    goes_all run.streamed run.scenario.now run.cluster.now (asked_in_script c.args.cycle) c.args.scripts.now
     c.loop-script.script-index c.args.world.now c.loop-script.world (g.W.Write.contents c.args.writer.now)
     (g.W.Write.contents c.loop-script.writer) (omega (arith, c.loop-script-test.false)) c.loop-script.invariant

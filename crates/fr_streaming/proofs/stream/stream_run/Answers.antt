@@ -1,8 +1,8 @@
-use Rattle.std.proofs.Common.{◌≡◌, ◌∙◌, ℕ, List, Ok, Err, Result, rules, subst, sym}
+use Rattle.std.proofs.Common.{◌≡◌, ℕ, List, Ok, Err, Result, rules, subst, sym}
 use Rattle.fr_files.specs.Inputs.{ForText}
 use Rattle.fr_outcome.specs.ScenarioFiles.{IsScenarioOf}
 use Rattle.fr_playing.specs.declared.error.PlayError.{PlayError}
-use Rattle.fr_streaming.proofs.StreamLemmas.{cut_of, file_streamed, file_told, file_untold}
+use Rattle.fr_streaming.proofs.StreamLemmas.{file_streamed, file_told, file_untold}
 use Rattle.fr_streaming.specs.declared.stream.StreamNotes.{StreamNotes}
 use Rattle.fr_streaming.specs.Runs.{TellsStream}
 use Rattle.fr_streaming.proofs.stream.stream_run.Goals as goal

@@ -20,7 +20,7 @@ returns-clause-goes g c =
     let d = g.W.Write.contents c.show_windows.new.writer in
     let called = subst (λ (scripts : List Scripted). Goes (tells run) (MakesCalls (asked_in c.args.cycle scripts))
     c.args.world.now a b c.show_lines.new.world) c.scripts.ensures.value c.in_ok-show_lines.ensures.goes in
-    cycle_goes run.streamed run.scenario.now run.cluster.now.params (scripts_of run) (faults_of run) (due_of run)
+    cycle_goes run.streamed run.scenario.now run.cluster.now (scripts_of run) (faults_of run) (due_of run)
     (due_silent (due_of run) (length run.cluster.now.plans) c.requires) c.show_windows.result c.args.cycle
     c.args.world.now c.show_lines.new.world c.show_windows.new.world a b d called c.show_windows.ensures.goes
 
@@ -35,5 +35,5 @@ returns-clause-early g c =
     err_as c.show_windows.result (Breaks (tells run) c.show_lines.new.world b d)
     (Breaks (tells run) c.args.world.now a d)
     c.show_windows.ensures.early
-    (breaks_more run.streamed run.scenario.now run.cluster.now.params (asked_in c.args.cycle (scripts_of run))
+    (breaks_more run.streamed run.scenario.now run.cluster.now (asked_in c.args.cycle (scripts_of run))
     c.args.world.now c.show_lines.new.world a b d called)
