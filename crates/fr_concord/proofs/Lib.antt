@@ -9,6 +9,8 @@ pub mod StartLemmas
 pub mod PlanRowLemmas
 pub mod RisingLemmas
 pub mod ReceiverLemmas
+pub mod LinkedLemmas
+pub mod SenderLemmas
 pub mod ListeningLemmas
 pub mod EndLemmas
 pub mod FaultLineLemmas

@@ -6,6 +6,7 @@ pub mod Starts
 pub mod PlanRows
 pub mod Rising
 pub mod Receivers
+pub mod Linked
 pub mod Listening
 pub mod Ends
 pub mod FaultLines

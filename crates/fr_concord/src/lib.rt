@@ -13,6 +13,7 @@
 //! - `Starts`: the macroticks at which static slots and minislots begin.
 //! - `Rising`: the times of a capture.
 //! - `Receivers`: the receivers in `commits` and in tables, against those of journals.
+//! - `Linked`: links, against transmit buffers; their receivers, against those of frames.
 //! - `Listening`: the listener of a capture of the bus.
 //! - `Ends`: the ends of transmissions in `record` and `commits`, against what is heard.
 //! - `FaultLines`: the line numbers of faults in the record of a run.
@@ -37,6 +38,8 @@
 //! - `RisingLemmas`: `captures_rising`. The observations of a legal interface have rising times.
 //! - `ReceiverLemmas`: `buffers_stored`, `queues_filled`, `receivers_same`. `commits` and tables name the receivers
 //!   that the journals have.
+//! - `LinkedLemmas`, `SenderLemmas`: `takers_linked`, `senders_linked`, `frames_linked`. Each transmit buffer has its
+//!   links, and what stores its frames is among their receivers.
 //! - `ListeningLemmas`: `is_heard_alike`, `is_captured_alike`, `is_own_or_conflict`. A listener hears what a silent
 //!   node observes.
 //! - `EndLemmas`: `are_ends_heard`. The printed end of a transmission is what a listener hears of it.

@@ -1,0 +1,4 @@
+pub mod CycleLemmas
+pub mod LinkLemmas
+pub mod NumberedLemmas
+pub mod RangeLemmas

@@ -1,0 +1,5 @@
+pub mod Commands
+pub mod Cycles
+pub mod LinkText
+pub mod Links
+pub mod Receivers
