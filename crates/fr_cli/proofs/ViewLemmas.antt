@@ -14,10 +14,11 @@ use Rattle.fr_cli.specs.declared.view.ViewOrder.TheVariants as the_order
 use Rattle.fr_cli.specs.declared.error.OrderError.{OrderError}
 use Rattle.fr_cli.specs.declared.error.OrderError.TheVariants as refusal
 use Rattle.fr_cli.specs.declared.view.Asked.{Asked}
-use Rattle.fr_cli.specs.declared.view.Asked.TheVariants.{Outcome, Answers, Commits, Record, Heard, Trace}
+use Rattle.fr_cli.specs.declared.view.Asked.TheVariants.{Outcome, Answers, Commits, Record, Windows, Heard, Trace}
 use Rattle.fr_cli.specs.ViewOrders.{IsAnswerTo, IsOrder, IsScheduleBy, IsShowBy, asked_by, asks, channel_asked}
 use Rattle.fr_cli.specs.ViewOrders.{cycle_asked, drawn_by, from_asked, has_schedule_by, has_show_by, matrix_of}
-use Rattle.fr_cli.specs.ViewOrders.{IsLatencyBy, has_latency_by, node_asked, the_commands, viewer_asked, way_asked}
+use Rattle.fr_cli.specs.ViewOrders.{IsLatencyBy, IsLinksBy, has_latency_by, has_links_by, node_asked, the_commands}
+use Rattle.fr_cli.specs.ViewOrders.{viewer_asked, way_asked}
 use Rattle.fr_cli.specs.ViewOrders.{window_asked}
 use Rattle.fr_cli.specs.ViewOrders.{IsKeptBy, IsShowIf, IsStreamBy, has_kept_by, has_stream_by, is_endless, streamed_by}
 use Rattle.fr_cli.proofs.CommandLemmas.{has_long_run_alike, has_run_alike}
@@ -64,6 +65,7 @@ schedule_alike f g same (the_order.Frames until_fault all) is = is
 schedule_alike f g same the_order.Why is = is
 schedule_alike f g same the_order.Help is = is
 schedule_alike f g same (the_order.Latency file way) is = is
+schedule_alike f g same (the_order.Links file) is = is
 schedule_alike f g same (the_order.Show asked cluster scenario cycles) is = is
 schedule_alike f g same (the_order.Stream asked cluster scenario cycles) is = is
 schedule_alike f g same (the_order.Schedule file cycle) is =
@@ -81,6 +83,7 @@ schedule_told entered look (Some o) named same told = by o (schedule_alike look 
     by the_order.Why is = absurd is
     by the_order.Help is = absurd is
     by (the_order.Latency file way) is = absurd is
+    by (the_order.Links file) is = absurd is
     by (the_order.Show asked cluster scenario cycles) is = absurd is
     by (the_order.Stream asked cluster scenario cycles) is = absurd is
     by (the_order.Schedule file cycle) is = (named, is)
@@ -96,7 +99,7 @@ asks_nothing None named lacks = cc named
 asks_nothing (Some (name, rows)) named lacks =
     let is : name ≡ codes "schedule" = cc named in
     subst (λ (n : Text). asks (Some (n, rows)) ≡ false) (sym is)
-    (ap₂ (λ shows asked. (shows || false || false || false || asked) || false)
+    (ap₂ (λ shows asked. (shows || false || false || false || asked) || false || false)
     (picks_none (is_endless (λ id. first_of id rows))) lacks)
 
 pub schedule_lacks : (entered : Option (Text × List Row)) (look : Text → Option Text) (found : Option ViewOrder)
@@ -121,6 +124,7 @@ latency_alike f g same (the_order.Capture until_fault own) is = is
 latency_alike f g same (the_order.Frames until_fault all) is = is
 latency_alike f g same the_order.Why is = is
 latency_alike f g same the_order.Help is = is
+latency_alike f g same (the_order.Links file) is = is
 latency_alike f g same (the_order.Schedule file cycle) is = is
 latency_alike f g same (the_order.Show asked cluster scenario cycles) is = is
 latency_alike f g same (the_order.Stream asked cluster scenario cycles) is = is
@@ -140,6 +144,7 @@ latency_told entered look (Some o) named same told = by o (latency_alike look (w
     by (the_order.Frames until_fault all) is = absurd is
     by the_order.Why is = absurd is
     by the_order.Help is = absurd is
+    by (the_order.Links file) is = absurd is
     by (the_order.Schedule file cycle) is = absurd is
     by (the_order.Show asked cluster scenario cycles) is = absurd is
     by (the_order.Stream asked cluster scenario cycles) is = absurd is
@@ -151,7 +156,7 @@ asks_no_latency None named lacks = cc named
 asks_no_latency (Some (name, rows)) named lacks =
     let is : name ≡ codes "latency" = cc named in
     subst (λ (n : Text). asks (Some (n, rows)) ≡ false) (sym is)
-    (ap₂ (λ shows asked. (shows || false || false || false || false) || asked)
+    (ap₂ (λ shows asked. (shows || false || false || false || false) || asked || false)
     (picks_none (is_endless (λ id. first_of id rows))) lacks)
 
 pub latency_lacks : (entered : Option (Text × List Row)) (look : Text → Option Text) (found : Option ViewOrder)
@@ -161,6 +166,54 @@ pub latency_lacks : (entered : Option (Text × List Row)) (look : Text → Optio
 latency_lacks entered look (Some o) named same lacks = tt
 latency_lacks entered look None named same lacks = asks_no_latency entered named
     (sym (latency_has_alike look (word_in entered) same) ∙ lacks)
+
+-- ---- receivers
+
+links_alike : (f g : Text → Option Text) → ((id : Text) → f id ≡ g id) → (o : ViewOrder) → IsLinksBy f o
+    → IsLinksBy g o
+links_alike f g same (the_order.Capture until_fault own) is = is
+links_alike f g same (the_order.Frames until_fault all) is = is
+links_alike f g same the_order.Why is = is
+links_alike f g same the_order.Help is = is
+links_alike f g same (the_order.Latency file way) is = is
+links_alike f g same (the_order.Schedule file cycle) is = is
+links_alike f g same (the_order.Show asked cluster scenario cycles) is = is
+links_alike f g same (the_order.Stream asked cluster scenario cycles) is = is
+links_alike f g same (the_order.Links file) is = sym (same (codes "FILE")) ∙ is
+
+pub links_told : (entered : Option (Text × List Row)) (look : Text → Option Text) (found : Option ViewOrder)
+    → IsNamed (codes "links") entered
+    → ((id : Text) → look id ≡ word_in entered id) → IfSome found (IsLinksBy look) → IfSome found (IsOrder entered)
+links_told entered look None named same told = tt
+links_told entered look (Some o) named same told = by o (links_alike look (word_in entered) same o told)
+  where
+    by : (o : ViewOrder) → IsLinksBy (word_in entered) o → IsOrder entered o
+    by (the_order.Capture until_fault own) is = absurd is
+    by (the_order.Frames until_fault all) is = absurd is
+    by the_order.Why is = absurd is
+    by the_order.Help is = absurd is
+    by (the_order.Latency file way) is = absurd is
+    by (the_order.Schedule file cycle) is = absurd is
+    by (the_order.Show asked cluster scenario cycles) is = absurd is
+    by (the_order.Stream asked cluster scenario cycles) is = absurd is
+    by (the_order.Links file) is = (named, is)
+
+asks_no_links : (entered : Option (Text × List Row)) → IsNamed (codes "links") entered
+    → has_links_by (word_in entered) ≡ false → asks entered ≡ false
+asks_no_links None named lacks = cc named
+asks_no_links (Some (name, rows)) named lacks =
+    let is : name ≡ codes "links" = cc named in
+    subst (λ (n : Text). asks (Some (n, rows)) ≡ false) (sym is)
+    (ap₂ (λ shows asked. (shows || false || false || false || false) || false || asked)
+    (picks_none (is_endless (λ id. first_of id rows))) lacks)
+
+pub links_lacks : (entered : Option (Text × List Row)) (look : Text → Option Text) (found : Option ViewOrder)
+    → IsNamed (codes "links") entered
+    → ((id : Text) → look id ≡ word_in entered id) → IfNone found (has_links_by look ≡ false)
+    → IfNone found (asks entered ≡ false)
+links_lacks entered look (Some o) named same lacks = tt
+links_lacks entered look None named same lacks = asks_no_links entered named
+    (ap is_some (sym (same (codes "FILE"))) ∙ lacks)
 
 -- ---- views of a run
 
@@ -184,7 +237,7 @@ abbrev asked_with : Text → Option Text → Option Asked → Option Asked
 asked_with name node drawn =
     if bytes_eq name (codes "outcome") then Some Outcome else if bytes_eq name (codes "answers") then Some Answers
     else if bytes_eq name (codes "commits") then Some Commits else if bytes_eq name (codes "record") then Some Record
-    else if bytes_eq name (codes "bus") then Some Heard
+    else if bytes_eq name (codes "windows") then Some Windows else if bytes_eq name (codes "bus") then Some Heard
     else if bytes_eq name (codes "trace") then option_map Trace (node_asked node)
     else if bytes_eq name (codes "matrix") then drawn else None
 
@@ -198,6 +251,7 @@ kept_alike name f g same (the_order.Frames until_fault all) is = is
 kept_alike name f g same the_order.Why is = is
 kept_alike name f g same the_order.Help is = is
 kept_alike name f g same (the_order.Latency file way) is = is
+kept_alike name f g same (the_order.Links file) is = is
 kept_alike name f g same (the_order.Schedule file cycle) is = is
 kept_alike name f g same (the_order.Stream asked cluster scenario cycles) is = is
 kept_alike name f g same (the_order.Show asked cluster scenario cycles) is = (
@@ -214,6 +268,7 @@ stream_alike name f g same (the_order.Frames until_fault all) is = is
 stream_alike name f g same the_order.Why is = is
 stream_alike name f g same the_order.Help is = is
 stream_alike name f g same (the_order.Latency file way) is = is
+stream_alike name f g same (the_order.Links file) is = is
 stream_alike name f g same (the_order.Schedule file cycle) is = is
 stream_alike name f g same (the_order.Show asked cluster scenario cycles) is = is
 stream_alike name f g same (the_order.Stream asked cluster scenario cycles) is = (
@@ -243,6 +298,7 @@ show_is_order true entered rows (the_order.Frames until_fault all) flag is = abs
 show_is_order true entered rows the_order.Why flag is = absurd is
 show_is_order true entered rows the_order.Help flag is = absurd is
 show_is_order true entered rows (the_order.Latency file way) flag is = absurd is
+show_is_order true entered rows (the_order.Links file) flag is = absurd is
 show_is_order true entered rows (the_order.Schedule file cycle) flag is = absurd is
 show_is_order true entered rows (the_order.Show asked cluster scenario cycles) flag is = absurd is
 show_is_order true entered rows (the_order.Stream asked cluster scenario cycles) flag is =
@@ -253,6 +309,7 @@ show_is_order false entered rows (the_order.Frames until_fault all) flag is = ab
 show_is_order false entered rows the_order.Why flag is = absurd is
 show_is_order false entered rows the_order.Help flag is = absurd is
 show_is_order false entered rows (the_order.Latency file way) flag is = absurd is
+show_is_order false entered rows (the_order.Links file) flag is = absurd is
 show_is_order false entered rows (the_order.Schedule file cycle) flag is = absurd is
 show_is_order false entered rows (the_order.Stream asked cluster scenario cycles) flag is = absurd is
 show_is_order false entered rows (the_order.Show asked cluster scenario cycles) flag is =
@@ -285,16 +342,18 @@ pub show_lacks : (entered : Option (Text × List Row)) (name : Text) (look : Tex
     → bytes_eq name (codes "capture") ≡ false → bytes_eq name (codes "frames") ≡ false
     → bytes_eq name (codes "why") ≡ false
     → bytes_eq name (codes "schedule") ≡ false → bytes_eq name (codes "latency") ≡ false
+    → bytes_eq name (codes "links") ≡ false
     → ((id : Text) → look id ≡ word_in entered id) → IfNone found (has_show_by name look ≡ false)
     → IfNone found (asks entered ≡ false)
-show_lacks entered name look (Some o) named capture frames why schedule latency same lacks = tt
-show_lacks None name look None named capture frames why schedule latency same lacks = cc named
-show_lacks (Some (entered, rows)) name look None named capture frames why schedule latency same lacks =
+show_lacks entered name look (Some o) named capture frames why schedule latency links same lacks = tt
+show_lacks None name look None named capture frames why schedule latency links same lacks = cc named
+show_lacks (Some (entered, rows)) name look None named capture frames why schedule latency links same lacks =
     let is : entered ≡ name = cc named in
     let words = λ (id : Text). first_of id rows in
     let alike : has_show_by name look ≡ has_show_by name words = has_show_alike name look words same in
     subst (λ (n : Text). asks (Some (n, rows)) ≡ false) (sym is)
-    (ap₂ (λ a b. a || b) (ap₂ (λ a b. a || b)
+    (ap₂ (λ a b. a || b) (ap₂ (λ a b. a || b) (ap₂ (λ a b. a || b)
     (ap₂ (λ a b. a || b) (ap₂ (λ a b. a || b) (ap₂ (λ a b. a || b) (sym alike ∙ lacks) capture) frames) why)
     (ap (λ b. b && has_schedule_by (word_in (Some (name, rows)))) schedule))
     (ap (λ b. b && has_latency_by (word_in (Some (name, rows)))) latency))
+    (ap (λ b. b && has_links_by (word_in (Some (name, rows)))) links))

@@ -1,6 +1,6 @@
 -- The answer to words follows from a parse, since the command is of the kind for which `clap` reports all faults.
 use Rattle.std.proofs.Common.{◌≡◌, ◌∷◌, [], Option, Some, None, Err, List, option_map, ap, ap₂, sym, refl, true, arith}
-use Rattle.std.proofs.Common.{inl, inr, codes}
+use Rattle.std.proofs.Common.{inl, inr, codes, ◌∙◌}
 use Rattle.std.specs.Option.{ok_or}
 use Rattle.clap.specs.Values.{kind_of}
 use Rattle.clap.specs.Words.{HasKind, IsAmong, Kinds, Text, fault_of, is_simple, is_simple_and_free}
@@ -9,23 +9,41 @@ use Rattle.clap.proofs.OnLiterals.{clap_on_literals}
 use Rattle.fr_cli.specs.Commands.{is_true, order_error_of}
 use Rattle.fr_cli.specs.declared.error.OrderError.{OrderError}
 use Rattle.fr_cli.specs.declared.error.OrderError.TheVariants as refusal
-use Rattle.fr_cli.specs.WorldCommands.{IsAnswer, entered, given_in, run_in, the_command, with_file}
-use Rattle.fr_cli.specs.WorldCommands.{with_options}
+use Rattle.fr_cli.specs.WorldCommands.{Given, IsAnswer, are_allowed, entered, given_by, given_in, if_allowed, run_in}
+use Rattle.fr_cli.specs.WorldCommands.{the_command, with_file, with_files, with_options}
+use Rattle.fr_cli.specs.declared.world.WorldRun.{WorldRun}
 use Rattle.fr_cli.specs.declared.world.WorldCommand.{WorldCommand}
 
 pub are_simple : is_simple the_command ≡ true
-unfolding clap_on_literals with_options
+unfolding clap_on_literals with_options with_files
 are_simple = refl
 
 pub are_free : is_simple_and_free the_command ≡ true
-unfolding clap_on_literals with_options
+unfolding clap_on_literals with_options with_files
 are_free = refl
 
 -- two ways to the same words give the same command
 pub given_alike : (f g : Text → Option Text) → ((id : Text) → f id ≡ g id) → given_in f ≡ given_in g
 given_alike f g same =
-    ap₂ with_file (same (codes "FILE"))
-    (ap₂ (λ flag word. run_in (is_true flag) word) (same (codes "endless")) (same (codes "cycles")))
+    let flag = same (codes "endless") in
+    let lines = same (codes "record") in
+    let frames = same (codes "capture") in
+    let run : run_in (is_true (f (codes "endless"))) (f (codes "cycles"))
+    ≡ run_in (is_true (g (codes "endless"))) (g (codes "cycles")) =
+    ap₂ (λ flag word. run_in (is_true flag) word) flag (same (codes "cycles")) in
+    let allowed : are_allowed (is_true (f (codes "endless"))) (f (codes "record")) (f (codes "capture"))
+    ≡ are_allowed (is_true (g (codes "endless"))) (g (codes "record")) (g (codes "capture")) =
+    ap (λ word. are_allowed (is_true word) (f (codes "record")) (f (codes "capture"))) flag
+    ∙ ap₂ (λ a b. are_allowed (is_true (g (codes "endless"))) a b) lines frames in
+    let given : with_file (f (codes "FILE")) (run_in (is_true (f (codes "endless"))) (f (codes "cycles")))
+    (f (codes "record")) (f (codes "capture"))
+    ≡ with_file (g (codes "FILE")) (run_in (is_true (g (codes "endless"))) (g (codes "cycles")))
+    (g (codes "record")) (g (codes "capture")) =
+    ap₂ (λ (file : Option Text) (run : Option WorldRun). with_file file run (f (codes "record")) (f (codes "capture")))
+    (same (codes "FILE")) run
+    ∙ ap₂ (λ a b. with_file (g (codes "FILE"))
+    (run_in (is_true (g (codes "endless"))) (g (codes "cycles"))) a b) lines frames in
+    ap₂ if_allowed allowed given
 
 -- an error of `clap` is a fault of the words, or a failed allocation
 pub refused_for : (words : List Text) (e : Error) → HasKind (fault_of the_command words) e
@@ -41,7 +59,7 @@ refused_for words e (inr among) = by (order_error_of (kind_of e)) (fault_of the_
 
 -- without a fault, the command that was found is the answer
 pub taken_for : (words : List Text) (found : Option WorldCommand) → fault_of the_command words ≡ []
-    → option_map (λ (command : WorldCommand). (command.file.now, command.run)) found ≡ given_in (entered words)
+    → option_map given_by found ≡ given_in (entered words)
     → IsAnswer words (ok_or found refusal.Usage)
 taken_for words (Some command) none given = (none, sym given)
 taken_for words None none given = inr (sym given)

@@ -6,7 +6,8 @@ use Rattle.std.specs.Str.{bytes_eq}
 use Rattle.clap.specs.Words.{App, Row, Rule, Text, fault_of, first_of, new_app, new_rule, subcommand_of}
 use Rattle.clap.specs.Words.{with_rule, with_subcommand}
 use Rattle.fr_cli.specs.declared.view.Asked.{Asked}
-use Rattle.fr_cli.specs.declared.view.Asked.TheVariants.{Outcome, Answers, Commits, Record, Heard, Trace, Matrix}
+use Rattle.fr_cli.specs.declared.view.Asked.TheVariants.{Outcome, Answers, Commits, Record, Windows, Heard, Trace}
+use Rattle.fr_cli.specs.declared.view.Asked.TheVariants.{Matrix}
 use Rattle.fr_slots.specs.declared.channel.Channel.{Channel}
 use Rattle.fr_slots.specs.declared.channel.Channel.TheVariants.{A, B}
 use Rattle.clap.specs.declared.builder.action.ArgAction.TheVariants.{SetTrue}
@@ -56,8 +57,11 @@ three_commands = with_subcommand two_commands (named (codes "why"))
 abbrev pub four_commands : App
 four_commands = with_subcommand three_commands schedule_command.top
 
+abbrev pub five_commands : App
+five_commands = with_subcommand four_commands latency_command.top
+
 abbrev pub file_commands : App
-file_commands = with_subcommand four_commands latency_command.top
+file_commands = with_subcommand five_commands (with_file (codes "links")).top
 
 -- a command of a run, with its two files and its number of cycles
 abbrev pub with_run : App → App
@@ -87,16 +91,19 @@ matrix_command = with_run matrix_drawn
 
 -- with the commands that show a run as lines
 abbrev pub with_outcome : App
-with_outcome = with_subcommand file_commands (of_run (codes "outcome")).top
+with_outcome = with_subcommand file_commands (of_long_run (codes "outcome")).top
 
 abbrev pub with_answers : App
 with_answers = with_subcommand with_outcome (of_long_run (codes "answers")).top
 
 abbrev pub with_commits : App
-with_commits = with_subcommand with_answers (of_run (codes "commits")).top
+with_commits = with_subcommand with_answers (of_long_run (codes "commits")).top
+
+abbrev pub with_record : App
+with_record = with_subcommand with_commits (of_long_run (codes "record")).top
 
 abbrev pub line_commands : App
-line_commands = with_subcommand with_commits (of_long_run (codes "record")).top
+line_commands = with_subcommand with_record (of_long_run (codes "windows")).top
 
 -- and with those that show it in another form
 abbrev pub with_bus : App
@@ -131,6 +138,7 @@ IsScheduleBy first_word (the_order.Frames until_fault all) = ⊥
 IsScheduleBy first_word the_order.Why = ⊥
 IsScheduleBy first_word the_order.Help = ⊥
 IsScheduleBy first_word (the_order.Latency file way) = ⊥
+IsScheduleBy first_word (the_order.Links file) = ⊥
 IsScheduleBy first_word (the_order.Show asked cluster scenario cycles) = ⊥
 IsScheduleBy first_word (the_order.Stream asked cluster scenario cycles) = ⊥
 IsScheduleBy first_word (the_order.Schedule file cycle) =
@@ -183,6 +191,7 @@ asked_by name first_word =
     else if bytes_eq name (codes "answers") then Some Answers
     else if bytes_eq name (codes "commits") then Some Commits
     else if bytes_eq name (codes "record") then Some Record
+    else if bytes_eq name (codes "windows") then Some Windows
     else if bytes_eq name (codes "bus") then Some Heard
     else if bytes_eq name (codes "trace") then option_map Trace (node_asked (first_word (codes "NODE")))
     else if bytes_eq name (codes "matrix") then drawn_by first_word
@@ -199,6 +208,7 @@ IsKeptBy name first_word (the_order.Frames until_fault all) = ⊥
 IsKeptBy name first_word the_order.Why = ⊥
 IsKeptBy name first_word the_order.Help = ⊥
 IsKeptBy name first_word (the_order.Latency file way) = ⊥
+IsKeptBy name first_word (the_order.Links file) = ⊥
 IsKeptBy name first_word (the_order.Schedule file cycle) = ⊥
 IsKeptBy name first_word (the_order.Stream asked cluster scenario cycles) = ⊥
 IsKeptBy name first_word (the_order.Show asked cluster scenario cycles) =
@@ -210,8 +220,11 @@ IsKeptBy name first_word (the_order.Show asked cluster scenario cycles) =
 -- the view of the command of this name, if it can be written as the run goes
 abbrev pub streamed_by : Text → Option StreamAsked
 streamed_by name =
-    if bytes_eq name (codes "answers") then Some streamed.Answers
+    if bytes_eq name (codes "outcome") then Some streamed.Outcome
+    else if bytes_eq name (codes "answers") then Some streamed.Answers
+    else if bytes_eq name (codes "commits") then Some streamed.Commits
     else if bytes_eq name (codes "record") then Some streamed.Record
+    else if bytes_eq name (codes "windows") then Some streamed.Windows
     else if bytes_eq name (codes "bus") then Some streamed.Heard
     else None
 
@@ -226,6 +239,7 @@ IsStreamBy name first_word (the_order.Frames until_fault all) = ⊥
 IsStreamBy name first_word the_order.Why = ⊥
 IsStreamBy name first_word the_order.Help = ⊥
 IsStreamBy name first_word (the_order.Latency file way) = ⊥
+IsStreamBy name first_word (the_order.Links file) = ⊥
 IsStreamBy name first_word (the_order.Schedule file cycle) = ⊥
 IsStreamBy name first_word (the_order.Show asked cluster scenario cycles) = ⊥
 IsStreamBy name first_word (the_order.Stream asked cluster scenario cycles) =
@@ -287,12 +301,31 @@ IsLatencyBy first_word (the_order.Capture until_fault own) = ⊥
 IsLatencyBy first_word (the_order.Frames until_fault all) = ⊥
 IsLatencyBy first_word the_order.Why = ⊥
 IsLatencyBy first_word the_order.Help = ⊥
+IsLatencyBy first_word (the_order.Links file) = ⊥
 IsLatencyBy first_word (the_order.Schedule file cycle) = ⊥
 IsLatencyBy first_word (the_order.Show asked cluster scenario cycles) = ⊥
 IsLatencyBy first_word (the_order.Stream asked cluster scenario cycles) = ⊥
 IsLatencyBy first_word (the_order.Latency file way) =
     (first_word (codes "FILE") ≡ Some file.now)
     × (way_asked (first_word (codes "slot")) (first_word (codes "channel")) ≡ Some way)
+
+-- ---- receivers
+
+-- the first words of these arguments ask for the receivers of a cluster's transmit buffers
+abbrev pub has_links_by : (Text → Option Text) → Bool
+has_links_by first_word = is_some (first_word (codes "FILE"))
+
+-- the order has the file of these arguments
+abbrev pub IsLinksBy : (Text → Option Text) → ViewOrder → Type 0
+IsLinksBy first_word (the_order.Capture until_fault own) = ⊥
+IsLinksBy first_word (the_order.Frames until_fault all) = ⊥
+IsLinksBy first_word the_order.Why = ⊥
+IsLinksBy first_word the_order.Help = ⊥
+IsLinksBy first_word (the_order.Latency file way) = ⊥
+IsLinksBy first_word (the_order.Schedule file cycle) = ⊥
+IsLinksBy first_word (the_order.Show asked cluster scenario cycles) = ⊥
+IsLinksBy first_word (the_order.Stream asked cluster scenario cycles) = ⊥
+IsLinksBy first_word (the_order.Links file) = first_word (codes "FILE") ≡ Some file.now
 
 -- ---- a trace
 
@@ -314,6 +347,7 @@ asks entered =
     has_show entered || is_named (codes "capture") entered || is_named (codes "frames") entered
     || is_named (codes "why") entered || (is_named (codes "schedule") entered && has_schedule_by (word_in entered))
     || (is_named (codes "latency") entered && has_latency_by (word_in entered))
+    || (is_named (codes "links") entered && has_links_by (word_in entered))
 
 -- the order is that of the entered command, with its arguments
 abbrev pub IsOrder : Option (Text × List Row) → ViewOrder → Type 0
@@ -325,6 +359,8 @@ IsOrder entered (the_order.Schedule file cycle) =
     IsNamed (codes "schedule") entered × IsScheduleBy (word_in entered) (the_order.Schedule file cycle)
 IsOrder entered (the_order.Latency file way) =
     IsNamed (codes "latency") entered × IsLatencyBy (word_in entered) (the_order.Latency file way)
+IsOrder entered (the_order.Links file) =
+    IsNamed (codes "links") entered × IsLinksBy (word_in entered) (the_order.Links file)
 IsOrder entered (the_order.Show asked cluster scenario cycles) =
     IsShow entered (the_order.Show asked cluster scenario cycles)
 IsOrder entered (the_order.Stream asked cluster scenario cycles) =

@@ -1,5 +1,5 @@
 -- The words that are a command of `fr_world`, by the rules of `clap` (project-defined).
-use Rattle.std.specs.Prelude.{◌≡◌, ◌⊎◌, ◌<◌, ℕ, List, [], length, codes, Bool, true, false, Option, Some, None}
+use Rattle.std.specs.Prelude.{◌≡◌, ◌⊎◌, ◌<◌, List, [], length, codes, Bool, true, false, Option, Some, None}
 use Rattle.std.specs.Prelude.{Result, Ok, Err, option_map}
 use Rattle.clap.specs.Words.{App, Rule, Text, fault_of, first_of, matches_of, new_rule, with_rule}
 use Rattle.clap.specs.declared.builder.action.ArgAction.TheVariants.{SetTrue}
@@ -23,13 +23,23 @@ cycles_option = record (new_rule (codes "cycles")) { long = Some (codes "cycles"
 abbrev pub endless_flag : Rule
 endless_flag = record (new_rule (codes "endless")) { long = Some (codes "endless"); action = Some SetTrue }
 
+abbrev pub record_option : Rule
+record_option = record (new_rule (codes "record")) { long = Some (codes "record") }
+
+abbrev pub capture_option : Rule
+capture_option = record (new_rule (codes "capture")) { long = Some (codes "capture") }
+
 -- with the options, of which `clap` requires none
 unfoldable pub with_options : App → App
 with_options app = with_rule (with_rule app cycles_option) endless_flag
 
+-- with the options of files
+unfoldable pub with_files : App → App
+with_files app = with_rule (with_rule app record_option) capture_option
+
 -- the program with a file and its options
 abbrev pub the_command : App
-the_command = with_options (with_rule bare_command the_file)
+the_command = with_files (with_options (with_rule bare_command the_file))
 
 -- ---- what the words enter
 
@@ -40,19 +50,50 @@ run_in false (Some word) = option_map Kept (cycles_in word)
 run_in true None = Some (Endless None)
 run_in true (Some word) = option_map (λ cycles. Endless (Some cycles)) (most_in word)
 
--- the file and the run, if the words of these arguments spell both
-abbrev pub with_run : Text → Option WorldRun → Option (Text × WorldRun)
-with_run file None = None
-with_run file (Some run) = Some (file, run)
+-- a run with its history has no file for its windows
+abbrev pub are_allowed : Bool → Option Text → Option Text → Bool
+are_allowed true record_file capture_file = true
+are_allowed false None None = true
+are_allowed false None (Some name) = false
+are_allowed false (Some name) capture_file = false
 
-abbrev pub with_file : Option Text → Option WorldRun → Option (Text × WorldRun)
-with_file None run = None
-with_file (Some file) run = with_run file run
+-- a command: the cluster file, the run, and the files of the record and of the capture
+pub record Given : Type 0 where
+  pub file : Text
+  pub run : WorldRun
+  pub record_file : Option Text
+  pub capture_file : Option Text
 
-abbrev pub given_in : (Text → Option Text) → Option (Text × WorldRun)
+abbrev pub given_by : WorldCommand → Given
+given_by command = record {
+  file = command.file.now;
+  run = command.run;
+  record_file = option_map (λ name. name.now) command.record;
+  capture_file = option_map (λ name. name.now) command.capture;
+}
+
+-- the command, if the words of its arguments spell a file and a run
+abbrev pub with_run : Text → Option WorldRun → Option Text → Option Text → Option Given
+with_run file None record_file capture_file = None
+with_run file (Some run) record_file capture_file =
+    Some (record { file = file; run = run; record_file = record_file; capture_file = capture_file })
+
+abbrev pub with_file : Option Text → Option WorldRun → Option Text → Option Text → Option Given
+with_file None run record_file capture_file = None
+with_file (Some file) run record_file capture_file = with_run file run record_file capture_file
+
+-- the same, if the run may have these files
+abbrev pub if_allowed : Bool → Option Given → Option Given
+if_allowed true given = given
+if_allowed false given = None
+
+abbrev pub given_in : (Text → Option Text) → Option Given
 given_in first_word =
-    with_file (first_word (codes "FILE"))
+    if_allowed
+    (are_allowed (is_true (first_word (codes "endless"))) (first_word (codes "record")) (first_word (codes "capture")))
+    (with_file (first_word (codes "FILE"))
     (run_in (is_true (first_word (codes "endless"))) (first_word (codes "cycles")))
+    (first_word (codes "record")) (first_word (codes "capture")))
 
 -- the first word of an argument, if `clap` accepts these words
 abbrev pub entered : List Text → Text → Option Text
@@ -62,6 +103,6 @@ entered words id = first_of id (matches_of the_command words)
 -- finds a fault, or if they spell no run. `Memory` may come for any words.
 abbrev pub IsAnswer : List Text → Result WorldCommand OrderError → Type 0
 IsAnswer words (Ok command) =
-    (fault_of the_command words ≡ []) × (given_in (entered words) ≡ Some (command.file.now, command.run))
+    (fault_of the_command words ≡ []) × (given_in (entered words) ≡ Some (given_by command))
 IsAnswer words (Err refusal.Usage) = (0 < length (fault_of the_command words)) ⊎ (given_in (entered words) ≡ None)
 IsAnswer words (Err refusal.Memory) = Unit {0}

@@ -8,6 +8,7 @@ ghost use Rattle.fr_cli.specs.Commands.{is_true};
 ghost use Rattle.fr_cli.specs.ViewOrders.{IsAnswer, IsOrder, IsScheduleBy, IsShowBy, asked_by, asks, channel_asked};
 ghost use Rattle.fr_cli.specs.ViewOrders.{drawn_by, file_commands, flag_named, from_asked, has_schedule_by};
 ghost use Rattle.fr_cli.specs.ViewOrders.{IsLatencyBy, has_latency_by, latency_command, slot_in, way_asked};
+ghost use Rattle.fr_cli.specs.ViewOrders.{IsLinksBy, has_links_by};
 ghost use Rattle.fr_cli.specs.ViewOrders.{has_show_by, is_help, line_commands, matrix_command, of_trace};
 ghost use Rattle.fr_cli.specs.ViewOrders.{schedule_command, the_commands, trace_command, viewer_asked, window_asked};
 ghost use Rattle.fr_cli.specs.ViewOrders.{with_run};
@@ -31,6 +32,8 @@ pub enum Asked {
     Commits,
     /// A line for each transmission and each flipped bit.
     Record,
+    /// A line for each window.
+    Windows,
     /// A capture of the bus, as a passive listener receives it.
     Heard,
     /// The trace of the node of this number, 0 to 15.
@@ -51,10 +54,16 @@ pub enum Asked {
 /// A view that is written as the run goes (project-defined).
 #[derive(Clone, Copy, PartialEq, Eq)]
 pub enum StreamAsked {
+    /// Its outcome.
+    Outcome,
     /// A line for each line of a script, with its answer.
     Answers,
+    /// A line for each commit, with what became of it.
+    Commits,
     /// A line for each transmission and each flipped bit.
     Record,
+    /// A line for each window.
+    Windows,
     /// A capture of the bus, as a passive listener receives it.
     Heard,
 }
@@ -84,6 +93,11 @@ pub enum ViewOrder<'a> {
         file: &'a str,
         /// The slot whose latest start is explained, if one is named.
         way: Option<SlotAsked>,
+    },
+    /// Read the cluster file of this name and print the receivers of its transmit buffers.
+    Links {
+        /// The name of the cluster file.
+        file: &'a str,
     },
     /// Read the trace of one controller on standard input and print a capture of its observations.
     Capture {
@@ -218,7 +232,8 @@ fn file_commands<'a>(alloc: Global) -> Result<Command<'a>, AllocError>
     let second = first.subcommand(of_trace(alloc, "frames", "all")?)?;
     let third = second.subcommand(Command::new(alloc, "why"))?;
     let fourth = third.subcommand(schedule_command(alloc)?)?;
-    fourth.subcommand(latency_command(alloc)?)
+    let fifth = fourth.subcommand(latency_command(alloc)?)?;
+    fifth.subcommand(of_file(alloc, "links")?)
 }
 
 /// Adds the commands that show a run as lines.
@@ -226,14 +241,11 @@ fn line_commands<'a>(alloc: Global, files: Command<'a>) -> Result<Command<'a>, A
     requires { app_of files ≡ file_commands }
     ensures { IfOk result (λ c. app_of c ≡ line_commands) }
 {
-    let outcome = of_run(alloc, Command::new(alloc, "outcome"))?;
-    let answers = of_long_run(alloc, "answers")?;
-    let commits = of_run(alloc, Command::new(alloc, "commits"))?;
-    let recorded = of_long_run(alloc, "record")?;
-    let first = files.subcommand(outcome)?;
-    let second = first.subcommand(answers)?;
-    let third = second.subcommand(commits)?;
-    third.subcommand(recorded)
+    let first = files.subcommand(of_long_run(alloc, "outcome")?)?;
+    let second = first.subcommand(of_long_run(alloc, "answers")?)?;
+    let third = second.subcommand(of_long_run(alloc, "commits")?)?;
+    let fourth = third.subcommand(of_long_run(alloc, "record")?)?;
+    fourth.subcommand(of_long_run(alloc, "windows")?)
 }
 
 /// Returns the program with all its commands.
@@ -326,6 +338,15 @@ fn latency_in<'a>(arguments: &ArgMatches<'a>) -> Option<ViewOrder<'a>>
     Some(ViewOrder::Latency { file, way })
 }
 
+/// Returns the order for the receivers of a cluster's transmit buffers, if the arguments have a file.
+fn links_in<'a>(arguments: &ArgMatches<'a>) -> Option<ViewOrder<'a>>
+    ensures told { IfSome result (IsLinksBy (first_value (found_of arguments.now))) }
+    ensures nothing { IfNone result (has_links_by (first_value (found_of arguments.now)) ≡ false) }
+{
+    let file = arguments.get_str("FILE")?;
+    Some(ViewOrder::Links { file })
+}
+
 /// Returns the node whose observations are drawn, or `Some(None)` if no node is named.
 fn viewer_in(arguments: &ArgMatches<'_>) -> Option<Option<u8>>
     ensures { result ≡ viewer_asked (first_value (found_of arguments.now) (codes "node")) }
@@ -394,6 +415,7 @@ fn asked_in(name: &str, arguments: &ArgMatches<'_>) -> Option<Asked>
         "answers" => Some(Asked::Answers),
         "commits" => Some(Asked::Commits),
         "record" => Some(Asked::Record),
+        "windows" => Some(Asked::Windows),
         "bus" => Some(Asked::Heard),
         "trace" => Some(Asked::Trace(node_of(arguments.get_str("NODE")?)?)),
         "matrix" => drawn_in(arguments),
@@ -420,8 +442,11 @@ fn streamed_in(name: &str) -> Option<StreamAsked>
     ensures { result ≡ streamed_by name.now }
 {
     match name {
+        "outcome" => Some(StreamAsked::Outcome),
         "answers" => Some(StreamAsked::Answers),
+        "commits" => Some(StreamAsked::Commits),
         "record" => Some(StreamAsked::Record),
+        "windows" => Some(StreamAsked::Windows),
         "bus" => Some(StreamAsked::Heard),
         _ => None,
     }
@@ -480,6 +505,7 @@ fn order_in<'a>(matches: &ArgMatches<'a>) -> Option<ViewOrder<'a>>
     match name {
         "schedule" => schedule_in(arguments),
         "latency" => latency_in(arguments),
+        "links" => links_in(arguments),
         "capture" => {
             let (until_fault, own) = flags_in(arguments, "own");
             Some(ViewOrder::Capture { until_fault, own })

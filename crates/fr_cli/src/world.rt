@@ -3,8 +3,9 @@ ghost use Rattle.std.specs.Prelude.{◌≡◌, IfOk, codes, map, option_map, fal
 ghost use Rattle.clap.specs.Words.{app_of, first_value, found_of, rule_of, with_rule};
 ghost use Rattle.clap.specs.declared.builder.command.Command.TheViews.{out-Command};
 ghost use Rattle.fr_cli.specs.Commands.{is_true, the_file};
-ghost use Rattle.fr_cli.specs.WorldCommands.{IsAnswer, bare_command, cycles_option, endless_flag, given_in};
-ghost use Rattle.fr_cli.specs.WorldCommands.{run_in, the_command, with_options};
+ghost use Rattle.fr_cli.specs.WorldCommands.{IsAnswer, are_allowed, bare_command, capture_option, cycles_option};
+ghost use Rattle.fr_cli.specs.WorldCommands.{endless_flag, given_by, given_in, record_option, run_in, the_command};
+ghost use Rattle.fr_cli.specs.WorldCommands.{with_files, with_options};
 
 use crate::commands::{cycles_of, most_of};
 use crate::error::OrderError;
@@ -27,6 +28,10 @@ pub struct WorldCommand<'a> {
     pub file: &'a str,
     /// The run.
     pub run: WorldRun,
+    /// The name of the file that gets the record of a run without history.
+    pub record: Option<&'a str>,
+    /// The name of the file that gets a capture of a run without history.
+    pub capture: Option<&'a str>,
 }
 
 /// Returns the option of a number of cycles.
@@ -45,6 +50,22 @@ fn endless_flag<'a>(alloc: Global) -> Arg<'a>
     Arg::new(alloc, "endless")
         .long("endless")
         .action(ArgAction::SetTrue)
+}
+
+/// Returns the option of a file for the record.
+fn record_option<'a>(alloc: Global) -> Arg<'a>
+    ensures rule { rule_of result ≡ record_option }
+    ensures local { result.global ≡ false }
+{
+    Arg::new(alloc, "record").long("record")
+}
+
+/// Returns the option of a file for the capture.
+fn capture_option<'a>(alloc: Global) -> Arg<'a>
+    ensures rule { rule_of result ≡ capture_option }
+    ensures local { result.global ≡ false }
+{
+    Arg::new(alloc, "capture").long("capture")
 }
 
 /// Returns the program without arguments.
@@ -70,10 +91,21 @@ fn with_file<'a>(alloc: Global) -> Result<Command<'a>, AllocError>
 #[tactic(auto, unfolding(crate::specs::WorldCommands::with_options))]
 fn with_options<'a>(alloc: Global, command: Command<'a>) -> Result<Command<'a>, AllocError>
     requires { (out-Command command).has_globals ≡ false }
-    ensures { IfOk result (λ c. app_of c ≡ with_options (app_of command.entry)) }
+    ensures app { IfOk result (λ c. app_of c ≡ with_options (app_of command.entry)) }
+    ensures local { IfOk result (λ c. (out-Command c).has_globals ≡ false) }
 {
     let (cycles, endless) = (cycles_option(alloc), endless_flag(alloc));
     command.arg(cycles)?.arg(endless)
+}
+
+/// Returns the program with the options of files.
+#[tactic(auto, unfolding(crate::specs::WorldCommands::with_files))]
+fn with_files<'a>(alloc: Global, command: Command<'a>) -> Result<Command<'a>, AllocError>
+    requires { (out-Command command).has_globals ≡ false }
+    ensures { IfOk result (λ c. app_of c ≡ with_files (app_of command.entry)) }
+{
+    let (record, capture) = (record_option(alloc), capture_option(alloc));
+    command.arg(record)?.arg(capture)
 }
 
 /// Returns the program, with a file and its options.
@@ -81,7 +113,19 @@ fn the_command<'a>(alloc: Global) -> Result<Command<'a>, AllocError>
     ensures { IfOk result (λ c. app_of c ≡ the_command) }
 {
     let command = with_file(alloc)?;
-    with_options(alloc, command)
+    let command = with_options(alloc, command)?;
+    with_files(alloc, command)
+}
+
+/// Returns whether a run may have these files: one with its history has none.
+fn are_allowed(endless: bool, record: Option<&str>, capture: Option<&str>) -> bool
+    ensures { result ≡ are_allowed endless (option_map (λ w. w.now) record.entry)
+        (option_map (λ w. w.now) capture.entry) }
+{
+    match (endless, record, capture) {
+        (true, _, _) | (false, None, None) => true,
+        (false, _, _) => false,
+    }
 }
 
 /// Returns the run of the flag and of the word for cycles, if they spell one.
@@ -98,22 +142,28 @@ fn run_of(endless: bool, word: Option<&str>) -> Option<WorldRun>
 
 /// Returns the command of the arguments, if they have a file and a run.
 fn given_in<'a>(matches: &ArgMatches<'a>) -> Option<WorldCommand<'a>>
-    ensures { option_map (λ command. (command.file.now, command.run)) result
-        ≡ given_in (first_value (found_of matches.now)) }
+    ensures { option_map given_by result ≡ given_in (first_value (found_of matches.now)) }
 {
     let endless = matches.get_str("endless") == Some("true");
+    let (record, capture) = (matches.get_str("record"), matches.get_str("capture"));
+    if !are_allowed(endless, record, capture) {
+        return None;
+    }
     let run = run_of(endless, matches.get_str("cycles"));
     Some(WorldCommand {
         file: matches.get_str("FILE")?,
         run: run?,
+        record,
+        capture,
     })
 }
 
 /// Returns the command of the words after the program's name (project-defined).
 ///
 /// A command is the name of a cluster file, and `--cycles` with a number from 1 to 1024, in any order. With `--endless`
-/// beside them the number is 1 to 4,000,000, and `--cycles` may be absent. Numbers have no leading zero. Refused with
-/// `Memory` if an allocation fails, and with `Usage` for all other words.
+/// beside them the number is 1 to 4,000,000, and `--cycles` may be absent. Then there may also be `--record` and
+/// `--capture`, each with the name of a file. Numbers have no leading zero. Refused with `Memory` if an allocation
+/// fails, and with `Usage` for all other words.
 pub fn command_of<'a>(alloc: Global, words: &'a [&'a str]) -> Result<WorldCommand<'a>, OrderError>
     ensures { IsAnswer (map (λ word. word.now) words.now) result }
 {

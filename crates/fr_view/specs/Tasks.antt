@@ -31,6 +31,7 @@ shown_of asked.Outcome = Some shown.Outcome
 shown_of asked.Answers = Some shown.Answers
 shown_of asked.Commits = Some shown.Commits
 shown_of asked.Record = Some shown.Record
+shown_of asked.Windows = Some shown.Windows
 shown_of asked.Heard = Some shown.Heard
 shown_of (asked.Trace node) = option_map shown.Trace (number_within 0 last_node node)
 shown_of (asked.Matrix channel None from from_window) = Some (drawn channel None from from_window)
@@ -39,8 +40,11 @@ shown_of (asked.Matrix channel (Some node) from from_window) =
 
 -- a view that is written as the run goes
 abbrev pub streamed_of : StreamAsked → Streamed
+streamed_of asked_stream.Outcome = streamed.Outcome
 streamed_of asked_stream.Answers = streamed.Answers
+streamed_of asked_stream.Commits = streamed.Commits
 streamed_of asked_stream.Record = streamed.Record
+streamed_of asked_stream.Windows = streamed.Windows
 streamed_of asked_stream.Heard = streamed.Heard
 
 -- ---- all commands
@@ -51,6 +55,7 @@ task_of (order.Schedule file cycle) = option_map (task.Cycle file) (number_withi
 task_of (order.Latency file None) = Some (task.Latencies file)
 task_of (order.Latency file (Some a)) =
     option_map (λ slot. task.Way file slot a.channel) (number_within 1 last_slot a.slot)
+task_of (order.Links file) = Some (task.Links file)
 task_of (order.Capture until_fault own) = Some (task.Seen (Capture own) until_fault)
 task_of (order.Frames until_fault all) = Some (task.Seen (Table all) until_fault)
 task_of order.Why = Some task.Why

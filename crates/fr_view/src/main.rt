@@ -8,6 +8,7 @@
 //! ```text
 //! fr_view schedule cluster.toml > cycle.svg          a picture of a cycle: senders, and open intervals of guardians
 //! fr_view latency cluster.toml                       the worst latency of each transmit buffer
+//! fr_view links cluster.toml                         the senders of each slot and their receivers
 //! fr_view capture < node.trace > node.pcap           the observations of a controller, as a capture for Wireshark
 //! fr_view frames < node.trace                        the same as a table
 //! fr_view why < node.trace                           the line of a trace at fault, and the reason
@@ -15,6 +16,7 @@
 //! fr_view answers cluster.toml scenario --cycles 8   the answer to each line of the scenario
 //! fr_view commits cluster.toml scenario --cycles 8   the fate of each commit
 //! fr_view record cluster.toml scenario --cycles 8    the transmissions on the bus, window by window
+//! fr_view windows cluster.toml scenario --cycles 8   when each window begins, and how long its slots last
 //! fr_view bus cluster.toml scenario --cycles 8       the frames at a listener on the bus, as a capture
 //! fr_view matrix cluster.toml scenario --cycles 8    the transmissions on the bus, as a picture
 //! fr_view trace 0 cluster.toml scenario --cycles 8   the trace of a node after the run
@@ -44,6 +46,7 @@ use fr_expecting::missed::{Missed, write_missed};
 use fr_files::named::file_named;
 use fr_latency::text::show_latencies;
 use fr_latency::way_text::show_way;
+use fr_links::text::show_links;
 use fr_names::cluster_file::named_cluster_of;
 use fr_picture::picture::show_schedule;
 use fr_showing::show::{Notes, show_run};
@@ -64,6 +67,8 @@ const HELP: &str = "fr_view schedule FILE [--cycle N] > SVG
     a picture of a cycle of the cluster, 0 unless another is named
 fr_view latency FILE [--slot SLOT [--channel A|B]]
     the worst latency of each transmit buffer; with --slot the frames before the latest start of a slot
+fr_view links FILE
+    the senders of each slot, with the receive buffers and FIFOs that are for their frames
 fr_view capture [--own] [--until-fault] < TRACE > CAPTURE
     what a controller saw, as a capture that Wireshark opens; with --own also what it sent
 fr_view frames [--all] [--until-fault] < TRACE
@@ -71,17 +76,19 @@ fr_view frames [--all] [--until-fault] < TRACE
     --until-fault, of both: what was seen before the line at fault, and then the refusal
 fr_view why < TRACE
     why an audit refuses a trace: the line at fault, the reason, and the line as it would be right
-fr_view outcome FILE SCENARIO --cycles N
+fr_view outcome FILE SCENARIO --cycles N [--endless]
     what `fr_bench run` prints of a run of the cluster
 fr_view answers FILE SCENARIO --cycles N [--endless]
     a line for each line of a task, with its answer
-fr_view commits FILE SCENARIO --cycles N
-    a line for each commit, with what became of it
+fr_view commits FILE SCENARIO --cycles N [--endless]
+    a line for each commit, with what became of it; with --endless a line for each thing that happens to one
 fr_view record FILE SCENARIO --cycles N [--endless]
     a line for each transmission and each bit to be turned, window by window
+fr_view windows FILE SCENARIO --cycles N [--endless]
+    a line for each window: when it begins, and how long the slot of each channel lasts
 fr_view bus FILE SCENARIO --cycles N [--endless] > CAPTURE
     what a listener on the bus hears, as a capture that Wireshark opens
-    --endless, of all three: a run of up to 4,000,000 cycles, written as it goes
+    --endless, of all these: a run of up to 4,000,000 cycles, written as it goes
 fr_view matrix FILE SCENARIO --cycles N [--channel A|B] [--node N] [--from CYCLE]
         [--from-window N] > SVG
     what channel A or B carried, or a node saw there, as a picture of up to 64 cycles
@@ -254,6 +261,16 @@ fn show_before<R: Files + Print + AllocGlobal + Clock>(
     Ok(show_way(rt.alloc(), &mut file, slot, channel, &mut output)?)
 }
 
+/// Writes the links of the cluster in the file.
+fn show_receivers<R: Files + Print + AllocGlobal + Clock>(
+    rt: &R,
+    file: &str,
+) -> Result<(), ViewFailure> {
+    let mut file = file_named(rt, file)?;
+    let mut output = WaitingWriter::new(rt, io::writer(rt));
+    Ok(show_links(rt.alloc(), &mut file, &mut output)?)
+}
+
 /// Writes the list of commands.
 fn show_help<R: Print + Clock>(rt: &R) -> Result<(), ViewFailure> {
     match io::Write::write_all(&mut WaitingWriter::new(rt, io::writer(rt)), HELP.as_bytes()) {
@@ -275,6 +292,7 @@ fn carry_out<R: Files + Input + Print + Eprint + AllocGlobal + Clock>(
             slot,
             channel,
         } => show_before(rt, file, *slot, *channel)?,
+        Task::Links { file } => show_receivers(rt, file)?,
         Task::Seen { form, until_fault } => show_seen(rt, *form, *until_fault)?,
         Task::Why => return explain(rt),
         Task::Run {

@@ -36,6 +36,11 @@ pub enum Task<'a> {
         /// The channel.
         channel: Channel,
     },
+    /// Print the senders of each slot in the file's cluster, with their receivers.
+    Links {
+        /// The name of the file.
+        file: &'a str,
+    },
     /// Print the observations of a controller.
     Seen {
         /// The form.
@@ -80,6 +85,7 @@ fn shown_of(asked: Asked) -> Option<Shown>
         Asked::Answers => Some(Shown::Answers),
         Asked::Commits => Some(Shown::Commits),
         Asked::Record => Some(Shown::Record),
+        Asked::Windows => Some(Shown::Windows),
         Asked::Heard => Some(Shown::Heard),
         Asked::Trace(node) => Some(Shown::Trace(NodeId::new(node)?)),
         Asked::Matrix {
@@ -112,8 +118,11 @@ fn streamed_of(asked: StreamAsked) -> Streamed
     ensures { result ≡ streamed_of asked }
 {
     match asked {
+        StreamAsked::Outcome => Streamed::Outcome,
         StreamAsked::Answers => Streamed::Answers,
+        StreamAsked::Commits => Streamed::Commits,
         StreamAsked::Record => Streamed::Record,
+        StreamAsked::Windows => Streamed::Windows,
         StreamAsked::Heard => Streamed::Heard,
     }
 }
@@ -136,6 +145,7 @@ pub fn task_of(order: ViewOrder<'_>) -> Option<Task<'_>>
             slot: SlotId::new(asked.slot)?,
             channel: asked.channel,
         }),
+        ViewOrder::Links { file } => Some(Task::Links { file }),
         ViewOrder::Capture { until_fault, own } => Some(Task::Seen {
             form: Form::Capture { own },
             until_fault,

@@ -7,14 +7,20 @@ use Rattle.fr_cli.specs.declared.world.WorldRun.{WorldRun}
 use Rattle.fr_cli.specs.declared.world.WorldRun.TheVariants.{Kept, Endless}
 use Rattle.fr_core.specs.Settling.{IsFirst}
 use Rattle.fr_core.specs.Worlds.{OpensWorld, WorldState, opening_world}
+use Rattle.fr_endless.specs.declared.error.EndlessError.{EndlessError}
+use Rattle.fr_endless.specs.declared.error.EndlessError.TheVariants as ending
 use Rattle.fr_endless.specs.Serving.{EndsEndless, ServedEndless}
+use Rattle.fr_endless.specs.Taps.{AddsFront, TapsState, record_of}
 use Rattle.fr_live.specs.LiveWorlds.{Entries, OpensLiveWorld, with_room}
 use Rattle.fr_runs.specs.declared.check.RunRefusal.{RunRefusal}
 use Rattle.fr_runs.specs.declared.check.RunRefusal.TheVariants.{NoRoom}
 use Rattle.fr_runs.specs.Suiting.{HasRoom}
 use Rattle.fr_schedule.specs.Descriptions.{Description}
 use Rattle.fr_session.specs.Cuts.{EndsWorld}
+use Rattle.fr_session.specs.declared.error.SessionError.{SessionError}
+use Rattle.fr_session.specs.declared.error.SessionError.TheVariants.{Read, Write, Memory}
 use Rattle.fr_session.specs.Sessions.{ServedWorld, Terms, terms_of}
+use Rattle.fr_showing.specs.Listening.{capture_of}
 use Rattle.fr_slots.specs.Numbers.{last_host_limit, last_slot_limit}
 use Rattle.fr_world.specs.declared.failure.WorldFailure.{WorldFailure}
 use Rattle.fr_world.specs.declared.failure.WorldFailure.TheVariants as failure
@@ -52,6 +58,7 @@ ServesKept d cycles text left before after (Err (failure.World error)) =
 ServesKept d cycles text left before after (Err (failure.Words error)) = ⊥
 ServesKept d cycles text left before after (Err failure.Memory) = ⊥
 ServesKept d cycles text left before after (Err (failure.Text error)) = ⊥
+ServesKept d cycles text left before after (Err (failure.Tap tap)) = ⊥
 
 -- ---- without history
 
@@ -66,21 +73,45 @@ endless_world d cycles = opening_world (with_room greatest_room d) cycles
 abbrev pub endless_terms : Description → ℕ → Terms
 endless_terms d cycles = terms_of d (min cycles 1024)
 
--- the same for a world without history: only the room of its journals is another
+-- the end of a session as that of the program
+abbrev pub failure_of : EndlessError → WorldFailure
+failure_of (ending.Session error) = failure.Session error
+failure_of (ending.Tap tap) = failure.Tap tap
+
+-- The files get the record and the capture of all windows of this world, as `fr_view record` and `fr_view bus` have
+-- them. If a file fails, each gets a front of its text.
+abbrev pub HasWindows : TapsState → TapsState → WorldState → Type 0
+HasWindows old new v =
+    AddsFront new.failed old.recorded new.recorded (record_of old.params v.bus.sealed)
+    × AddsFront new.failed old.captured new.captured (capture_of old.params v.bus.sealed)
+
+-- the same if a stream fails; if an allocation fails, nothing is written
+abbrev pub HasWindowsUnless : SessionError → TapsState → TapsState → WorldState → Type 0
+HasWindowsUnless Read old new v = HasWindows old new v × (new.failed ≡ None)
+HasWindowsUnless Write old new v = HasWindows old new v × (new.failed ≡ None)
+HasWindowsUnless Memory old new v = new ≡ old
+
+-- the same for a world without history: only the room of its journals is another, and files get its windows
 abbrev pub ServesLive : Description → ℕ → Option (List ℕ) → Option (List ℕ) → Option (List ℕ) → Option (List ℕ)
-    → Result (Unit {0}) WorldFailure → Type 0
-ServesLive d cycles text left before after (Ok done) =
-    (cycles_suit d.params cycles ≡ true) × (new : WorldState)
-    × ServedEndless (endless_terms d cycles) text before after (endless_world d cycles) new
-ServesLive d cycles text left before after (Err (failure.Session error)) =
-    (cycles_suit d.params cycles ≡ true) × (new : WorldState)
-    × EndsEndless (endless_terms d cycles) error text left before after (endless_world d cycles) new
-ServesLive d cycles text left before after (Err (failure.World error)) =
-    OpensLiveWorld d cycles greatest_room (Err error) × Keeps text left × Keeps before after
-ServesLive d cycles text left before after (Err (failure.Words error)) = ⊥
-ServesLive d cycles text left before after (Err failure.Memory) = ⊥
-ServesLive d cycles text left before after (Err (failure.Room n)) = ⊥
-ServesLive d cycles text left before after (Err (failure.Text error)) = ⊥
+    → TapsState → TapsState → Result (Unit {0}) WorldFailure → Type 0
+ServesLive d cycles text left before after old new (Ok done) =
+    (cycles_suit d.params cycles ≡ true) × (v : WorldState)
+    × ServedEndless (endless_terms d cycles) text before after (endless_world d cycles) v
+    × HasWindows old new v × (new.failed ≡ None)
+ServesLive d cycles text left before after old new (Err (failure.Session error)) =
+    (cycles_suit d.params cycles ≡ true) × (v : WorldState)
+    × EndsEndless (endless_terms d cycles) (ending.Session error) text left before after (endless_world d cycles) v
+    × HasWindowsUnless error old new v
+ServesLive d cycles text left before after old new (Err (failure.Tap tap)) =
+    (cycles_suit d.params cycles ≡ true) × (v : WorldState)
+    × EndsEndless (endless_terms d cycles) (ending.Tap tap) text left before after (endless_world d cycles) v
+    × HasWindows old new v × (new.failed ≡ Some tap)
+ServesLive d cycles text left before after old new (Err (failure.World error)) =
+    OpensLiveWorld d cycles greatest_room (Err error) × Keeps text left × Keeps before after × (new ≡ old)
+ServesLive d cycles text left before after old new (Err (failure.Words error)) = ⊥
+ServesLive d cycles text left before after old new (Err failure.Memory) = ⊥
+ServesLive d cycles text left before after old new (Err (failure.Room n)) = ⊥
+ServesLive d cycles text left before after old new (Err (failure.Text error)) = ⊥
 
 -- ---- the run of a command
 
@@ -90,8 +121,10 @@ IsGreatest d cycles =
     (cycles_suit d.params cycles ≡ true) × ((other : ℕ) → cycles_suit d.params other ≡ true → other ≤ cycles)
 
 abbrev pub ServesRun : WorldRun → Description → Option (List ℕ) → Option (List ℕ) → Option (List ℕ)
-    → Option (List ℕ) → Result (Unit {0}) WorldFailure → Type 0
-ServesRun (Kept cycles) d text left before after result = ServesKept d cycles text left before after result
-ServesRun (Endless (Some cycles)) d text left before after result = ServesLive d cycles text left before after result
-ServesRun (Endless None) d text left before after result =
-    (cycles : ℕ) × IsGreatest d cycles × ServesLive d cycles text left before after result
+    → Option (List ℕ) → TapsState → TapsState → Result (Unit {0}) WorldFailure → Type 0
+ServesRun (Kept cycles) d text left before after old new result =
+    ServesKept d cycles text left before after result × (new ≡ old)
+ServesRun (Endless (Some cycles)) d text left before after old new result =
+    ServesLive d cycles text left before after old new result
+ServesRun (Endless None) d text left before after old new result =
+    (cycles : ℕ) × IsGreatest d cycles × ServesLive d cycles text left before after old new result

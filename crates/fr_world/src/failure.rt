@@ -5,6 +5,7 @@ ghost use Rattle.fr_world.specs.Failures.{status_of};
 
 use fr_bus::error::BusError;
 use fr_cli::error::OrderError;
+use fr_endless::taps::Tap;
 use fr_files::error::BenchError;
 use fr_session::error::SessionError;
 use fr_slots::numbers::NodeId;
@@ -27,6 +28,8 @@ pub enum WorldFailure {
     World(BusError),
     /// The session ended before its input did.
     Session(SessionError),
+    /// The file couldn't be opened or written.
+    Tap(Tap),
 }
 
 impl fmt::Display for WorldFailure {
@@ -44,6 +47,8 @@ impl fmt::Display for WorldFailure {
             WorldFailure::Room(node) => write!(f, "refused NoRoom {node}"),
             WorldFailure::World(error) => write!(f, "refused {error}"),
             WorldFailure::Session(error) => write!(f, "refused {error}"),
+            WorldFailure::Tap(Tap::Record) => write!(f, "refused Record"),
+            WorldFailure::Tap(Tap::Capture) => write!(f, "refused Capture"),
         }
     }
 }
@@ -61,7 +66,8 @@ impl WorldFailure {
             | WorldFailure::Text(_)
             | WorldFailure::Room(_)
             | WorldFailure::World(_)
-            | WorldFailure::Session(_) => 1,
+            | WorldFailure::Session(_)
+            | WorldFailure::Tap(_) => 1,
         }
     }
 }

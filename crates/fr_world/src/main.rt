@@ -5,6 +5,7 @@
 //! ```text
 //! fr_world cluster.toml --cycles 4
 //! fr_world cluster.toml --endless
+//! fr_world cluster.toml --endless --record lines --capture bus.pcap
 //! ```
 //!
 //! Its exit status is 0 at the end of the input, 1 if the cluster is refused or a stream fails, and 2 if the words are
@@ -19,8 +20,8 @@
 //!
 //! # Inner workings
 //!
-//! `main` reads the words, makes the cluster, and allocates the buffers for reading and writing. `serve_run`
-//! (`serving`) opens the world. Then `serve` (`fr_session`) answers until the reader ends, or without history
+//! `main` reads the words, makes the cluster, opens the files for the record and the capture, and allocates the buffers
+//! for reading and writing. `serve_run` (`serving`) opens the world. Then `serve` (`fr_session`) answers until the reader ends, or without history
 //! `serve_endless` (`fr_endless`).
 #![tactic(auto)]
 
@@ -31,15 +32,16 @@ use failure::WorldFailure;
 use fr_cli::waiting::{WaitingReader, WaitingWriter};
 use fr_cli::words::{texts_of, words_given};
 use fr_cli::world::{WorldCommand, command_of};
+use fr_endless::taps::{Tap, Taps};
 use fr_files::cluster_file::cluster_of;
 use fr_files::named::file_named;
 use fr_schedule::cluster::Cluster;
 use serving::serve_run;
-use std::io;
-use std::io::{BufReader, BufWriter};
+use std::io::{BufReader, BufWriter, ErrorKind};
 use std::process::ExitCode;
 use std::rt::{Env, Files};
 use std::time::Clock;
+use std::{fs, io};
 
 /// Returns the command's cluster.
 fn cluster_in<R: Files + AllocGlobal>(
@@ -50,6 +52,42 @@ fn cluster_in<R: Files + AllocGlobal>(
     Ok(cluster_of(rt.alloc(), &mut file)?)
 }
 
+/// Opens the file of this name to be written, if there is a name, and empties it.
+///
+/// Fails with `Memory` if an allocation fails, otherwise with `Tap` if the file can't be opened.
+fn file_of<R: Files + AllocGlobal>(
+    rt: &R,
+    name: Option<&str>,
+    tap: Tap,
+) -> Result<Option<BufWriter<R::File>>, WorldFailure> {
+    let Some(name) = name else {
+        return Ok(None);
+    };
+    let file = match fs::create(rt, name) {
+        Ok(file) => file,
+        Err(error) if error.kind() == ErrorKind::OutOfMemory => return Err(WorldFailure::Memory),
+        Err(_) => return Err(WorldFailure::Tap(tap)),
+    };
+    match BufWriter::new(rt.alloc(), file) {
+        Ok(writer) => Ok(Some(writer)),
+        Err(_) => Err(WorldFailure::Memory),
+    }
+}
+
+/// Opens the command's files for the windows of the cluster.
+fn taps_of<R: Files + AllocGlobal>(
+    rt: &R,
+    cluster: &Cluster,
+    command: WorldCommand<'_>,
+) -> Result<Taps<BufWriter<R::File>>, WorldFailure> {
+    let recorded = file_of(rt, command.record, Tap::Record)?;
+    let captured = file_of(rt, command.capture, Tap::Capture)?;
+    match Taps::new(rt.alloc(), cluster.params(), recorded, captured) {
+        Ok(taps) => Ok(taps),
+        Err(_) => Err(WorldFailure::Memory),
+    }
+}
+
 /// Serves the world of the command's cluster on standard input and output.
 ///
 /// The buffers for reading and writing are allocated first. The session allocates the room for a reply.
@@ -58,13 +96,21 @@ fn serve_world<R: Files + Input + Print + AllocGlobal + Clock>(
     command: WorldCommand<'_>,
 ) -> Result<(), WorldFailure> {
     let (alloc, cluster) = (rt.alloc(), cluster_in(rt, command)?);
+    let mut taps = taps_of(rt, &cluster, command)?;
     let Ok(mut reader) = BufReader::new(alloc, WaitingReader::new(rt, rt.reader())) else {
         return Err(WorldFailure::Memory);
     };
     let Ok(mut writer) = BufWriter::new(alloc, WaitingWriter::new(rt, io::writer(rt))) else {
         return Err(WorldFailure::Memory);
     };
-    let served = serve_run(alloc, &cluster, command.run, &mut reader, &mut writer);
+    let served = serve_run(
+        alloc,
+        &cluster,
+        command.run,
+        &mut taps,
+        &mut reader,
+        &mut writer,
+    );
     // The rest of a failed write is dropped, so that nothing comes after the failure.
     let _left = writer.into_parts();
     served

@@ -1,8 +1,8 @@
-use Rattle.std.proofs.Common.{rules, ap, ap₂, codes, false, ◌≡◌, ◌∙◌, ◌||◌}
+use Rattle.std.proofs.Common.{rules, ap, ap₂, false, ◌≡◌, ◌∙◌, ◌||◌}
 use Rattle.std.proofs.lemmas.Result.{IfOk-weaker}
 use Rattle.clap.specs.Words.{app_of, with_rule}
 use Rattle.clap.specs.declared.builder.command.Command.TheViews.{out-Command}
-use Rattle.fr_cli.specs.ViewOrders.{flag_named, of_run, with_run}
+use Rattle.fr_cli.specs.ViewOrders.{of_run, with_run}
 use Rattle.fr_cli.proofs.view.of_long_run.Goals as goal
 
 pub returns : goal.returns

@@ -1,7 +1,8 @@
 use Rattle.std.proofs.Common.{rules, ap, sym, codes, ◌≡◌, ◌∙◌}
 use Rattle.clap.proofs.WalkLemmas.{first_value-rows}
 use Rattle.clap.specs.Words.{Text, first_value, found_of, rows_of, subcommand_rows_of}
-use Rattle.fr_cli.proofs.ViewLemmas.{latency_lacks, latency_told, schedule_lacks, schedule_told, show_lacks, show_told}
+use Rattle.fr_cli.proofs.ViewLemmas.{latency_lacks, latency_told, links_lacks, links_told}
+use Rattle.fr_cli.proofs.ViewLemmas.{schedule_lacks, schedule_told, show_lacks, show_told}
 use Rattle.fr_cli.proofs.CommandLemmas.{word_of_rows}
 use Rattle.fr_cli.proofs.view.order_in.Goals as goal
 use Rattle.fr_cli.specs.Commands.{IsNamed, is_true, word_in}
@@ -41,6 +42,24 @@ returns-in-latency-clause-nothing c =
     let words : (id : Text) → first_value found id ≡ word_in entered id =
     λ id. first_value-rows found id ∙ sym (word_of_rows entered (rows_of found) id (search rules)) in
     latency_lacks entered (first_value found) c.latency_in.result named words c.latency_in.ensures.nothing
+
+pub returns-in-links-clause-told : goal.returns-in-links-clause-told
+returns-in-links-clause-told c =
+    let entered = subcommand_rows_of c.args.matches.now in
+    let found = found_of c.in_ok-name.arguments.now in
+    let named : IsNamed (codes "links") entered = search rules in
+    let words : (id : Text) → first_value found id ≡ word_in entered id =
+    λ id. first_value-rows found id ∙ sym (word_of_rows entered (rows_of found) id (search rules)) in
+    links_told entered (first_value found) c.links_in.result named words c.links_in.ensures.told
+
+pub returns-in-links-clause-nothing : goal.returns-in-links-clause-nothing
+returns-in-links-clause-nothing c =
+    let entered = subcommand_rows_of c.args.matches.now in
+    let found = found_of c.in_ok-name.arguments.now in
+    let named : IsNamed (codes "links") entered = search rules in
+    let words : (id : Text) → first_value found id ≡ word_in entered id =
+    λ id. first_value-rows found id ∙ sym (word_of_rows entered (rows_of found) id (search rules)) in
+    links_lacks entered (first_value found) c.links_in.result named words c.links_in.ensures.nothing
 
 pub returns-in-capture-clause-told : goal.returns-in-capture-clause-told
 returns-in-capture-clause-told c =
@@ -83,5 +102,5 @@ returns-in_default-clause-nothing c =
     let words : (id : Text) → first_value found id ≡ word_in entered id =
     λ id. first_value-rows found id ∙ sym (word_of_rows entered (rows_of found) id (search rules)) in
     show_lacks entered c.in_ok-name.name.now (first_value found) c.show_in.result named (search rules) (search rules)
-    (search rules) (search rules) (search rules)
+    (search rules) (search rules) (search rules) (search rules)
     words c.show_in.ensures.nothing
