@@ -22,6 +22,13 @@ COMMON = ("windows", "record", "idle", "outcomes", "tables", "parts")
 """The facts that both pages have."""
 STAND_IN = """#!{python}
 import random, subprocess, sys
+
+def log_of(line):
+    node, buffer, task, cycle, entry, data, _, fate, *rest = line.split()
+    yield f"commit {{node}} {{buffer}} {{task}} {{cycle}} {{entry}} {{data}}\\n"
+    for at in range(0, len(rest) or 1, 5):
+        yield " ".join([fate, node, entry, *rest[at:at + 5]]) + "\\n"
+
 words = sys.argv[1:]
 if words[0] in ("commits", "answers") and words[0] not in {known} and "--endless" in words:
     sys.stderr.write("usage\\n")
@@ -31,8 +38,8 @@ if words[0] in ("commits", "answers") and "--endless" in words:
     done = subprocess.run([{program!r}, *words], capture_output=True, text=True)
     lines = [it for it in done.stdout.splitlines(True)]
     if words[0] == "commits":
-        # In an endless run they come in the order of their ends.
-        random.Random(1).shuffle(lines)
+        # In an endless run there is a line for each thing that happens, and those of different nodes are in any order.
+        lines = [log for it in sorted(lines, key=lambda it: random.Random(it[0]).random()) for log in log_of(it)]
     sys.stderr.write(done.stderr)
     sys.stdout.write("".join(lines))
     sys.exit(done.returncode)

@@ -1,6 +1,9 @@
 """The tables of `musmyrtle`: values worked out by hand, or from the documents."""
 import json
+import os
+import sys
 import unittest
+from unittest import mock
 
 from tests.shows import FIRST, NETWORK, POP, SCENE, SECOND, THREE, Shows
 
@@ -42,6 +45,22 @@ class Clusters(Shows):
         position = [{"node": 1, "node_name": "brake", "buffer": 1, "buffer_name": "position"}]
         fifo = [{"node": 1, "node_name": "brake", "buffer": None, "buffer_name": None}]
         self.assertEqual([row["receivers"] for row in found], [position, position, [], [], fifo, []])
+
+    def test_senders_are_those_of_the_program(self) -> None:
+        """A program that stands in for `fr_view` prints links that the cluster doesn't have."""
+        lines = "1 - dynamic 9 B 5 8 77 - - -\n0 0 static 7 A 3 4 2 11 13 1:b1,1:queue\n"
+        program = self.folder / "fr_view"
+        program.write_text(f"#!{sys.executable} -IS\nprint({lines!r}, end='')\n")
+        program.chmod(0o755)
+        with mock.patch.dict(os.environ, MUSMYRTLE_VIEW=str(program)):
+            found = self.rows("sender", "plan", self.written("cluster.toml", NETWORK))
+        receivers = [{"node": 1, "node_name": "brake", "buffer": 1, "buffer_name": "position"},
+                     {"node": 1, "node_name": "brake", "buffer": None, "buffer_name": None}]
+        self.assertEqual([tuple(it.values()) for it in found], [
+            ("dynamic", 9, "B", 1, "brake", None, None, "null frames", 5, 8, "cycles 5, 13 ..", None, None, None, None,
+             77, []),
+            ("static", 7, "A", 0, "pedal", 0, "position", "event", 3, 4, "cycles 3, 7 ..", 11, 22, 13, 26,
+             2, receivers)])
 
     def test_guardians(self) -> None:
         """The intervals of docs/formats/cluster.md."""
@@ -118,6 +137,15 @@ class Reads(Shows):
         keys = "node_name state frame_cycle slot data"
         self.assertEqual(self.values("fifo", keys, "reads", *run), [overwritten, ("brake", "waiting", 1, 3, SECOND)])
         self.assertEqual(self.values("fifo", keys, "reads", *run, "--errors"), [overwritten])
+
+    def test_the_older_of_two_frames_with_the_same_bytes(self) -> None:
+        """Cycle 64 has the cycle count of cycle 0. The FIFO holds both frames, and the first pop has the older one."""
+        wider = NETWORK.replace("capacity = 1", "capacity = 2")
+        commits = "".join(f"commit 0 0 {cycle} 1 {FIRST}\n" for cycle in (0, 64))
+        scene = f"frscenario 1\n{commits}pop 1 0 65\npop 1 0 65\nend\n"
+        run = [*self.run_of(wider, scene)[:2], "--cycles", "66"]
+        found = self.values("call", "cycle frame_cycle commit_cycle", "reads", *run)
+        self.assertEqual(found, [(65, 0, 0), (65, 64, 64)])
 
     def test_the_answers_of_the_guide(self) -> None:
         """Task 1 of node 0 pops the frame of cycle 0 and slot 4. Node 1 reads the frame of cycle 2 and slot 1.

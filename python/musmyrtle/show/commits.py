@@ -62,7 +62,7 @@ def row_of(facts: Facts, commit: Commit, sent: Sent, why_lost: str | None) -> Ro
     """Returns the row of one transmission. Its latency counts from the start of the commit's cycle."""
     network = facts.network
     begin = facts.begin(sent.cycle, sent.slot, sent.channel)
-    latency = None if begin is None else begin - network.begin(commit.cycle)
+    latency = None if begin is None else begin - facts.windows.begin_of_cycle(commit.cycle)
     return Row(front(facts, commit) | {
         "sent_cycle": sent.cycle, "slot": sent.slot, "channel": sent.channel,
         "begin": None if begin is None else network.time(begin),

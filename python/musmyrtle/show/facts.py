@@ -13,6 +13,7 @@ from musmyrtle.output import Stop
 from musmyrtle.scenario import Reading, Scenario
 from musmyrtle.show.engines import Inputs
 from musmyrtle.show.network import Network
+from musmyrtle.show.windows import Windows
 
 ARRIVED = "alone"
 """The end of a transmission that arrived as it was sent."""
@@ -194,10 +195,9 @@ class Facts:
         return Reading(name, read_bytes(task.file(name)) or b"", self.inputs.cycles, Names.of(cluster)).scenario
 
     @cached_property
-    def minislots(self) -> dict[tuple[int, int, str], int | None]:
-        """Returns the minislot of each window with a transmission, by cycle, slot and channel; none in a static slot.
-        """
-        return {(it.cycle, it.slot, it.channel): it.minislot for it in self.record if it.slot is not None}
+    def windows(self) -> Windows:
+        """Returns the windows of the run."""
+        return Windows(self.inputs.of_run("windows").lines)
 
     @cached_property
     def by_place(self) -> dict[tuple[int, int, str], list[Transmission]]:
@@ -210,9 +210,8 @@ class Facts:
 
     def begin(self, cycle: int, slot: int, channel: str) -> int | None:
         """Returns the macrotick of the run at which the window of a transmission begins."""
-        if (cycle, slot, channel) not in self.minislots:
-            return None
-        return self.network.begin(cycle, slot, self.minislots[cycle, slot, channel])
+        its = self.by_place.get((cycle, slot, channel))
+        return self.windows.begins[its[0].window] if its else None
 
     # ---- traces
 
@@ -227,32 +226,14 @@ class Facts:
 
     @cached_property
     def openings(self) -> dict[tuple[int, int, str], int]:
-        """Returns the minislot at which each dynamic slot opened, by cycle, slot and channel.
-
-        All nodes have the same windows, so the trace of node 0 has them.
-        """
-        found: dict[tuple[int, int, str], int] = {}
-        cycle = -1
-        for line in self.trace(0):
-            if line.startswith("fetch "):
-                _, _, _, minislot, *slots = line.split(" ")[:6]
-                cycle += minislot == "0" and slots[0] == "1"
-                for channel, slot in zip("AB", slots):
-                    if minislot != "0" and slot != "-":
-                        found[cycle, int(slot), channel] = int(minislot)
-        return found
+        """Returns the minislot at which each dynamic slot opened, by cycle, slot and channel."""
+        return self.windows.openings()
 
     def fifo(self, node: int, capacity: int) -> Fifo:
         """Returns the frames of a node's receive FIFO by their fates. Raises `Stop` where they can't be read."""
         trace = self.trace(node)
         table = [" ".join(words) for words in self.frames(node) if len(words) == len(TABLE)]
         try:
-            return read_fifo(table, trace, starts_of(trace), capacity, self.network.cluster.parameters)
+            return read_fifo(table, trace, list(self.windows.starts), capacity, self.network.cluster.parameters)
         except Unread as error:
             raise Stop(USAGE, f"the FIFO of node {node} can't be read: {error}") from None
-
-
-def starts_of(trace: Iterable[str]) -> list[int]:
-    """Returns the number of the first window of each cycle."""
-    fetches = (line.split(" ") for line in trace if line.startswith("fetch "))
-    return [int(words[1]) for words in fetches if words[3:5] == ["0", "1"]]

@@ -10,7 +10,7 @@ ENDS = {"turned": "bit flipped", "overrun": "too long", "blocked": "stopped by g
 
 def log(facts: Facts, selection: Selection) -> list[Section]:
     """Returns the table of `log`. With errors alone it has what didn't arrive as it was sent, and what nodes babble."""
-    rows = [row_of(facts.network, it) for it in facts.record if is_selected(it, selection)]
+    rows = [row_of(facts, it) for it in facts.record if is_selected(it, selection)]
     return [Section("transmission", "", columns(facts.network), rows, "No transmission is selected.")]
 
 
@@ -33,9 +33,9 @@ def is_selected(it: Transmission, selection: Selection) -> bool:
             and selection.has_place(it.slot, it.channel) and (is_error(it) or not selection.is_errors))
 
 
-def row_of(network: Network, it: Transmission) -> Row:
+def row_of(facts: Facts, it: Transmission) -> Row:
     """Returns the row of a transmission."""
-    begin = network.begin(it.cycle, it.slot or 1, it.minislot)
+    network, begin = facts.network, facts.windows.begins[it.window]
     return Row({
         "cycle": it.cycle, "window": it.window, "minislot": it.minislot, "begin": network.time(begin), "slot": it.slot,
         "channel": it.channel, "node": None if it.node is None else network.node(it.node), "what": it.what,

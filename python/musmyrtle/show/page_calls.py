@@ -3,7 +3,7 @@ from array import array
 
 from musmyrtle.show.facts import Facts, call_of, number
 from musmyrtle.show.page_columns import NOTHING, Columns, Contents, Words
-from musmyrtle.show.reads import Sources
+from musmyrtle.show.sources import Fitting, Sources
 from musmyrtle.show.reasons import why
 from musmyrtle.visible import visible
 
@@ -30,8 +30,8 @@ def add_commits(facts: Facts, columns: Columns) -> None:
 class Answers:
     """The lines of `fr_view answers`, which are added one by one, with the commit whose frame a task read."""
 
-    def __init__(self, facts: Facts) -> None:
-        self.sources = Sources(facts)
+    def __init__(self, facts: Facts, sources: Sources | Fitting) -> None:
+        self.sources = sources
         self.places = {(it.node, it.entry): place for place, it in enumerate(facts.commits)}
         self.numbers = {"node": array("B"), "task": array("B"), "cycle": array("I"), "buffer": array("B"),
                         "entry": array("I"), "count": array("B"), "slot": array("H"), "commit": array("I")}

@@ -7,8 +7,10 @@ from musmyrtle.show.log import ENDS
 from musmyrtle.show.page_calls import Answers, add_commits
 from musmyrtle.show.page_columns import Columns
 from musmyrtle.show.page_record import Record
-from musmyrtle.show.page_windows import Windows
+from musmyrtle.show.page_windows import add_windows
+from musmyrtle.show.sources import Sources
 from musmyrtle.show.summary import ERRORS
+from musmyrtle.show.windows import Windows
 from musmyrtle.version import version
 from musmyrtle.visible import visible
 
@@ -20,13 +22,13 @@ def packed_run(facts: Facts) -> bytes:
     """Returns the packed data of a run. Raises `Stop` where the run is refused."""
     facts.run()
     columns, record = Columns(), Record()
-    windows = Windows.of_trace(facts.network, facts.trace(0))
-    windows.fill(columns)
+    windows = facts.windows
+    add_windows(windows, columns)
     for it in facts.record:
         record.add(it)
     record.fill(columns)
     add_commits(facts, columns)
-    answers = Answers(facts)
+    answers = Answers(facts, Sources(facts))
     for line in facts.inputs.of_run("answers").lines:
         answers.add(line)
     answers.fill(columns)
@@ -111,7 +113,7 @@ def add_seen(facts: Facts, windows: Windows, columns: Columns) -> None:
     error, or nothing where the table has no row. Receivers are rare, and have columns of their own.
     """
     count = len(windows.cycles)
-    places = {begin: 2 * window for window, begin in enumerate(windows.begins())}
+    places = {begin: 2 * window for window, begin in enumerate(windows.begins)}
     states = [""] * (2 * count * len(facts.network.cluster.nodes))
     stored: list[tuple[int, str]] = []
     for node in range(len(facts.network.cluster.nodes)):

@@ -14,7 +14,7 @@ from musmyrtle.lint.lint import Task
 from musmyrtle.output import Stop
 from musmyrtle.scenario import MOST_LINES
 from musmyrtle.show.engines import Inputs
-from musmyrtle.show.facts import Facts, starts_of
+from musmyrtle.show.facts import Facts
 from musmyrtle.show.page import page_of
 from musmyrtle.world.refusals import SessionOver, UnknownNode
 from musmyrtle.world.replies import Record, Window
@@ -35,7 +35,13 @@ def first_of_cycle(trace: list[str], window: Window | None) -> int:
     """Returns the first window of the cycle that isn't done yet, or the number of all once the run is over."""
     if window is None:
         return sum(line.startswith("fetch ") for line in trace)
-    return window.number if window.opens_cycle else starts_of(trace)[-1]
+    return window.number if window.opens_cycle else start_of_last_cycle(trace)
+
+
+def start_of_last_cycle(trace: list[str]) -> int:
+    """Returns the number of the first window of the cycle that a trace began last."""
+    fetches = (line.split(" ") for line in reversed(trace) if line.startswith("fetch "))
+    return next(int(words[1]) for words in fetches if words[3:5] == ["0", "1"])
 
 
 def scenario_of(traces: list[list[str]], records: Iterable[Record], cycles: int) -> str:

@@ -2,13 +2,11 @@
 from collections.abc import Iterator
 
 from musmyrtle.faults.fifos import StoredFrame
-from musmyrtle.show.facts import Call, Commit, Facts, Sent
+from musmyrtle.show.facts import Call, Facts
 from musmyrtle.show.network import Network
 from musmyrtle.show.selection import Selection
+from musmyrtle.show.sources import READING, Source, Sources
 from musmyrtle.show.tables import Column, Row, Section, Value
-
-CYCLE_COUNTS = 64
-Source = tuple[Commit, Sent]
 
 
 def reads(facts: Facts, selection: Selection) -> list[Section]:
@@ -17,9 +15,9 @@ def reads(facts: Facts, selection: Selection) -> list[Section]:
     Nodes select the reading one, and cycles that of the call, or of the frame in a FIFO. With errors alone they have
     calls without a frame, and overwritten frames.
     """
-    calls = [it for it in facts.calls if it.kind in ("read", "pop") and is_selected(it, selection)]
     sources = Sources(facts)
-    rows = [row_of(facts, it, sources.of(it)) for it in calls]
+    calls = [(it, sources.of(it)) for it in facts.calls if it.kind in READING]
+    rows = [row_of(facts, it, source) for it, source in calls if is_selected(it, selection)]
     held = [row for node in facts.network.cluster.nodes if node.queue and selection.has_node(node.number)
             for row in fifo_rows(facts, node.number, node.queue.capacity, selection)]
     return [Section("call", "Calls", call_columns(facts.network), rows, "No call is selected."),
@@ -47,30 +45,6 @@ def is_selected(call: Call, selection: Selection) -> bool:
             and selection.has_place(call.slot, call.channel) and (call.data is None or not selection.is_errors))
 
 
-class Sources:
-    """The commits whose transmissions were stored, by receiver, slot, channel and payload."""
-
-    def __init__(self, facts: Facts) -> None:
-        self.found: dict[tuple[str, int, int, str, str], list[Source]] = {}
-        for commit in facts.commits:
-            for sent in commit.sent:
-                for receiver in sent.receivers.split(",") if sent.receivers != "-" else ():
-                    key = receiver, sent.cycle % CYCLE_COUNTS, sent.slot, sent.channel, commit.data
-                    self.found.setdefault(key, []).append((commit, sent))
-
-    def of(self, call: Call) -> Source | None:
-        """Returns the latest transmission that the call can have read, or None for a frame without a commit.
-
-        The calls of a cycle come before its windows, so the frame is of an earlier cycle.
-        """
-        if call.count is None or call.slot is None or call.channel is None or call.data is None:
-            return None
-        receiver = f"{call.node}:" + ("queue" if call.buffer is None else f"b{call.buffer}")
-        fitting = self.found.get((receiver, call.count, call.slot, call.channel, call.data), [])
-        earlier = [it for it in fitting if it[1].cycle < call.cycle]
-        return max(earlier, key=lambda it: it[1].cycle) if earlier else None
-
-
 def row_of(facts: Facts, call: Call, source: Source | None) -> Row:
     """Returns the row of a call.
 
@@ -85,12 +59,12 @@ def row_of(facts: Facts, call: Call, source: Source | None) -> Row:
     }
     if source is not None:
         commit, sent = source
-        now, begin = network.begin(call.cycle), facts.begin(sent.cycle, sent.slot, sent.channel)
+        now, begin = facts.windows.begin_of_cycle(call.cycle), facts.begin(sent.cycle, sent.slot, sent.channel)
         values |= {
             "frame_cycle": sent.cycle, "sender": network.node(commit.node), "commit_cycle": commit.cycle,
             "sender_buffer": network.buffer(commit.node, commit.buffer),
             "age": None if begin is None else network.time(now - begin),
-            "latency": network.time(now - network.begin(commit.cycle)),
+            "latency": network.time(now - facts.windows.begin_of_cycle(commit.cycle)),
         }
     return Row(values, call.data is None)
 

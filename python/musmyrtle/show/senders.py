@@ -1,17 +1,16 @@
 """The command `plan`: who sends where, who is to receive it, and when the guardians are open."""
-from collections.abc import Iterator
-
-from musmyrtle.cluster import Buffer, Cycles
+from musmyrtle.cluster import Cycles
 from musmyrtle.show.engines import Inputs
 from musmyrtle.show.network import Network
-from musmyrtle.show.tables import Column, Name, Receivers, Row, Section, Value
+from musmyrtle.show.tables import Column, Name, Row, Section, Value
 
 
 def plan(inputs: Inputs) -> list[Section]:
-    """Returns the tables of `plan`. The senders and the open windows are those that `fr_bench plan` prints."""
+    """Returns the tables of `plan`: the senders of `fr_view links`, and the open windows of `fr_bench plan`."""
     lines = [line.split(" ") for line in inputs.of_cluster("fr_bench", "plan").lines]
+    links = [line.split(" ") for line in inputs.of_cluster("fr_view", "links").lines]
     network = inputs.network
-    sent = [row for words in lines if words[0] != "guard" for row in senders(network, words)]
+    sent = [sender(network, words) for words in links]
     guards = [guard(network, words) for words in lines if words[0] == "guard"]
     return [Section("sender", "Senders", sender_columns(network), sent, "No node sends."),
             Section("guardian", "Open windows of the bus guardians", guard_columns(network), guards)]
@@ -31,30 +30,19 @@ def guard_columns(network: Network) -> tuple[Column, ...]:
             network.column("begin", "from"), network.column("end", "to"))
 
 
-def senders(network: Network, words: list[str]) -> Iterator[Row]:
-    """Yields a row for each buffer that fills the slot of a line, or one without a buffer if none does."""
-    kind, channel = words[0], words[2]
-    slot, node, base, repetition = int(words[1]), *map(int, words[3:])
-    cycles = Cycles(base, repetition)
-    buffers = list(network.senders(slot, channel, node, cycles))
-    if kind == "dynamic":
-        buffers = [it for it in buffers if it.cycles == cycles]
-    listed: list[Buffer | None] = [*buffers]
-    for buffer in listed or [None]:
-        shown = cycles if buffer is None or buffer.cycles.repetition < repetition else buffer.cycles
-        name: Name | None = None if buffer is None else network.buffer(node, buffer.number)
-        values: dict[str, Value] = {
-            "segment": "static" if kind == "slot" else "dynamic", "slot": slot, "channel": channel,
-            "node": network.node(node), "buffer": name, "mode": buffer.kind if buffer else "null frames",
-            "base": shown.base, "repetition": shown.repetition, "cycles": str(shown),
-            "words": buffer.words if buffer else network.cluster.parameters.static_words,
-            "receivers": network.listeners(slot, channel, node, shown) if buffer else Receivers(()),
-        }
-        if kind == "slot":
-            begin = network.place(slot, None)
-            length = network.cluster.parameters.static_mt
-            values |= {"begin": network.time(begin), "end": network.time(begin + length)}
-        yield Row(values)
+def sender(network: Network, words: list[str]) -> Row:
+    """Returns the row of a sender from the words of its line."""
+    node, number, segment, slot, channel, base, repetition, size, begin, end, receivers = words
+    buffer: Name | None = None if number == "-" else network.buffer(int(node), int(number))
+    values: dict[str, Value] = {
+        "segment": segment, "slot": int(slot), "channel": channel, "node": network.node(int(node)), "buffer": buffer,
+        "mode": "null frames" if number == "-" else network.cluster.nodes[int(node)].buffers[int(number)].kind,
+        "base": int(base), "repetition": int(repetition), "cycles": str(Cycles(int(base), int(repetition))),
+        "words": int(size), "receivers": network.receivers(receivers),
+    }
+    if begin != "-":
+        values |= {"begin": network.time(int(begin)), "end": network.time(int(end))}
+    return Row(values)
 
 
 def guard(network: Network, words: list[str]) -> Row:

@@ -27,7 +27,7 @@ def totals(facts: Facts) -> Section:
     columns = (Column("nodes", "nodes"), Column("cycles", "cycles"), facts.network.column("time", "time"),
                Column("windows", "windows"), Column("commits", "commits"), Column("delivered", "delivered"),
                Column("idle_faults", "faults without effect"))
-    time = facts.network.time(facts.network.begin(facts.inputs.cycles))
+    time = facts.network.time(facts.inputs.cycles * facts.network.cluster.parameters.cycle_mt)
     return Section("total", "Run", columns, [Row({
         "nodes": len(outcome.nodes), "cycles": facts.inputs.cycles, "time": time, "windows": outcome.windows,
         "commits": len(facts.commits), "delivered": delivered, "idle_faults": len(idle_lines)})])
@@ -104,11 +104,11 @@ def errors(facts: Facts) -> Section:
 
 def error_rows(facts: Facts, node: int, channel: str, counters: Counters) -> Iterator[Row]:
     """Yields a row for each error counter of a node on a channel, with the slots and cycles that it counted."""
-    cycle_mt = facts.network.cluster.parameters.cycle_mt
+    cycles = dict(zip(facts.windows.begins, facts.windows.cycles))
     for error, states in ERRORS.items():
         count = int(getattr(counters, error))
         if count:
-            seen = [(int(words[0]) // cycle_mt, int(words[2])) for words in facts.frames(node)
+            seen = [(cycles[int(words[0])], int(words[2])) for words in facts.frames(node)
                     if words[3] == channel and words[4] in states and words[2] != "-"]
             lines = {line for cycle, slot in seen for line in causes(facts.by_place.get((cycle, slot, channel), []))}
             slots = Counter(slot for _, slot in seen)

@@ -5,7 +5,7 @@ from musmyrtle.visible import visible
 from musmyrtle.world.refusals import BadCycles, ClusterRefused, NoRoom
 
 REFUSED = "refused "
-OF_THE_MACHINE = ("Memory", "Write")
+OF_THE_MACHINE = ("Memory", "Write", "Record", "Capture")
 """Refusals that aren't about the cluster file."""
 
 

@@ -29,18 +29,22 @@ class Session:
     """
 
     def __init__(self, program: FileName, cluster: FileName, cycles: int | None, timeout: float | None = None, *,
-                 endless: bool = False) -> None:
+                 endless: bool = False, record: FileName | None = None, capture: FileName | None = None) -> None:
         """Starts the program and reads its first line.
 
-        ENDLESS asks for a world without history, whose CYCLES are None for the most. TIMEOUT is the time limit of each
+        ENDLESS asks for a world without history, whose CYCLES are None for the most. RECORD and CAPTURE are files to
+        which it writes its windows, or None. TIMEOUT is the time limit of each
         request in seconds, or None for no limit. Raises `NotStarted`, `ClusterRefused`, `BadCycles` where the cluster
         can't have so many, `NoRoom`, `SessionOver` where the program speaks another version, and `TimedOut`.
         """
         command = [os.fspath(program), os.fspath(cluster), *(["--endless"] if endless else []),
-                   *([] if cycles is None else ["--cycles", str(cycles)])]
+                   *([] if cycles is None else ["--cycles", str(cycles)]),
+                   *([] if record is None else [f"--record={os.fspath(record)}"]),
+                   *([] if capture is None else [f"--capture={os.fspath(capture)}"])]
         self.lock = threading.RLock()
         self.asked: deque[str] = deque(maxlen=MOST_ASKED if endless else None)
         self.kept: list[str] = []
+        self._files = {"refused Record": record, "refused Capture": capture}
         self._timeout = timeout
         self._over: str | None = None
         self._is_waiting = self._is_closed = False
@@ -157,7 +161,7 @@ class Session:
                 reply = child.line(deadline)
                 replies.append(self._whole(reply, deadline) if reply.startswith("lines ") else reply)
         except Gone as error:
-            raise SessionOver(self._broken(self._over or str(error) or self._child.last_words())) from None
+            raise SessionOver(self._broken(self._over or str(error) or self._last_words())) from None
         except Late:
             raise TimedOut(self._broken(f"{missing(asked, replies)} within {timeout:g} s")) from None
         except BaseException as error:
@@ -168,6 +172,12 @@ class Session:
             raise
         self._is_waiting = False
         return replies
+
+    def _last_words(self) -> str:
+        """Returns the end of standard error. Of a file that fails it names the file."""
+        said = self._child.last_words()
+        file = self._files.get(said)
+        return said if file is None else f"{os.fspath(file)} can't be written ({said})"
 
     def _whole(self, first: str, deadline: float | None) -> str:
         """Returns the reply that begins with the line `lines K` and has K further lines."""

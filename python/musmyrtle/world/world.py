@@ -47,6 +47,7 @@ class World:
     """
 
     def __init__(self, cluster: FileName, cycles: int | None = None, *, endless: bool = False,
+                 record: FileName | None = None, capture: FileName | None = None,
                  program: FileName | None = None, timeout: float | None = None) -> None:
         """Opens the world of a cluster file for a run of so many cycles, 1 to 1024.
 
@@ -54,12 +55,19 @@ class World:
         most that the cluster allows unless they are given. `trace`, `capture` and `page` raise `NoHistory`, and
         `record` has the window that was sealed last alone.
 
+        RECORD and CAPTURE are the files to which a world without history writes the record of the bus and a capture of
+        it, each window once it is sealed. They are emptied first, and each call that returns has its windows there.
+        Raises `ValueError` for a world that keeps its history, and `SessionOver` where a file can't be opened; if one
+        can't be written, the call that sealed the window raises it.
+
         PROGRAM is the `fr_world` to run, which `usual_world` finds otherwise. TIMEOUT is the time limit in seconds of
         each request and of the opening, or None. Raises `BadCycles` for another number of cycles, `NoRoom` where a
         journal has no room for them, `NotStarted` where the program can't be started, `ClusterRefused`, `BadName` where
         a key `name` of the cluster file isn't a string, and `TimedOut`.
         """
         self._is_endless = endless or cycles is None
+        if not self._is_endless and not (record is None and capture is None):
+            raise ValueError("a world with its history writes no file as it goes: use `capture` and `record` then")
         try:
             if cycles is not None:
                 cycles = endless_cycles(cycles) if self._is_endless else run_cycles(cycles)
@@ -70,7 +78,8 @@ class World:
         self._faults: list[tuple[Fault, Callable[[Window], bool]]] = []
         self._unread = ""
         self._read_clock: Clock | None = None
-        self._session = Session(program or usual_world(), cluster, cycles, timeout, endless=self._is_endless)
+        self._session = Session(program or usual_world(), cluster, cycles, timeout, endless=self._is_endless,
+                                record=record, capture=capture)
         try:
             self._names = self._read_names(self._data)
         except BaseException:

@@ -1,0 +1,50 @@
+"""The windows of a run as `fr_view windows` prints them: their cycles, times, slots, and the lengths of these."""
+from array import array
+from collections.abc import Iterable
+
+CHANNELS = "AB"
+
+
+class Windows:
+    """The windows of a run, by their numbers. Times and lengths are in macroticks. A slot 0 stands for none."""
+
+    def __init__(self, lines: Iterable[str] = ()) -> None:
+        self.cycles, self.minislots, self.begins = array("I"), array("H"), array("Q")
+        self.slots = {it: array("H") for it in CHANNELS}
+        self.lengths = {it: array("H") for it in CHANNELS}
+        self.starts = array("I")
+        """The number of the first window of each cycle."""
+        for line in lines:
+            self.add(line.split(" "))
+
+    def add(self, words: list[str]) -> None:
+        """Adds a window by the words of its line."""
+        number, cycle, minislot, begin = words[:4]
+        if int(cycle) == len(self.starts):
+            self.starts.append(int(number))
+        self.cycles.append(int(cycle))
+        self.minislots.append(number_of(minislot))
+        self.begins.append(int(begin))
+        for channel, at in zip(CHANNELS, (4, 6)):
+            self.slots[channel].append(number_of(words[at]))
+            self.lengths[channel].append(number_of(words[at + 1]))
+
+    def begin_of_cycle(self, cycle: int) -> int:
+        """Returns the macrotick of the run at which a cycle of the run begins."""
+        return self.begins[self.starts[cycle]]
+
+    def openings(self, wanted: dict[str, set[int]] | None = None) -> dict[tuple[int, int, str], int]:
+        """Returns the minislot at which each dynamic slot opened, or only the wanted ones of each channel, by cycle,
+        slot and channel."""
+        found: dict[tuple[int, int, str], int] = {}
+        for channel, slots in self.slots.items():
+            its = None if wanted is None else wanted.get(channel, set())
+            for window, minislot in enumerate(self.minislots if its != set() else ()):
+                if minislot and slots[window] and (its is None or slots[window] in its):
+                    found[self.cycles[window], slots[window], channel] = minislot
+        return found
+
+
+def number_of(word: str) -> int:
+    """Returns the number of a word, or 0 for `-`."""
+    return 0 if word == "-" else int(word)
