@@ -38,14 +38,14 @@ find_command() {
     case $name-$1 in
     fr_bench-audit | fr_view-why) input=TRACE ;;
     fr_bench-midpoint) input=NUMBERS ;;
-    fr_bench-check | fr_bench-plan) places=FILE ;;
+    fr_bench-check | fr_bench-plan | fr_view-links) places=FILE ;;
     fr_bench-run) places='FILE SCENARIO' options=--cycles flags=--free ;;
     fr_view-schedule) places=FILE options=--cycle ;;
     fr_view-latency) places=FILE options='--slot --channel' ;;
     fr_view-capture) flags='--own --until-fault' input=TRACE ;;
     fr_view-frames) flags='--all --until-fault' input=TRACE ;;
-    fr_view-outcome | fr_view-commits) places='FILE SCENARIO' options=--cycles ;;
-    fr_view-answers | fr_view-record | fr_view-bus) places='FILE SCENARIO' options=--cycles flags=--endless ;;
+    fr_view-outcome | fr_view-answers | fr_view-commits | fr_view-record | fr_view-windows | fr_view-bus)
+        places='FILE SCENARIO' options=--cycles flags=--endless ;;
     fr_view-matrix) places='FILE SCENARIO' options='--cycles --channel --node --from --from-window' ;;
     fr_view-trace) places='NODE FILE SCENARIO' options=--cycles ;;
     *) return 1 ;;
@@ -93,7 +93,7 @@ read_words() {
         ! find_command "${1-}" || command=$1
     elif [ "$name" = fr_world ]; then
         places=FILE
-        options=--cycles
+        options='--cycles --record --capture'
         flags=--endless
         input=requests
         read_arguments "$@"
@@ -238,7 +238,19 @@ find_missing() {
         fi
     elif [ -n "$missing" ]; then
         slip="missing: ${missing#, }"
+    elif [ "$name" = fr_world ]; then
+        find_stray
     fi
+}
+
+# Finds a file for the windows of a run with history.
+find_stray() {
+    for option in --record --capture; do
+        case "$given" in
+        *' --endless '*) ;;
+        *" $option "*) slip="$option needs --endless" ;;
+        esac
+    done
 }
 
 find_surplus() {

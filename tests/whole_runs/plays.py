@@ -4,6 +4,7 @@ import re
 from xml.etree import ElementTree
 
 from .captured import FILE_HEADER, record_of
+from .logs import is_in_order, put_together
 from .runner import EXAMPLES, USAGE, WRITTEN, refused, run
 from .scenarios import Scenes
 
@@ -40,6 +41,31 @@ COMMITS = """0 0 0 0 0 x0a0b = sent 0 1 A alone 1:b1 0 1 B collided -
 Node 2 babbles in each static slot, where the guardians of A stop it and on B, without guardians, it collides. Node 1's
 buffer is a state buffer and sends its last commit in each cycle; the others send once.
 """
+
+LOG = """commit 0 0 0 0 0 x0a0b
+commit 1 0 0 0 0 x1111
+commit 2 0 0 0 0 x7001
+sent 0 0 0 1 A alone 1:b1
+sent 0 0 0 1 B collided -
+sent 1 0 0 2 A alone 0:b1,2:b1
+sent 1 0 0 2 B collided -
+sent 2 0 0 4 A alone 0:queue
+commit 1 0 1 1 15 x2222
+commit 2 0 1 1 15 x7002
+sent 1 15 1 2 A alone 0:b1,2:b1
+sent 1 15 1 2 B collided -
+sent 2 15 1 4 A alone 0:queue
+commit 0 0 1 2 29 x0c0d
+sent 0 29 2 1 A alone 1:b1
+sent 0 29 2 1 B collided -
+sent 1 15 2 2 A alone 0:b1,2:b1
+sent 1 15 2 2 B collided -
+commit 2 0 0 3 44 x7003
+sent 1 15 3 2 A alone 0:b1,2:b1
+sent 1 15 3 2 B collided -
+sent 2 44 3 4 A alone 0:queue
+"""
+"""The same in the order of the run."""
 
 RECORD = """0 0 - 1 A 0 offer passed alone 1 --s- x30010236000a0b18f7d3 -
 0 0 - 1 B 0 offer passed collided 1 --s- x30010236000a0b3e7702 -
@@ -132,6 +158,33 @@ The withdraw takes back the commit that has overwritten those before it, so slot
 it has one on B alone, since node 0's offer on A is lost.
 """
 
+ALL_FATES = TASKS.replace("mute", "commit 2 0 2 0 x7002\nmute")
+
+LOG_OF_ALL = """commit 0 0 0 0 2 x0101
+overwritten 0 2 0 3
+commit 0 0 1 0 3 x0202
+overwritten 0 3 0 4
+commit 0 0 1 0 4 x0303
+withdrawn 0 4 0 5
+commit 1 0 0 0 1 x1111
+sent 1 1 0 2 A alone 0:b1,2:b1
+sent 1 1 0 2 B alone -
+commit 0 0 0 1 20 x0404
+commit 2 0 1 1 15 x7001
+withdrawn 2 15 1 16
+sent 0 20 1 1 A muted -
+sent 0 20 1 1 B alone 1:b2
+sent 1 1 1 2 A alone 0:b1,2:b1
+sent 1 1 1 2 B alone -
+commit 2 0 0 2 31 x7002
+sent 1 1 2 2 A alone 0:b1,2:b1
+sent 1 1 2 2 B alone -
+sent 1 1 3 2 A alone 0:b1,2:b1
+sent 1 1 3 2 B alone -
+pending 2 31
+"""
+"""The log of its commits, where node 2 may begin no dynamic frame, so that its last commit stays pending."""
+
 TURNED = "frscenario 1\ncommit 0 0 0 0 x0a0b\ncorrupt A 0 s1 80\ncorrupt B 0 s1 79\ncorrupt A 0 s3 0\nend\n"
 """A frame of ten bytes has no bit 80, and slot 3 has no sender, so one of these bits is flipped."""
 
@@ -149,6 +202,13 @@ babble 1 A 0 s2 xff
 corrupt A 0 s2 0
 end
 """
+
+IN_A_CYCLE = (("-", 0, 1, 20), ("-", 20, 2, 20), ("-", 40, 3, 20),
+              (1, 60, 4, 5), (2, 65, 5, 5), (3, 70, 6, 5), (4, 75, 7, 5))
+WINDOWS = "".join(
+    f"{7 * cycle + place} {cycle} {minislot} {90 * cycle + begin} {slot} {length} {slot} {length}\n"
+    for cycle in range(4) for place, (minislot, begin, slot, length) in enumerate(IN_A_CYCLE))
+"""Its windows. A frame of 10 bytes takes one minislot, as an empty slot does, so each slot of a cycle has its own."""
 
 ORIGINS = ["0 0 - 1 A 0 offer 4", "0 0 - 1 A - corrupt 5", "0 0 - 1 B - corrupt 7", "1 0 - 2 A 1 babble 11",
            "1 0 - 2 A - corrupt 12", "1 0 - 2 B - corrupt 8", "2 0 - 3 A - corrupt 9", "11 1 2 5 A 1 babble 10"]
@@ -169,7 +229,9 @@ REFUSALS = {
 }
 """Lines for which the scenario is refused, or the run with it, as by `fr_bench run`."""
 
-COMMANDS = [["outcome"], ["answers"], ["commits"], ["record"], ["bus"], ["matrix"], ["trace", "0"]]
+COMMANDS = [["outcome"], ["answers"], ["commits"], ["record"], ["windows"], ["bus"], ["matrix"], ["trace", "0"]]
+STREAMED = [["outcome"], ["answers"], ["commits"], ["record"], ["windows"], ["bus"]]
+"""The commands with `--endless`."""
 
 
 class Plays:
@@ -219,6 +281,7 @@ class Plays:
         told, errors, status = run([self.runs.program, "record", *THREE_NODES])
         front = told.decode().splitlines(True)[:RECORD.count("\n")]
         self.runs.compare(f"record, {WRITTEN}", ("".join(front), errors, status), (RECORD, b"", 0))
+        self.runs.check(f"windows, {WRITTEN}", ["windows", *THREE_NODES], (WINDOWS.encode(), b"", 0))
         wanted = FILE_HEADER + b"".join(record_of(time, channel, bytes.fromhex(data)) for time, channel, data in HEARD)
         told, errors, status = run([self.runs.program, "bus", *THREE_NODES])
         self.runs.compare(f"bus, {WRITTEN}", (told[:len(wanted)], errors, status), (wanted, b"", 0))
@@ -334,10 +397,17 @@ class Plays:
         for outcome in sorted(EXAMPLES.glob("*/outcome-of-*-cycles")):
             words = [outcome.with_name("cluster.toml"), outcome.with_name("scenario"), "--cycles",
                      outcome.name.split("-")[2]]
-            for command in ("answers", "record", "bus"):
+            for command in ("outcome", "answers", "record", "windows", "bus"):
                 kept = run([self.runs.program, command, *words])[0]
                 self.runs.compare(f"{command} of {outcome.parent.name}, endless",
                                   run([self.runs.program, command, *words, "--endless"]), (kept, b"", 0))
+            log, errors, status = run([self.runs.program, "commits", *words, "--endless"])
+            self.runs.compare(f"commits of {outcome.parent.name}, endless",
+                              (put_together(log.decode()).encode(), is_in_order(log.decode()), errors, status),
+                              (run([self.runs.program, "commits", *words])[0], True, b"", 0))
+        self.runs.check("the log of commits", ["commits", *THREE_NODES, "--endless"], (LOG.encode(), b"", 0))
+        words = self.given((EXAMPLES / "three-nodes/cluster.toml").read_text().replace("latest_a = 4\n", ""), ALL_FATES)
+        self.runs.check("each fate in the log", ["commits", *words, "--endless"], (LOG_OF_ALL.encode(), b"", 0))
         words = self.given((EXAMPLES / "three-nodes/cluster.toml").read_text(), TURNED)[:2]
         told, errors, status = run([self.runs.program, "record", *words, "--endless", "--cycles", "66000"])
         cycles = [int(line.split(b" ")[1]) for line in told.splitlines()]
@@ -347,13 +417,16 @@ class Plays:
         long = run([self.runs.program, "answers", *words, "--endless", "--cycles", "66000"])
         self.runs.compare("the answers of a run of 66000 cycles", long,
                           (run([self.runs.program, "answers", *words, "--cycles", "4"])[0], b"", 0))
-        for command in ("answers", "record", "bus"):
+        log = run([self.runs.program, "commits", *words, "--endless", "--cycles", "66000"])
+        self.runs.compare("the log of a run of 66000 cycles", log,
+                          (run([self.runs.program, "commits", *words, "--endless", "--cycles", "4"])[0], b"", 0))
+        for (command,) in STREAMED:
             self.runs.check(f"{command}, endless, for 4000000 cycles",
                             [command, "a", "b", "--endless", "--cycles=4000000"], refused("Read"))
             for number in ("0", "4000001", "04", ""):
                 self.runs.check(f"{command}, endless, for {number!r} cycles",
                                 [command, "a", "b", "--endless", "--cycles", number], USAGE)
-        for command in (["outcome"], ["commits"], ["matrix"], ["trace", "0"]):
+        for command in (["matrix"], ["trace", "0"]):
             self.runs.check(f"{command}, endless", [*command, *THREE_NODES, "--endless"], USAGE)
 
     def refusals(self):
@@ -361,7 +434,7 @@ class Plays:
         for command in COMMANDS:
             for line, error in REFUSALS.items():
                 words = self.given(scenes.cluster, scenes.with_line(line))
-                for more in ([], ["--endless"]) if command in (["answers"], ["record"], ["bus"]) else ([],):
+                for more in ([], ["--endless"]) if command in STREAMED else ([],):
                     self.runs.check(f"{command} with {line} {more}", [*command, *words, *more], refused(error))
             for name, error in {"missing": "Read", ".": "Read", "three-nodes/cluster.toml": "BadMagic"}.items():
                 self.runs.check(f"{command} with {name!r}",
@@ -389,7 +462,7 @@ class Plays:
             self.runs.check(f"{command} for 1024 cycles", [*command, "a", "b", "--cycles=1024"], refused("Read"))
 
     def outputs(self):
-        for command in [*COMMANDS, ["answers", "--endless"], ["record", "--endless"], ["bus", "--endless"]]:
+        for command in [*COMMANDS, *([*it, "--endless"] for it in STREAMED)]:
             words = [*command, *THREE_NODES]
             with open("/dev/full", "wb") as full:
                 self.runs.check(f"{words} to a full device", words, refused("Write"), output=full)

@@ -67,6 +67,8 @@ class Preloaded:
 
 
 FOLDER = EXAMPLES / "three-nodes"
+WITH_FILES = "session with files"
+FILE_REFUSALS = b"refused Record\n", b"refused Capture\n"
 CLUSTER = str(FOLDER / "cluster.toml")
 
 
@@ -92,6 +94,7 @@ def views():
     return {
         "schedule": (["schedule", CLUSTER], b""),
         "latency": (["latency", CLUSTER], b""),
+        "links": (["links", CLUSTER], b""),
         "capture": (["capture"], trace()),
         "frames": (["frames"], trace()),
         "frames until the fault": (["frames", "--until-fault"], trace()[:-4]),
@@ -101,10 +104,14 @@ def views():
         "answers": (["answers", *run], b""),
         "commits": (["commits", *run], b""),
         "record": (["record", *run], b""),
+        "windows": (["windows", *run], b""),
         "bus": (["bus", *run], b""),
         "matrix": (["matrix", *run], b""),
         "trace": (["trace", "0", *run], b""),
+        "outcome, endless": (["outcome", *run, "--endless"], b""),
+        "windows, endless": (["windows", *run, "--endless"], b""),
         "answers, endless": (["answers", *run, "--endless"], b""),
+        "commits, endless": (["commits", *run, "--endless"], b""),
         "record, endless": (["record", *run, "--endless"], b""),
         "bus, endless": (["bus", *run, "--endless"], b""),
     }
@@ -114,7 +121,9 @@ def sessions():
     """Returns the same for fr_world: a request of each kind that takes memory."""
     asked = ["commit 0 0 0 x0a0b", "window", "window", "babble 2 A x00", "mute 1 A * s*", "window", "run 2", "now",
              "report 1", "trace 0", "record 1"]
-    return {"session": ([CLUSTER, "--cycles", "4"], "".join(f"{line}\n" for line in asked).encode())}
+    given = "".join(f"{line}\n" for line in asked).encode()
+    files = ["--record", os.devnull, "--capture", os.devnull]
+    return {"session": ([CLUSTER, "--cycles", "4"], given), WITH_FILES: ([CLUSTER, "--endless", *files], given)}
 
 
 def recordings():

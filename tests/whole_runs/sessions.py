@@ -168,9 +168,10 @@ def strikes(cycles, place, cycle, minislot, slot):
 class Talk:
     """A session on two pipes, to which each request is given after the reply to the one before."""
 
-    def __init__(self, program, cluster, cycles):
+    def __init__(self, program, cluster, cycles, options=()):
         pipes = {"stdin": subprocess.PIPE, "stdout": subprocess.PIPE, "stderr": subprocess.PIPE}
-        self.ran = subprocess.Popen([program, cluster, "--cycles", str(cycles)], cwd=EXAMPLES, bufsize=0, **pipes)
+        words = [program, cluster, *(["--cycles", str(cycles)] if cycles else []), *options]
+        self.ran = subprocess.Popen(words, cwd=EXAMPLES, bufsize=0, **pipes)
         self.held = b""
 
     def line(self):

@@ -56,10 +56,12 @@ SLIPS: list[tuple[str, Words, str]] = [
     ("fr_view", ("schedule", CLUSTER, "1"), "--cycle is missing in front of 1"),
     ("fr_view", ("trace", *RUN), "NODE is missing in front of FILE"),
     ("fr_view", ("trace", CLUSTER, SCENARIO, "1", "--cycles", "4"), "NODE must be a whole number from 0 to 15, not"),
+    ("fr_view", ("links", CLUSTER, "--slot", "1"), "links has no option --slot"),
     ("fr_view", ("frames", "--al"), "frames has no option --al; did you mean --all?"),
     ("fr_view", ("record", *RUN, "--endles"), "record has no option --endles; did you mean --endless?"),
     ("fr_view", ("bus", CLUSTER, SCENARIO, "--endless", "--cycles", "4000001"), "from 1 to 4000000, not 4000001"),
-    ("fr_view", ("commits", *RUN, "--endless"), "commits has no option --endless"),
+    ("fr_view", ("commits", *RUN, "--endles"), "commits has no option --endles; did you mean --endless?"),
+    ("fr_view", ("matrix", *RUN, "--endless"), "matrix has no option --endless"),
     ("fr_view", ("run", *RUN), "./fr_bench run"),
     ("fr_view", ("why", "node.trace"), "why reads TRACE on standard input: < node.trace"),
     ("fr_world", (CLUSTER,), "missing: --cycles N"),
@@ -68,6 +70,10 @@ SLIPS: list[tuple[str, Words, str]] = [
     ("fr_world", (CLUSTER, "--cycles=1025"), "from 1 to 1024, not 1025"),
     ("fr_world", (CLUSTER, "--endless", "--cycles", "4000001"), "from 1 to 4000000, not 4000001"),
     ("fr_world", ("--endless",), "missing: FILE"),
+    ("fr_world", (CLUSTER, "--cycles", "4", "--record", "lines"), "--record needs --endless"),
+    ("fr_world", (CLUSTER, "--cycles", "4", "--capture=bus.pcap"), "--capture needs --endless"),
+    ("fr_world", (CLUSTER, "--endless", "--record"), "--record has no value"),
+    ("fr_world", (CLUSTER, "--endless", "--captre", "bus.pcap"), "no option --captre; did you mean --capture?"),
     ("fr_world", ("--cycles=4", CLUSTER, "--cycles", "4"), "--cycles stands twice"),
     ("fr_world", (CLUSTER, "--cycle", "4"), "fr_world has no option --cycle; did you mean --cycles?"),
     ("fr_world", ("--cycles", "4"), "missing: FILE"),
@@ -117,14 +123,14 @@ ALONE: list[tuple[str, Words, str]] = [
 
 POOL = ["a", "4", "0", "1024", "1025", "04", "--cycles", "--cycles=4", "--cycles=", "--free", "--free=1", "--channel",
         "A", "--channel=B", "C", "--node=3", "--node", "16", "--from", "--from-window", "--cycle=5", "--cycle", "--own",
-        "--all", "--endless", "--until-fault", "--whole", "--findings=5", "--macrotick", "--", "-", "-x", "--x", "", " ", "\u00e9",
-        "--=", "*", "--cycles --channel", "-4"]
+        "--all", "--endless", "--until-fault", "--whole", "--findings=5", "--macrotick", "--record", "--capture=c",
+        "--", "-", "-x", "--x", "", " ", "\u00e9", "--=", "*", "--cycles --channel", "-4"]
 SHAPES = {
     "fr_bench": [["audit"], ["check", "a"], ["midpoint"], ["run", "a", "b", "--cycles", "4"]],
     "fr_view": [["schedule", "a"], ["frames"], ["matrix", "a", "b", "--cycles", "4"],
                 ["trace", "1", "a", "b", "--cycles", "4"], ["answers", "a", "b", "--cycles", "4"],
                 ["record", "a", "b", "--cycles", "4", "--endless"]],
-    "fr_world": [["a", "--cycles", "4"]],
+    "fr_world": [["a", "--cycles", "4"], ["a", "--endless", "--record=b"]],
     "fr_monitor": [["a"], ["a", "--findings", "4", "--macrotick=1000"]],
 }
 READ = '. "$1"; name=$2; shift 2; read_words "$@"; [ -z "$slip" ]'

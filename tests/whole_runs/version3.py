@@ -3,6 +3,7 @@ out.
 
 The expected texts were worked out by hand.
 """
+from .logs import put_together
 from .runner import EXAMPLES, refused, run
 
 BEGIN, END = "frscenario 3\n", "end\n"
@@ -201,11 +202,11 @@ class Version3:
         self.endless_notes()
 
     def endless_notes(self):
-        """Checks, of `fr_view answers`, `record` and `bus`, that an endless run names each line that is left out, and
-        no other one."""
+        """Checks, of `fr_view answers`, `commits`, `record` and `bus`, that an endless run names each line that is left
+        out, and no other one."""
         path = self.folder / "version3"
         path.write_text(f"{BEGIN}commit 0 0 0 0 x0a0b\n\npop 0 0 4\nlost 2 5-9\nmute 1 AB 3-9 s*\n{END}")
-        for command in ("answers", "record", "bus"):
+        for command in ("answers", "commits", "record", "bus"):
             for cycles, numbers in ((4, (4, 5)), (5, (5,)), (6, ()), (1025, ())):
                 words = [command, self.cluster, path, "--cycles", str(cycles)]
                 output, errors, status = run([self.runs.program, *words, "--endless"])
@@ -213,6 +214,7 @@ class Version3:
                 name = f"{command} of {cycles} cycles in version 3, endless"
                 self.runs.compare(name, (errors.decode(), status), (notes, 0))
                 if cycles < 1025:
+                    output = put_together(output.decode()).encode() if command == "commits" else output
                     self.runs.compare(f"output of {name}", output, run([self.runs.program, *words])[0])
 
     def examples(self):

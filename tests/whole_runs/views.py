@@ -108,7 +108,8 @@ RANGES = {
 """Channel, slot, and first and last minislot, by hand: a slot in which nothing is sent takes one minislot, and a frame
 of W words takes half of W + 4, rounded up, and one more."""
 
-HELP = [b"fr_view schedule FILE", b"fr_view latency FILE", b"fr_view capture", b"fr_view frames", b"fr_view --help"]
+HELP = [b"fr_view schedule FILE", b"fr_view latency FILE", b"fr_view links FILE", b"fr_view capture", b"fr_view frames",
+        b"fr_view --help"]
 
 
 def local(name):
@@ -204,7 +205,7 @@ class Views:
         long.write_bytes(b"#" * 1_048_577)
         for name, error in {"missing.toml": "Read", ".": "Read", "": "Read", str(long): "TooLong",
                             "receive-buffer/trace": "Toml"}.items():
-            for command in ("schedule", "latency"):
+            for command in ("schedule", "latency", "links"):
                 self.runs.check(f"{command} {name!r}", [command, name], refused(error))
 
     def words(self):
@@ -216,11 +217,12 @@ class Views:
                  ["schedule", "--cycle", "1"], ["latency"], ["latency", "a", "b"], ["latency", "a", "--slot"],
                  *(["latency", "a", "--slot", number] for number in ("2048", "0", "01", "+4", "-1", "x", "", "4 ")),
                  ["latency", "a", "--slot", "4", "--channel", "AB"], ["latency", "a", "--channel", "A"],
-                 ["latency", "--slot", "1"]]
+                 ["latency", "--slot", "1"], ["links"], ["links", "a", "b"], ["links", "a", "--slot", "1"]]
         for given in lists:
             self.runs.check(f"the words {given}", given, USAGE)
         for given in (["schedule", "a", "--cycle", "63"], ["schedule", "--cycle=0", "a"], ["schedule", "--", "a"],
-                      ["latency", "a", "--slot", "2047", "--channel", "B"], ["latency", "--slot=1", "a"]):
+                      ["latency", "a", "--slot", "2047", "--channel", "B"], ["latency", "--slot=1", "a"],
+                      ["links", "a"], ["links", "--", "a"]):
             self.runs.check(f"the words {given}", given, refused("Read"))
         text, errors, status = run([self.runs.program, "--help"])
         told = [any(line.startswith(word) for line in text.splitlines()) for word in HELP]
@@ -229,7 +231,7 @@ class Views:
     def outputs(self):
         given = (EXAMPLES / "receive-buffer/trace").read_bytes()
         for words in (["capture"], ["frames"], ["schedule", "three-nodes/cluster.toml"],
-                      ["latency", "three-nodes/cluster.toml"], ["--help"]):
+                      ["latency", "three-nodes/cluster.toml"], ["links", "three-nodes/cluster.toml"], ["--help"]):
             with open("/dev/full", "wb") as full:
                 self.runs.check(f"{words} to a full device", words, refused("Write"), given=given, output=full)
             reading, writing = os.pipe()
