@@ -67,7 +67,7 @@ class World:
         """
         self._is_endless = endless or cycles is None
         if not self._is_endless and not (record is None and capture is None):
-            raise ValueError("a world with its history writes no file as it goes: use `capture` and `record` then")
+            raise ValueError("a world that keeps its history writes no file as it goes: use `capture` and `record`")
         try:
             if cycles is not None:
                 cycles = endless_cycles(cycles) if self._is_endless else run_cycles(cycles)
