@@ -170,7 +170,7 @@ class Written:
     def words(self):
         """Checks the words for files."""
         for option in ("--record", "--capture"):
-            for words in (["--cycles", "4", option, "x"], ["--endless", option], ["--endless", option, "x", option, "x"],
-                          [option, "x"]):
+            for words in (["--cycles", "4", option, "x"], ["--endless", option],
+                          ["--endless", option, "x", option, "x"], [option, "x"]):
                 self.runs.check(f"words {words}", [THREE_NODES, *words], USAGE)
         self.runs.compare("no file of wrong words", (EXAMPLES / "x").exists(), False)
