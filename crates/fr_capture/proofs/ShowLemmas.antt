@@ -1,5 +1,6 @@
 -- The text of the observations so far: some of it was handed to the writer, and the rest is in a piece.
-use Rattle.std.proofs.Common.{◌≡◌, ℕ, ◌+◌, ◌<◌, ◌≤◌, List, [], ◌∷◌, ◌++◌, length, take, drop, get_or, Option, Some, None}
+use Rattle.std.proofs.Common.{◌≡◌, ℕ, ◌+◌, ◌<◌, ◌≤◌, List, [], ◌∷◌, ◌++◌, length, take, drop, get_or, Option, Some}
+use Rattle.std.proofs.Common.{None}
 use Rattle.std.proofs.Common.{Result, Ok, Err, refl, sym, ap, subst, ◌∙◌, arith, append_assoc, append-nil, inl, inr}
 use Rattle.std.proofs.Common.{take-append-drop}
 use Rattle.std.specs.Io.KnownBytes.{Appends, Keeps}
@@ -119,7 +120,8 @@ module _ (form : Form) (s : State) (entries : List Entry) (start : Option (List 
 
   -- the observations of the first entries are a front of those of all entries
   begins-texts : (count : ℕ) → (more : List ℕ)
-      × (shown_of form s entries ≡ (heading form ++ flat_map (shown form s.params) (sightings_in s (take count entries))) ++ more)
+      × (shown_of form s entries
+      ≡ (heading form ++ flat_map (shown form s.params) (sightings_in s (take count entries))) ++ more)
   begins-texts count =
       let front = take count entries in
       let rest = drop count entries in

@@ -9,7 +9,7 @@ use Rattle.fr_journal.specs.Forms.{Entry}
 use Rattle.fr_journal.specs.declared.entry.Entry.TheVariants.{Commit, Withdraw, Read, Pop, Fetch, Observe}
 use Rattle.fr_journal.specs.Entries.{IsEntry}
 use Rattle.fr_journal.specs.Legal.{IsLegal}
-use Rattle.fr_interface.specs.State.{State, IsNodeInterface, with_entry}
+use Rattle.fr_interface.specs.State.{State, IsLegalInterface, IsNodeInterface, with_entry}
 use Rattle.fr_lines.specs.declared.versions.Version.{Version}
 use Rattle.fr_lines.specs.declared.versions.Version.TheVariants.{One, Two, Three}
 use Rattle.fr_lines.specs.Versions.{tells, tells_own}
@@ -35,16 +35,18 @@ use Rattle.fr_slots.specs.Plans.{Plan, IsPlan, IsNodePlan, IsBuffer, IsOwn, IsQu
 use Rattle.fr_slots.specs.Plans.{own_fits, with_buffer, with_own, with_queue}
 use Rattle.fr_text.specs.Spaces.{words_of, line_of}
 use Rattle.fr_trace.specs.Answers.{made_by}
-use Rattle.fr_trace.specs.Stream.{magic, params, node, lines, body, finished, reading, after_magic, after_parameters}
-use Rattle.fr_trace.specs.Stream.{after_numbers, after_node, line_number, take_line, take_byte, take_bytes, fresh}
-use Rattle.fr_trace.specs.TraceText.{entry_line, head_text, params_text, plan_text, begin_text, body_text, trace_text}
+use Rattle.fr_trace.specs.Stream.{Phase, magic, params, node, lines, body, finished, reading, after_magic}
+use Rattle.fr_trace.specs.Stream.{after_parameters, after_numbers, after_node, line_number, take_line, take_byte}
+use Rattle.fr_trace.specs.Stream.{take_bytes, fresh}
+use Rattle.fr_trace.specs.TraceText.{entry_line, head_text, params_text, numbers_text, plan_text, begin_text, body_text}
+use Rattle.fr_trace.specs.TraceText.{trace_text}
 use Rattle.fr_trace.specs.TraceText.{AreOwnedTold, AreTold}
 use Rattle.fr_trace.proofs.AnswerLemmas.{no_fault, legal_accepted, made-answered}
 use Rattle.fr_trace.specs.Feeds.{IsAtBegin, Begins}
 use Rattle.fr_trace.proofs.FeedLemmas.{begins_before}
 use Rattle.fr_trace.proofs.LineLemmas.{next_line}
 use Rattle.fr_trace.proofs.PlanLemmas.{own_taken, buffer_taken, queue_taken}
-use Rattle.fr_trace.proofs.TextLemmas.{bare_text, own_text, buffer_text, queue_text}
+use Rattle.fr_trace.proofs.TextLemmas.{is_open, bare_text, own_text, buffer_text, queue_text}
 
 -- ---- parameters
 
@@ -77,11 +79,6 @@ node_read v p plan is plan_is =
     (params_read v p is) refl (node_no_feed plan plan_is) (node_short plan plan_is)
     (ap (after_node v p) (node_line_again plan plan_is))
 
-bare_read : (v : Version) (p : Parameters) (plan : Plan) → IsParameters p → IsNodePlan plan
-    → take_bytes fresh (plan_text v p (bare_plan plan)) ≡ reading (lines v p (bare_plan plan)) []
-bare_read v p plan is plan_is = ap (take_bytes fresh) (bare_text v p (bare_plan plan) refl refl refl)
-    ∙ node_read v p plan is plan_is
-
 -- the plan with these lines and no receive FIFO
 abbrev with_lines : Plan → List Own → List Buffer → Plan
 with_lines plan owned buffers = record (bare_plan plan) { owned = owned; buffers = buffers }
@@ -98,28 +95,6 @@ own_line_read v p plan o no_buffer no_queue room spelled told =
       own_taken plan o spelled.fits room,
     ) refl
 
--- further ownership lines
-owned_read : (v : Version) (p : Parameters) (plan : Plan) (more before : List Own) → length before + length more ≤ 64
-    → AllFit own_fits more → Each IsOwn more → AreOwnedTold v more
-    → take_bytes fresh (plan_text v p (with_lines plan before [])) ≡ reading (lines v p (with_lines plan before [])) []
-    → take_bytes fresh (plan_text v p (with_lines plan (before ++ more) [])) ≡ reading
-    (lines v p (with_lines plan (before ++ more) [])) []
-owned_read v p plan [] before few fit ranges told came =
-    subst (λ (owned : List Own). take_bytes fresh (plan_text v p (with_lines plan owned [])) ≡ reading
-    (lines v p (with_lines plan owned [])) []) (sym (append-nil before)) came
-owned_read v p plan (o ∷ more) before few fit ranges told came =
-    let spelled : IsSpelledOwn o = record { is = ranges.0; fits = fit.0 } in
-    let here = with_lines plan before [] in
-    let next : take_bytes fresh (plan_text v p (with_own here o)) ≡ reading (lines v p (with_own here o)) [] =
-    ap (take_bytes fresh) (own_text v p here o refl refl)
-    ∙ next_line fresh (plan_text v p here) (line_of (own_words v o)) (lines v p here)
-    (lines v p (with_own here o)) came refl (own_no_feed v o spelled) (own_short v o spelled)
-    (own_line_read v p here o refl refl (omega arith) spelled told.0) in
-    subst (λ (owned : List Own). take_bytes fresh (plan_text v p (with_lines plan owned [])) ≡ reading
-    (lines v p (with_lines plan owned [])) []) (append_assoc before (o ∷ []) more)
-    (owned_read v p plan more (before ++ o ∷ []) (omega (arith, length-append before (o ∷ []))) fit.1 ranges.1 told.1
-    next)
-
 buffer_line_read : (v : Version) (p : Parameters) (plan : Plan) (b : Buffer) → plan.queue ≡ None
     → length plan.buffers < 64 → IsSpelledBuffer b → take_line (lines v p plan) (line_of (buffer_words b)) ≡ Ok
     (lines v p (with_buffer plan b))
@@ -130,29 +105,6 @@ buffer_line_read v p plan b none room spelled =
       none,
       buffer_taken plan b spelled.fits room,
     ) refl
-
--- further buffers
-buffers_read : (v : Version) (p : Parameters) (plan : Plan) (owned : List Own) (more before : List Buffer)
-    → length before + length more ≤ 64 → AllFit buffer_fits more → Each IsBuffer more
-    → take_bytes fresh (plan_text v p (with_lines plan owned before)) ≡ reading
-    (lines v p (with_lines plan owned before)) []
-    → take_bytes fresh (plan_text v p (with_lines plan owned (before ++ more))) ≡ reading
-    (lines v p (with_lines plan owned (before ++ more))) []
-buffers_read v p plan owned [] before few fit ranges came =
-    subst (λ (buffers : List Buffer). take_bytes fresh (plan_text v p (with_lines plan owned buffers)) ≡ reading
-    (lines v p (with_lines plan owned buffers)) []) (sym (append-nil before)) came
-buffers_read v p plan owned (b ∷ more) before few fit ranges came =
-    let spelled : IsSpelledBuffer b = record { is = ranges.0; fits = fit.0 } in
-    let here = with_lines plan owned before in
-    let next : take_bytes fresh (plan_text v p (with_buffer here b)) ≡ reading (lines v p (with_buffer here b)) [] =
-    ap (take_bytes fresh) (buffer_text v p here b refl)
-    ∙ next_line fresh (plan_text v p here) (line_of (buffer_words b)) (lines v p here)
-    (lines v p (with_buffer here b)) came refl (buffer_no_feed b spelled) (buffer_short b spelled)
-    (buffer_line_read v p here b refl (omega arith) spelled) in
-    subst (λ (buffers : List Buffer). take_bytes fresh (plan_text v p (with_lines plan owned buffers)) ≡ reading
-    (lines v p (with_lines plan owned buffers)) []) (append_assoc before (b ∷ []) more)
-    (buffers_read v p plan owned more (before ++ b ∷ []) (omega (arith, length-append before (b ∷ []))) fit.1 ranges.1
-    next)
 
 -- the receive FIFO
 queue_line_read : (v : Version) (p : Parameters) (plan : Plan) (q : Queue) → plan.queue ≡ None → IsSpelledQueue q
@@ -166,50 +118,6 @@ queue_line_read v p plan q none spelled =
 
 abbrev with_queue_or_none : Plan → Option Queue → Plan
 with_queue_or_none plan o = record plan { queue = o }
-
-queue_read : (v : Version) (p : Parameters) (plan : Plan) (o : Option Queue) → plan.queue ≡ None → QueueFits o
-    → IsQueueOrNone o
-    → take_bytes fresh (plan_text v p plan) ≡ reading (lines v p plan) []
-    → take_bytes fresh (plan_text v p (with_queue_or_none plan o)) ≡ reading (lines v p (with_queue_or_none plan o)) []
-queue_read v p plan None none fits ranges came =
-    let same : plan ≡ with_queue_or_none plan None = λ i. record {
-      tasks = plan.tasks;
-      latest_a = plan.latest_a;
-      latest_b = plan.latest_b;
-      host_entries = plan.host_entries;
-      slot_entries = plan.slot_entries;
-      owned = plan.owned;
-      buffers = plan.buffers;
-      queue = none i;
-    } in
-    subst (λ (x : Plan). take_bytes fresh (plan_text v p x) ≡ reading (lines v p x) []) same came
-queue_read v p plan (Some q) none fits ranges came =
-    let spelled : IsSpelledQueue q = record { is = ranges; fits = fits } in
-    ap (take_bytes fresh) (queue_text v p plan q none)
-    ∙ next_line fresh (plan_text v p plan) (line_of (queue_words q)) (lines v p plan)
-    (lines v p (with_queue plan q)) came refl (queue_no_feed q spelled) (queue_short q spelled)
-    (queue_line_read v p plan q none spelled)
-
-plan_read : (v : Version) (p : Parameters) (plan : Plan) → IsParameters p → IsNodePlan plan → AreOwnedTold v plan.owned
-    → take_bytes fresh (plan_text v p plan) ≡ reading (lines v p plan) []
-plan_read v p plan is plan_is told =
-    let is_plan = plan_is.plan_is in
-    let few_owned = is_plan.few_owned in
-    let few_buffers = is_plan.few_buffers in
-    let owned = owned_read v p plan plan.owned [] (omega arith) is_plan.owned_fit is_plan.owned_are told
-    (bare_read v p plan is plan_is) in
-    let buffers = buffers_read v p plan plan.owned plan.buffers []
-    (omega arith) is_plan.buffers_fit is_plan.buffers_are owned in
-    queue_read v p (with_lines plan plan.owned plan.buffers) plan.queue refl is_plan.queue_fits is_plan.queue_is buffers
-
-begin_read : (v : Version) (p : Parameters) (plan : Plan) → IsParameters p → IsNodePlan plan → AreOwnedTold v plan.owned
-    → plan_fault p plan ≡ None → take_bytes fresh (begin_text v p plan) ≡ reading
-    (body v (record { params = p; plan = plan; entries = [] })) []
-begin_read v p plan is plan_is told faultless =
-    next_line fresh (plan_text v p plan) begin_line (lines v p plan)
-    (body v (record { params = p; plan = plan; entries = [] })) (plan_read v p plan is plan_is told) refl refl
-    (omega arith)
-    (rw faultless refl)
 
 -- ---- entries
 
@@ -246,35 +154,149 @@ entry_line_read v s e plan_is ranges legal told =
     let made : made_by s e ≡ e = made-answered s e (legal_accepted s e legal).1 in
     rw (entry_not_end e, entry_line_again v e spelled told, no_fault (line_number (body v s)) s e legal, made) refl
 
-entries_read : (v : Version) (p : Parameters) (plan : Plan) (items before : List Entry) (front : List ℕ) → IsPlan plan
-    → AllAfter (IsLegal p plan) before items → AllAfter (λ _ e. IsEntry e) before items → AreTold v items
-    → take_bytes fresh front ≡ reading (body v (record { params = p; plan = plan; entries = before })) []
-    → take_bytes fresh (front ++ flat_map entry_line items) ≡ reading
-    (body v (record { params = p; plan = plan; entries = before ++ items })) []
-unfolding AllAfter
-entries_read v p plan [] before front plan_is legal ranges told came =
-    ap (take_bytes fresh) (append-nil front) ∙ came ∙ ap (λ xs. reading
-    (body v (record { params = p; plan = plan; entries = xs })) []) (sym (append-nil before))
-entries_read v p plan (e ∷ items) before front plan_is legal ranges told came =
-    let s : State = record { params = p; plan = plan; entries = before } in
-    let spelled = spelled_entry s e plan_is ranges.0 legal.0 in
-    let next : take_bytes fresh (front ++ entry_line e) ≡ reading (body v (with_entry s e)) [] =
-    next_line fresh front (line_of (entry_words e)) (body v s) (body v (with_entry s e)) came refl
-    (entry_no_feed e spelled) (entry_short e spelled) (entry_line_read v s e plan_is ranges.0 legal.0 told.0) in
-    ap (take_bytes fresh) (sym (append_assoc front (entry_line e) (flat_map entry_line items)))
-    ∙ entries_read v p plan items (before ++ e ∷ []) (front ++ entry_line e) plan_is legal.1 ranges.1 told.1 next
-    ∙ ap (λ xs. reading (body v (record { params = p; plan = plan; entries = xs })) [])
-    (append_assoc before (e ∷ []) items)
+-- ---- whole texts, from the place where they came
 
--- ---- the whole text
+-- A text came to a phase. A further line leads on, where the phase takes it.
+module _ (Came : List ℕ → Phase → Type 0)
+    (next : (text line : List ℕ) (p q : Phase) → Came text p → is_open p ≡ true → has_no_feed line ≡ true
+    → length line ≤ 1200 → take_line p line ≡ Ok q → Came (text ++ (line ++ line_feed)) q) where
+  bare_came : (v : Version) (p : Parameters) (plan : Plan) → Came (numbers_text v p plan) (lines v p (bare_plan plan))
+      → Came (plan_text v p (bare_plan plan)) (lines v p (bare_plan plan))
+  bare_came v p plan came = subst (λ (t : List ℕ). Came t (lines v p (bare_plan plan)))
+      (sym (bare_text v p (bare_plan plan) refl refl refl)) came
+
+  -- further ownership lines
+  owned_came : (v : Version) (p : Parameters) (plan : Plan) (more before : List Own)
+      → length before + length more ≤ 64 → AllFit own_fits more → Each IsOwn more → AreOwnedTold v more
+      → Came (plan_text v p (with_lines plan before [])) (lines v p (with_lines plan before []))
+      → Came (plan_text v p (with_lines plan (before ++ more) [])) (lines v p (with_lines plan (before ++ more) []))
+  owned_came v p plan [] before few fit ranges told came =
+      subst (λ (owned : List Own). Came (plan_text v p (with_lines plan owned [])) (lines v p (with_lines plan owned [])))
+      (sym (append-nil before)) came
+  owned_came v p plan (o ∷ more) before few fit ranges told came =
+      let spelled : IsSpelledOwn o = record { is = ranges.0; fits = fit.0 } in
+      let here = with_lines plan before [] in
+      let one : Came (plan_text v p (with_own here o)) (lines v p (with_own here o)) =
+      subst (λ (t : List ℕ). Came t (lines v p (with_own here o))) (sym (own_text v p here o refl refl))
+      (next (plan_text v p here) (line_of (own_words v o)) (lines v p here) (lines v p (with_own here o)) came refl
+      (own_no_feed v o spelled) (own_short v o spelled)
+      (own_line_read v p here o refl refl (omega arith) spelled told.0)) in
+      subst (λ (owned : List Own). Came (plan_text v p (with_lines plan owned [])) (lines v p (with_lines plan owned [])))
+      (append_assoc before (o ∷ []) more)
+      (owned_came v p plan more (before ++ o ∷ []) (omega (arith, length-append before (o ∷ []))) fit.1 ranges.1 told.1
+      one)
+
+  -- further buffers
+  buffers_came : (v : Version) (p : Parameters) (plan : Plan) (owned : List Own) (more before : List Buffer)
+      → length before + length more ≤ 64 → AllFit buffer_fits more → Each IsBuffer more
+      → Came (plan_text v p (with_lines plan owned before)) (lines v p (with_lines plan owned before))
+      → Came (plan_text v p (with_lines plan owned (before ++ more)))
+      (lines v p (with_lines plan owned (before ++ more)))
+  buffers_came v p plan owned [] before few fit ranges came =
+      subst (λ (buffers : List Buffer). Came (plan_text v p (with_lines plan owned buffers))
+      (lines v p (with_lines plan owned buffers))) (sym (append-nil before)) came
+  buffers_came v p plan owned (b ∷ more) before few fit ranges came =
+      let spelled : IsSpelledBuffer b = record { is = ranges.0; fits = fit.0 } in
+      let here = with_lines plan owned before in
+      let one : Came (plan_text v p (with_buffer here b)) (lines v p (with_buffer here b)) =
+      subst (λ (t : List ℕ). Came t (lines v p (with_buffer here b))) (sym (buffer_text v p here b refl))
+      (next (plan_text v p here) (line_of (buffer_words b)) (lines v p here) (lines v p (with_buffer here b)) came refl
+      (buffer_no_feed b spelled) (buffer_short b spelled)
+      (buffer_line_read v p here b refl (omega arith) spelled)) in
+      subst (λ (buffers : List Buffer). Came (plan_text v p (with_lines plan owned buffers))
+      (lines v p (with_lines plan owned buffers))) (append_assoc before (b ∷ []) more)
+      (buffers_came v p plan owned more (before ++ b ∷ []) (omega (arith, length-append before (b ∷ []))) fit.1
+      ranges.1 one)
+
+  -- the receive FIFO
+  queue_came : (v : Version) (p : Parameters) (plan : Plan) (o : Option Queue) → plan.queue ≡ None → QueueFits o
+      → IsQueueOrNone o → Came (plan_text v p plan) (lines v p plan)
+      → Came (plan_text v p (with_queue_or_none plan o)) (lines v p (with_queue_or_none plan o))
+  queue_came v p plan None none fits ranges came =
+      let same : plan ≡ with_queue_or_none plan None = λ i. record {
+        tasks = plan.tasks;
+        latest_a = plan.latest_a;
+        latest_b = plan.latest_b;
+        host_entries = plan.host_entries;
+        slot_entries = plan.slot_entries;
+        owned = plan.owned;
+        buffers = plan.buffers;
+        queue = none i;
+      } in
+      subst (λ (x : Plan). Came (plan_text v p x) (lines v p x)) same came
+  queue_came v p plan (Some q) none fits ranges came =
+      let spelled : IsSpelledQueue q = record { is = ranges; fits = fits } in
+      subst (λ (t : List ℕ). Came t (lines v p (with_queue plan q))) (sym (queue_text v p plan q none))
+      (next (plan_text v p plan) (line_of (queue_words q)) (lines v p plan) (lines v p (with_queue plan q)) came refl
+      (queue_no_feed q spelled) (queue_short q spelled) (queue_line_read v p plan q none spelled))
+
+  plan_came : (v : Version) (p : Parameters) (plan : Plan) → IsPlan plan → AreOwnedTold v plan.owned
+      → Came (numbers_text v p plan) (lines v p (bare_plan plan)) → Came (plan_text v p plan) (lines v p plan)
+  plan_came v p plan is told came =
+      let few_owned = is.few_owned in
+      let few_buffers = is.few_buffers in
+      let owned = owned_came v p plan plan.owned [] (omega arith) is.owned_fit is.owned_are told
+      (bare_came v p plan came) in
+      let buffers = buffers_came v p plan plan.owned plan.buffers [] (omega arith) is.buffers_fit is.buffers_are
+      owned in
+      queue_came v p (with_lines plan plan.owned plan.buffers) plan.queue refl is.queue_fits is.queue_is buffers
+
+  begin_came : (v : Version) (p : Parameters) (plan : Plan) → plan_fault p plan ≡ None
+      → Came (plan_text v p plan) (lines v p plan)
+      → Came (begin_text v p plan) (body v (record { params = p; plan = plan; entries = [] }))
+  begin_came v p plan faultless came =
+      next (plan_text v p plan) begin_line (lines v p plan)
+      (body v (record { params = p; plan = plan; entries = [] })) came refl refl (omega arith) (rw faultless refl)
+
+  entries_came : (v : Version) (p : Parameters) (plan : Plan) (items before : List Entry) (front : List ℕ)
+      → IsPlan plan → AllAfter (IsLegal p plan) before items → AllAfter (λ _ e. IsEntry e) before items
+      → AreTold v items → Came front (body v (record { params = p; plan = plan; entries = before }))
+      → Came (front ++ flat_map entry_line items)
+      (body v (record { params = p; plan = plan; entries = before ++ items }))
+  unfolding AllAfter
+  entries_came v p plan [] before front plan_is legal ranges told came =
+      subst (λ (xs : List Entry). Came (front ++ []) (body v (record { params = p; plan = plan; entries = xs })))
+      (sym (append-nil before))
+      (subst (λ (t : List ℕ). Came t (body v (record { params = p; plan = plan; entries = before })))
+      (sym (append-nil front)) came)
+  entries_came v p plan (e ∷ items) before front plan_is legal ranges told came =
+      let s : State = record { params = p; plan = plan; entries = before } in
+      let spelled = spelled_entry s e plan_is ranges.0 legal.0 in
+      let one : Came (front ++ entry_line e) (body v (with_entry s e)) =
+      next front (line_of (entry_words e)) (body v s) (body v (with_entry s e)) came refl
+      (entry_no_feed e spelled) (entry_short e spelled) (entry_line_read v s e plan_is ranges.0 legal.0 told.0) in
+      subst (λ (xs : List Entry). Came (front ++ flat_map entry_line (e ∷ items))
+      (body v (record { params = p; plan = plan; entries = xs }))) (append_assoc before (e ∷ []) items)
+      (subst (λ (t : List ℕ). Came t
+      (body v (record { params = p; plan = plan; entries = (before ++ e ∷ []) ++ items })))
+      (append_assoc front (entry_line e) (flat_map entry_line items))
+      (entries_came v p plan items (before ++ e ∷ []) (front ++ entry_line e) plan_is legal.1 ranges.1 told.1 one))
+
+  -- the whole text of a legal interface, whose plan may have any room
+  pub text_came : (v : Version) (s : State) → IsLegalInterface s → AreOwnedTold v s.plan.owned → AreTold v s.entries
+      → Came (numbers_text v s.params s.plan) (lines v s.params (bare_plan s.plan))
+      → Came (trace_text v s) (finished v s)
+  text_came v s is owned told came =
+      let begun = begin_came v s.params s.plan is.faultless (plan_came v s.params s.plan is.plan_is owned came) in
+      let entries = entries_came v s.params s.plan s.entries [] (begin_text v s.params s.plan) is.plan_is is.legal
+      is.entries_are told begun in
+      next (body_text v s) end_line (body v s) (finished v s) entries refl refl (omega arith) refl
+
+-- ---- the whole text of a node's interface
+
+abbrev came_fresh : List ℕ → Phase → Type 0
+came_fresh text p = take_bytes fresh text ≡ reading p []
+
+plan_read : (v : Version) (p : Parameters) (plan : Plan) → IsParameters p → IsNodePlan plan → AreOwnedTold v plan.owned
+    → take_bytes fresh (plan_text v p plan) ≡ reading (lines v p plan) []
+plan_read v p plan is plan_is told =
+    plan_came came_fresh (next_line fresh) v p plan plan_is.plan_is told (node_read v p plan is plan_is)
 
 pub text_again : (v : Version) (s : State) → IsNodeInterface s → AreOwnedTold v s.plan.owned → AreTold v s.entries
     → take_bytes fresh (trace_text v s) ≡ reading (finished v s) []
 text_again v s is owned told =
-    let begun = begin_read v s.params s.plan is.legal.params_are is.node_plan owned is.legal.faultless in
-    let entries = entries_read v s.params s.plan s.entries []
-    (begin_text v s.params s.plan) is.legal.plan_is is.legal.legal is.legal.entries_are told begun in
-    next_line fresh (body_text v s) end_line (body v s) (finished v s) entries refl refl (omega arith) refl
+    text_came came_fresh (next_line fresh) v s is.legal owned told
+    (node_read v s.params s.plan is.legal.params_are is.node_plan)
 
 -- the line feed of `begin` comes after the plan
 pub text_begins : (v : Version) (s : State) → IsNodeInterface s → AreOwnedTold v s.plan.owned

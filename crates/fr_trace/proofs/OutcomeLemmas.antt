@@ -57,11 +57,11 @@ tells_all (entries.Pop task from) = refl
 tells_all (entries.Fetch window a b) = refl
 tells_all (entries.Observe window a b) = refl
 
-all_told : (entries : List Entry) → AreTold Three entries
+pub all_told : (entries : List Entry) → AreTold Three entries
 all_told [] = tt
 all_told (e ∷ entries) = (tells_all e, all_told entries)
 
-all_owned_told : (owned : List Own) → AreOwnedTold Three owned
+pub all_owned_told : (owned : List Own) → AreOwnedTold Three owned
 all_owned_told [] = tt
 all_owned_told (o ∷ owned) = (refl, all_owned_told owned)
 

@@ -42,7 +42,7 @@ use Rattle.fr_trace.proofs.TextLemmas.{is_open, take_in-open, text_spelled, Spel
 
 -- ---- whole lines: the next one has the next number, and a fault names this one
 
-abbrev GivesNext : ℕ → Result Phase TraceError → Type 0
+abbrev pub GivesNext : ℕ → Result Phase TraceError → Type 0
 GivesNext n (Ok q) = line_number q ≡ n + 1
 GivesNext n (Err e) = IfSome (line_of_error e) (λ m. m ≡ n)
 
@@ -126,7 +126,7 @@ entry_next v s None = refl
 entry_next v s (Some e) = fault_next v s e (fault_of (line_number (body v s)) s e)
     (fault_named (line_number (body v s)) s e)
 
-line_next : (p : Phase) (line : List ℕ) → GivesNext (line_number p) (take_line p line)
+pub line_next : (p : Phase) (line : List ℕ) → GivesNext (line_number p) (take_line p line)
 line_next magic line = magic_next (version_in line)
 line_next (params v) line = numbers_next v (params_in (words_of line))
 line_next (node v p) line = node_next v p (words_of line) (node_in (words_of line)) refl
@@ -142,7 +142,7 @@ line_next (finished v s) line = refl
 
 -- ---- bytes: the line after a line feed has the next number, and a fault names the line of its byte
 
-abbrev StepsTo : ℕ → Bool → Progress → Type 0
+abbrev pub StepsTo : ℕ → Bool → Progress → Type 0
 StepsTo n feed (reading q l) = line_number q ≡ n + cond feed 1 0
 StepsTo n feed (failed e) = IfSome (line_of_error e) (λ m. m ≡ n)
 
@@ -172,7 +172,7 @@ steps_in : (p : Phase) (line : List ℕ) (b : ℕ) → is_open p ≡ true → St
 steps_in p line b opened = subst (λ s. StepsTo (line_number p) (b == 10) s) (sym (take_in-open p line b opened))
     (open_steps p line b)
 
-steps : (p : Phase) (line : List ℕ) (b : ℕ) → StepsTo (line_number p) (b == 10) (take_in p line b)
+pub steps : (p : Phase) (line : List ℕ) (b : ℕ) → StepsTo (line_number p) (b == 10) (take_in p line b)
 steps magic line b = steps_in magic line b refl
 steps (params v) line b = steps_in (params v) line b refl
 steps (node v p) line b = steps_in (node v p) line b refl
@@ -183,7 +183,7 @@ steps (finished v s) line b = refl
 -- ---- texts
 
 -- from the line of this number on
-abbrev WalksTo : ℕ → Progress → List ℕ → Progress → Type 0
+abbrev pub WalksTo : ℕ → Progress → List ℕ → Progress → Type 0
 WalksTo n start bytes (reading q l) = line_number q ≡ n + feed_count bytes
 WalksTo n start bytes (failed e) =
     (before : List ℕ) × (b : ℕ) × (after : List ℕ) × (bytes ≡ before ++ b ∷ after) ×
@@ -222,7 +222,7 @@ after_byte bytes b p l (failed e) is step walks =
     (sym (fold_stays take_byte (failed e) (λ c. refl) bytes))
     ([], b, bytes, refl, refl, is, subst (λ k. IfSome (line_of_error e) (λ n. n ≡ k)) same step)
 
-walk : (bytes : List ℕ) (p : Phase) (l : List ℕ) → WalksTo (line_number p) (reading p l) bytes
+pub walk : (bytes : List ℕ) (p : Phase) (l : List ℕ) → WalksTo (line_number p) (reading p l) bytes
     (take_bytes (reading p l) bytes)
 walk [] p l = omega arith
 walk (b ∷ bytes) p l = after_byte bytes b p l (take_in p l b) refl (steps p l b) (λ q m. walk bytes q m)

@@ -336,7 +336,7 @@ byte_spelled (reading (lines v p plan) line) text b h = open_spelled (lines v p 
 byte_spelled (reading (body v s) line) text b h = open_spelled (body v s) line text b refl h
 byte_spelled (reading (finished v s) line) text b h = tt
 
-bytes_spelled : (bytes : List ℕ) (s : Progress) (text : List ℕ) → Spelled s text
+pub bytes_spelled : (bytes : List ℕ) (s : Progress) (text : List ℕ) → Spelled s text
     → Spelled (take_bytes s bytes) (text ++ bytes)
 bytes_spelled [] s text h = subst (λ t. Spelled s t) (sym (append-nil text)) h
 bytes_spelled (b ∷ bytes) s text h =

@@ -60,16 +60,16 @@ pub(crate) fn lines_of(interface: &Interface) -> u32
 }
 
 /// Returns the number of the line that comes next.
-fn line_number(phase: &TextPhase) -> u32
+fn line_number(phase: &TextPhase) -> u64
     ensures { result ≡ line_number (phase_of phase.now) }
 {
     match phase {
         TextPhase::Magic => 1,
         TextPhase::Parameters(_) => 2,
         TextPhase::Node(_, _) => 3,
-        TextPhase::Lines(_, _, plan) => line_count(plan) + 4,
-        TextPhase::Body(_, interface) => lines_of(interface) + 5,
-        TextPhase::Finished(_, interface) => lines_of(interface) + 6,
+        TextPhase::Lines(_, _, plan) => u64::from(line_count(plan)) + 4,
+        TextPhase::Body(_, interface) => u64::from(lines_of(interface)) + 5,
+        TextPhase::Finished(_, interface) => u64::from(lines_of(interface)) + 6,
     }
 }
 
@@ -112,7 +112,7 @@ fn begin(
     version: Version,
     params: Params,
     plan: NodePlan,
-    number: u32,
+    number: u64,
 ) -> Result<TextPhase, TraceError>
     requires { number ≡ line_number (lines version params plan) }
     ensures { GivesUnless (plan_fault params plan ≡ None) phase_of result (after_begin version params plan) }
@@ -139,7 +139,7 @@ fn own_line(
     params: Params,
     mut plan: NodePlan,
     own: Own,
-    number: u32,
+    number: u64,
 ) -> Result<TextPhase, TraceError>
     requires { number ≡ line_number (lines version params plan) }
     ensures { GivesPhase phase_of result (after_own version params plan own) }
@@ -159,7 +159,7 @@ fn buffer_line(
     params: Params,
     mut plan: NodePlan,
     buffer: Buffer,
-    number: u32,
+    number: u64,
 ) -> Result<TextPhase, TraceError>
     requires { number ≡ line_number (lines version params plan) }
     ensures { GivesPhase phase_of result (after_buffer version params plan buffer) }
@@ -179,7 +179,7 @@ fn queue_line(
     params: Params,
     mut plan: NodePlan,
     queue: Queue,
-    number: u32,
+    number: u64,
 ) -> Result<TextPhase, TraceError>
     requires { number ≡ line_number (lines version params plan) }
     ensures { GivesPhase phase_of result (after_queue version params plan queue) }
@@ -196,7 +196,7 @@ fn plan_line(
     version: Version,
     params: Params,
     plan: NodePlan,
-    number: u32,
+    number: u64,
     line: &[u8],
 ) -> Result<TextPhase, TraceError>
     requires { number ≡ line_number (lines version params plan) }
@@ -224,7 +224,7 @@ fn entry_line(
     ensures { GivesPhase (λ done. body version interface.new) result
         (after_entry version interface.old (entry_in version (words_of line.now))) }
 {
-    let number = lines_of(interface) + 5;
+    let number = u64::from(lines_of(interface)) + 5;
     match entry_into(version, line, bytes) {
         Some(entry) => replay(interface, &entry, bytes, number),
         None => Err(TraceError::BadLine(number)),
@@ -232,7 +232,7 @@ fn entry_line(
 }
 
 /// Returns the phase after a whole line of this number that is no line of the journal.
-fn after(alloc: Global, phase: TextPhase, number: u32, line: &[u8]) -> Result<TextPhase, TraceError>
+fn after(alloc: Global, phase: TextPhase, number: u64, line: &[u8]) -> Result<TextPhase, TraceError>
     requires number { number ≡ line_number (phase_of phase) }
     requires ending { IsNoEntry (phase_of phase) line.now }
     ensures { GivesUnless (IsBegin (phase_of phase) line.now) phase_of result (take_line (phase_of phase) line.now) }

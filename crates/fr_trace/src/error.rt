@@ -11,13 +11,13 @@ pub enum TraceError {
     /// The line has no form of the format, a wrong place, or a number out of its range.
     ///
     /// Bytes after the line `end` also give this error.
-    BadLine(u32),
+    BadLine(u64),
     /// The line has more than 1200 bytes before its line feed.
-    LineTooLong(u32),
+    LineTooLong(u64),
     /// The parameters are out of range, the plan has a fault, or the call of the line is refused.
-    Refused(u32),
+    Refused(u64),
     /// The call of the line has another answer.
-    WrongAnswer(u32),
+    WrongAnswer(u64),
     /// The input ends before the line feed of `end`.
     Truncated,
     /// The reader failed.

@@ -59,7 +59,7 @@ pub(crate) fn replay(
     interface: &mut Interface,
     told: &BareEntry,
     bytes: &EntryBytes,
-    line: u32,
+    line: u64,
 ) -> Result<(), TraceError>
     ensures fault { result_err result ≡ fault_of line interface.old (with_bytes bytes.now told.now) }
     ensures made { OnOk result

@@ -20,8 +20,8 @@ use fr_slots::plan::{Buffer, NodePlan, Own, Queue};
 use std::io;
 use std::io::Write;
 
-/// Writes ownership lines.
-fn write_owned<W: Write>(writer: &mut W, owned: &[Own]) -> io::Result<()>
+/// Writes ownership lines. Fails if the writer fails.
+pub fn write_owned<W: Write>(writer: &mut W, owned: &[Own]) -> io::Result<()>
     ensures { Writes W.contents writer.old writer.new result (flat_map (own_line Three) owned.now) }
 {
     for own in owned {
@@ -30,8 +30,8 @@ fn write_owned<W: Write>(writer: &mut W, owned: &[Own]) -> io::Result<()>
     Ok(())
 }
 
-/// Writes the lines of buffers.
-fn write_buffers<W: Write>(writer: &mut W, buffers: &[Buffer]) -> io::Result<()>
+/// Writes the lines of buffers. Fails if the writer fails.
+pub fn write_buffers<W: Write>(writer: &mut W, buffers: &[Buffer]) -> io::Result<()>
     ensures { Writes W.contents writer.old writer.new result (flat_map buffer_line buffers.now) }
 {
     for buffer in buffers {
@@ -40,8 +40,8 @@ fn write_buffers<W: Write>(writer: &mut W, buffers: &[Buffer]) -> io::Result<()>
     Ok(())
 }
 
-/// Writes the line of a receive FIFO, if there is one.
-fn write_queues<W: Write>(writer: &mut W, queue: &Option<Queue>) -> io::Result<()>
+/// Writes the line of a receive FIFO, if there is one. Fails if the writer fails.
+pub fn write_queues<W: Write>(writer: &mut W, queue: &Option<Queue>) -> io::Result<()>
     ensures { Writes W.contents writer.old writer.new result (queue_lines queue.now) }
 {
     match queue {

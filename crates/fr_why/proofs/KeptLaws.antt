@@ -128,7 +128,8 @@ commit_free : (s : State) (payload : List ℕ) (o : Option Buffer) → unless_tr
     → is_host_full s ≡ false
 commit_free s payload None h = cc h
 commit_free s payload (Some b) h =
-    is_false (is_host_full s) _ (last_test (not (has_words s.params b payload)) _ _ (last_test (is_receive b.mode) _ _ h))
+    is_false (is_host_full s) _
+    (last_test (not (has_words s.params b payload)) _ _ (last_test (is_receive b.mode) _ _ h))
 
 sending_free : (s : State) (o : Option Buffer) → unless_sending s o ≡ None → is_host_full s ≡ false
 sending_free s None h = cc h

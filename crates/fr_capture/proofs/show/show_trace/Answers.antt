@@ -11,12 +11,14 @@ returns-clause-found g c =
 
 pub returns-clause-read : goal.returns-clause-read
 returns-clause-read g c =
-    ends_form (text_of c.args.form c.in_ok-interface.interface) (g.R.Read.remaining c.args.reader.now) (g.R.Read.remaining c.interface_of.new.reader)
+    ends_form (text_of c.args.form c.in_ok-interface.interface) (g.R.Read.remaining c.args.reader.now)
+    (g.R.Read.remaining c.interface_of.new.reader)
     (g.W.Write.contents c.args.writer.now) (g.W.Write.contents c.write_form.new.writer)
     c.in_ok-interface.interface c.write_form.result c.in_ok-interface.ensures.read c.in_ok-interface.ensures.found
     c.write_form.ensures.refused
 
 pub returns-clause-line : goal.returns-clause-line
 returns-clause-line g c =
-    line_form (text_of c.args.form c.in_ok-interface.interface) (g.R.Read.remaining c.args.reader.now) (g.W.Write.contents c.args.writer.now)
+    line_form (text_of c.args.form c.in_ok-interface.interface) (g.R.Read.remaining c.args.reader.now)
+    (g.W.Write.contents c.args.writer.now)
     (g.W.Write.contents c.write_form.new.writer) c.write_form.result c.write_form.ensures.refused
