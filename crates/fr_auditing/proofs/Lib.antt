@@ -1,0 +1,11 @@
+pub mod KeptLemmas
+pub mod LongAgainLemmas
+pub mod LongCutLemmas
+pub mod LongFoundLemmas
+pub mod LongLineLemmas
+pub mod LongNodeLemmas
+pub mod LongPieceLemmas
+pub mod LongStreamLemmas
+pub mod LongTextLemmas
+pub mod ReplayLemmas
+pub mod RoomLemmas

@@ -1,0 +1,9 @@
+pub mod AuditorFields
+pub mod KeptReport
+pub mod LongAudit
+pub mod LongReading
+pub mod LongStream
+pub mod LongText
+pub mod Phases
+pub mod Replaying
+pub mod Tracking

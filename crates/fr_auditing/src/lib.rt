@@ -1,0 +1,39 @@
+//! Traces of any length: audited in constant memory, written, and reported, in version 4 of the format.
+//!
+//! ```text
+//! let mut auditor = LongAuditor::new(alloc);
+//! auditor.feed(piece)?; // as often as pieces come
+//! let interface = auditor.finish()?; // the data that the trace leaves, without its journal
+//! interface.write_report(&mut out)?;
+//! write_head(&mut out, &params, &plan, 1 << 30, 3221225469)?; // version 4 up to `begin`
+//! ```
+//!
+//! *(project-defined)* marks a rule of this project, and makes no claim about the standard.
+//!
+//! # Definitions
+//!
+//! - `LongText`: the text of version 4 of a trace.
+//! - `LongReading`, `LongStream`: the line `node` of version 4; the state after each byte of such a text.
+//! - `Tracking`: the state of an auditor that keeps no journal, and the state of the text at which it stands.
+//! - `LongAudit`: the audit of a reader.
+//! - `KeptReport`: the text of a report, from the data that an interface keeps.
+//!
+//! Modules that follow the steps of the code, for private functions, with the module that has the meaning:
+//!
+//! - `Phases`, `AuditorFields`, `Replaying`: the private fields of an auditor, and the call of an entry. Meaning:
+//!   `Tracking`, and `Answers` of `fr_trace`.
+//!
+//! # Inner workings
+//!
+//! `InterfaceState` (`fr_interface`) makes the calls of an interface and keeps no journal, so its memory doesn't grow
+//! with a trace. A `KeptInterface` (`kept`) is one with the number of lines of its plan, and replays entries on it. The
+//! auditor cuts pieces into lines as that of `fr_trace` does. A `LongPlan` (`plans`) is a plan with more room than a
+//! `NodePlan` can have.
+#![tactic(auto)]
+
+pub mod audit;
+pub mod auditor;
+pub mod head;
+pub mod kept;
+mod plans;
+pub mod report;
