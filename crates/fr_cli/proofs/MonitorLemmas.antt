@@ -10,36 +10,45 @@ use Rattle.fr_cli.specs.Commands.{is_true, order_error_of}
 use Rattle.fr_cli.specs.declared.error.OrderError.{OrderError}
 use Rattle.fr_cli.specs.declared.error.OrderError.TheVariants as refusal
 use Rattle.fr_cli.specs.MonitorCommands.{Given, IsAnswer, entered, given_in, given_of, the_command, with_file}
-use Rattle.fr_cli.specs.MonitorCommands.{with_first, with_channel_option, with_options}
+use Rattle.fr_cli.specs.MonitorCommands.{with_first, with_channel_option, with_macrotick_option, with_options}
 use Rattle.fr_cli.specs.MonitorCommands.{channel_asked, findings_asked, macrotick_asked}
 use Rattle.fr_cli.specs.declared.monitor.MonitorCommand.{MonitorCommand}
 
 pub are_simple : is_simple the_command ≡ true
-unfolding clap_on_literals with_first with_channel_option with_options
+unfolding clap_on_literals with_first with_channel_option with_macrotick_option with_options
 are_simple = refl
 
 pub are_free : is_simple_and_free the_command ≡ true
-unfolding clap_on_literals with_first with_channel_option with_options
+unfolding clap_on_literals with_first with_channel_option with_macrotick_option with_options
 are_free = refl
 
 -- two ways to the same words give the same command
 pub given_alike : (f g : Text → Option Text) → ((id : Text) → f id ≡ g id) → given_in f ≡ given_in g
 given_alike f g same =
-    let a : Option Text → Option Given = λ file. with_file file (findings_asked (f (codes "findings")))
-    (is_true (f (codes "whole"))) (channel_asked (f (codes "channel"))) (macrotick_asked (f (codes "macrotick"))) in
+    let a : Option Text → Option Given = λ word. with_file word (findings_asked (f (codes "findings")))
+    (is_true (f (codes "whole"))) (channel_asked (f (codes "channel")))
+    (macrotick_asked (f (codes "macrotick"))) (is_true (f (codes "frames"))) in
     let b : Option Text → Option Given = λ word. with_file (g (codes "FILE")) (findings_asked word)
-    (is_true (f (codes "whole"))) (channel_asked (f (codes "channel"))) (macrotick_asked (f (codes "macrotick"))) in
+    (is_true (f (codes "whole"))) (channel_asked (f (codes "channel")))
+    (macrotick_asked (f (codes "macrotick"))) (is_true (f (codes "frames"))) in
     let c : Option Text → Option Given = λ word. with_file (g (codes "FILE")) (findings_asked (g (codes "findings")))
-    (is_true word) (channel_asked (f (codes "channel"))) (macrotick_asked (f (codes "macrotick"))) in
+    (is_true word) (channel_asked (f (codes "channel")))
+    (macrotick_asked (f (codes "macrotick"))) (is_true (f (codes "frames"))) in
     let d : Option Text → Option Given = λ word. with_file (g (codes "FILE")) (findings_asked (g (codes "findings")))
-    (is_true (g (codes "whole"))) (channel_asked word) (macrotick_asked (f (codes "macrotick"))) in
+    (is_true (g (codes "whole"))) (channel_asked word)
+    (macrotick_asked (f (codes "macrotick"))) (is_true (f (codes "frames"))) in
     let e : Option Text → Option Given = λ word. with_file (g (codes "FILE")) (findings_asked (g (codes "findings")))
-    (is_true (g (codes "whole"))) (channel_asked (g (codes "channel"))) (macrotick_asked word) in
+    (is_true (g (codes "whole"))) (channel_asked (g (codes "channel")))
+    (macrotick_asked word) (is_true (f (codes "frames"))) in
+    let h : Option Text → Option Given = λ word. with_file (g (codes "FILE")) (findings_asked (g (codes "findings")))
+    (is_true (g (codes "whole"))) (channel_asked (g (codes "channel")))
+    (macrotick_asked (g (codes "macrotick"))) (is_true word) in
     ap a (same (codes "FILE"))
     ∙ ap b (same (codes "findings"))
     ∙ ap c (same (codes "whole"))
     ∙ ap d (same (codes "channel"))
     ∙ ap e (same (codes "macrotick"))
+    ∙ ap h (same (codes "frames"))
 
 -- an error of `clap` is a fault of the words, or a failed allocation
 pub refused_for : (words : List Text) (e : Error) → HasKind (fault_of the_command words) e

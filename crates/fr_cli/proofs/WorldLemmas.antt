@@ -9,7 +9,8 @@ use Rattle.clap.proofs.OnLiterals.{clap_on_literals}
 use Rattle.fr_cli.specs.Commands.{is_true, order_error_of}
 use Rattle.fr_cli.specs.declared.error.OrderError.{OrderError}
 use Rattle.fr_cli.specs.declared.error.OrderError.TheVariants as refusal
-use Rattle.fr_cli.specs.WorldCommands.{Given, IsAnswer, are_allowed, entered, given_by, given_in, if_allowed, run_in}
+use Rattle.fr_cli.specs.WorldCommands.{Given, IsAnswer, are_allowed, entered, files_in, given_by, given_in}
+use Rattle.fr_cli.specs.WorldCommands.{if_allowed, run_in}
 use Rattle.fr_cli.specs.WorldCommands.{the_command, with_file, with_files, with_options}
 use Rattle.fr_cli.specs.declared.world.WorldRun.{WorldRun}
 use Rattle.fr_cli.specs.declared.world.WorldCommand.{WorldCommand}
@@ -22,27 +23,32 @@ pub are_free : is_simple_and_free the_command ≡ true
 unfolding clap_on_literals with_options with_files
 are_free = refl
 
+files_alike : (f g : Text → Option Text) → ((id : Text) → f id ≡ g id) → files_in f ≡ files_in g
+files_alike f g same =
+    ap₂ (λ (a b : Option Text). record { record_file = a; capture_file = b; trace_folder = f (codes "trace") })
+    (same (codes "record")) (same (codes "capture"))
+    ∙ ap (λ (c : Option Text). record {
+      record_file = g (codes "record");
+      capture_file = g (codes "capture");
+      trace_folder = c;
+    }) (same (codes "trace"))
+
 -- two ways to the same words give the same command
 pub given_alike : (f g : Text → Option Text) → ((id : Text) → f id ≡ g id) → given_in f ≡ given_in g
 given_alike f g same =
     let flag = same (codes "endless") in
-    let lines = same (codes "record") in
-    let frames = same (codes "capture") in
+    let files = files_alike f g same in
     let run : run_in (is_true (f (codes "endless"))) (f (codes "cycles"))
     ≡ run_in (is_true (g (codes "endless"))) (g (codes "cycles")) =
     ap₂ (λ flag word. run_in (is_true flag) word) flag (same (codes "cycles")) in
-    let allowed : are_allowed (is_true (f (codes "endless"))) (f (codes "record")) (f (codes "capture"))
-    ≡ are_allowed (is_true (g (codes "endless"))) (g (codes "record")) (g (codes "capture")) =
-    ap (λ word. are_allowed (is_true word) (f (codes "record")) (f (codes "capture"))) flag
-    ∙ ap₂ (λ a b. are_allowed (is_true (g (codes "endless"))) a b) lines frames in
-    let given : with_file (f (codes "FILE")) (run_in (is_true (f (codes "endless"))) (f (codes "cycles")))
-    (f (codes "record")) (f (codes "capture"))
-    ≡ with_file (g (codes "FILE")) (run_in (is_true (g (codes "endless"))) (g (codes "cycles")))
-    (g (codes "record")) (g (codes "capture")) =
-    ap₂ (λ (file : Option Text) (run : Option WorldRun). with_file file run (f (codes "record")) (f (codes "capture")))
-    (same (codes "FILE")) run
-    ∙ ap₂ (λ a b. with_file (g (codes "FILE"))
-    (run_in (is_true (g (codes "endless"))) (g (codes "cycles"))) a b) lines frames in
+    let allowed : are_allowed (is_true (f (codes "endless"))) (files_in f)
+    ≡ are_allowed (is_true (g (codes "endless"))) (files_in g) =
+    ap₂ (λ word names. are_allowed (is_true word) names) flag files in
+    let given : with_file (f (codes "FILE")) (run_in (is_true (f (codes "endless"))) (f (codes "cycles"))) (files_in f)
+    ≡ with_file (g (codes "FILE")) (run_in (is_true (g (codes "endless"))) (g (codes "cycles"))) (files_in g) =
+    ap₂ (λ (file : Option Text) (run : Option WorldRun). with_file file run (files_in f)) (same (codes "FILE")) run
+    ∙ ap (λ names. with_file (g (codes "FILE")) (run_in (is_true (g (codes "endless"))) (g (codes "cycles"))) names)
+    files in
     ap₂ if_allowed allowed given
 
 -- an error of `clap` is a fault of the words, or a failed allocation

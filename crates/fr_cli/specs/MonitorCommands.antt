@@ -25,15 +25,21 @@ option_named name = record (new_rule name) { long = Some name }
 abbrev pub the_flag : Rule
 the_flag = record (new_rule (codes "whole")) { long = Some (codes "whole"); action = Some SetTrue }
 
+abbrev pub the_frames_flag : Rule
+the_frames_flag = record (new_rule (codes "frames")) { long = Some (codes "frames"); action = Some SetTrue }
+
 unfoldable pub with_first : App → App
 with_first app = with_rule (with_rule app (option_named (codes "findings"))) the_flag
 
 unfoldable pub with_channel_option : App → App
 with_channel_option app = with_rule (with_first app) (option_named (codes "channel"))
 
+unfoldable pub with_macrotick_option : App → App
+with_macrotick_option app = with_rule (with_channel_option app) (option_named (codes "macrotick"))
+
 -- with the options, none of which is required
 unfoldable pub with_options : App → App
-with_options app = with_rule (with_channel_option app) (option_named (codes "macrotick"))
+with_options app = with_rule (with_macrotick_option app) the_frames_flag
 
 -- the program with a file and its options
 abbrev pub the_command : App
@@ -72,6 +78,7 @@ pub record Given : Type 0 where
   pub whole : Bool
   pub channel : Option Channel
   pub macrotick : ℕ
+  pub frames : Bool
 
 abbrev pub given_of : MonitorCommand → Given
 given_of c = record {
@@ -80,36 +87,41 @@ given_of c = record {
   whole = c.whole;
   channel = c.channel;
   macrotick = c.macrotick;
+  frames = c.frames;
 }
 
-abbrev pub with_macrotick : Text → ℕ → Bool → Option Channel → Option ℕ → Option Given
-with_macrotick file findings whole channel None = None
-with_macrotick file findings whole channel (Some macrotick) = Some (record {
+abbrev pub with_macrotick : Text → ℕ → Bool → Option Channel → Option ℕ → Bool → Option Given
+with_macrotick file findings whole channel None frames = None
+with_macrotick file findings whole channel (Some macrotick) frames = Some (record {
   file = file;
   findings = findings;
   whole = whole;
   channel = channel;
   macrotick = macrotick;
+  frames = frames;
 })
 
-abbrev pub with_channel : Text → ℕ → Bool → Option (Option Channel) → Option ℕ → Option Given
-with_channel file findings whole None macrotick = None
-with_channel file findings whole (Some channel) macrotick = with_macrotick file findings whole channel macrotick
+abbrev pub with_channel : Text → ℕ → Bool → Option (Option Channel) → Option ℕ → Bool → Option Given
+with_channel file findings whole None macrotick frames = None
+with_channel file findings whole (Some channel) macrotick frames =
+    with_macrotick file findings whole channel macrotick frames
 
-abbrev pub with_findings : Text → Option ℕ → Bool → Option (Option Channel) → Option ℕ → Option Given
-with_findings file None whole channel macrotick = None
-with_findings file (Some findings) whole channel macrotick = with_channel file findings whole channel macrotick
+abbrev pub with_findings : Text → Option ℕ → Bool → Option (Option Channel) → Option ℕ → Bool → Option Given
+with_findings file None whole channel macrotick frames = None
+with_findings file (Some findings) whole channel macrotick frames =
+    with_channel file findings whole channel macrotick frames
 
-abbrev pub with_file : Option Text → Option ℕ → Bool → Option (Option Channel) → Option ℕ → Option Given
-with_file None findings whole channel macrotick = None
-with_file (Some file) findings whole channel macrotick = with_findings file findings whole channel macrotick
+abbrev pub with_file : Option Text → Option ℕ → Bool → Option (Option Channel) → Option ℕ → Bool → Option Given
+with_file None findings whole channel macrotick frames = None
+with_file (Some file) findings whole channel macrotick frames =
+    with_findings file findings whole channel macrotick frames
 
 -- the command of the first words of these arguments
 abbrev pub given_in : (Text → Option Text) → Option Given
 given_in first_word =
     with_file (first_word (codes "FILE")) (findings_asked (first_word (codes "findings")))
     (is_true (first_word (codes "whole"))) (channel_asked (first_word (codes "channel")))
-    (macrotick_asked (first_word (codes "macrotick")))
+    (macrotick_asked (first_word (codes "macrotick"))) (is_true (first_word (codes "frames")))
 
 -- the first word of an argument, if `clap` accepts these words
 abbrev pub entered : List Text → Text → Option Text

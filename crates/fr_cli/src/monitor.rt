@@ -4,6 +4,7 @@ ghost use Rattle.clap.specs.Words.{app_of, first_value, found_of, rule_of, with_
 ghost use Rattle.clap.specs.declared.builder.command.Command.TheViews.{out-Command};
 ghost use Rattle.fr_cli.specs.MonitorCommands.{IsAnswer, given_in, given_of, the_command, with_options};
 ghost use Rattle.fr_cli.specs.MonitorCommands.{with_first, with_channel_option, option_named, the_flag};
+ghost use Rattle.fr_cli.specs.MonitorCommands.{with_macrotick_option, the_frames_flag};
 ghost use Rattle.fr_cli.specs.MonitorCommands.{number_asked, findings_asked, macrotick_asked, channel_asked};
 ghost use Rattle.fr_cli.specs.Commands.{is_true, the_file};
 ghost use Rattle.fr_cli.specs.MonitorCommands.{bare_command};
@@ -30,6 +31,8 @@ pub struct MonitorCommand<'a> {
     pub channel: Option<Channel>,
     /// The length of a macrotick in nanoseconds, 0 if none is given.
     pub macrotick: u32,
+    /// Each frame has a line.
+    pub frames: bool,
 }
 
 /// Returns an option of this name, with a value.
@@ -47,6 +50,16 @@ fn whole_flag<'a>(alloc: Global) -> Arg<'a>
 {
     Arg::new(alloc, "whole")
         .long("whole")
+        .action(ArgAction::SetTrue)
+}
+
+/// Returns the flag of lines for frames.
+fn frames_flag<'a>(alloc: Global) -> Arg<'a>
+    ensures rule { rule_of result ≡ the_frames_flag }
+    ensures local { result.global ≡ false }
+{
+    Arg::new(alloc, "frames")
+        .long("frames")
         .action(ArgAction::SetTrue)
 }
 
@@ -72,14 +85,25 @@ fn with_channel<'a>(alloc: Global, command: Command<'a>) -> Result<Command<'a>, 
     with_first(alloc, command)?.arg(channel)
 }
 
+/// Returns the program with its first four options.
+#[tactic(auto, unfolding(crate::specs::MonitorCommands::with_macrotick_option))]
+fn with_macrotick<'a>(alloc: Global, command: Command<'a>) -> Result<Command<'a>, AllocError>
+    requires { (out-Command command).has_globals ≡ false }
+    ensures app { IfOk result (λ c. app_of c ≡ with_macrotick_option (app_of command.entry)) }
+    ensures local { IfOk result (λ c. (out-Command c).has_globals ≡ false) }
+{
+    let macrotick = option(alloc, "macrotick");
+    with_channel(alloc, command)?.arg(macrotick)
+}
+
 /// Returns the program with its options.
 #[tactic(auto, unfolding(crate::specs::MonitorCommands::with_options))]
 fn with_options<'a>(alloc: Global, command: Command<'a>) -> Result<Command<'a>, AllocError>
     requires { (out-Command command).has_globals ≡ false }
     ensures { IfOk result (λ c. app_of c ≡ with_options (app_of command.entry)) }
 {
-    let macrotick = option(alloc, "macrotick");
-    with_channel(alloc, command)?.arg(macrotick)
+    let frames = frames_flag(alloc);
+    with_macrotick(alloc, command)?.arg(frames)
 }
 
 /// Returns the program without arguments.
@@ -168,14 +192,15 @@ fn given_in<'a>(matches: &ArgMatches<'a>) -> Option<MonitorCommand<'a>>
         whole: matches.get_str("whole") == Some("true"),
         channel,
         macrotick,
+        frames: matches.get_str("frames") == Some("true"),
     })
 }
 
 /// Returns the command of the words after the program's name (project-defined).
 ///
 /// A command is the name of a cluster file, and options in any order: `--findings` with a number from 0 to 4294967295,
-/// `--whole`, `--channel` with `A` or `B`, and `--macrotick` with a number from 1 to 4294967295. Numbers have no leading
-/// zero. Refused with `Memory` if an allocation fails, and with `Usage` for all other words.
+/// `--whole`, `--channel` with `A` or `B`, `--macrotick` with a number from 1 to 4294967295, and `--frames`. Numbers
+/// have no leading zero. Refused with `Memory` if an allocation fails, and with `Usage` for all other words.
 pub fn command_of<'a>(alloc: Global, words: &'a [&'a str]) -> Result<MonitorCommand<'a>, OrderError>
     ensures { IsAnswer (map (λ word. word.now) words.now) result }
 {

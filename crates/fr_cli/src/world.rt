@@ -4,8 +4,8 @@ ghost use Rattle.clap.specs.Words.{app_of, first_value, found_of, rule_of, with_
 ghost use Rattle.clap.specs.declared.builder.command.Command.TheViews.{out-Command};
 ghost use Rattle.fr_cli.specs.Commands.{is_true, the_file};
 ghost use Rattle.fr_cli.specs.WorldCommands.{IsAnswer, are_allowed, bare_command, capture_option, cycles_option};
-ghost use Rattle.fr_cli.specs.WorldCommands.{endless_flag, given_by, given_in, record_option, run_in, the_command};
-ghost use Rattle.fr_cli.specs.WorldCommands.{with_files, with_options};
+ghost use Rattle.fr_cli.specs.WorldCommands.{endless_flag, files_by, files_in, given_by, given_in, record_option};
+ghost use Rattle.fr_cli.specs.WorldCommands.{run_in, the_command, trace_option, with_files, with_options};
 
 use crate::commands::{cycles_of, most_of};
 use crate::error::OrderError;
@@ -21,6 +21,17 @@ pub enum WorldRun {
     Endless(Option<u32>),
 }
 
+/// The files to which a run without history writes (project-defined).
+#[derive(Clone, Copy, PartialEq, Eq)]
+pub struct WorldFiles<'a> {
+    /// The name of the file that gets the record.
+    pub record: Option<&'a str>,
+    /// The name of the file that gets a capture.
+    pub capture: Option<&'a str>,
+    /// The name of the folder that gets the trace of each node.
+    pub trace: Option<&'a str>,
+}
+
 /// The command of `fr_world`: a session with a world (project-defined).
 #[derive(Clone, Copy, PartialEq, Eq)]
 pub struct WorldCommand<'a> {
@@ -28,10 +39,8 @@ pub struct WorldCommand<'a> {
     pub file: &'a str,
     /// The run.
     pub run: WorldRun,
-    /// The name of the file that gets the record of a run without history.
-    pub record: Option<&'a str>,
-    /// The name of the file that gets a capture of a run without history.
-    pub capture: Option<&'a str>,
+    /// The files to which it writes.
+    pub files: WorldFiles<'a>,
 }
 
 /// Returns the option of a number of cycles.
@@ -66,6 +75,14 @@ fn capture_option<'a>(alloc: Global) -> Arg<'a>
     ensures local { result.global ≡ false }
 {
     Arg::new(alloc, "capture").long("capture")
+}
+
+/// Returns the option of a folder for the traces.
+fn trace_option<'a>(alloc: Global) -> Arg<'a>
+    ensures rule { rule_of result ≡ trace_option }
+    ensures local { result.global ≡ false }
+{
+    Arg::new(alloc, "trace").long("trace")
 }
 
 /// Returns the program without arguments.
@@ -104,8 +121,9 @@ fn with_files<'a>(alloc: Global, command: Command<'a>) -> Result<Command<'a>, Al
     requires { (out-Command command).has_globals ≡ false }
     ensures { IfOk result (λ c. app_of c ≡ with_files (app_of command.entry)) }
 {
-    let (record, capture) = (record_option(alloc), capture_option(alloc));
-    command.arg(record)?.arg(capture)
+    let command = command.arg(record_option(alloc))?;
+    let (captured, traced) = (capture_option(alloc), trace_option(alloc));
+    command.arg(captured)?.arg(traced)
 }
 
 /// Returns the program, with a file and its options.
@@ -118,14 +136,10 @@ fn the_command<'a>(alloc: Global) -> Result<Command<'a>, AllocError>
 }
 
 /// Returns whether a run may have these files: one with its history has none.
-fn are_allowed(endless: bool, record: Option<&str>, capture: Option<&str>) -> bool
-    ensures { result ≡ are_allowed endless (option_map (λ w. w.now) record.entry)
-        (option_map (λ w. w.now) capture.entry) }
+fn are_allowed(endless: bool, files: &WorldFiles<'_>) -> bool
+    ensures { result ≡ are_allowed endless (files_by files.now) }
 {
-    match (endless, record, capture) {
-        (true, _, _) | (false, None, None) => true,
-        (false, _, _) => false,
-    }
+    endless || files.record.is_none() && files.capture.is_none() && files.trace.is_none()
 }
 
 /// Returns the run of the flag and of the word for cycles, if they spell one.
@@ -140,21 +154,31 @@ fn run_of(endless: bool, word: Option<&str>) -> Option<WorldRun>
     }
 }
 
+/// Returns the files that the arguments name.
+fn files_of<'a>(matches: &ArgMatches<'a>) -> WorldFiles<'a>
+    ensures { files_by result ≡ files_in (first_value (found_of matches.now)) }
+{
+    WorldFiles {
+        record: matches.get_str("record"),
+        capture: matches.get_str("capture"),
+        trace: matches.get_str("trace"),
+    }
+}
+
 /// Returns the command of the arguments, if they have a file and a run.
 fn given_in<'a>(matches: &ArgMatches<'a>) -> Option<WorldCommand<'a>>
     ensures { option_map given_by result ≡ given_in (first_value (found_of matches.now)) }
 {
     let endless = matches.get_str("endless") == Some("true");
-    let (record, capture) = (matches.get_str("record"), matches.get_str("capture"));
-    if !are_allowed(endless, record, capture) {
+    let files = files_of(matches);
+    if !are_allowed(endless, &files) {
         return None;
     }
     let run = run_of(endless, matches.get_str("cycles"));
     Some(WorldCommand {
         file: matches.get_str("FILE")?,
         run: run?,
-        record,
-        capture,
+        files,
     })
 }
 
@@ -162,8 +186,8 @@ fn given_in<'a>(matches: &ArgMatches<'a>) -> Option<WorldCommand<'a>>
 ///
 /// A command is the name of a cluster file, and `--cycles` with a number from 1 to 1024, in any order. With `--endless`
 /// beside them the number is 1 to 4,000,000, and `--cycles` may be absent. Then there may also be `--record` and
-/// `--capture`, each with the name of a file. Numbers have no leading zero. Refused with `Memory` if an allocation
-/// fails, and with `Usage` for all other words.
+/// `--capture`, each with the name of a file, and `--trace` with the name of a folder. Numbers have no leading zero.
+/// Refused with `Memory` if an allocation fails, and with `Usage` for all other words.
 pub fn command_of<'a>(alloc: Global, words: &'a [&'a str]) -> Result<WorldCommand<'a>, OrderError>
     ensures { IsAnswer (map (λ word. word.now) words.now) result }
 {
