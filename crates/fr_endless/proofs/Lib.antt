@@ -8,3 +8,5 @@ pub mod ReplyLemmas
 pub mod SessionLemmas
 pub mod OpeningLemmas
 pub mod TapLemmas
+pub mod EachLemmas
+pub mod TraceLemmas

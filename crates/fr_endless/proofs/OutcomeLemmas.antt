@@ -1,6 +1,6 @@
 -- The nodes of an outcome by kept data, one node more.
 use Rattle.std.proofs.Common.{◌≡◌, ℕ, zero, suc, ◌+◌, ◌<◌, List, [], ◌∷◌, ◌++◌, length, get_or, Option, Some}
-use Rattle.std.proofs.Common.{refl, sym, ap, subst, ◌∙◌, arith}
+use Rattle.std.proofs.Common.{refl, subst, ◌∙◌, arith}
 use Rattle.std.specs.Io.KnownBytes.{Appends}
 use Rattle.std.specs.Prelude.{slice_get, slice_index_or, codes}
 use Rattle.std.specs.Fmt.{decimal}
@@ -36,7 +36,8 @@ pub one_kept : (l : LiveState) (n : ℕ) (h : Standing) (count : ℕ) (buffers :
     → slice_get buffers n ≡ Some count → AreKept l n old mid → Appends mid new (kept_node n h count)
     → AreKept l (n + 1) old new
 one_kept l n h count buffers old mid new lt at each got before more w is =
-    let there : n < length w.interfaces = omega (arith, lt, as_many l.interfaces w.interfaces is.leads.interfaces_are) in
+    let many = as_many l.interfaces w.interfaces is.leads.interfaces_are in
+    let there : n < length w.interfaces = omega (arith, lt, many) in
     one_node node_text w.interfaces n (interface_at w n) old mid new (got_at w.interfaces n there) (before w is)
     (subst (λ (t : List ℕ). Appends mid new (line_text (codes "node" ∷ decimal n ∷ []) ++ t))
     (node_same l n h count buffers lt at each got w is) more)

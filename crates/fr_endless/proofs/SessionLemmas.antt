@@ -1,8 +1,8 @@
 -- An endless session continues by one line.
 use Rattle.std.proofs.Common.{◌≡◌, ℕ, ◌+◌, true, false, List, [], ◌∷◌, ◌++◌, length, Option, Some, None, refl, sym, ap}
-use Rattle.std.proofs.Common.{Result, Ok, Err, inl, inr}
+use Rattle.std.proofs.Common.{Result, Err, inl, inr}
 use Rattle.std.proofs.KnownBytes.{Keeps-refl}
-use Rattle.std.specs.Prelude.{IfErr, IsErr, OnOk}
+use Rattle.std.specs.Prelude.{IsErr}
 use Rattle.std.proofs.Common.{subst, ◌∙◌, append_assoc, arith, length-append}
 use Rattle.std.proofs.lemmas.List.{append-nil}
 use Rattle.std.specs.List.{flat_map}
@@ -10,14 +10,18 @@ use Rattle.std.specs.Io.KnownBytes.{Appends, Keeps}
 use Rattle.fr_endless.specs.Alike.{Alike}
 use Rattle.fr_capture.specs.Pcap.{file_header}
 use Rattle.fr_core.specs.Worlds.{WorldState}
-use Rattle.fr_endless.proofs.TapLemmas.{told_header, told_then_flushed}
+use Rattle.fr_endless.proofs.EachLemmas.{told_ended, told_short}
+use Rattle.fr_endless.proofs.TapLemmas.{told_header}
+use Rattle.fr_endless.proofs.TraceLemmas.{told_then_flushed}
 use Rattle.fr_endless.specs.declared.error.EndlessError.{EndlessError}
 use Rattle.fr_endless.specs.declared.error.EndlessError.TheVariants as failure
 use Rattle.fr_endless.specs.declared.taps.Tap.{Tap}
 use Rattle.fr_endless.specs.Serving.{AnswersNextAlike, Does, DoesAlikeIf, DoesEndlessIf, EndsBefore, EndsByFile}
-use Rattle.fr_endless.specs.Serving.{EndsEndless, FailsNextAlike, IsAfterMemory, IsOfLine, KeepsUnlessSent, Served}
+use Rattle.fr_endless.specs.Serving.{EndsEndless, FailedBy, FailsNextAlike, IsAfterMemory, IsOfLine, KeepsUnlessSent}
+use Rattle.fr_endless.specs.Serving.{Served}
 use Rattle.fr_endless.specs.Serving.{ServedEndless, Serves, TellsUnless}
-use Rattle.fr_endless.specs.Taps.{AddsBoth, IsToldHistory, TapsState, Tells, ToldAlike, ToldState, start_of, with_taps}
+use Rattle.fr_endless.specs.Taps.{AddsBoth, AddsEach, IsToldHistory, TapsState, Tells, TellsWhole, ToldAlike, ToldState}
+use Rattle.fr_endless.specs.Taps.{last_line, start_of, with_taps}
 use Rattle.fr_live.specs.LiveWorlds.{LiveState}
 use Rattle.fr_runs.specs.declared.fault_line.FaultLine.{FaultLine}
 use Rattle.fr_session.proofs.CutLemmas.{ends_full, ends_greeting, ends_reading, ends_writing, sent_so}
@@ -175,30 +179,49 @@ answered_front terms text left before after number front old kept new keeps come
     )
 
 -- a session from an opening world, of which no line is kept; the files got what they have before the first window
-pub opened_so : {A E : Type 0} (r : Result A E) (terms given : Terms) (text before after : Option (List ℕ))
-    (l m : LiveState) (old begun new : TapsState) (first keeps : List FaultLine) → given ≡ terms → first ≡ []
-    → AddsBoth old begun [] file_header
-    → OnOk r (ToldAlike (with_taps l begun)
-    (λ w v. Served given text before after (state_of w first) (state_of v keeps))
-    (with_taps m new))
-    → OnOk r (Alike l (λ w v. ServedEndless terms text before after w v × Tells old new w v) m)
-opened_so (Err e) terms given text before after l m old begun new first keeps same none adds served = tt
-opened_so (Ok x) terms given text before after l m old begun new first keeps same none adds served = λ w is.
+opened_at : (terms given : Terms) (text before after : Option (List ℕ)) (l m : LiveState)
+    (old begun mid new : TapsState)
+    (first keeps : List FaultLine) → given ≡ terms → first ≡ [] → AddsBoth old begun [] file_header
+    → ToldAlike (with_taps l begun) (λ w v. Served given text before after (state_of w first) (state_of v keeps))
+    (with_taps m mid) → AddsEach mid new (λ n. last_line)
+    → Alike l (λ w v. Served terms text before after (state_of w []) (state_of v keeps) × TellsWhole old new w v) m
+opened_at terms given text before after l m old begun mid new first keeps same none adds served ends w is =
     let start : IsToldHistory (start_of old w) (with_taps l begun) w =
     record { leads = is; is_told = told_header old begun w adds } in
     let got = served (start_of old w) w start in (
       got.0,
       (
-        (
-          keeps,
-          subst (λ (t : Terms). Served t text before after (state_of w []) (state_of got.0 keeps)) same
-              (subst (λ (f : List FaultLine). Served given text before after (state_of w f) (state_of got.0 keeps)) none
-              got.1),
-        ),
-        got.2.is_told,
+        subst (λ (t : Terms). Served t text before after (state_of w []) (state_of got.0 keeps)) same
+            (subst (λ (f : List FaultLine). Served given text before after (state_of w f) (state_of got.0 keeps)) none
+            got.1),
+        told_ended (start_of old w) mid new got.0 ends got.2.is_told,
       ),
       got.2.leads,
     )
+
+-- the traces were ended
+pub opened_so : (terms given : Terms) (text before after : Option (List ℕ)) (l m : LiveState)
+    (old begun mid new : TapsState)
+    (first keeps : List FaultLine) → given ≡ terms → first ≡ [] → AddsBoth old begun [] file_header
+    → ToldAlike (with_taps l begun) (λ w v. Served given text before after (state_of w first) (state_of v keeps))
+    (with_taps m mid) → AddsEach mid new (λ n. last_line)
+    → Alike l (λ w v. ServedEndless terms text before after w v × TellsWhole old new w v) m
+opened_so terms given text before after l m old begun mid new first keeps same none adds served ends w is =
+    let got = opened_at terms given text before after l m old begun mid new first keeps same none adds served ends
+    w is in
+    (got.0, ((keeps, got.1.0), got.1.1), got.2)
+
+-- the last line of a trace can't be written
+pub closed_so : (terms given : Terms) (text left before after : Option (List ℕ)) (l m : LiveState)
+    (old begun mid new : TapsState) (tap : Tap)
+    (first keeps : List FaultLine) → given ≡ terms → first ≡ [] → AddsBoth old begun [] file_header
+    → ToldAlike (with_taps l begun) (λ w v. Served given text before after (state_of w first) (state_of v keeps))
+    (with_taps m mid) → AddsEach mid new (λ n. last_line)
+    → Alike l (λ w v. EndsEndless terms (failure.Tap tap) text left before after w v × TellsWhole old new w v) m
+closed_so terms given text left before after l m old begun mid new tap first keeps same none adds served ends w is =
+    let got = opened_at terms given text before after l m old begun mid new first keeps same none adds served ends
+    w is in
+    (got.0, ((keeps, inr got.1.0), got.1.1), got.2)
 
 -- ---- a stream fails
 
@@ -375,23 +398,29 @@ ends_full_alike terms text left before after number l new first kept so_far s w 
     )
 
 tells_unless : (error : EndlessError) (old new : TapsState) (w v : WorldState) → IsAfterMemory error
-    → Tells old new w v → TellsUnless error old new w v
-tells_unless (failure.Session Read) old new w v after tells = tells
-tells_unless (failure.Session Write) old new w v after tells = tells
-tells_unless (failure.Session Memory) old new w v after tells = absurd after
-tells_unless (failure.Tap tap) old new w v after tells = tells
+    → FailedBy {A = Unit {0}} (Err error) old.failed new.failed → Tells old new w v → TellsUnless error old new w v
+tells_unless (failure.Session Read) old new w v after failed tells = tells
+tells_unless (failure.Session Write) old new w v after failed tells = tells
+tells_unless (failure.Session Memory) old new w v after failed tells = absurd after
+tells_unless (failure.Tap tap) old new w v after failed tells = told_short (start_of old w) new v tap failed tells
+
+-- which file failed, told of other bytes before
+failed_after : (error : EndlessError) (one other new : Option Tap) → IsAfterMemory error
+    → FailedBy {A = Unit {0}} (Err error) one new → FailedBy {A = Unit {0}} (Err error) other new
+failed_after (failure.Session Read) one other new after failed = failed
+failed_after (failure.Session Write) one other new after failed = failed
+failed_after (failure.Session Memory) one other new after failed = absurd after
+failed_after (failure.Tap tap) one other new after failed = failed
 
 -- a session from an opening world, of which no line is kept, that ends with an error
-pub ended_so : {A : Type 0} (r : Result A EndlessError) (terms given : Terms)
+pub ended_so : (error : EndlessError) (terms given : Terms)
     (text left before after : Option (List ℕ)) (l m : LiveState) (old begun new : TapsState)
     (first keeps : List FaultLine) → given ≡ terms → first ≡ [] → AddsBoth old begun [] file_header
-    → IfErr r IsAfterMemory
-    → IfErr r (λ error. ToldAlike (with_taps l begun) (λ w v. EndsBefore given error text left before after
-    (state_of w first) (state_of v keeps)) (with_taps m new))
-    → IfErr r (λ error. Alike l (λ w v. EndsEndless terms error text left before after w v
-    × TellsUnless error old new w v) m)
-ended_so (Ok x) terms given text left before after l m old begun new first keeps same none adds later gives = tt
-ended_so (Err error) terms given text left before after l m old begun new first keeps same none adds later gives =
+    → IsAfterMemory error → FailedBy {A = Unit {0}} (Err error) begun.failed new.failed
+    → ToldAlike (with_taps l begun) (λ w v. EndsBefore given error text left before after
+    (state_of w first) (state_of v keeps)) (with_taps m new)
+    → Alike l (λ w v. EndsEndless terms error text left before after w v × TellsUnless error old new w v) m
+ended_so error terms given text left before after l m old begun new first keeps same none adds later failed gives =
     λ w is.
     let start : IsToldHistory (start_of old w) (with_taps l begun) w =
     record { leads = is; is_told = told_header old begun w adds } in
@@ -400,23 +429,43 @@ ended_so (Err error) terms given text left before after l m old begun new first 
       (
         (
           keeps,
-          subst (λ (t : Terms). EndsBefore t error text left before after (state_of w []) (state_of got.0 keeps)) same
+          inl (subst (λ (t : Terms). EndsBefore t error text left before after (state_of w []) (state_of got.0 keeps))
+              same
               (subst (λ (f : List FaultLine). EndsBefore given error text left before after (state_of w f)
-              (state_of got.0 keeps)) none got.1),
+              (state_of got.0 keeps)) none got.1)),
         ),
-        tells_unless error old new w got.0 later got.2.is_told,
+        tells_unless error old new w got.0 later (failed_after error begun.failed old.failed new.failed later failed)
+            got.2.is_told,
       ),
       got.2.leads,
     )
 
+-- no line was taken
+pub ends_unopened : (terms : Terms) (tap : Tap) (text bytes : Option (List ℕ)) (w : WorldState)
+    → EndsEndless terms (failure.Tap tap) text text bytes bytes w w
+ends_unopened terms tap text bytes w = ([], inl (by text))
+  where
+    by : (t : Option (List ℕ)) → EndsByFile terms t t bytes bytes (state_of w []) (state_of w [])
+    by None = tt
+    by (Some x) = inl (refl, Keeps-refl bytes, refl)
+
 -- the header of the capture couldn't be written
 pub unopened_so : (terms : Terms) (text before : Option (List ℕ)) (l : LiveState) (old new : TapsState) (tap : Tap)
-    → AddsBoth old new [] file_header
-    → Alike l (λ w v. EndsEndless terms (failure.Tap tap) text text before before w v × Tells old new w v) l
-unopened_so terms text before l old new tap adds w is =
-    (w, (([], ends_unopened terms text before (state_of w [])), told_header old new w adds), is)
+    → AddsBoth old new [] file_header → new.failed ≡ Some tap
+    → Alike l (λ w v. EndsEndless terms (failure.Tap tap) text text before before w v × TellsWhole old new w v) l
+unopened_so terms text before l old new tap adds failed w is = (
+  w,
+  (ends_unopened terms tap text before w, told_short (start_of old w) new w tap failed (told_header old new w adds)),
+  is,
+)
+
+-- an allocation failed before the first line
+pub unmade_so : (terms : Terms) (text before : Option (List ℕ)) (l : LiveState) (taps : TapsState)
+    → Alike l (λ w v. EndsEndless terms (failure.Session Memory) text text before before w v
+    × TellsUnless (failure.Session Memory) taps taps w v) l
+unmade_so terms text before l taps w is = (w, (([], inl (by text)), refl), is)
   where
-    ends_unopened : (terms : Terms) (text bytes : Option (List ℕ)) (x : SessionState)
-        → EndsByFile terms text text bytes bytes x x
-    ends_unopened terms None bytes x = tt
-    ends_unopened terms (Some text) bytes x = inl (refl, Keeps-refl bytes, refl)
+    by : (t : Option (List ℕ))
+        → EndsBefore terms (failure.Session Memory) t t before before (state_of w []) (state_of w [])
+    by None = tt
+    by (Some x) = (refl, Keeps-refl before, refl)

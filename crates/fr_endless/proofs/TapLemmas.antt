@@ -1,12 +1,15 @@
 -- What files get, one text after another, and of each window that is sealed.
 use Rattle.std.proofs.Common.{◌≡◌, ℕ, ◌-◌, Bool, true, false, List, [], ◌∷◌, ◌++◌, length, Option, Some, None}
 use Rattle.std.proofs.Common.{Result, Ok, Err, refl, sym, ap, ap₂, subst, ◌∙◌, append_assoc, append-nil, arith}
-use Rattle.std.proofs.Common.{cond, not, slice_get}
+use Rattle.std.proofs.Common.{cond, not, slice_get, get_or, set, map, eqb, ◌≢◌, ◌<◌, ◌≤◌}
 use Rattle.std.proofs.Common.{codes, inl, inr, ◌⊎◌}
-use Rattle.std.specs.Prelude.{is_ok, is_some, option_and_then, option_map}
+use Rattle.std.specs.Prelude.{is_some, option_and_then, option_map}
 use Rattle.std.specs.Io.KnownBytes.{Appends}
 use Rattle.std.proofs.KnownBytes.{Appends-nil, Appends-trans}
-use Rattle.std.proofs.lemmas.List.{length-append}
+use Rattle.std.proofs.lemmas.Bool.Decides.{eqb_tells}
+use Rattle.std.proofs.lemmas.List.{get_or-map, get_or-set_other, get_or-set_same, get_or_past, length-append}
+use Rattle.std.proofs.lemmas.List.{length-map}
+use Rattle.std.proofs.lemmas.List.{map-set}
 use Rattle.fr_bus.specs.declared.error.Phase.{Phase}
 use Rattle.fr_bus.specs.declared.error.Phase.TheVariants.{Collect, Sealed as InSealed, Finished}
 use Rattle.fr_bus.specs.Record.{Recorded}
@@ -16,30 +19,24 @@ use Rattle.fr_bus.specs.States.{BusState, Stands, all_put, collects, inject_done
 use Rattle.fr_bus.specs.States.{seal_refusal, sealed_with}
 use Rattle.fr_bus.specs.Windows.{cycles_begun}
 use Rattle.fr_core.specs.Carried.{Carried, Idle, Knows, Offers, Waits, Took}
-use Rattle.fr_core.specs.declared.error.StepError.{StepError}
 use Rattle.fr_core.specs.declared.error.StepError.TheVariants.{Bus}
 use Rattle.fr_core.specs.declared.event.Event.{Event}
 use Rattle.fr_core.specs.declared.event.Event.TheVariants.{Commit, Withdraw, Read, Pop, Look, Fetch, Put, Take}
 use Rattle.fr_core.specs.declared.event.Event.TheVariants.{Observe, Inject, Seal, Advance}
 use Rattle.fr_core.specs.declared.event.Reply.{Reply}
-use Rattle.fr_core.specs.Runs.{Answer}
-use Rattle.fr_core.specs.declared.event.Reply.TheVariants.{Done}
-use Rattle.fr_core.specs.Steps.{Applies, Steps, answered, fetched, looked, observed, put_on_bus, step_done, step_reply}
+use Rattle.fr_core.specs.Steps.{Steps, fetched, looked, observed, put_on_bus, step_done}
 use Rattle.fr_core.specs.Steps.{taken}
 use Rattle.fr_core.specs.Worlds.{WorldState, carried_at}
 use Rattle.fr_bus.specs.States.{collecting_of}
 use Rattle.fr_endless.proofs.AlikeLemmas.{begun_same, last_same}
-use Rattle.fr_endless.specs.Taps.{AddsBoth, AddsFront, AddsLast, AddsMore, HasBeyond, IsTold, Start}
-use Rattle.fr_endless.specs.Taps.{TapsState, ToldAlike, ToldState, capture_last, first_failed, is_seal, no_lines}
-use Rattle.fr_endless.specs.Taps.{record_last, record_of, start_of, with_taps}
+use Rattle.fr_endless.specs.Taps.{Adds, AddsAt, AddsBoth, AddsEach, AddsFront, AddsLast, AddsMore, HasBeyond, IsTold}
+use Rattle.fr_endless.specs.Taps.{Start, TapsState, at_node, body_at, capture_last, first_failed, is_seal, no_lines}
+use Rattle.fr_endless.specs.Taps.{record_last, record_of, start_of, traced_in}
 use Rattle.fr_endless.specs.declared.taps.Tap.{Tap}
 use Rattle.fr_bus.specs.declared.fault.Fault.{Fault}
 use Rattle.fr_bus.specs.declared.fault.Fault.TheVariants.{Babble, Mute, Corrupt}
 use Rattle.fr_capture.specs.Pcap.{file_header}
-use Rattle.fr_live.specs.LiveSteps.{AppliesAlike, StepsAlike}
 use Rattle.fr_live.specs.LiveWorlds.{IsWorldHistory, LiveState}
-use Rattle.fr_bus.specs.Standing.{LiveStanding}
-use Rattle.fr_endless.specs.Alike.{Alike}
 use Rattle.fr_scenario.specs.AnyText.{IsScenarioText}
 use Rattle.fr_scenario.specs.Contents.{Contents}
 use Rattle.fr_scenario.specs.declared.error.ScenarioError.{ScenarioError}
@@ -70,6 +67,61 @@ front_absent contents file text none =
     subst (λ (o : Option _). AddsFront None (option_and_then contents o) (option_and_then contents o) text) (sym none)
     (front_unknown None None text)
 
+-- no text at all, unless a file had failed before
+pub more_none : (failed later : Option Tap) (bytes : Option (List ℕ)) → AddsMore failed later bytes bytes []
+more_none None later bytes = front_none later bytes
+more_none (Some tap) later bytes = Appends-nil bytes
+
+pub more_unknown : (failed later : Option Tap) (after : Option (List ℕ)) (text : List ℕ)
+    → AddsMore failed later None after text
+more_unknown None later after text = front_unknown later after text
+more_unknown (Some tap) later after text = tt
+
+-- one text after another
+pub front_more : (f g : Option Tap) (one two : List ℕ) (start before after : Option (List ℕ))
+    → AddsFront f start before one → AddsMore f g before after two → (g ≡ None → f ≡ None)
+    → AddsFront g start after (one ++ two)
+front_more None g one two start before after has more stays =
+    let (front, rest, is, whole, adds) = has in
+    let (front', rest', is', whole', adds') = more in
+    let full : one ≡ front = is ∙ ap (λ (l : List ℕ). front ++ l) (whole refl) ∙ append-nil front in (
+      front ++ front',
+      rest',
+      ap₂ (λ (a b : List ℕ). a ++ b) full is' ∙ sym (append_assoc front front' rest'),
+      whole',
+      Appends-trans start before after front front' adds adds',
+    )
+front_more (Some tap) g one two start before after has more stays =
+    let (front, rest, is, whole, adds) = has in (
+      front,
+      rest ++ two,
+      ap (λ (l : List ℕ). l ++ two) is ∙ append_assoc front rest two,
+      λ none. absurd (let no : ⊥ = cc (stays none) in no),
+      subst (Appends start after) (append-nil front) (Appends-trans start before after front [] adds more),
+    )
+
+pub more_then : (f g h : Option Tap) (one two : List ℕ) (start before after : Option (List ℕ))
+    → AddsMore f g start before one → AddsMore g h before after two → (g ≡ None → f ≡ None) → (h ≡ None → g ≡ None)
+    → AddsMore f h start after (one ++ two)
+more_then None g h one two start before after first second stays later =
+    front_more g h one two start before after first second later
+more_then (Some tap) None h one two start before after first second stays later =
+    absurd (let no : ⊥ = cc (stays refl) in no)
+more_then (Some tap) (Some other) h one two start before after first second stays later =
+    Appends-trans start before after [] [] first second
+
+-- a front of a text is one of a longer text
+pub front_longer : (failed : Option Tap) (tap : Tap) (one two : List ℕ) (before after : Option (List ℕ))
+    → failed ≡ Some tap → AddsFront failed before after one → AddsFront failed before after (one ++ two)
+front_longer failed tap one two before after some has =
+    let (front, rest, is, whole, adds) = has in (
+      front,
+      rest ++ two,
+      ap (λ (l : List ℕ). l ++ two) is ∙ append_assoc front rest two,
+      λ none. absurd (let no : ⊥ = cc (sym none ∙ some) in no),
+      adds,
+    )
+
 -- another file failed later
 pub front_later : (one other : Option Tap) (before after : Option (List ℕ)) (text : List ℕ)
     → AddsFront one before after text → (other ≡ None → one ≡ None) → AddsFront other before after text
@@ -86,15 +138,83 @@ second_none (Some tap) other none = absurd (let no : ⊥ = cc none in no)
 
 -- ---- both files
 
+-- the traces stay
+pub traces_kept : (old new : TapsState) → new.traced ≡ old.traced
+    → (n : ℕ) → AddsMore old.failed new.failed (traced_in old.traced n) (traced_in new.traced n) []
+traces_kept old new same n =
+    subst (λ (l : List (Option (List ℕ))). AddsMore old.failed new.failed (traced_in old.traced n) (traced_in l n) [])
+    (sym same) (more_none old.failed new.failed (traced_in old.traced n))
+
 -- no file has failed
 pub both_added : (old new : TapsState) (recorded captured : List ℕ) → old.failed ≡ None → new.params ≡ old.params
-    → AddsFront new.failed old.recorded new.recorded recorded
+    → new.traced ≡ old.traced → AddsFront new.failed old.recorded new.recorded recorded
     → AddsFront new.failed old.captured new.captured captured → AddsBoth old new recorded captured
-both_added old new recorded captured none params first second = record {
+both_added old new recorded captured none params traces first second = record {
   params_are = params;
   stays = λ later. none;
   to_record = subst (λ (f : Option Tap). AddsMore f new.failed old.recorded new.recorded recorded) (sym none) first;
   to_capture = subst (λ (f : Option Tap). AddsMore f new.failed old.captured new.captured captured) (sym none) second;
+  to_traces = traces_kept old new traces;
+}
+
+-- a file had failed before
+pub added_stopped : (taps : TapsState) (tap : Tap) (recorded captured : List ℕ) (traced : ℕ → List ℕ)
+    → taps.failed ≡ Some tap → Adds taps taps recorded captured traced
+added_stopped taps tap recorded captured traced some = record {
+  params_are = refl;
+  stays = λ none. none;
+  to_record = subst (λ (f : Option Tap). AddsMore f taps.failed taps.recorded taps.recorded recorded) (sym some)
+      (Appends-nil taps.recorded);
+  to_capture = subst (λ (f : Option Tap). AddsMore f taps.failed taps.captured taps.captured captured) (sym some)
+      (Appends-nil taps.captured);
+  to_traces = λ n. subst
+      (λ (f : Option Tap). AddsMore f taps.failed (traced_in taps.traced n) (traced_in taps.traced n) (traced n))
+      (sym some) (Appends-nil (traced_in taps.traced n));
+}
+
+-- one text after another
+pub added_then : (old mid new : TapsState) (one two : ℕ → List ℕ) → AddsEach old mid one → AddsEach mid new two
+    → AddsEach old new (λ n. one n ++ two n)
+added_then old mid new one two first second = record {
+  params_are = second.params_are ∙ first.params_are;
+  stays = λ none. first.stays (second.stays none);
+  to_record = more_then old.failed mid.failed new.failed [] [] old.recorded mid.recorded new.recorded first.to_record
+      second.to_record first.stays second.stays;
+  to_capture = more_then old.failed mid.failed new.failed [] [] old.captured mid.captured new.captured
+      first.to_capture second.to_capture first.stays second.stays;
+  to_traces = λ n. more_then old.failed mid.failed new.failed (one n) (two n) (traced_in old.traced n)
+      (traced_in mid.traced n) (traced_in new.traced n) (first.to_traces n) (second.to_traces n) first.stays
+      second.stays;
+}
+
+-- the same texts
+pub added_as : (old new : TapsState) (one two : ℕ → List ℕ) → ((n : ℕ) → one n ≡ two n) → AddsEach old new one
+    → AddsEach old new two
+added_as old new one two same adds = record {
+  params_are = adds.params_are;
+  stays = adds.stays;
+  to_record = adds.to_record;
+  to_capture = adds.to_capture;
+  to_traces = λ n. subst (AddsMore old.failed new.failed (traced_in old.traced n) (traced_in new.traced n)) (same n)
+      (adds.to_traces n);
+}
+
+-- no text for a node
+pub no_text : (m n : ℕ) → at_node m [] n ≡ []
+no_text m n = by (eqb n m)
+  where
+    by : (b : Bool) → ◌≡◌ {A = List ℕ} (cond b [] []) []
+    by true = refl
+    by false = refl
+
+-- no texts
+pub added_none : (taps : TapsState) → AddsEach taps taps (λ n. [])
+added_none taps = record {
+  params_are = refl;
+  stays = λ none. none;
+  to_record = more_none taps.failed taps.failed taps.recorded;
+  to_capture = more_none taps.failed taps.failed taps.captured;
+  to_traces = λ n. more_none taps.failed taps.failed (traced_in taps.traced n);
 }
 
 -- ---- by the fields of the files
@@ -105,12 +225,13 @@ none_by (Some tap) b is so_is =
     let no : is_some (Some tap) ≡ false = is ∙ ap not so_is in absurd (let none : ⊥ = cc no in none)
 
 module _ {F : Type 0} (contents : F → Option (List ℕ)) where
-  abbrev pub files_of : Parameters → Option Tap → Option F → Option F → TapsState
-  files_of p failed recorded captured = record {
+  abbrev pub files_of : Parameters → Option Tap → Option F → Option F → List F → TapsState
+  files_of p failed recorded captured traces = record {
     params = p;
     failed = failed;
     recorded = option_and_then contents recorded;
     captured = option_and_then contents captured;
+    traced = map contents traces;
   }
 
   -- a text was handed to a file that is there
@@ -123,28 +244,141 @@ module _ {F : Type 0} (contents : F → Option (List ℕ)) where
 
   -- the header was written
   pub header_added : (old : TapsState) (p : Parameters) (failed result : Option Tap)
-      (recorded captured after : Option F)
-      (b : Bool) → files_of p failed recorded captured ≡ old → is_some failed ≡ not b → b ≡ true
+      (recorded captured after : Option F) (traces : List F)
+      (b : Bool) → files_of p failed recorded captured traces ≡ old → is_some failed ≡ not b → b ≡ true
       → AddsFront result (option_and_then contents captured) (option_and_then contents after) file_header
-      → AddsBoth old (files_of p result recorded after) [] file_header
-  header_added old p failed result recorded captured after b is none so_is adds =
-      subst (λ (t : TapsState). AddsBoth t (files_of p result recorded after) [] file_header) is
-      (both_added (files_of p failed recorded captured) (files_of p result recorded after) [] file_header
-      (none_by failed b none so_is) refl (front_none result (option_and_then contents recorded)) adds)
+      → AddsBoth old (files_of p result recorded after traces) [] file_header
+  header_added old p failed result recorded captured after traces b is none so_is adds =
+      subst (λ (t : TapsState). AddsBoth t (files_of p result recorded after traces) [] file_header) is
+      (both_added (files_of p failed recorded captured traces) (files_of p result recorded after traces) [] file_header
+      (none_by failed b none so_is) refl refl (front_none result (option_and_then contents recorded)) adds)
+
+  -- both files were flushed
+  pub flushed_added : (old : TapsState) (p : Parameters) (failed a b result : Option Tap)
+      (recorded captured recorded' captured' : Option F) (traces : List F)
+      (t : Bool) → files_of p failed recorded captured traces ≡ old → is_some failed ≡ not t → t ≡ true
+      → result ≡ first_failed a b
+      → AddsFront a (option_and_then contents recorded) (option_and_then contents recorded') []
+      → AddsFront b (option_and_then contents captured) (option_and_then contents captured') []
+      → AddsBoth old (files_of p result recorded' captured' traces) [] []
+  flushed_added old p failed a b result recorded captured recorded' captured' traces t is none so_is result_is first
+      second =
+      let start = files_of p failed recorded captured traces in
+      let end = files_of p result recorded' captured' traces in
+      subst (λ (x : TapsState). AddsBoth x end [] []) is
+      (both_added start end [] [] (none_by failed t none so_is) refl refl
+      (front_later a result start.recorded end.recorded [] first (λ no. first_none a b (sym result_is ∙ no)))
+      (front_later b result start.captured end.captured [] second (λ no. second_none a b (sym result_is ∙ no))))
+
+  -- a text was written to a trace
+  pub trace_added : (old : TapsState) (p : Parameters) (failed result : Option Tap) (recorded captured : Option F)
+      (traces after : List F) (b : Bool) (given place : ℕ) (text : List ℕ)
+      → files_of p failed recorded captured traces ≡ old → is_some failed ≡ not b → b ≡ true → given ≡ place
+      → AddsAt result (map contents traces) (map contents after) given text
+      → AddsEach old (files_of p result recorded captured after) (at_node place text)
+  trace_added old p failed result recorded captured traces after b given place text is none so_is same given_adds =
+      let adds : AddsAt result (map contents traces) (map contents after) place text =
+      subst (λ (n : ℕ). AddsAt result (map contents traces) (map contents after) n text) same given_adds in
+      let start = files_of p failed recorded captured traces in
+      let end = files_of p result recorded captured after in
+      let free : start.failed ≡ None = none_by failed b none so_is in
+      let by : AddsEach start end (at_node place text) = record {
+        params_are = refl;
+        stays = λ later. free;
+        to_record = subst (λ (f : Option Tap). AddsMore f result start.recorded start.recorded []) (sym free)
+            (front_none result start.recorded);
+        to_capture = subst (λ (f : Option Tap). AddsMore f result start.captured start.captured []) (sym free)
+            (front_none result start.captured);
+        to_traces = λ n. subst (λ (f : Option Tap). AddsMore f result (traced_in start.traced n)
+            (traced_in end.traced n) (at_node place text n)) (sym free) (adds n);
+      } in
+      subst (λ (t : TapsState). AddsEach t end (at_node place text)) is by
+
+  -- a text was handed to the trace at this place
+  pub handed_at : (traces : List F) (place : ℕ) (file new : F) (failed : Option Tap) (text : List ℕ)
+      → place < length traces → file ≡ get_or traces place file
+      → AddsFront failed (contents file) (contents new) text
+      → AddsAt failed (map contents traces) (map contents (set traces place new)) place text
+  handed_at traces place file new failed text within is adds n = by (eqb_tells n place)
+    where
+      before : List (Option (List ℕ))
+      before = map contents traces
+
+      after : List (Option (List ℕ))
+      after = map contents (set traces place new)
+
+      set_is : after ≡ set before place (contents new)
+      set_is = map-set contents traces place new
+
+      here : get_or before place None ≡ contents file
+      here = get_or-map contents traces place file None within ∙ ap contents (sym is)
+
+      there : get_or after place None ≡ contents new
+      there = ap (λ (l : List (Option (List ℕ))). get_or l place None) set_is
+          ∙ get_or-set_same before place (contents new) None (omega (arith, within, length-map traces contents))
+
+      own : AddsFront failed (traced_in before place) (traced_in after place) text
+      own = subst (λ (x : Option (List ℕ)). AddsFront failed x (traced_in after place) text) (sym here)
+          (subst (λ (x : Option (List ℕ)). AddsFront failed (contents file) x text) (sym there) adds)
+
+      by : ((eqb n place ≡ true) × (n ≡ place)) ⊎ ((eqb n place ≡ false) × (n ≢ place))
+          → AddsFront failed (traced_in before n) (traced_in after n) (at_node place text n)
+      by (inl (test, same)) =
+          subst (λ (b : Bool). AddsFront failed (traced_in before n) (traced_in after n) (cond b text [])) (sym test)
+          (subst (λ (m : ℕ). AddsFront failed (traced_in before m) (traced_in after m) text) (sym same) own)
+      by (inr (test, other)) =
+          let kept : get_or after n None ≡ get_or before n None =
+          ap (λ (l : List (Option (List ℕ))). get_or l n None) set_is
+          ∙ get_or-set_other before place n (contents new) None other in
+          subst (λ (b : Bool). AddsFront failed (traced_in before n) (traced_in after n) (cond b text [])) (sym test)
+          (subst (λ (x : Option (List ℕ)). AddsFront failed (traced_in before n) x []) (sym kept)
+          (front_none failed (traced_in before n)))
+
+  -- there is no trace at this place
+  pub handed_past : (traces : List F) (place : ℕ) (failed : Option Tap) (text : List ℕ) → length traces ≤ place
+      → AddsAt failed (map contents traces) (map contents traces) place text
+  handed_past traces place failed text past n = by (eqb_tells n place)
+    where
+      before : List (Option (List ℕ))
+      before = map contents traces
+
+      none : get_or before place None ≡ None
+      none = get_or_past before place None (omega (arith, past, length-map traces contents))
+
+      by : ((eqb n place ≡ true) × (n ≡ place)) ⊎ ((eqb n place ≡ false) × (n ≢ place))
+          → AddsFront failed (traced_in before n) (traced_in before n) (at_node place text n)
+      by (inl (test, same)) =
+          subst (λ (x : Option (List ℕ)). AddsFront failed x x (at_node place text n))
+          (sym (ap (λ (m : ℕ). get_or before m None) same ∙ none)) (front_unknown failed None (at_node place text n))
+      by (inr (test, other)) =
+          subst (λ (b : Bool). AddsFront failed (traced_in before n) (traced_in before n) (cond b text [])) (sym test)
+          (front_none failed (traced_in before n))
+
+  -- nothing came
+  pub handed_none : (traces : List F) (place : ℕ) (tap : Tap) (text : List ℕ)
+      → AddsAt (Some tap) (map contents traces) (map contents traces) place text
+  handed_none traces place tap text n = (
+    [],
+    at_node place text n,
+    refl,
+    λ none. absurd (let no : ⊥ = cc none in no),
+    Appends-nil (traced_in (map contents traces) n),
+  )
 
   -- a window was written
   pub window_added : (old : TapsState) (p : Parameters) (failed a b result : Option Tap)
-      (recorded captured recorded' captured' : Option F) (scenario : Contents) (cycle begun : ℕ) (r : Recorded)
-      (last : Option Recorded) (t : Bool) → files_of p failed recorded captured ≡ old → is_some failed ≡ not t
+      (recorded captured recorded' captured' : Option F) (traces : List F) (scenario : Contents) (cycle begun : ℕ)
+      (r : Recorded)
+      (last : Option Recorded) (t : Bool) → files_of p failed recorded captured traces ≡ old → is_some failed ≡ not t
       → t ≡ true → scenario ≡ no_lines → cycle ≡ begun - 1 → Some r ≡ last → result ≡ first_failed a b
       → AddsFront a (option_and_then contents recorded) (option_and_then contents recorded')
       (window_text scenario p cycle r)
       → AddsFront b (option_and_then contents captured) (option_and_then contents captured') (window_records p cycle r)
-      → AddsLast old begun last (files_of p result recorded' captured')
-  window_added old p failed a b result recorded captured recorded' captured' scenario cycle begun r last t is none so_is
-      no_scenario cycle_is last_is result_is first second =
-      let start = files_of p failed recorded captured in
-      let end = files_of p result recorded' captured' in
+      → AddsLast old begun last (files_of p result recorded' captured' traces)
+  window_added old p failed a b result recorded captured recorded' captured' traces scenario cycle begun r last t is
+      none so_is no_scenario cycle_is last_is result_is first second =
+      let start = files_of p failed recorded captured traces in
+      let end = files_of p result recorded' captured' traces in
       let lines : window_text scenario p cycle r ≡ record_last p begun (Some r) =
       ap₂ (λ (s : Contents) (n : ℕ). window_text s p n r) no_scenario cycle_is in
       let frames : window_records p cycle r ≡ capture_last p begun (Some r) =
@@ -158,7 +392,7 @@ module _ {F : Type 0} (contents : F → Option (List ℕ)) where
       subst (λ (o : Option Recorded). AddsLast old begun o end) last_is
       (subst (λ (x : TapsState). AddsLast x begun (Some r) end) is
       (both_added start end (record_last p begun (Some r)) (capture_last p begun (Some r))
-      (none_by failed t none so_is) refl to_record to_capture))
+      (none_by failed t none so_is) refl refl to_record to_capture))
 
 -- ---- the scenario of a record
 
@@ -181,50 +415,30 @@ scenario_none text s is only =
 -- ---- since a start
 
 -- a text grows
-beyond_more : (f g : Option Tap) (opening earlier all text : List ℕ) (start before after : Option (List ℕ))
+pub beyond_more : (f g : Option Tap) (opening earlier all text : List ℕ) (start before after : Option (List ℕ))
     → HasBeyond f opening earlier start before all → AddsMore f g before after text → (g ≡ None → f ≡ None)
     → HasBeyond g opening earlier start after (all ++ text)
-beyond_more None g opening earlier all text start before after has more stays =
-    let (added, all_is, (front, rest, is, whole, adds)) = has in
-    let (front', rest', is', whole', adds') = more in
-    let full : opening ++ added ≡ front = is ∙ ap (λ (l : List ℕ). front ++ l) (whole refl) ∙ append-nil front in (
+beyond_more f g opening earlier all text start before after has more stays =
+    let (added, all_is, adds) = has in (
       added ++ text,
       ap (λ (l : List ℕ). l ++ text) all_is ∙ append_assoc earlier added text,
-      (
-        front ++ front',
-        rest',
-        sym (append_assoc opening added text) ∙ ap₂ (λ (a b : List ℕ). a ++ b) full is'
-            ∙ sym (append_assoc front front' rest'),
-        whole',
-        Appends-trans start before after front front' adds adds',
-      ),
-    )
-beyond_more (Some tap) g opening earlier all text start before after has more stays =
-    let (added, all_is, (front, rest, is, whole, adds)) = has in (
-      added ++ text,
-      ap (λ (l : List ℕ). l ++ text) all_is ∙ append_assoc earlier added text,
-      (
-        front,
-        rest ++ text,
-        sym (append_assoc opening added text) ∙ ap (λ (l : List ℕ). l ++ text) is ∙ append_assoc front rest text,
-        λ none. absurd (let no : ⊥ = cc (stays none) in no),
-        subst (Appends start after) (append-nil front) (Appends-trans start before after front [] adds more),
-      ),
+      subst (AddsFront g start after) (append_assoc opening added text)
+          (front_more f g (opening ++ added) text start before after adds more stays),
     )
 
 -- the same text
-beyond_as : (f : Option Tap) (opening earlier all other : List ℕ) (start bytes : Option (List ℕ)) → all ≡ other
+pub beyond_as : (f : Option Tap) (opening earlier all other : List ℕ) (start bytes : Option (List ℕ)) → all ≡ other
     → HasBeyond f opening earlier start bytes all → HasBeyond f opening earlier start bytes other
 beyond_as f opening earlier all other start bytes is has =
     subst (λ (l : List ℕ). HasBeyond f opening earlier start bytes l) is has
 
--- both texts grow
+-- all texts grow
 pub told_more : (s : Start) (old new : TapsState) (w v : WorldState) (recorded captured : List ℕ)
-    → AddsBoth old new recorded captured
+    (traced : ℕ → List ℕ) → Adds old new recorded captured traced
     → record_of s.params v.bus.sealed ≡ record_of s.params w.bus.sealed ++ recorded
     → all_records s.params v.bus.sealed ≡ all_records s.params w.bus.sealed ++ captured
-    → IsTold s old w → IsTold s new v
-told_more s old new w v recorded captured adds record_grows capture_grows is = record {
+    → ((n : ℕ) → body_at v n ≡ body_at w n ++ traced n) → IsTold s old w → IsTold s new v
+told_more s old new w v recorded captured traced adds record_grows capture_grows traces_grow is = record {
   params_are = adds.params_are ∙ is.params_are;
   recorded_are = beyond_as new.failed [] s.record_before (record_of s.params w.bus.sealed ++ recorded)
       (record_of s.params v.bus.sealed) s.recorded new.recorded (sym record_grows)
@@ -234,26 +448,18 @@ told_more s old new w v recorded captured adds record_grows capture_grows is = r
       (all_records s.params v.bus.sealed) s.captured new.captured (sym capture_grows)
       (beyond_more old.failed new.failed file_header s.capture_before (all_records s.params w.bus.sealed) captured
       s.captured old.captured new.captured is.captured_are adds.to_capture adds.stays);
-}
-
--- the same windows
-pub told_same : (s : Start) (taps : TapsState) (w v : WorldState) → v.bus.sealed ≡ w.bus.sealed → IsTold s taps w
-    → IsTold s taps v
-told_same s taps w v same is = record {
-  params_are = is.params_are;
-  recorded_are = beyond_as taps.failed [] s.record_before (record_of s.params w.bus.sealed)
-      (record_of s.params v.bus.sealed) s.recorded taps.recorded (ap (record_of s.params) (sym same)) is.recorded_are;
-  captured_are = beyond_as taps.failed file_header s.capture_before (all_records s.params w.bus.sealed)
-      (all_records s.params v.bus.sealed) s.captured taps.captured (ap (all_records s.params) (sym same))
-      is.captured_are;
+  traces_are = λ n. beyond_as new.failed [] (s.trace_before n) (body_at w n ++ traced n) (body_at v n)
+      (traced_in s.traced n) (traced_in new.traced n) (sym (traces_grow n))
+      (beyond_more old.failed new.failed [] (s.trace_before n) (body_at w n) (traced n) (traced_in s.traced n)
+      (traced_in old.traced n) (traced_in new.traced n) (is.traces_are n) (adds.to_traces n) adds.stays);
 }
 
 -- the files were flushed
 pub told_flushed : (s : Start) (old new : TapsState) (w : WorldState) → AddsBoth old new [] [] → IsTold s old w
     → IsTold s new w
 told_flushed s old new w adds is =
-    told_more s old new w w [] [] adds (sym (append-nil (record_of s.params w.bus.sealed)))
-    (sym (append-nil (all_records s.params w.bus.sealed))) is
+    told_more s old new w w [] [] (λ n. []) adds (sym (append-nil (record_of s.params w.bus.sealed)))
+    (sym (append-nil (all_records s.params w.bus.sealed))) (λ n. sym (append-nil (body_at w n))) is
 
 -- the header was written
 pub told_begun : (old new : TapsState) (w : WorldState) → AddsBoth old new [] file_header → old.failed ≡ None
@@ -270,6 +476,12 @@ told_begun old new w adds none = record {
     sym (append-nil (all_records old.params w.bus.sealed)),
     subst (λ (l : List ℕ). AddsFront new.failed old.captured new.captured l) (sym (append-nil file_header))
         (subst (λ (f : Option Tap). AddsMore f new.failed old.captured new.captured file_header) none adds.to_capture),
+  );
+  traces_are = λ n. (
+    [],
+    sym (append-nil (body_at w n)),
+    subst (λ (f : Option Tap). AddsMore f new.failed (traced_in old.traced n) (traced_in new.traced n) []) none
+        (adds.to_traces n),
   );
 }
 
@@ -298,6 +510,18 @@ told_stopped old new w tap adds some = record {
       refl,
       λ none. absurd (let no : ⊥ = cc (sym (adds.stays none) ∙ some) in no),
       subst (λ (f : Option Tap). AddsMore f new.failed old.captured new.captured file_header) some adds.to_capture,
+    ),
+  );
+  traces_are = λ n. (
+    [],
+    sym (append-nil (body_at w n)),
+    (
+      [],
+      [],
+      refl,
+      λ none. refl,
+      subst (λ (f : Option Tap). AddsMore f new.failed (traced_in old.traced n) (traced_in new.traced n) []) some
+          (adds.to_traces n),
     ),
   );
 }
@@ -338,7 +562,7 @@ none_of f None e = refl
 none_of f (Some x) e = absurd (let none : ⊥ = cc in none)
 
 -- a seal that is accepted adds a window to the record
-seals_window : (l : LiveState) (w v : WorldState) (reply : Reply) → IsWorldHistory l w → Steps w Seal (Ok reply) v
+pub seals_window : (l : LiveState) (w v : WorldState) (reply : Reply) → IsWorldHistory l w → Steps w Seal (Ok reply) v
     → (made : Recorded) × (v.bus.sealed ≡ w.bus.sealed ++ made ∷ [])
 seals_window l w v reply is step =
     let run = is.leads.bus_is.of_bus.run in
@@ -354,7 +578,7 @@ last_of xs x =
     ap (slice_get (xs ++ x ∷ [])) place ∙ get-after xs [] x
 
 -- the kept data have this window, and the number of its cycle
-record_grows : (p : Parameters) (m : LiveState) (w v : WorldState) (made : Recorded)
+pub record_grows : (p : Parameters) (m : LiveState) (w v : WorldState) (made : Recorded)
     → v.bus.sealed ≡ w.bus.sealed ++ made ∷ [] → IsWorldHistory m v
     → record_of p v.bus.sealed ≡ record_of p w.bus.sealed ++ record_last p m.bus.bus.course.begun m.bus.last
 record_grows p m w v made grows is =
@@ -367,7 +591,7 @@ record_grows p m w v made grows is =
     ∙ ap (λ (n : ℕ). record_of p w.bus.sealed ++ window_text no_lines p (n - 1) made) begun
     ∙ ap (λ (o : Option Recorded). record_of p w.bus.sealed ++ record_last p m.bus.bus.course.begun o) (sym last)
 
-capture_grows : (p : Parameters) (m : LiveState) (w v : WorldState) (made : Recorded)
+pub capture_grows : (p : Parameters) (m : LiveState) (w v : WorldState) (made : Recorded)
     → v.bus.sealed ≡ w.bus.sealed ++ made ∷ [] → IsWorldHistory m v
     → all_records p v.bus.sealed ≡ all_records p w.bus.sealed ++ capture_last p m.bus.bus.course.begun m.bus.last
 capture_grows p m w v made grows is =
@@ -421,7 +645,7 @@ injected_keeps b (Corrupt A bit) = refl
 injected_keeps b (Corrupt B bit) = refl
 
 -- an event that is no seal keeps the record
-done_keeps : (w : WorldState) (event : Event) → is_seal event ≡ false
+pub done_keeps : (w : WorldState) (event : Event) → is_seal event ≡ false
     → (step_done w event).bus.sealed ≡ w.bus.sealed
 done_keeps w (Commit n task buffer payload) other = refl
 done_keeps w (Withdraw n task buffer) other = refl
@@ -435,117 +659,3 @@ done_keeps w (Observe n) other = observed_keeps w n (carried_at w n)
 done_keeps w (Inject fault) other = injected_keeps w.bus fault
 done_keeps w Seal other = absurd (let none : ⊥ = cc in none)
 done_keeps w Advance other = refl
-
--- ---- events by the kept data
-
--- the windows stay
-kept_told : (l m : LiveState) (taps : TapsState) (R : WorldState → WorldState → Type 0)
-    → ((w v : WorldState) → R w v → v.bus.sealed ≡ w.bus.sealed) → Alike l R m
-    → ToldAlike (with_taps l taps) R (with_taps m taps)
-kept_told l m taps R keeps given s w is =
-    let (v, one, leads) = given w is.leads in
-    (v, one, record { leads = leads; is_told = told_same s taps w v (keeps w v one) is.is_told })
-
--- an event that is no seal
-steps_keep : (event : Event) → is_seal event ≡ false → (w v : WorldState) (answer : Answer) → Steps w event answer v
-    → v.bus.sealed ≡ w.bus.sealed
-steps_keep event other w v (Ok reply) step = ap (λ (u : WorldState). u.bus.sealed) step.2 ∙ done_keeps w event other
-steps_keep event other w v (Err e) step = ap (λ (u : WorldState). u.bus.sealed) step.1
-
-pub step_kept : (l m : LiveState) (taps : TapsState) (event : Event) (answer : Answer) → is_seal event ≡ false
-    → StepsAlike l event answer m → ToldAlike (with_taps l taps) (λ w v. Steps w event answer v) (with_taps m taps)
-step_kept l m taps event answer other =
-    kept_told l m taps (λ w v. Steps w event answer v) (λ w v. steps_keep event other w v answer)
-
-pub apply_kept : (l m : LiveState) (taps : TapsState) (event : Event) (outcome : Result (Unit {0}) StepError)
-    → is_seal event ≡ false → AppliesAlike l event outcome m
-    → ToldAlike (with_taps l taps) (λ w v. Applies w event outcome v) (with_taps m taps)
-apply_kept l m taps event outcome other =
-    kept_told l m taps (λ w v. Applies w event outcome v)
-    (λ w v. steps_keep event other w v (answered (step_reply w event) outcome))
-
--- an event that is refused
-pub step_refused : (l m : LiveState) (taps : TapsState) (event : Event) (answer : Answer) → is_ok answer ≡ false
-    → StepsAlike l event answer m → ToldAlike (with_taps l taps) (λ w v. Steps w event answer v) (with_taps m taps)
-step_refused l m taps event (Ok reply) refused steps = absurd (let none : ⊥ = cc in none)
-step_refused l m taps event (Err e) refused steps =
-    kept_told l m taps (λ w v. Steps w event (Err e) v)
-    (λ w v step. ap (λ (u : WorldState). u.bus.sealed) step.1) steps
-
-pub apply_refused : (l m : LiveState) (taps : TapsState) (event : Event) (outcome : Result (Unit {0}) StepError)
-    → is_ok outcome ≡ false → AppliesAlike l event outcome m
-    → ToldAlike (with_taps l taps) (λ w v. Applies w event outcome v) (with_taps m taps)
-apply_refused l m taps event (Ok done) refused steps = absurd (let none : ⊥ = cc in none)
-apply_refused l m taps event (Err e) refused steps =
-    kept_told l m taps (λ w v. Applies w event (Err e) v)
-    (λ w v step. ap (λ (u : WorldState). u.bus.sealed) step.1) steps
-
--- a seal, after which the last window is added
-sealed_told : (l m : LiveState) (old new : TapsState) (reply : Reply) → StepsAlike l Seal (Ok reply) m
-    → AddsLast old m.bus.bus.course.begun m.bus.last new
-    → ToldAlike (with_taps l old) (λ w v. Steps w Seal (Ok reply) v) (with_taps m new)
-sealed_told l m old new reply steps adds s w is =
-    let (v, step, leads) = steps w is.leads in
-    let (made, grows) = seals_window l w v reply is.leads step in
-    let begun = m.bus.bus.course.begun in
-    let same = is.is_told.params_are in (
-      v,
-      step,
-      record {
-        leads = leads;
-        is_told = told_more s old new w v (record_last old.params begun m.bus.last)
-            (capture_last old.params begun m.bus.last) adds
-            (record_grows s.params m w v made grows leads
-            ∙ ap (λ (p : Parameters). record_of s.params w.bus.sealed ++ record_last p begun m.bus.last) (sym same))
-            (capture_grows s.params m w v made grows leads
-            ∙ ap (λ (p : Parameters). all_records s.params w.bus.sealed ++ capture_last p begun m.bus.last) (sym same))
-            is.is_told;
-      },
-    )
-
-seal_is : (event : Event) → is_seal event ≡ true → event ≡ Seal
-seal_is (Commit n task buffer payload) seal = absurd (let none : ⊥ = cc in none)
-seal_is (Withdraw n task buffer) seal = absurd (let none : ⊥ = cc in none)
-seal_is (Read n task buffer) seal = absurd (let none : ⊥ = cc in none)
-seal_is (Pop n task) seal = absurd (let none : ⊥ = cc in none)
-seal_is (Look n) seal = absurd (let none : ⊥ = cc in none)
-seal_is (Fetch n) seal = absurd (let none : ⊥ = cc in none)
-seal_is (Put n) seal = absurd (let none : ⊥ = cc in none)
-seal_is (Take n) seal = absurd (let none : ⊥ = cc in none)
-seal_is (Observe n) seal = absurd (let none : ⊥ = cc in none)
-seal_is (Inject fault) seal = absurd (let none : ⊥ = cc in none)
-seal_is Seal seal = refl
-seal_is Advance seal = absurd (let none : ⊥ = cc in none)
-
-pub step_sealed : (l m : LiveState) (old new : TapsState) (event : Event) (answer : Answer) → is_seal event ≡ true
-    → is_ok answer ≡ true → StepsAlike l event answer m → AddsLast old m.bus.bus.course.begun m.bus.last new
-    → ToldAlike (with_taps l old) (λ w v. Steps w event answer v) (with_taps m new)
-step_sealed l m old new event (Err e) seal ok steps adds = absurd (let none : ⊥ = cc in none)
-step_sealed l m old new event (Ok reply) seal ok steps adds =
-    let is = seal_is event seal in
-    subst (λ (e : Event). ToldAlike (with_taps l old) (λ w v. Steps w e (Ok reply) v) (with_taps m new)) (sym is)
-    (sealed_told l m old new reply (subst (λ (e : Event). StepsAlike l e (Ok reply) m) is steps) adds)
-
-pub apply_sealed : (l m : LiveState) (old new : TapsState) (event : Event) (outcome : Result (Unit {0}) StepError)
-    → is_seal event ≡ true → is_ok outcome ≡ true → AppliesAlike l event outcome m
-    → AddsLast old m.bus.bus.course.begun m.bus.last new
-    → ToldAlike (with_taps l old) (λ w v. Applies w event outcome v) (with_taps m new)
-apply_sealed l m old new event (Err e) seal ok steps adds = absurd (let none : ⊥ = cc in none)
-apply_sealed l m old new event (Ok done) seal ok steps adds =
-    let is = seal_is event seal in
-    subst (λ (e : Event). ToldAlike (with_taps l old) (λ w v. Applies w e (Ok done) v) (with_taps m new)) (sym is)
-    (sealed_told l m old new Done (subst (λ (e : Event). AppliesAlike l e (Ok done) m) is steps) adds)
-
--- the window of the kept data is added, by that of the bus
-pub added_by : (old new : TapsState) (b h : LiveStanding) → b ≡ h → AddsLast old b.bus.course.begun b.last new
-    → AddsLast old h.bus.course.begun h.last new
-added_by old new b h is adds = subst (λ (x : LiveStanding). AddsLast old x.bus.course.begun x.last new) is adds
-
--- ---- a flush
-
--- the files are flushed afterwards
-pub told_then_flushed : (old : ToldState) (m : LiveState) (mid new : TapsState) (R : WorldState → WorldState → Type 0)
-    → ToldAlike old R (with_taps m mid) → AddsBoth mid new [] [] → ToldAlike old R (with_taps m new)
-told_then_flushed old m mid new R given adds s w is =
-    let (v, one, end) = given s w is in
-    (v, one, record { leads = end.leads; is_told = told_flushed s mid new v adds end.is_told })

@@ -9,7 +9,7 @@ use Rattle.fr_endless.specs.Answers.{if_numbered, no_history_text}
 use Rattle.fr_endless.specs.declared.error.EndlessError.{EndlessError}
 use Rattle.fr_endless.specs.declared.error.EndlessError.TheVariants as failure
 use Rattle.fr_endless.specs.declared.taps.Tap.{Tap}
-use Rattle.fr_endless.specs.Taps.{TapsState, Tells, ToldAlike, ToldState}
+use Rattle.fr_endless.specs.Taps.{TapsState, Tells, TellsWhole, ToldAlike, ToldState}
 use Rattle.fr_core.specs.Worlds.{WorldState}
 use Rattle.fr_lines.specs.Spelling.{line_text}
 use Rattle.fr_live.specs.LiveWorlds.{LiveState, ForEachWorld}
@@ -149,11 +149,18 @@ EndsBefore terms (failure.Session error) text left before after old new =
     EndsEarly (Does terms) (Serves terms) error text left before after old new
 EndsBefore terms (failure.Tap tap) text left before after old new = EndsByFile terms text left before after old new
 
+-- All lines are answered as in a session that ends with its input, and then the last line of a trace can't be written.
+abbrev pub EndsAnswered : Terms → EndlessError → Option (List ℕ) → Option (List ℕ) → Option (List ℕ) → SessionState
+    → SessionState → Type 0
+EndsAnswered terms (failure.Session error) text before after old new = ⊥
+EndsAnswered terms (failure.Tap tap) text before after old new = Served terms text before after old new
+
 -- a session from an opening world to another world, with any fault lines kept there, that ends with the error
 abbrev pub EndsEndless : Terms → EndlessError → Option (List ℕ) → Option (List ℕ) → Option (List ℕ)
     → Option (List ℕ) → WorldState → WorldState → Type 0
 EndsEndless terms error text left before after old new =
-    (kept : List FaultLine) × EndsBefore terms error text left before after (opening old) (state_of new kept)
+    (kept : List FaultLine) × (EndsBefore terms error text left before after (opening old) (state_of new kept)
+    ⊎ EndsAnswered terms error text before after (opening old) (state_of new kept))
 
 -- the file that failed: none if the session ended with its input or by a stream
 abbrev pub FailedBy : {A : Type 0} → Result A EndlessError → Option Tap → Option Tap → Type 0
@@ -187,12 +194,12 @@ IsAfterMemory (failure.Tap tap) = ⊤
 
 -- ---- a failed allocation
 
--- the header of a capture is written unless an allocation failed
+-- The header of a capture is written unless an allocation failed. Traces aren't ended if a stream fails.
 abbrev pub TellsUnless : EndlessError → TapsState → TapsState → WorldState → WorldState → Type 0
 TellsUnless (failure.Session Read) old new w v = Tells old new w v
 TellsUnless (failure.Session Write) old new w v = Tells old new w v
 TellsUnless (failure.Session Memory) old new w v = new ≡ old
-TellsUnless (failure.Tap tap) old new w v = Tells old new w v
+TellsUnless (failure.Tap tap) old new w v = TellsWhole old new w v
 
 -- if an allocation fails, nothing was taken or written, and the data are unchanged
 abbrev pub IsUntouched : {A : Type 0} → Result A EndlessError → Option (List ℕ) → Option (List ℕ) → Option (List ℕ)

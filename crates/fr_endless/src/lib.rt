@@ -3,7 +3,7 @@
 //!
 //! ```text
 //! let mut world = EndlessWorld::new(alloc, &cluster, greatest_cycles(&cluster), &Room::greatest())?;
-//! let mut taps = Taps::new(alloc, cluster.params(), Some(record_file), None)?;
+//! let mut taps = Taps::new(alloc, cluster.params(), Some(record_file), None, Vec::new(alloc))?;
 //! serve_endless(alloc, &cluster, cycles, &mut world, &mut taps, &mut reader, &mut writer)?;
 //! // run 1024              open 7168 0 0 1 1
 //! // record 7167           lines 1 ..
@@ -18,13 +18,18 @@
 //! - `Alike`: what happens to each world with its history, when only its kept data are there.
 //! - `Answers`: the replies that a session with history gives in another way, and a node in an outcome.
 //! - `Serving`: an endless session.
-//! - `Taps`: the files to which a session writes the windows that it seals, and what they have of them.
+//! - `Taps`: the files to which a session writes the windows that it seals and the entries of its nodes, and what they
+//!   have of them.
+//! - `Tracing`: the entry that an event adds to a journal, by what it is answered and by what a controller carries.
 //!
 //! # Inner workings
 //!
-//! A *tap* is a file to which a session writes each window that it seals, as `fr_view record` or `fr_view bus` has it.
-//! `step_told` and `apply_told` (`telling`) execute an event, and after a seal add the last window to both `Taps`. If a
-//! file fails, the request is executed to its end, and the session ends in place of the reply.
+//! A *tap* is a file to which a session writes as it goes: each window that it seals, as `fr_view record` or
+//! `fr_view bus` has it, or each entry of a node, as a trace has it. `step_told` and `apply_told` (`telling`) execute
+//! an event, and after a seal add the last window to the record and the capture. If there are traces, `step_traced`
+//! (`tracing`) executes an event that adds an entry. It makes the entry of a call from the answer, and that of a
+//! controller from what it carries before the event. If a file fails, the request is executed to its end, and the
+//! session ends in place of the reply.
 //!
 //! An `EndlessWorld` is a `LiveWorld` (`fr_live`) with the number of buffers of each node, which a report needs. The
 //! requests are those of `fr_session`, read and written by its functions, and kept fault lines are its `KeptLines`.
@@ -36,9 +41,9 @@ pub mod error;
 mod moving;
 pub mod outcome;
 mod queries;
-mod report;
 pub mod session;
 pub mod striking;
 pub mod taps;
 mod telling;
+mod tracing;
 pub mod world;

@@ -6,8 +6,8 @@ ghost use Rattle.fr_live.specs.LiveWorlds.{ForEachWorld};
 ghost use Rattle.fr_outcome.specs.OutcomeText.{nodes_text, outcome_text};
 
 use crate::queries::{count_at, windows_by};
-use crate::report::write_kept_report;
 use crate::world::EndlessWorld;
+use fr_auditing::report::write_kept_report;
 use fr_interface::state::InterfaceState;
 use fr_outcome::outcome_text::write_settled;
 use std::io::{self, ErrorKind, Write};

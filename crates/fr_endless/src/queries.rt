@@ -1,14 +1,15 @@
 //! Queries to a world without history, which change nothing.
 ghost use Rattle.std.specs.Prelude.{◌≡◌, option_map, slice_get};
+ghost use Rattle.fr_auditing.specs.KeptReport.{kept_report};
 ghost use Rattle.fr_bus.specs.Standing.{bare};
 ghost use Rattle.fr_endless.specs.Alike.{Alike};
-ghost use Rattle.fr_endless.specs.Answers.{kept_report, kept_status, kept_time, if_numbered, no_history_text};
+ghost use Rattle.fr_endless.specs.Answers.{kept_status, kept_time, if_numbered, no_history_text};
 ghost use Rattle.fr_endless.specs.Answers.{windows_by, IsReportOf, IsStatusOf};
 ghost use Rattle.fr_session.specs.Queries.{now_text, moved_text, IsBlock, IsRecordOf, Replies};
 ghost use Rattle.fr_text.specs.Writing.{Writes};
 
-use crate::report::write_kept_report;
 use crate::world::EndlessWorld;
+use fr_auditing::report::write_kept_report;
 use fr_bus::error::Phase;
 use fr_bus::live::LiveBus;
 use fr_bus::outcome::Sealed;

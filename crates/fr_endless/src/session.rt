@@ -4,7 +4,7 @@ ghost use Rattle.fr_core.specs.Headline.{Headline};
 ghost use Rattle.fr_endless.specs.Alike.{Alike};
 ghost use Rattle.fr_endless.specs.Serving.{DoesAlike, DoesAlikeIf, EndsEndless, FailedBy, IsOf, IsUntouched};
 ghost use Rattle.fr_endless.specs.Serving.{ServedEndless, TellsUnless};
-ghost use Rattle.fr_endless.specs.Taps.{Tells, with_taps};
+ghost use Rattle.fr_endless.specs.Taps.{TellsWhole, with_taps};
 ghost use Rattle.fr_live.specs.LiveWorlds.{ForEachWorld};
 ghost use Rattle.fr_session.specs.Queries.{Replies};
 ghost use Rattle.fr_session.specs.Reading.{asked_in};
@@ -244,10 +244,12 @@ impl EndlessSession {
 /// A line that names each cycle takes effect in all of the run.
 ///
 /// The files get each window that the session seals: the record its lines, and the capture its records, after the
-/// header of the capture. By the time of a reply, the files have been flushed.
+/// header of the capture. The trace of a node gets the line of each entry that the node's journal would have, and `end`
+/// at the end of the input. By the time of a reply, the files have been flushed.
 ///
 /// Ends early as that session does. It also ends early with `Tap` if a file fails: before the first line if the header
-/// can't be written, and otherwise in place of the reply to the request that sealed the window.
+/// can't be written or a file has failed before, after the last reply if a trace can't be ended, and otherwise in place
+/// of the reply to the request that sealed the window or added the entry.
 pub fn serve_endless<F: Write + Drop, R: BufRead, W: Write>(
     alloc: Global,
     cluster: &Cluster,
@@ -259,10 +261,10 @@ pub fn serve_endless<F: Write + Drop, R: BufRead, W: Write>(
 ) -> Result<(), EndlessError>
     requires { IsOf cluster.now cycles world.old }
     // Each world with its history that leads to the data is served so, and then leads to the data after the session.
-    // The files get the windows that it seals.
+    // The files get the windows that it seals, the traces the entries of its journals and their last line.
     ensures served { OnOk result (Alike world.old (λ w v. ServedEndless (terms_of cluster.now (min cycles 1024))
         (R.remaining reader.old) (W.contents writer.old) (W.contents writer.new) w v
-        × Tells taps.old taps.new w v) world.new) }
+        × TellsWhole taps.old taps.new w v) world.new) }
     // A failed allocation ends the session only before its first line.
     ensures memory { IsUntouched result (R.remaining reader.old) (R.remaining reader.new) (W.contents writer.old)
         (W.contents writer.new) (with_taps world.old taps.old) (with_taps world.new taps.new) }
@@ -302,5 +304,13 @@ pub fn serve_endless<F: Write + Drop, R: BufRead, W: Write>(
         line: Line::new(),
         reply,
     };
-    session.answer_all(&terms, world, taps, reader, writer)
+    match session.answer_all(&terms, world, taps, reader, writer) {
+        Ok(()) => {}
+        Err(error) => return Err(error),
+    }
+    taps.end();
+    match taps.failed() {
+        Some(tap) => Err(EndlessError::Tap(tap)),
+        None => Ok(()),
+    }
 }

@@ -1,36 +1,49 @@
-//! The files to which a session writes the windows that it seals.
-ghost use Rattle.std.specs.Prelude.{◌≡◌, [], OnOk, option_and_then};
+//! The files to which a session writes the windows that it seals, and the traces of its nodes.
+ghost use Rattle.std.specs.Prelude.{◌≡◌, [], OnOk, map, option_and_then};
 ghost use Rattle.fr_capture.specs.Pcap.{file_header};
-ghost use Rattle.fr_endless.specs.Taps.{AddsFront, first_failed};
+ghost use Rattle.fr_endless.specs.Taps.{AddsAt, AddsFront, first_failed, head_of};
 ghost use Rattle.fr_showing.specs.Listening.{window_records};
 ghost use Rattle.fr_showing.specs.RecordText.{window_text};
+ghost use Rattle.fr_trace.specs.TraceText.{entry_line};
 
+use fr_auditing::head;
 use fr_bus::live::LiveBus;
 use fr_bus::outcome::Sealed;
 use fr_capture::pcap::write_file_header;
+use fr_journal::entry::Entry;
+use fr_lines::writing::write_entry;
+use fr_live::room::Room;
 use fr_scenario::scenario::Scenario;
+use fr_schedule::cluster::Cluster;
 use fr_session::prepared::hand_on;
 use fr_showing::{listener, record};
+use fr_slots::numbers::NodeId;
 use fr_slots::params::Params;
+use fr_slots::plan::NodePlan;
 use std::alloc::{AllocError, Global};
 use std::io;
 use std::io::Write;
 use std::marker::Model;
 
-/// A file to which a session writes the windows that it seals (project-defined).
+/// A file to which a session writes as it goes (project-defined).
 #[derive(Clone, Copy, Debug, PartialEq, Eq)]
 pub enum Tap {
     /// The bus's record, as lines.
     Record,
     /// A capture of the bus.
     Capture,
+    /// The trace of a node.
+    Trace(NodeId),
 }
+
+/// The greatest number of a node.
+const LAST_NODE: usize = 15;
 
 /// The scenario that a record names the lines of: none.
 const NO_LINES: &str = "frscenario 3\nend\n";
 
-/// The files of a session, both of which may be absent (project-defined). Once one of them fails, nothing more is
-/// written to either.
+/// The files of a session, each of which may be absent (project-defined). Once one of them fails, nothing more is
+/// written to any.
 ///
 /// In contracts they are the bytes that were written to each, as far as these are known, and the file that failed.
 #[derive(Drop)]
@@ -40,12 +53,14 @@ pub struct Taps<F: Write + Drop> {
     failed: Option<Tap>,
     recorded: Option<F>,
     captured: Option<F>,
-    /// The text of one window, kept so that its room is allocated once.
+    /// The traces, in the order of the nodes.
+    traces: Vec<F>,
+    /// The text of one window or of one entry, kept so that its room is allocated once.
     text: Vec<u8>,
 }
 
 impl<F: Write + Drop> Model for Taps<F> {
-    ghost use Rattle.std.specs.Prelude.{◌≡◌, option_and_then};
+    ghost use Rattle.std.specs.Prelude.{◌≡◌, map, option_and_then};
     ghost use Rattle.fr_endless.specs.Taps.{TapsState, no_lines};
 
     ghost Value = { TapsState };
@@ -55,6 +70,7 @@ impl<F: Write + Drop> Model for Taps<F> {
       failed = t.failed;
       recorded = option_and_then F.contents t.recorded;
       captured = option_and_then F.contents t.captured;
+      traced = map F.contents t.traces.items;
     } };
 
     ghost invariant = { λ t. t.scenario ≡ no_lines };
@@ -182,12 +198,102 @@ fn flush_file<F: Write>(file: &mut Option<F>, tap: Tap) -> Option<Tap>
     }
 }
 
-impl<F: Write + Drop> Taps<F> {
-    ghost use Rattle.std.specs.Prelude.{◌≡◌, [], None, option_and_then, IfOk};
-    ghost use Rattle.fr_capture.specs.Pcap.{file_header};
-    ghost use Rattle.fr_endless.specs.Taps.{AddsBoth, AddsLast};
+/// Returns the trace at this place. No cluster has a place after that of the last node.
+fn trace_at(place: usize) -> Tap {
+    Tap::Trace(NodeId::from_number(place.min(LAST_NODE) as u8))
+}
 
-    /// Returns the files of a session with a cluster of these parameters (project-defined).
+/// Hands the text to the trace at this place, if there is one. Returns the trace if that fails.
+fn hand_trace<F: Write>(traces: &mut Vec<F>, place: usize, text: &[u8]) -> Option<Tap>
+    ensures { AddsAt result (map F.contents traces.old.items) (map F.contents traces.new.items) place text.now }
+{
+    if place < traces.len() {
+        hand_text(&mut traces[place], text, trace_at(place))
+    } else {
+        None
+    }
+}
+
+/// Flushes the file of this tap. Returns the tap if that fails.
+fn flush_one<F: Write>(writer: &mut F, tap: Tap) -> Option<Tap>
+    ensures { AddsFront result (F.contents writer.old) (F.contents writer.new) [] }
+{
+    match writer.flush() {
+        Ok(()) => None,
+        Err(_) => Some(tap),
+    }
+}
+
+/// Flushes the trace at this place, if there is one. Returns the trace if that fails.
+fn flush_trace<F: Write>(traces: &mut Vec<F>, place: usize) -> Option<Tap>
+    ensures { AddsAt result (map F.contents traces.old.items) (map F.contents traces.new.items) place [] }
+{
+    if place < traces.len() {
+        flush_one(&mut traces[place], trace_at(place))
+    } else {
+        None
+    }
+}
+
+/// Gathers the line of the entry. Fails if an allocation does.
+fn gather_entry(text: &mut Vec<u8>, entry: &Entry) -> io::Result<()>
+    ensures { OnOk result (text.new.items ≡ entry_line entry.now) }
+{
+    text.clear();
+    write_entry(text, entry)
+}
+
+/// Writes the line of the entry to the trace at this place, if there is one. Returns the trace if that fails.
+fn hand_entry<F: Write>(
+    traces: &mut Vec<F>,
+    text: &mut Vec<u8>,
+    place: usize,
+    entry: &Entry,
+) -> Option<Tap>
+    ensures { AddsAt result (map F.contents traces.old.items) (map F.contents traces.new.items) place
+        (entry_line entry.now) }
+{
+    match gather_entry(text, entry) {
+        Ok(()) => hand_trace(traces, place, text.as_slice()),
+        Err(_) => Some(trace_at(place)),
+    }
+}
+
+/// Gathers the lines of a trace before its entries. Fails if an allocation does.
+fn gather_head(text: &mut Vec<u8>, params: &Params, plan: &NodePlan, room: &Room) -> io::Result<()>
+    ensures { OnOk result (text.new.items ≡ head_of params.now room.now plan.now) }
+{
+    text.clear();
+    head::write_head(text, params, plan, room.host(), room.slot())
+}
+
+/// Writes the lines before the entries to the trace at this place, if there is one. Returns the trace if that fails.
+fn hand_head<F: Write>(
+    traces: &mut Vec<F>,
+    text: &mut Vec<u8>,
+    place: usize,
+    params: &Params,
+    plan: &NodePlan,
+    room: &Room,
+) -> Option<Tap>
+    ensures { AddsAt result (map F.contents traces.old.items) (map F.contents traces.new.items) place
+        (head_of params.now room.now plan.now) }
+{
+    match gather_head(text, params, plan, room) {
+        Ok(()) => hand_trace(traces, place, text.as_slice()),
+        Err(_) => Some(trace_at(place)),
+    }
+}
+
+impl<F: Write + Drop> Taps<F> {
+    ghost use Rattle.std.specs.Prelude.{◌≡◌, [], None, length, map, option_and_then, IfOk};
+    ghost use Rattle.fr_capture.specs.Pcap.{file_header};
+    ghost use Rattle.fr_endless.specs.Taps.{AddsBoth, AddsEach, AddsLast, at_node, head_at, head_of, last_line};
+    ghost use Rattle.fr_endless.specs.Tracing.{has_traces};
+    ghost use Rattle.fr_trace.specs.TraceText.{entry_line};
+
+    /// Returns the files of a session with a cluster of these parameters (project-defined). The traces are in the order
+    /// of the nodes, or there is none.
     ///
     /// Fails if an allocation does.
     pub fn new(
@@ -195,12 +301,14 @@ impl<F: Write + Drop> Taps<F> {
         params: &Params,
         recorded: Option<F>,
         captured: Option<F>,
+        traces: Vec<F>,
     ) -> Result<Taps<F>, AllocError>
         ensures { IfOk result (λ taps. taps ≡ record {
           params = params.now;
           failed = None;
           recorded = option_and_then F.contents recorded;
           captured = option_and_then F.contents captured;
+          traced = map F.contents traces.items;
         }) }
     {
         match Scenario::from_text(alloc, NO_LINES) {
@@ -210,6 +318,7 @@ impl<F: Write + Drop> Taps<F> {
                 failed: None,
                 recorded,
                 captured,
+                traces,
                 text: Vec::new(alloc),
             }),
             Err(_) => Err(AllocError),
@@ -223,6 +332,94 @@ impl<F: Write + Drop> Taps<F> {
         self.failed
     }
 
+    /// Returns whether there are traces.
+    pub(crate) fn is_traced(&self) -> bool
+        ensures { result ≡ has_traces self.now.traced }
+    {
+        !self.traces.is_empty()
+    }
+
+    /// Returns the number of traces.
+    fn count(&self) -> usize
+        ensures { result ≡ length self.now.traced }
+    {
+        self.traces.len()
+    }
+
+    /// Writes the lines before the entries to the trace at this place.
+    fn add_head(&mut self, place: usize, params: &Params, plan: &NodePlan, room: &Room)
+        ensures { AddsEach self.old self.new (at_node place
+            (head_of params.now room.now plan.now)) }
+    {
+        if self.failed.is_none() {
+            let text = &mut self.text;
+            self.failed = hand_head(&mut self.traces, text, place, params, plan, room);
+        }
+    }
+
+    /// Writes the lines that the traces of a new world have before the entries: those of the cluster, with this room
+    /// (project-defined). Flushes the traces.
+    ///
+    /// If a trace can't be written, `failed` returns one.
+    pub fn begin_traces(&mut self, cluster: &Cluster, room: &Room)
+        ensures { AddsEach self.old self.new (head_at cluster.now room.now) }
+    {
+        let plans = cluster.plans();
+        for place in 0..plans.len() {
+            self.add_head(place, cluster.params(), &plans[place], room);
+        }
+        self.flush_traces();
+    }
+
+    /// Writes the line of the node's entry to its trace.
+    pub(crate) fn add_entry(&mut self, node: NodeId, entry: &Entry)
+        ensures { AddsEach self.old self.new (at_node node (entry_line entry.now)) }
+    {
+        if self.failed.is_none() {
+            let place = usize::from(node.number());
+            self.failed = hand_entry(&mut self.traces, &mut self.text, place, entry);
+        }
+    }
+
+    /// Writes the last line of the trace at this place.
+    fn end_trace(&mut self, place: usize)
+        ensures { AddsEach self.old self.new (at_node place last_line) }
+    {
+        if self.failed.is_none() {
+            self.failed = hand_trace(&mut self.traces, place, b"end\n");
+        }
+    }
+
+    /// Flushes the trace at this place.
+    fn flush_trace(&mut self, place: usize)
+        ensures { AddsEach self.old self.new (at_node place []) }
+    {
+        if self.failed.is_none() {
+            self.failed = flush_trace(&mut self.traces, place);
+        }
+    }
+
+    /// Flushes the traces.
+    fn flush_traces(&mut self)
+        ensures { AddsEach self.old self.new (λ n. []) }
+    {
+        let count = self.count();
+        for place in 0..count {
+            self.flush_trace(place);
+        }
+    }
+
+    /// Writes the last line of each trace, and flushes the traces.
+    pub(crate) fn end(&mut self)
+        ensures { AddsEach self.old self.new (λ n. last_line) }
+    {
+        let count = self.count();
+        for place in 0..count {
+            self.end_trace(place);
+        }
+        self.flush_traces();
+    }
+
     /// Writes what the files have before the first window: the header of the capture.
     pub(crate) fn begin(&mut self)
         ensures { AddsBoth self.old self.new [] file_header }
@@ -232,7 +429,7 @@ impl<F: Write + Drop> Taps<F> {
         }
     }
 
-    /// Writes the window that was sealed last to both files.
+    /// Writes the window that was sealed last to the record and the capture.
     pub(crate) fn add_last(&mut self, bus: &LiveBus)
         ensures { AddsLast self.old bus.now.bus.course.begun bus.now.last self.new }
     {
@@ -260,8 +457,16 @@ impl<F: Write + Drop> Taps<F> {
         }
     }
 
-    /// Flushes both files, so that the system has all that was written.
+    /// Flushes all files, so that the system has all that was written.
     pub(crate) fn flush(&mut self)
+        ensures { AddsBoth self.old self.new [] [] }
+    {
+        self.flush_windows();
+        self.flush_traces();
+    }
+
+    /// Flushes the record and the capture.
+    fn flush_windows(&mut self)
         ensures { AddsBoth self.old self.new [] [] }
     {
         if self.failed.is_none() {

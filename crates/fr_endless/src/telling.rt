@@ -1,10 +1,13 @@
-//! Events in a world without history, with the windows that they seal written to the files of the session.
-ghost use Rattle.std.specs.Prelude.{◌≡◌, ◌&&◌};
-ghost use Rattle.std.specs.Result.{is_ok};
+//! Events in a world without history, with what they add written to the files of the session: a seal the window, and an
+//! event of a node the entry of its journal.
+ghost use Rattle.std.specs.Prelude.{◌≡◌, true};
 ghost use Rattle.fr_core.specs.Steps.{Applies, Steps};
 ghost use Rattle.fr_endless.specs.Taps.{ToldAlike, is_seal, with_taps};
+ghost use Rattle.fr_endless.specs.Tracing.{adds_entry, is_traced_by, IsPlain};
+ghost use Rattle.fr_live.specs.LiveSteps.{without_value};
 
 use crate::taps::Taps;
+use crate::tracing::{adds_entry, step_traced};
 use crate::world::EndlessWorld;
 use fr_core::error::StepError;
 use fr_core::event::{Event, Reply};
@@ -17,12 +20,21 @@ fn is_seal(event: &Event) -> bool
     matches!(event, Event::Seal)
 }
 
-/// Executes one event, as `EndlessWorld::step` does, and writes the window that it sealed. Fails as that does.
-pub(crate) fn step_told<F: Write + Drop>(
+/// Returns whether the event, if it is accepted, adds a line to a trace.
+fn is_traced<F: Write + Drop>(taps: &Taps<F>, event: &Event) -> bool
+    ensures { result ≡ is_traced_by taps.now.traced event.now }
+{
+    taps.is_traced() && adds_entry(event)
+}
+
+/// Executes one event that adds no line to a trace, as `EndlessWorld::step` does, and writes the window that it sealed.
+/// Fails as that does.
+fn step_plain<F: Write + Drop>(
     world: &mut EndlessWorld,
     taps: &mut Taps<F>,
     event: &Event,
 ) -> Result<Reply, StepError>
+    requires { IsPlain taps.old.traced event.now }
     ensures { ToldAlike (with_taps world.old taps.old) (λ w v. Steps w event.now result v)
         (with_taps world.new taps.new) }
 {
@@ -33,13 +45,13 @@ pub(crate) fn step_told<F: Write + Drop>(
     answer
 }
 
-/// Executes one event without its answer, as `EndlessWorld::apply` does, and writes the window that it sealed. Fails as
-/// that does.
-pub(crate) fn apply_told<F: Write + Drop>(
+/// Executes one event that adds no line to a trace, without its answer, and writes the window that it sealed.
+fn apply_plain<F: Write + Drop>(
     world: &mut EndlessWorld,
     taps: &mut Taps<F>,
     event: &Event,
 ) -> Result<(), StepError>
+    requires { IsPlain taps.old.traced event.now }
     ensures { ToldAlike (with_taps world.old taps.old) (λ w v. Applies w event.now result v)
         (with_taps world.new taps.new) }
 {
@@ -48,4 +60,64 @@ pub(crate) fn apply_told<F: Write + Drop>(
         taps.add_last(world.bus());
     }
     outcome
+}
+
+/// Executes one event, as `EndlessWorld::step` does, and writes what it added to the files. Fails as that does.
+pub(crate) fn step_told<F: Write + Drop>(
+    world: &mut EndlessWorld,
+    taps: &mut Taps<F>,
+    event: &Event,
+) -> Result<Reply, StepError>
+    ensures { ToldAlike (with_taps world.old taps.old) (λ w v. Steps w event.now result v)
+        (with_taps world.new taps.new) }
+{
+    if is_traced(taps, event) {
+        step_traced(world, taps, event)
+    } else {
+        step_plain(world, taps, event)
+    }
+}
+
+/// Returns whether an event was accepted, without its reply.
+fn without_reply(answer: Result<Reply, StepError>) -> Result<(), StepError>
+    ensures { result ≡ without_value answer }
+{
+    match answer {
+        Ok(_) => Ok(()),
+        Err(error) => Err(error),
+    }
+}
+
+/// Executes one event that adds a line to a trace if it is accepted, without its answer, and writes that line. Fails
+/// as `EndlessWorld::apply` does.
+///
+/// It isn't inlined, so a session without traces doesn't pay for the room of a reply.
+#[inline(never)]
+fn apply_traced<F: Write + Drop>(
+    world: &mut EndlessWorld,
+    taps: &mut Taps<F>,
+    event: &Event,
+) -> Result<(), StepError>
+    requires { adds_entry event.now ≡ true }
+    ensures { ToldAlike (with_taps world.old taps.old) (λ w v. Applies w event.now result v)
+        (with_taps world.new taps.new) }
+{
+    without_reply(step_traced(world, taps, event))
+}
+
+/// Executes one event without its answer, as `EndlessWorld::apply` does, and writes what it added to the files. Fails
+/// as that does.
+pub(crate) fn apply_told<F: Write + Drop>(
+    world: &mut EndlessWorld,
+    taps: &mut Taps<F>,
+    event: &Event,
+) -> Result<(), StepError>
+    ensures { ToldAlike (with_taps world.old taps.old) (λ w v. Applies w event.now result v)
+        (with_taps world.new taps.new) }
+{
+    if is_traced(taps, event) {
+        apply_traced(world, taps, event)
+    } else {
+        apply_plain(world, taps, event)
+    }
 }

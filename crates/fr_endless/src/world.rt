@@ -5,6 +5,7 @@ ghost use Rattle.fr_endless.specs.Alike.{buffers_in};
 
 use fr_bus::error::BusError;
 use fr_bus::live::{LIVE_CYCLES, LiveBus};
+use fr_core::controller::Controller;
 use fr_core::error::StepError;
 use fr_core::event::{Event, Reply};
 use fr_interface::call::{Answer, Call};
@@ -117,6 +118,13 @@ impl EndlessWorld {
         ensures { result.now ≡ self.now.interfaces }
     {
         self.world.interfaces()
+    }
+
+    /// Returns the controllers, with the data that each carries to its next step, in the order of the nodes.
+    pub(crate) fn controllers(&self) -> &[Controller]
+        ensures { result.now ≡ self.now.carried }
+    {
+        self.world.controllers()
     }
 
     /// Returns the number of buffers of each interface, in the order of the nodes.

@@ -20,8 +20,8 @@
 //!
 //! A `LiveWorld` has an `InterfaceState` and a controller for each node, and a `LiveBus`. A call is made on these as
 //! `World` makes it on interfaces and a bus. The definition of a step (`fr_core`) speaks of worlds with histories
-//! alone. Each step here is proved to be one of them, whatever world led to the data. So the headline promise of `fr_core`
-//! holds for the world that happened, although nobody keeps it.
+//! alone. Each step here is proved to be one of them, whatever world led to the data. So the headline promise of
+//! `fr_core` holds for the world that happened, although nobody keeps it.
 #![tactic(auto)]
 
 mod machine;

@@ -181,6 +181,13 @@ impl LiveMachine {
         &self.bus
     }
 
+    /// Returns the controllers, in the order of the nodes.
+    pub(crate) fn controllers(&self) -> &[Controller]
+        ensures { result.now ≡ self.now.carried }
+    {
+        self.controllers.as_slice()
+    }
+
     /// Returns whether each controller has observed every window that it fetched.
     pub(crate) fn between_windows(&self) -> bool
         ensures { result ≡ list_all is_between self.now.carried }

@@ -4,6 +4,7 @@ use crate::machine::LiveMachine;
 use crate::room::Room;
 use fr_bus::error::BusError;
 use fr_bus::live::LiveBus;
+use fr_core::controller::Controller;
 use fr_core::error::StepError;
 use fr_core::event::{Event, Reply};
 use fr_interface::call::{Answer, Call};
@@ -99,6 +100,13 @@ impl LiveWorld {
         ensures { result.now ≡ self.now.bus }
     {
         self.machine.bus()
+    }
+
+    /// Returns the controllers, with the data that each carries to its next step, in the order of the nodes.
+    pub fn controllers(&self) -> &[Controller]
+        ensures { result.now ≡ self.now.carried }
+    {
+        self.machine.controllers()
     }
 
     /// Returns whether each controller has observed every window that it fetched.

@@ -2,7 +2,7 @@ use Rattle.std.proofs.Common.{[], ◌∷◌}
 use Rattle.std.proofs.KnownBytes.{Appends-trans}
 use Rattle.std.specs.Fmt.{decimal}
 use Rattle.std.specs.Prelude.{codes}
-use Rattle.fr_endless.specs.Answers.{kept_report}
+use Rattle.fr_auditing.specs.KeptReport.{kept_report}
 use Rattle.fr_lines.specs.Spelling.{line_text}
 use Rattle.fr_endless.proofs.outcome.write_node.Goals as goal
 

@@ -1,4 +1,4 @@
-use Rattle.std.proofs.Common.{◌≡◌, ◌∙◌, Option, Result, Ok, Err, ℕ, List, ap, sym}
+use Rattle.std.proofs.Common.{◌≡◌, ◌∙◌, Option, Result, Ok, Err, ℕ, List, ap}
 use Rattle.std.specs.Prelude.{OnOk, length}
 use Rattle.std.specs.Io.KnownBytes.{Appends}
 use Rattle.fr_endless.proofs.OutcomeLemmas.{outcome_kept}

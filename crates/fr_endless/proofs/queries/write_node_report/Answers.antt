@@ -3,7 +3,8 @@ use Rattle.std.specs.Prelude.{slice_get}
 use Rattle.fr_core.specs.declared.error.StepError.TheVariants.{UnknownNode}
 use Rattle.fr_endless.proofs.ReplyLemmas.{replied, replied_so}
 use Rattle.fr_endless.proofs.ReportLemmas.{block_same, unknown_same, unknown_place, unknown_count}
-use Rattle.fr_endless.specs.Answers.{IsReportOf, kept_report}
+use Rattle.fr_auditing.specs.KeptReport.{kept_report}
+use Rattle.fr_endless.specs.Answers.{IsReportOf}
 use Rattle.fr_lines.specs.Spelling.{line_text}
 use Rattle.fr_session.specs.Queries.{IsBlock}
 use Rattle.fr_session.specs.Replies.{refusal_words}

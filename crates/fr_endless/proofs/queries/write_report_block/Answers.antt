@@ -1,5 +1,5 @@
 use Rattle.std.proofs.Common.{◌++◌, ap, ◌∙◌}
-use Rattle.fr_endless.specs.Answers.{kept_report}
+use Rattle.fr_auditing.specs.KeptReport.{kept_report}
 use Rattle.fr_session.proofs.QueryLemmas.{block_told, memory_told}
 use Rattle.fr_endless.proofs.queries.write_report_block.Goals as goal
 

@@ -1,8 +1,8 @@
 use Rattle.std.proofs.Common.{◌∙◌, sym}
-use Rattle.fr_endless.proofs.TapLemmas.{added_by, step_kept, step_refused, step_sealed}
-use Rattle.fr_endless.proofs.telling.step_told.Goals.{else-is_seal-via-then-is_seal+else-is_ok}
-use Rattle.fr_endless.proofs.telling.step_told.Goals.{else-is_seal-via-else-is_seal}
-use Rattle.fr_endless.proofs.telling.step_told.Goals as goal
+use Rattle.fr_endless.proofs.TraceLemmas.{added_by, step_kept, step_refused, step_sealed}
+use Rattle.fr_endless.proofs.telling.step_plain.Goals.{else-is_seal-via-then-is_seal+else-is_ok}
+use Rattle.fr_endless.proofs.telling.step_plain.Goals.{else-is_seal-via-else-is_seal}
+use Rattle.fr_endless.proofs.telling.step_plain.Goals as goal
 
 pub returns-then-is_ok : goal.returns-then-is_ok
 returns-then-is_ok g c =
@@ -19,5 +19,5 @@ returns-else-is_seal g c = elim c.else-is_seal.branch [
       (sym w.is_ok.ensures.value ∙ w.if-is_ok.false) c.step-answer.ensures
   | else-is_seal-via-else-is_seal w ↦
       step_kept c.args.world.now c.step-answer.new.self c.args.taps.now c.args.event.now c.step-answer.result
-      (sym c.is_seal.ensures ∙ w.if-is_seal.false) c.step-answer.ensures
+      (sym c.is_seal.ensures ∙ w.if-is_seal.false) c.requires c.step-answer.ensures
 ]
