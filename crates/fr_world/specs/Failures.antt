@@ -5,7 +5,7 @@ use Rattle.fr_world.specs.declared.failure.WorldFailure.{WorldFailure}
 use Rattle.fr_world.specs.declared.failure.WorldFailure.TheVariants as failure
 use Rattle.fr_cli.specs.Commands.{order_error_text, status_of_words}
 use Rattle.fr_bus.specs.ErrorNames.{bus_error_name}
-use Rattle.fr_endless.specs.declared.taps.Tap.TheVariants.{Record, Capture}
+use Rattle.fr_endless.specs.declared.taps.Tap.TheVariants.{Record, Capture, Trace}
 use Rattle.fr_files.specs.ErrorNames.{bench_error_text}
 use Rattle.fr_session.specs.ErrorNames.{session_error_name}
 
@@ -23,3 +23,4 @@ failure_text (failure.World e) = codes "refused " ++ bus_error_name e
 failure_text (failure.Session e) = codes "refused " ++ session_error_name e
 failure_text (failure.Tap Record) = codes "refused Record"
 failure_text (failure.Tap Capture) = codes "refused Capture"
+failure_text (failure.Tap (Trace n)) = codes "refused Trace " ++ decimal n

@@ -1,16 +1,17 @@
 -- The session of a run, with the world that it opens (project-defined).
-use Rattle.std.specs.Prelude.{◌≡◌, ℕ, ◌≤◌, List, [], true, Option, Some, None, Result, Ok, Err, min}
+use Rattle.std.specs.Prelude.{◌≡◌, ℕ, ◌≤◌, ◌<◌, List, [], true, length, Option, Some, None, Result, Ok, Err, min}
 use Rattle.std.specs.Io.KnownBytes.{Keeps}
+use Rattle.fr_auditing.specs.LongText.{long_body_text, long_text}
 use Rattle.fr_bus.specs.Live.{cycles_suit}
 use Rattle.fr_bus.specs.States.{cycles_fit}
 use Rattle.fr_cli.specs.declared.world.WorldRun.{WorldRun}
 use Rattle.fr_cli.specs.declared.world.WorldRun.TheVariants.{Kept, Endless}
 use Rattle.fr_core.specs.Settling.{IsFirst}
-use Rattle.fr_core.specs.Worlds.{OpensWorld, WorldState, opening_world}
+use Rattle.fr_core.specs.Worlds.{OpensWorld, WorldState, interface_at, opening_world}
 use Rattle.fr_endless.specs.declared.error.EndlessError.{EndlessError}
 use Rattle.fr_endless.specs.declared.error.EndlessError.TheVariants as ending
 use Rattle.fr_endless.specs.Serving.{EndsEndless, ServedEndless}
-use Rattle.fr_endless.specs.Taps.{AddsFront, TapsState, record_of}
+use Rattle.fr_endless.specs.Taps.{AddsEach, AddsFront, TapsState, head_at, record_of, traced_in}
 use Rattle.fr_live.specs.LiveWorlds.{Entries, OpensLiveWorld, with_room}
 use Rattle.fr_runs.specs.declared.check.RunRefusal.{RunRefusal}
 use Rattle.fr_runs.specs.declared.check.RunRefusal.TheVariants.{NoRoom}
@@ -78,34 +79,49 @@ abbrev pub failure_of : EndlessError → WorldFailure
 failure_of (ending.Session error) = failure.Session error
 failure_of (ending.Tap tap) = failure.Tap tap
 
--- The files get the record and the capture of all windows of this world, as `fr_view record` and `fr_view bus` have
--- them. If a file fails, each gets a front of its text.
+-- The record and the capture get all windows of this world, as `fr_view record` and `fr_view bus` have them. If a file
+-- fails, each gets a front of its text.
 abbrev pub HasWindows : TapsState → TapsState → WorldState → Type 0
 HasWindows old new v =
     AddsFront new.failed old.recorded new.recorded (record_of old.params v.bus.sealed)
     × AddsFront new.failed old.captured new.captured (capture_of old.params v.bus.sealed)
 
--- the same if a stream fails; if an allocation fails, nothing is written
-abbrev pub HasWindowsUnless : SessionError → TapsState → TapsState → WorldState → Type 0
-HasWindowsUnless Read old new v = HasWindows old new v × (new.failed ≡ None)
-HasWindowsUnless Write old new v = HasWindows old new v × (new.failed ≡ None)
-HasWindowsUnless Memory old new v = new ≡ old
+-- the trace of each node of the cluster gets this text, or a front of it if a file fails
+abbrev pub HasTraces : Description → TapsState → TapsState → (ℕ → List ℕ) → Type 0
+HasTraces d old new texts =
+    (n : ℕ) → n < length d.plans
+    → AddsFront new.failed (traced_in old.traced n) (traced_in new.traced n) (texts n)
 
--- the same for a world without history: only the room of its journals is another, and files get its windows
+-- Windows and traces: each node's trace has version 4 of the text of its journal in this world. The room of the journal
+-- is the greatest.
+abbrev pub HasAll : Description → TapsState → TapsState → WorldState → Type 0
+HasAll d old new v = HasWindows old new v × HasTraces d old new (λ n. long_text (interface_at v n))
+
+-- the same without the last line of each trace
+abbrev pub HasBegun : Description → TapsState → TapsState → WorldState → Type 0
+HasBegun d old new v = HasWindows old new v × HasTraces d old new (λ n. long_body_text (interface_at v n))
+
+-- if a stream fails, traces have no last line; if an allocation fails, traces alone have lines, which are their first
+abbrev pub HasBegunUnless : Description → SessionError → TapsState → TapsState → WorldState → Type 0
+HasBegunUnless d Read old new v = HasBegun d old new v × (new.failed ≡ None)
+HasBegunUnless d Write old new v = HasBegun d old new v × (new.failed ≡ None)
+HasBegunUnless d Memory old new v = AddsEach old new (head_at d greatest_room)
+
+-- the same for a world without history: only the room of its journals is another, and files get its windows and entries
 abbrev pub ServesLive : Description → ℕ → Option (List ℕ) → Option (List ℕ) → Option (List ℕ) → Option (List ℕ)
     → TapsState → TapsState → Result (Unit {0}) WorldFailure → Type 0
 ServesLive d cycles text left before after old new (Ok done) =
     (cycles_suit d.params cycles ≡ true) × (v : WorldState)
     × ServedEndless (endless_terms d cycles) text before after (endless_world d cycles) v
-    × HasWindows old new v × (new.failed ≡ None)
+    × HasAll d old new v × (new.failed ≡ None)
 ServesLive d cycles text left before after old new (Err (failure.Session error)) =
     (cycles_suit d.params cycles ≡ true) × (v : WorldState)
     × EndsEndless (endless_terms d cycles) (ending.Session error) text left before after (endless_world d cycles) v
-    × HasWindowsUnless error old new v
+    × HasBegunUnless d error old new v
 ServesLive d cycles text left before after old new (Err (failure.Tap tap)) =
     (cycles_suit d.params cycles ≡ true) × (v : WorldState)
     × EndsEndless (endless_terms d cycles) (ending.Tap tap) text left before after (endless_world d cycles) v
-    × HasWindows old new v × (new.failed ≡ Some tap)
+    × HasAll d old new v × (new.failed ≡ Some tap)
 ServesLive d cycles text left before after old new (Err (failure.World error)) =
     OpensLiveWorld d cycles greatest_room (Err error) × Keeps text left × Keeps before after × (new ≡ old)
 ServesLive d cycles text left before after old new (Err (failure.Words error)) = ⊥

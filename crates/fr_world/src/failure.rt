@@ -49,6 +49,7 @@ impl fmt::Display for WorldFailure {
             WorldFailure::Session(error) => write!(f, "refused {error}"),
             WorldFailure::Tap(Tap::Record) => write!(f, "refused Record"),
             WorldFailure::Tap(Tap::Capture) => write!(f, "refused Capture"),
+            WorldFailure::Tap(Tap::Trace(node)) => write!(f, "refused Trace {node}"),
         }
     }
 }

@@ -5,7 +5,7 @@
 //! ```text
 //! fr_world cluster.toml --cycles 4
 //! fr_world cluster.toml --endless
-//! fr_world cluster.toml --endless --record lines --capture bus.pcap
+//! fr_world cluster.toml --endless --record lines --capture bus.pcap --trace folder
 //! ```
 //!
 //! Its exit status is 0 at the end of the input, 1 if the cluster is refused or a stream fails, and 2 if the words are
@@ -20,9 +20,9 @@
 //!
 //! # Inner workings
 //!
-//! `main` reads the words, makes the cluster, opens the files for the record and the capture, and allocates the buffers
-//! for reading and writing. `serve_run` (`serving`) opens the world. Then `serve` (`fr_session`) answers until the reader ends, or without history
-//! `serve_endless` (`fr_endless`).
+//! `main` reads the words, makes the cluster, opens the files for the record, the capture and the traces, and allocates
+//! the buffers for reading and writing. `serve_run` (`serving`) opens the world. Then `serve` (`fr_session`) answers
+//! until the reader ends, or without history `serve_endless` (`fr_endless`).
 #![tactic(auto)]
 
 mod failure;
@@ -36,6 +36,7 @@ use fr_endless::taps::{Tap, Taps};
 use fr_files::cluster_file::cluster_of;
 use fr_files::named::file_named;
 use fr_schedule::cluster::Cluster;
+use fr_slots::numbers::NodeId;
 use serving::serve_run;
 use std::io::{BufReader, BufWriter, ErrorKind};
 use std::process::ExitCode;
@@ -74,15 +75,57 @@ fn file_of<R: Files + AllocGlobal>(
     }
 }
 
-/// Opens the command's files for the windows of the cluster.
+/// Opens the file of the node's trace in this folder.
+///
+/// Fails with `Memory` if an allocation fails, otherwise with `Tap` if the file can't be opened.
+fn trace_of<R: Files + AllocGlobal>(
+    rt: &R,
+    folder: &str,
+    node: NodeId,
+) -> Result<Option<BufWriter<R::File>>, WorldFailure> {
+    // A folder without a name isn't the root.
+    if folder.is_empty() {
+        return Err(WorldFailure::Tap(Tap::Trace(node)));
+    }
+    let Ok(name) = format!(in rt.alloc(); "{folder}/{node}") else {
+        return Err(WorldFailure::Memory);
+    };
+    file_of(rt, Some(name.as_str()), Tap::Trace(node))
+}
+
+/// Opens the file of each node's trace in the order of the nodes, if there is a folder for them.
+fn traces_of<R: Files + AllocGlobal>(
+    rt: &R,
+    cluster: &Cluster,
+    folder: Option<&str>,
+) -> Result<Vec<BufWriter<R::File>>, WorldFailure> {
+    let mut traces = Vec::new(rt.alloc());
+    let Some(folder) = folder else {
+        return Ok(traces);
+    };
+    for number in 0..cluster.nodes() {
+        let Some(node) = NodeId::new(number) else {
+            continue;
+        };
+        if let Some(file) = trace_of(rt, folder, node)? {
+            if traces.push(file).is_err() {
+                return Err(WorldFailure::Memory);
+            }
+        }
+    }
+    Ok(traces)
+}
+
+/// Opens the command's files for the windows of the cluster and the traces of its nodes.
 fn taps_of<R: Files + AllocGlobal>(
     rt: &R,
     cluster: &Cluster,
     command: WorldCommand<'_>,
 ) -> Result<Taps<BufWriter<R::File>>, WorldFailure> {
-    let recorded = file_of(rt, command.record, Tap::Record)?;
-    let captured = file_of(rt, command.capture, Tap::Capture)?;
-    match Taps::new(rt.alloc(), cluster.params(), recorded, captured) {
+    let recorded = file_of(rt, command.files.record, Tap::Record)?;
+    let captured = file_of(rt, command.files.capture, Tap::Capture)?;
+    let traces = traces_of(rt, cluster, command.files.trace)?;
+    match Taps::new(rt.alloc(), cluster.params(), recorded, captured, traces) {
         Ok(taps) => Ok(taps),
         Err(_) => Err(WorldFailure::Memory),
     }

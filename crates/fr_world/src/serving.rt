@@ -100,10 +100,15 @@ fn serve_live<F: Write + Drop, R: BufRead, W: Write>(
     ensures { ServesLive cluster.now cycles (R.remaining reader.old) (R.remaining reader.new)
         (W.contents writer.old) (W.contents writer.new) taps.old taps.new result }
 {
-    let mut world = match EndlessWorld::new(alloc, cluster, cycles, &Room::greatest()) {
+    let room = Room::greatest();
+    let mut world = match EndlessWorld::new(alloc, cluster, cycles, &room) {
         Ok(world) => world,
         Err(error) => return Err(WorldFailure::World(error)),
     };
+    taps.begin_traces(cluster, &room);
+    if let Some(tap) = taps.failed() {
+        return Err(WorldFailure::Tap(tap));
+    }
     match serve_endless(alloc, cluster, cycles, &mut world, taps, reader, writer) {
         Ok(()) => Ok(()),
         Err(error) => Err(failure_of(error)),
@@ -112,11 +117,13 @@ fn serve_live<F: Write + Drop, R: BufRead, W: Write>(
 
 /// Opens the world of the cluster in this run, and answers each line of the reader (project-defined). An endless run
 /// without a number of cycles has the most that the cluster allows. Its windows go to the files, by the parameters that
-/// these were made for, which must be the cluster's.
+/// these were made for, which must be the cluster's. If there are traces, each node's gets the whole text of version 4:
+/// the lines before the entries at once, each entry as it is made, and `end` at the end of the input.
 ///
 /// Fails before anything is read or written: with `World` if the world can't be opened, and with history also with
 /// `Room`, if the journal of a node has no room for two entries for each static slot and each minislot of each cycle.
-/// Fails with `Session` if the session ends early, and with `Tap` if a file fails.
+/// Fails with `Session` if the session ends early, and with `Tap` if a file fails. A trace whose first lines can't be
+/// written fails before anything is read.
 pub fn serve_run<F: Write + Drop, R: BufRead, W: Write>(
     alloc: Global,
     cluster: &Cluster,
