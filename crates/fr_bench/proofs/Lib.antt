@@ -1,1 +1,5 @@
 pub mod AuditLemmas
+pub mod HeadLemmas
+pub mod LongFaultLemmas
+pub mod LongReadLemmas
+pub mod VersionLemmas

@@ -1,7 +1,6 @@
 -- What each command of the program does: the text that it reads, and the text that it prints (project-defined).
 use Rattle.std.specs.Prelude.{ℕ, List, Option, Result, Ok, Err}
 use Rattle.fr_bench.specs.Audits.{Finds}
-use Rattle.fr_bench.specs.declared.command.Source.{Source}
 use Rattle.fr_bench.specs.declared.command.Source.TheVariants as source
 use Rattle.fr_bench.specs.declared.command.Task.{Task}
 use Rattle.fr_bench.specs.declared.command.Task.TheVariants as task

@@ -1,22 +1,137 @@
 //! `fr_bench audit`.
-ghost use Rattle.std.specs.Prelude.{IsSomeAnd};
-ghost use Rattle.fr_bench.specs.Audits.{Ends, Finds};
-ghost use Rattle.fr_interface.specs.State.{State, IsNodeInterface};
+ghost use Rattle.std.specs.Prelude.{◌≡◌, ◌≤◌, ℕ, List, Option, IsSomeAnd, length};
+ghost use Rattle.std.specs.Io.KnownBytes.{Consumes};
+ghost use Rattle.fr_auditing.specs.LongText.{long_text};
+ghost use Rattle.fr_bench.specs.Audits.{Ends, EndsBy, Finds, FindsEarlier, FindsLater};
+ghost use Rattle.fr_bench.specs.Reading.{Reports};
+ghost use Rattle.fr_interface.specs.Standing.{ForEachHistory};
+ghost use Rattle.fr_interface.specs.State.{State, IsLegalInterface, IsNodeInterface};
 ghost use Rattle.fr_trace.specs.Audit.{IsNotRefused};
+ghost use Rattle.fr_trace.specs.ReportText.{report_text};
 ghost use Rattle.fr_trace.specs.TraceText.{IsTraceOf};
+ghost use Rattle.std.specs.Prelude.{true, false};
 
+use crate::reading::{head_of, is_later, read_earlier, read_later};
+use fr_auditing::kept::KeptInterface;
 use fr_files::output::write_text;
+use fr_interface::interface::Interface;
 use fr_trace::error::TraceError;
+use fr_trace::report::write_report;
 use std::alloc::Global;
 use std::io::{Read, Write};
 
-/// Reads a trace to its end and writes its report (project-defined).
+/// Writes the report of an interface.
 ///
 /// The report is gathered in memory and then written at once, so that no part of an incomplete report is written.
 ///
+/// Returns `Memory` if an allocation fails; and `Write` if the writer fails, which may have taken a front of the
+/// report.
+fn report_earlier<W: Write>(
+    alloc: Global,
+    interface: &Interface,
+    writer: &mut W,
+) -> Result<(), TraceError>
+    ensures { Reports (report_text interface.now) (W.contents writer.old) (W.contents writer.new) result }
+{
+    let mut report = Vec::new(alloc);
+    // A list of bytes fails to grow only if an allocation fails.
+    if write_report(interface, &mut report).is_err() {
+        return Err(TraceError::Memory);
+    }
+    match write_text(writer, report.as_slice()) {
+        Ok(()) => Ok(()),
+        Err(_) => Err(TraceError::Write),
+    }
+}
+
+/// Writes the report of an interface of which only the data are kept, as `report_earlier` does.
+fn report_later<W: Write>(
+    alloc: Global,
+    interface: &KeptInterface,
+    writer: &mut W,
+) -> Result<(), TraceError>
+    ensures { ForEachHistory interface.now (λ s.
+        Reports (report_text s) (W.contents writer.old) (W.contents writer.new) result) }
+{
+    let mut report = Vec::new(alloc);
+    // A list of bytes fails to grow only if an allocation fails.
+    if interface.write_report(&mut report).is_err() {
+        return Err(TraceError::Memory);
+    }
+    match write_text(writer, report.as_slice()) {
+        Ok(()) => Ok(()),
+        Err(_) => Err(TraceError::Write),
+    }
+}
+
+/// Reads a text of version 1 to 3 after its head, and writes its report.
+fn audit_earlier<R: Read, W: Write>(
+    alloc: Global,
+    head: &[u8],
+    reader: &mut R,
+    writer: &mut W,
+) -> Result<(), TraceError>
+    requires { length head.now ≤ 4096 }
+    ensures found { (text : Option (List ℕ)) → Consumes text (R.remaining reader.old) head.now
+        → FindsEarlier text (W.contents writer.old) (W.contents writer.new) result }
+    ensures read { (text : Option (List ℕ)) → Consumes text (R.remaining reader.old) head.now
+        → EndsBy false text (R.remaining reader.new) result }
+{
+    let interface = match read_earlier(alloc, head, reader) {
+        Ok(interface) => interface,
+        Err(fault) => return Err(fault),
+    };
+    report_earlier(alloc, &interface, writer)
+}
+
+/// Reads a text of version 4 after its head, and writes its report.
+fn audit_later<R: Read, W: Write>(
+    alloc: Global,
+    head: &[u8],
+    reader: &mut R,
+    writer: &mut W,
+) -> Result<(), TraceError>
+    requires { length head.now ≤ 4096 }
+    ensures found { (text : Option (List ℕ)) → Consumes text (R.remaining reader.old) head.now
+        → FindsLater text (W.contents writer.old) (W.contents writer.new) result }
+    ensures read { (text : Option (List ℕ)) → Consumes text (R.remaining reader.old) head.now
+        → EndsBy true text (R.remaining reader.new) result }
+{
+    let interface = match read_later(alloc, head, reader) {
+        Ok(interface) => interface,
+        Err(fault) => return Err(fault),
+    };
+    report_later(alloc, &interface, writer)
+}
+
+/// Reads a trace to its end and writes its report.
+fn audit_through<R: Read, W: Write>(
+    alloc: Global,
+    reader: &mut R,
+    writer: &mut W,
+) -> Result<(), TraceError>
+    ensures found { Finds (R.remaining reader.old) (W.contents writer.old) (W.contents writer.new) result }
+    ensures read { Ends (R.remaining reader.old) (R.remaining reader.new) result }
+{
+    let head = match head_of(reader) {
+        Ok(head) => head,
+        Err(fault) => return Err(fault),
+    };
+    let bytes = head.as_slice();
+    let later = is_later(bytes);
+    if later {
+        return audit_later(alloc, bytes, reader, writer);
+    }
+    audit_earlier(alloc, bytes, reader, writer)
+}
+
+/// Reads a trace to its end and writes its report (project-defined).
+///
+/// The first line decides between version 4 and the others. The report is gathered in memory and then written at once,
+/// so that no part of an incomplete report is written.
+///
 /// Returns the error of the trace; `Memory` also if an allocation for the report fails; and `Write` if the writer
 /// fails, which may have taken a front of the report. Every other error leaves the writer unchanged.
-#[tactic(auto, using(crate::proofs::AuditLemmas::no_room))]
 pub fn audit<R: Read, W: Write>(
     alloc: Global,
     reader: &mut R,
@@ -29,16 +144,9 @@ pub fn audit<R: Read, W: Write>(
     // A text of a legal interface is accepted in each version.
     ensures only { (s : State) → IsNodeInterface s → IsSomeAnd (R.remaining reader.old) (λ text. IsTraceOf s text)
         → IsNotRefused result }
+    // In version 4 this holds with any room.
+    ensures long { (s : State) → IsLegalInterface s → IsSomeAnd (R.remaining reader.old) (λ text. text ≡ long_text s)
+        → IsNotRefused result }
 {
-    let mut report = Vec::new(alloc);
-    match fr_trace::audit::audit(alloc, reader, &mut report) {
-        Ok(()) => {}
-        // A list of bytes fails to grow only if an allocation fails.
-        Err(TraceError::Write) => return Err(TraceError::Memory),
-        Err(refusal) => return Err(refusal),
-    }
-    match write_text(writer, report.as_slice()) {
-        Ok(()) => Ok(()),
-        Err(_) => Err(TraceError::Write),
-    }
+    audit_through(alloc, reader, writer)
 }

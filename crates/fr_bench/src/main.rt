@@ -20,13 +20,14 @@
 //!
 //! # Definitions
 //!
-//! - `Audits`, `Commands`, `Failures`: the bytes that `audit` reads; what each command does; the text and the exit
-//!   status of each failure.
+//! - `Audits`, `LongStops`, `Versions`: the result of `audit`, and the bytes that it reads, by the version of the text.
+//! - `Commands`, `Failures`: what each command does; the text and the exit status of each failure.
 #![tactic(auto)]
 
 mod audit;
 mod command;
 mod failure;
+mod reading;
 
 use arrayvec::ArrayVec;
 use command::{Source, Task, TextCommand, print_text, task_of};
