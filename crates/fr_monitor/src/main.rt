@@ -4,11 +4,12 @@
 //! ```text
 //! fr_monitor cluster.toml < recording.pcapng
 //! fr_monitor cluster.toml --whole --macrotick 1000 < recording.pcap
+//! fr_monitor cluster.toml --frames < recording.pcap
 //! ```
 //!
-//! Standard output has a line for each finding as it comes, and then a summary. The exit status is 0 without a finding,
-//! 3 with one, 1 if an input is refused or a stream fails, and 2 if the words are no command. A refusal is one line on
-//! standard error; the summary of what was read is written even so.
+//! Standard output has a line for each finding as it comes, and then a summary. With `--frames` it also has a line for
+//! each frame. The exit status is 0 without a finding, 3 with one, 1 if an input is refused or a stream fails, and 2 if
+//! the words are no command. A refusal is one line on standard error; the summary of what was read is written even so.
 //!
 //! *(project-defined)* marks a rule of this project, and makes no claim about the standard.
 //!
@@ -60,7 +61,7 @@ fn audit<R: Files + Input + Print + AllocGlobal + Clock>(
     let Ok(mut writer) = BufWriter::new(rt.alloc(), WaitingWriter::new(rt, io::writer(rt))) else {
         return Err(MonitorFailure::Memory);
     };
-    let audited = monitor(rt.alloc(), rules, &mut reader, &mut writer);
+    let audited = monitor(rt.alloc(), rules, command.frames, &mut reader, &mut writer);
     // The rest of a failed write is dropped, so that nothing comes after the failure.
     let _left = writer.into_parts();
     Ok(audited?)

@@ -11,6 +11,7 @@
 //! # Definitions
 //!
 //! - `LineText`, `SummaryText`: the text of a line, and of a summary.
+//! - `FrameText`: the line of a frame, and of a cycle that a waiting frame opened.
 //! - `Monitoring`: the text of a whole recording, and the result of a command that reads one.
 //! - `ErrorNames`: the printed text of an error.
 //!
@@ -22,6 +23,7 @@
 
 mod digits;
 pub mod error;
+pub mod frames;
 pub mod line;
 pub mod monitor;
 mod names;

@@ -24,7 +24,7 @@ fn letter_if(shown: bool, letter: u8) -> u8
 }
 
 /// Returns the four letters of indicators.
-fn letters_text(letters: &Letters) -> [u8; 4]
+pub(crate) fn letters_text(letters: &Letters) -> [u8; 4]
     ensures { result ≡ letters_text letters.now }
 {
     [
@@ -100,7 +100,7 @@ fn write_seconds<W: Write>(writer: &mut W, time: Option<Moment>) -> io::Result<(
 
 /// Writes the record that shows something.
 #[tactic(auto, unfolding(crate::specs::LineText::at_text))]
-fn write_at<W: Write>(writer: &mut W, at: &Option<At>) -> io::Result<()>
+pub(crate) fn write_at<W: Write>(writer: &mut W, at: &Option<At>) -> io::Result<()>
     ensures { Writes W.contents writer.old writer.new result (at_text at.now) }
 {
     match at {
@@ -124,7 +124,7 @@ fn number_of(cycle: Option<Cycle>) -> Option<u32>
 
 /// Writes the cycle, the channel and the slot.
 #[tactic(auto, unfolding(crate::specs::LineText::place_text))]
-fn write_place<W: Write>(writer: &mut W, place: &Place) -> io::Result<()>
+pub(crate) fn write_place<W: Write>(writer: &mut W, place: &Place) -> io::Result<()>
     ensures { Writes W.contents writer.old writer.new result (place_text place.now) }
 {
     write_optional(writer, number_of(place.cycle))?;

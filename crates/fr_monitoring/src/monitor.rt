@@ -1,15 +1,22 @@
 //! The audit of a recording between a reader and a writer.
 
-ghost use Rattle.std.specs.Prelude.{◌≡◌, ◌<◌, length, IfOk, IfSome, Err, OnOk, option_to_list};
+ghost use Rattle.std.specs.Prelude.{◌≡◌, ◌<◌, length, IfOk, IfSome, Err, OnOk, option_to_list, [], if◌then◌else◌};
+ghost use Rattle.fr_monitoring.specs.FrameText.{last_text};
 ghost use Rattle.fr_text.specs.Writing.{Writes};
 ghost use Rattle.fr_recording.specs.Stream.{take_bytes, records_from, told_of};
-ghost use Rattle.fr_monitoring.specs.Monitoring.{judged, told, end_text, Monitors, Follows, Ends, clock_refusal};
+ghost use Rattle.fr_judging.specs.Judging.{judge as state_after};
+ghost use Rattle.fr_recording.specs.Records.{Record};
+ghost use Rattle.fr_monitoring.specs.Monitoring.{judged, record_text, told, end_with, Monitors, Follows, Ends};
+ghost use Rattle.fr_monitoring.specs.Monitoring.{clock_refusal};
 
 use crate::error::{MonitorError, StreamError};
+use crate::frames::{Waiting, waiting_at, waiting_now, write_frames, write_last};
 use crate::line::write_lines;
 use crate::summary::write_summary;
 use fr_judging::judge::Judge;
 use fr_judging::rules::Rules;
+use fr_logged::record::kind_of;
+use fr_recording::phase::Head;
 use fr_recording::reader::Reader;
 use fr_slots::channel::Channel;
 use std::alloc::{AllocError, Global};
@@ -19,53 +26,89 @@ use std::io::{ErrorKind, Read, Write};
 /// The number of bytes that are asked for at a time.
 const ROOM: usize = 65_536;
 
-/// Judges the record that the last byte completed, if it completed one, and writes its lines.
-fn take_record<W: Write>(capture: &Reader, judge: &mut Judge, writer: &mut W) -> io::Result<()>
+/// Judges a record, and writes what it shows.
+fn judge_record<W: Write>(
+    judge: &mut Judge,
+    frames: bool,
+    head: &Head,
+    bytes: &[u8],
+    writer: &mut W,
+) -> io::Result<()>
+    ensures judge { judge.new ≡ state_after judge.old (record {
+      time = head.now.time;
+      link = head.now.link;
+      original = head.now.original;
+      bytes = bytes.now;
+    }) }
+    ensures text { Writes W.contents writer.old writer.new result (record_text frames judge.old (record {
+      time = head.now.time;
+      link = head.now.link;
+      original = head.now.original;
+      bytes = bytes.now;
+    })) }
+{
+    if frames {
+        let kind = kind_of(head.link, bytes);
+        let waiting = waiting_at(judge, kind);
+        judge.judge(head.time, head.link, head.original, bytes);
+        write_frames(writer, judge, &waiting, kind, head, bytes)?;
+    } else {
+        judge.judge(head.time, head.link, head.original, bytes);
+    }
+    write_lines(writer, judge.lines())
+}
+
+/// Judges the record that the last byte completed, if it completed one, and writes what it shows.
+fn take_record<W: Write>(
+    capture: &Reader,
+    judge: &mut Judge,
+    frames: bool,
+    writer: &mut W,
+) -> io::Result<()>
     ensures judge { OnOk result (judge.new ≡ judged judge.old (option_to_list (told_of capture.now))) }
     ensures text { Writes W.contents writer.old writer.new result
-        (told judge.old (option_to_list (told_of capture.now))) }
+        (told frames judge.old (option_to_list (told_of capture.now))) }
 {
     match capture.told() {
-        Some(head) => {
-            judge.judge(head.time, head.link, head.original, capture.captured());
-            write_lines(writer, judge.lines())
-        }
+        Some(head) => judge_record(judge, frames, &head, capture.captured(), writer),
         None => Ok(()),
     }
 }
 
-/// Judges the records that a piece completes, one after another, and writes their lines.
+/// Judges the records that a piece completes, one after another, and writes what they show.
 fn take_piece<W: Write>(
     capture: &mut Reader,
     judge: &mut Judge,
+    frames: bool,
     piece: &[u8],
     writer: &mut W,
 ) -> io::Result<()>
     ensures capture { OnOk result (capture.new ≡ take_bytes capture.old piece.now) }
     ensures judge { OnOk result (judge.new ≡ judged judge.old (records_from capture.old piece.now)) }
     ensures text { Writes W.contents writer.old writer.new result
-        (told judge.old (records_from capture.old piece.now)) }
+        (told frames judge.old (records_from capture.old piece.now)) }
 {
     let mut taken = 0;
     while taken < piece.len() {
         taken += capture.next(&piece[taken..]);
-        take_record(capture, judge, writer)?;
+        take_record(capture, judge, frames, writer)?;
     }
     Ok(())
 }
 
-/// Reads a recording through, or up to the piece that has its refusal, and writes the lines of its records. The writer
-/// is flushed before each read.
+/// Reads a recording through, or up to the piece that has its refusal, and writes what its records show. The writer is
+/// flushed before each read.
 fn follow<R: Read, W: Write>(
     capture: &mut Reader,
     judge: &mut Judge,
+    frames: bool,
     room: &mut [u8],
     reader: &mut R,
     writer: &mut W,
 ) -> Result<(), StreamError>
     requires { 0 < length room.old }
-    ensures { Follows capture.old judge.old (R.remaining reader.old) (R.remaining reader.new) capture.new judge.new
-        (W.contents writer.old) (W.contents writer.new) result }
+    ensures { Follows frames capture.old judge.old (R.remaining reader.old) (R.remaining reader.new) capture.new
+        judge.new (W.contents writer.old) (W.contents writer.new) result }
 {
     // The loop ends with `Read` after 2^64 - 1 reads, so that its termination can be proved.
     'pieces: for _ in 0..u64::MAX {
@@ -80,7 +123,7 @@ fn follow<R: Read, W: Write>(
         if count == 0 {
             return Ok(());
         }
-        if take_piece(capture, judge, &room[..count], writer).is_err() {
+        if take_piece(capture, judge, frames, &room[..count], writer).is_err() {
             return Err(StreamError::Write);
         }
         if capture.is_refused() {
@@ -90,10 +133,36 @@ fn follow<R: Read, W: Write>(
     Err(StreamError::Read)
 }
 
-/// Writes the lines that the end shows, and the summary, and flushes.
-fn write_end<W: Write>(writer: &mut W, judge: &Judge, blocks: u64) -> io::Result<()>
-    ensures { Writes W.contents writer.old writer.new result (end_text judge.now blocks) }
+/// Writes the lines of the frames that waited up to the end, if frames have lines.
+fn write_waited<W: Write>(
+    writer: &mut W,
+    judge: &Judge,
+    frames: bool,
+    a: &Option<Waiting>,
+    b: &Option<Waiting>,
+) -> io::Result<()>
+    ensures { Writes W.contents writer.old writer.new result
+        (if frames then last_text a.now b.now judge.now else []) }
 {
+    if frames {
+        write_last(writer, judge, a, b)
+    } else {
+        Ok(())
+    }
+}
+
+/// Writes what the end shows, and the summary, and flushes.
+fn write_end<W: Write>(
+    writer: &mut W,
+    judge: &Judge,
+    frames: bool,
+    a: &Option<Waiting>,
+    b: &Option<Waiting>,
+    blocks: u64,
+) -> io::Result<()>
+    ensures { Writes W.contents writer.old writer.new result (end_with frames a.now b.now judge.now blocks) }
+{
+    write_waited(writer, judge, frames, a, b)?;
     write_lines(writer, judge.lines())?;
     write_summary(writer, judge, blocks)?;
     writer.flush()
@@ -123,10 +192,11 @@ fn room_for(alloc: Global) -> Result<Vec<u8>, AllocError>
 fn end<W: Write>(
     capture: &Reader,
     judge: &mut Judge,
+    frames: bool,
     followed: Result<(), StreamError>,
     writer: &mut W,
 ) -> Result<bool, MonitorError>
-    ensures { Ends capture.now judge.old followed (W.contents writer.old) (W.contents writer.new) result }
+    ensures { Ends frames capture.now judge.old followed (W.contents writer.old) (W.contents writer.new) result }
 {
     let whole = match followed {
         Ok(()) => true,
@@ -134,8 +204,9 @@ fn end<W: Write>(
         Err(StreamError::Write) => return Err(MonitorError::Write),
     };
     let refusal = capture.refusal();
+    let (a, b) = waiting_now(judge);
     judge.finish(whole && refusal.is_none());
-    if write_end(writer, judge, capture.skipped()).is_err() {
+    if write_end(writer, judge, frames, &a, &b, capture.skipped()).is_err() {
         return Err(MonitorError::Write);
     }
     if !whole {
@@ -150,16 +221,19 @@ fn end<W: Write>(
 /// Audits a recording: writes a line for each finding as it comes, and a summary (project-defined). Returns whether
 /// there is a finding.
 ///
+/// With `frames` each record of a frame has a line, too, before the findings that it shows.
+///
 /// Refused with `NoClock` if a channel that has a sender has no owner of a static slot in a cycle, and with `Memory` if
 /// an allocation fails, both before anything is read. Then with the refusal of the capture, and with `Read` or `Write`
 /// if a stream fails. The summary of what was read is written after all of these but `Write`.
 pub fn monitor<R: Read, W: Write>(
     alloc: Global,
     rules: Rules,
+    frames: bool,
     reader: &mut R,
     writer: &mut W,
 ) -> Result<bool, MonitorError>
-    ensures text { Monitors rules (R.remaining reader.old) (R.remaining reader.new)
+    ensures text { Monitors frames rules (R.remaining reader.old) (R.remaining reader.new)
         (W.contents writer.old) (W.contents writer.new) result }
     // A cluster without a clock is refused.
     ensures clock { IfSome (clock_refusal rules) (λ e. result ≡ Err e) }
@@ -179,9 +253,10 @@ pub fn monitor<R: Read, W: Write>(
     let followed = follow(
         &mut capture,
         &mut judge,
+        frames,
         room.as_mut_slice(),
         reader,
         writer,
     );
-    end(&capture, &mut judge, followed, writer)
+    end(&capture, &mut judge, frames, followed, writer)
 }

@@ -6,5 +6,5 @@ use Rattle.fr_monitoring.proofs.monitor.follow.Given as goal
 abbrev pub invariant-pieces : goal.invariant-pieces
 invariant-pieces g l =
     ReadFront (g.R.Read.remaining l.fn.reader) (g.R.Read.remaining l.reader) (λ front left.
-    IsFollowed l.fn.capture l.fn.judge l.capture l.judge (g.W.Write.contents l.fn.writer)
+    IsFollowed l.frames l.fn.capture l.fn.judge l.capture l.judge (g.W.Write.contents l.fn.writer)
     (g.W.Write.contents l.writer) front) × (0 < length l.room)

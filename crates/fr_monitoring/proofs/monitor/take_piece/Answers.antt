@@ -10,7 +10,7 @@ use Rattle.fr_monitoring.proofs.TextLemmas.{followed_none, followed_next}
 use Rattle.fr_monitoring.proofs.monitor.take_piece.Goals as goal
 
 pub loop-taken-init : goal.loop-taken-init
-loop-taken-init g c = (omega arith, followed_none c.args.capture.now c.args.judge.now _)
+loop-taken-init g c = (omega arith, followed_none c.args.frames c.args.capture.now c.args.judge.now _)
 
 some_told : (n : ℕ) (r : List Record) → 0 < n → (let x : List Record = cond (n == 0) [] r in x) ≡ r
 some_told n r some =
@@ -27,7 +27,8 @@ loop-taken-preserved g c =
     let some : 0 < c.next-taken.result =
     elim c.next-taken.ensures.all [ inl all ↦ omega (arith, long, all) | inr more ↦ more.0 ] in (
       search rules,
-      followed_next c.args.capture.now c.loop-taken.capture c.next-taken.new.self c.args.judge.now c.loop-taken.judge
+      followed_next c.args.frames c.args.capture.now c.loop-taken.capture c.next-taken.new.self c.args.judge.now
+          c.loop-taken.judge
           c.take_record.new.judge _ _ _ piece rest taken c.next-taken.result c.loop-taken.invariant.1 rest_is
           c.next-taken.ensures.state
           (c.next-taken.ensures.records ∙ some_told c.next-taken.result (option_to_list (told_of c.next-taken.new.self))

@@ -1,0 +1,153 @@
+-- The lines of the frames in a recording: what each frame record has, and where in the cycle its slot is
+-- (project-defined; slots and minislots by chapter 5).
+use Rattle.std.specs.Prelude.{ℕ, ◌+◌, ◌-◌, ◌*◌, nat_le, ◌==◌, ◌&&◌, Bool, true, false, List, [], ◌∷◌, ◌++◌, codes}
+use Rattle.std.specs.Prelude.{Option, Some, None, Result, Ok, Err, if◌then◌else◌, length, ◌/◌}
+use Rattle.std.specs.Fmt.{decimal}
+use Rattle.fr_frame.specs.Fields.{Fields}
+use Rattle.fr_judging.specs.Judging.{State, lane_on, is_lawless}
+use Rattle.fr_judging.specs.Lanes.{same_open}
+use Rattle.fr_judging.specs.Rules.{judges}
+use Rattle.fr_judging.specs.declared.lane.Held.{Held}
+use Rattle.fr_judging.specs.declared.lane.Lane.{Lane}
+use Rattle.fr_judging.specs.declared.line.At.{At}
+use Rattle.fr_logged.specs.Logged.{kind_of, spelled, place_in}
+use Rattle.fr_logged.specs.Rules.{letters_of}
+use Rattle.fr_logged.specs.declared.finding.Finding.{Finding}
+use Rattle.fr_logged.specs.declared.finding.Place.{Place}
+use Rattle.fr_logged.specs.declared.record.Kind.{Kind}
+use Rattle.fr_logged.specs.declared.record.Kind.TheVariants.{Foreign, Symbol, Frame}
+use Rattle.fr_recording.specs.Numbers.{counted}
+use Rattle.fr_recording.specs.Records.{Record}
+use Rattle.fr_slots.specs.Faults.{minislots_filled}
+use Rattle.fr_slots.specs.Parameters.{Parameters, is_static_slot}
+use Rattle.fr_slots.specs.declared.channel.Channel.{Channel}
+use Rattle.fr_slots.specs.declared.channel.Channel.TheVariants.{A, B}
+use Rattle.fr_text.specs.Spelling.{hex_text}
+use Rattle.fr_monitoring.specs.LineText.{at_text, place_text, letters_text, optional_text}
+use Rattle.fr_monitoring.specs.declared.frames.Waiting.{Waiting}
+
+-- ---- a frame that waits
+
+-- The frame of a channel that waits for the next good one: its record, its cycle count, and the cycles opened before.
+abbrev pub waiting_by : ℕ → Option Held → Option Waiting
+waiting_by cycles None = None
+waiting_by cycles (Some h) = Some (record { number = h.at.number; cycle = h.frame.cycle; cycles = cycles })
+
+abbrev pub waiting_on : Lane → Option Waiting
+waiting_on l = waiting_by l.cycles l.held
+
+-- the frame of this record waits
+abbrev pub is_held : Option Held → ℕ → Bool
+is_held None number = false
+is_held (Some h) number = h.at.number == number
+
+abbrev pub is_waiting : Lane → ℕ → Bool
+is_waiting l number = is_held l.held number
+
+-- ---- the place of a slot in its cycle
+
+-- The minislot at which the frame's slot opens, if the recording has every frame before it in the dynamic segment; in
+-- any case the slot doesn't open before. A frame that waits is the first of its cycle. Zero stands for none.
+abbrev pub minislot_of : Parameters → Lane → Bool → Fields → ℕ
+minislot_of p l waits f =
+    if waits then f.id - p.static_slots
+    else if l.slot == f.id + 1 then l.minislot - (minislots_filled p (length f.payload / 2) + p.idle)
+    else 0
+
+-- the first macrotick of a minislot, counted from the start of the cycle
+abbrev pub minislot_start : Parameters → ℕ → Option ℕ
+minislot_start p m =
+    if nat_le 1 m && nat_le m p.minislots
+    then Some (p.static_slots * p.static_mt + (m - 1) * p.minislot_mt)
+    else None
+
+-- the first macrotick of the frame's slot
+abbrev pub begin_of : Parameters → Lane → Bool → Fields → Option ℕ
+begin_of p l waits f =
+    if is_static_slot p f.id then Some ((f.id - 1) * p.static_mt) else minislot_start p (minislot_of p l waits f)
+
+-- the macroticks of the frame's slot
+abbrev pub length_of : Parameters → Fields → ℕ
+length_of p f =
+    if is_static_slot p f.id then p.static_mt else minislots_filled p (length f.payload / 2) * p.minislot_mt
+
+-- ---- the line of a frame
+
+-- the number of the open cycle on its channel, counted from 0
+unfoldable pub cycle_text : Lane → Bool → List ℕ
+cycle_text l true = codes "-"
+cycle_text l false = decimal l.number
+
+unfoldable pub slot_text : Parameters → Lane → Bool → Fields → List ℕ
+slot_text p l waits f =
+    cycle_text l waits ++ codes " " ++ optional_text (begin_of p l waits f) ++ codes " " ++ decimal (length_of p f)
+
+unfoldable pub content_text : Fields → List ℕ
+content_text f = codes " " ++ letters_text (letters_of f) ++ codes " " ++ hex_text f.payload
+
+unfoldable pub good_text : Parameters → Lane → Bool → Fields → List ℕ
+good_text p l waits f = slot_text p l waits f ++ content_text f
+
+abbrev pub nothing_text : List ℕ
+nothing_text = codes "- - - - -"
+
+-- what a record spells on the channel, after the judgement of the record; a frame of no slot has no place
+unfoldable pub spelled_text : State → Channel → ℕ → Result Fields Finding → List ℕ
+spelled_text s channel number (Err finding) = nothing_text
+spelled_text s channel number (Ok f) =
+    if is_lawless s f.id then nothing_text
+    else good_text s.rules.cluster.params (lane_on s channel) (is_waiting (lane_on s channel) number) f
+
+-- the record, and the place that its header names
+unfoldable pub front_text : At → Place → List ℕ
+front_text at place = codes "frame " ++ at_text (Some at) ++ codes " " ++ place_text place ++ codes " "
+
+unfoldable pub frame_line : State → Channel → Record → List ℕ
+frame_line s channel r =
+    front_text (record { number = s.records; time = r.time }) (place_in channel r.bytes)
+    ++ spelled_text s channel s.records (spelled channel r.original r.bytes) ++ 10 ∷ []
+
+-- ---- the cycle of a frame that waited
+
+-- Of two cycles that one record opens, the number of the first isn't told.
+abbrev pub opened_text : Waiting → Lane → List ℕ
+opened_text w l = if l.cycles == counted w.cycles 1 then decimal l.number else codes "-"
+
+unfoldable pub opens_line : Waiting → Lane → List ℕ
+opens_line w l = codes "opens " ++ decimal w.number ++ codes " " ++ opened_text w l ++ 10 ∷ []
+
+-- it waits no longer, and opened its cycle
+abbrev pub has_opened : Waiting → Lane → Bool
+has_opened w l = if is_waiting l w.number then false else same_open (Some w.cycle) l.current
+
+unfoldable pub opens_text : Option Waiting → Lane → List ℕ
+opens_text None l = []
+opens_text (Some w) l = if has_opened w l then opens_line w l else []
+
+-- ---- a record
+
+-- the frame that waits on the channel of a record
+abbrev pub waiting_at : State → Kind → Option Waiting
+waiting_at s Foreign = None
+waiting_at s (Symbol channel) = None
+waiting_at s (Frame channel) = waiting_on (lane_on s channel)
+
+-- the lines of a record, in the state after it
+unfoldable pub frame_text : Option Waiting → State → Record → Kind → List ℕ
+frame_text w s r Foreign = []
+frame_text w s r (Symbol channel) = []
+frame_text w s r (Frame channel) =
+    if judges s.rules channel then opens_text w (lane_on s channel) ++ frame_line s channel r else []
+
+abbrev pub frames_text : State → State → Record → List ℕ
+frames_text before after r =
+    frame_text (waiting_at before (kind_of r.link r.bytes)) after r (kind_of r.link r.bytes)
+
+-- ---- the end of the input
+
+-- the frames that waited up to the end
+unfoldable pub last_text : Option Waiting → Option Waiting → State → List ℕ
+last_text a b s = opens_text a (lane_on s A) ++ opens_text b (lane_on s B)
+
+abbrev pub ends_text : State → State → List ℕ
+ends_text before after = last_text (waiting_on (lane_on before A)) (waiting_on (lane_on before B)) after

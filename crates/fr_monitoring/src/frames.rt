@@ -1,0 +1,365 @@
+//! The lines of the frames in a recording.
+
+ghost use Rattle.std.specs.Prelude.{◌≡◌, ◌<◌, ◌/◌, length};
+ghost use Rattle.fr_text.specs.Writing.{Writes};
+ghost use Rattle.fr_judging.specs.Judging.{is_lawless, lane_on};
+ghost use Rattle.fr_logged.specs.Logged.{spelled};
+ghost use Rattle.fr_logged.specs.Rules.{letters_of};
+ghost use Rattle.fr_slots.specs.Faults.{minislots_filled};
+ghost use Rattle.fr_slots.specs.declared.channel.Channel.TheVariants.{A, B};
+ghost use Rattle.fr_monitoring.specs.FrameText.{waiting_on, waiting_at, is_waiting, minislot_of, minislot_start};
+ghost use Rattle.fr_monitoring.specs.FrameText.{begin_of, length_of, cycle_text, slot_text, content_text, good_text};
+ghost use Rattle.fr_monitoring.specs.FrameText.{spelled_text, front_text, frame_line, has_opened, opened_text};
+ghost use Rattle.fr_monitoring.specs.FrameText.{opens_line, opens_text, frame_text, last_text};
+
+use crate::line::{letters_text, write_at, write_optional, write_place};
+use fr_frame::lent::LentFrame;
+use fr_judging::judge::Judge;
+use fr_judging::lane::Lane;
+use fr_judging::line::At;
+use fr_logged::finding::{Letters, Place};
+use fr_logged::record::{Kind, place_in, spelled};
+use fr_recording::phase::Head;
+use fr_slots::channel::Channel;
+use fr_slots::numbers::Cycle;
+use fr_slots::params::Params;
+use fr_text::hexes::write_hex;
+use std::io;
+use std::io::Write;
+
+/// A frame that waits for the next good one of its channel.
+#[derive(Clone, Copy)]
+pub struct Waiting {
+    /// The number of its record.
+    pub number: u64,
+    pub cycle: Cycle,
+    /// The cycles that its channel had opened.
+    pub cycles: u64,
+}
+
+/// Returns the frame that waits on a channel.
+fn waiting_on(lane: &Lane) -> Option<Waiting>
+    ensures { result ≡ waiting_on lane.now }
+{
+    match &lane.held {
+        Some(held) => Some(Waiting {
+            number: held.at.number,
+            cycle: held.frame.cycle,
+            cycles: lane.cycles,
+        }),
+        None => None,
+    }
+}
+
+/// Returns the frame that waits on the channel of a record.
+pub(crate) fn waiting_at(judge: &Judge, kind: Kind) -> Option<Waiting>
+    ensures { result ≡ waiting_at judge.now kind }
+{
+    match kind {
+        Kind::Frame(channel) => waiting_on(judge.lane(channel)),
+        Kind::Foreign | Kind::Symbol(_) => None,
+    }
+}
+
+/// Returns the frames that wait on both channels.
+pub(crate) fn waiting_now(judge: &Judge) -> (Option<Waiting>, Option<Waiting>)
+    ensures a { result.0 ≡ waiting_on (lane_on judge.now A) }
+    ensures b { result.1 ≡ waiting_on (lane_on judge.now B) }
+{
+    (
+        waiting_on(judge.lane(Channel::A)),
+        waiting_on(judge.lane(Channel::B)),
+    )
+}
+
+/// Returns whether the frame of a record waits.
+fn is_waiting(lane: &Lane, number: u64) -> bool
+    ensures { result ≡ is_waiting lane.now number }
+{
+    match &lane.held {
+        Some(held) => held.at.number == number,
+        None => false,
+    }
+}
+
+// ---- the place of a slot in its cycle
+
+/// Returns the minislots that a frame fills.
+fn minislots_filled(params: &Params, frame: &LentFrame<'_>) -> u16
+    ensures value { result ≡ minislots_filled params.now (length frame.now.payload / 2) }
+    ensures few { result < 200 }
+{
+    let words = (frame.payload.len() / 2) as u16;
+    (words + 4).div_ceil(params.words_per_minislot)
+}
+
+/// Returns the minislot at which the slot of a frame opens, or 0 if it isn't known.
+fn minislot_of(params: &Params, lane: &Lane, waits: bool, frame: &LentFrame<'_>) -> u64
+    ensures { result ≡ minislot_of params.now lane.now waits frame.now }
+{
+    if waits {
+        return u64::from(frame.id.saturating_sub(params.static_slots));
+    }
+    if lane.slot != u32::from(frame.id) + 1 {
+        return 0;
+    }
+    let passed = minislots_filled(params, frame) + params.idle;
+    lane.minislot.saturating_sub(u64::from(passed))
+}
+
+/// Returns the first macrotick of a minislot, if the cycle has it.
+fn minislot_start(params: &Params, minislot: u64) -> Option<u32>
+    ensures { result ≡ minislot_start params.now minislot }
+{
+    if minislot < 1 || minislot > u64::from(params.minislots) {
+        return None;
+    }
+    let before = u32::from(minislot as u16 - 1) * u32::from(params.minislot_mt);
+    Some(u32::from(params.static_slots) * u32::from(params.static_mt) + before)
+}
+
+/// Returns the first macrotick of the slot of a frame, if it is known.
+fn begin_of(params: &Params, lane: &Lane, waits: bool, frame: &LentFrame<'_>) -> Option<u32>
+    ensures { result ≡ begin_of params.now lane.now waits frame.now }
+{
+    if frame.id <= params.static_slots {
+        let before = u32::from(frame.id.saturating_sub(1));
+        return Some(before * u32::from(params.static_mt));
+    }
+    minislot_start(params, minislot_of(params, lane, waits, frame))
+}
+
+/// Returns the macroticks of the slot of a frame.
+fn length_of(params: &Params, frame: &LentFrame<'_>) -> u32
+    ensures { result ≡ length_of params.now frame.now }
+{
+    if frame.id <= params.static_slots {
+        return u32::from(params.static_mt);
+    }
+    u32::from(minislots_filled(params, frame)) * u32::from(params.minislot_mt)
+}
+
+// ---- the line of a frame
+
+/// Writes the number of the open cycle, or a dash for a frame that waits.
+#[tactic(auto, unfolding(crate::specs::FrameText::cycle_text))]
+fn write_cycle<W: Write>(writer: &mut W, lane: &Lane, waits: bool) -> io::Result<()>
+    ensures { Writes W.contents writer.old writer.new result (cycle_text lane.now waits) }
+{
+    if waits {
+        write!(writer, "-")
+    } else {
+        write!(writer, "{}", lane.number)
+    }
+}
+
+/// Writes the cycle of a frame, and where its slot is.
+#[tactic(auto, unfolding(crate::specs::FrameText::slot_text))]
+fn write_slot<W: Write>(
+    writer: &mut W,
+    params: &Params,
+    lane: &Lane,
+    waits: bool,
+    frame: &LentFrame<'_>,
+) -> io::Result<()>
+    ensures { Writes W.contents writer.old writer.new result (slot_text params.now lane.now waits frame.now) }
+{
+    write_cycle(writer, lane, waits)?;
+    write!(writer, " ")?;
+    write_optional(writer, begin_of(params, lane, waits, frame))?;
+    write!(writer, " {}", length_of(params, frame))
+}
+
+/// Returns the indicators of a frame.
+fn letters_of(frame: &LentFrame<'_>) -> Letters
+    ensures { result ≡ letters_of frame.now }
+{
+    Letters {
+        preamble: frame.preamble,
+        has_data: frame.has_data,
+        sync: frame.sync,
+        startup: frame.startup,
+    }
+}
+
+/// Writes the indicators and the payload of a frame.
+#[tactic(auto, unfolding(crate::specs::FrameText::content_text))]
+fn write_content<W: Write>(writer: &mut W, frame: &LentFrame<'_>) -> io::Result<()>
+    ensures { Writes W.contents writer.old writer.new result (content_text frame.now) }
+{
+    write!(writer, " ")?;
+    writer.write_all(&letters_text(&letters_of(frame)))?;
+    write!(writer, " ")?;
+    write_hex(writer, frame.payload)
+}
+
+/// Writes the cycle of a frame, where its slot is, and what it has.
+#[tactic(auto, unfolding(crate::specs::FrameText::good_text))]
+fn write_good<W: Write>(
+    writer: &mut W,
+    params: &Params,
+    lane: &Lane,
+    waits: bool,
+    frame: &LentFrame<'_>,
+) -> io::Result<()>
+    ensures { Writes W.contents writer.old writer.new result (good_text params.now lane.now waits frame.now) }
+{
+    write_slot(writer, params, lane, waits, frame)?;
+    write_content(writer, frame)
+}
+
+/// Returns whether no slot of the cluster has this frame ID.
+fn is_lawless(judge: &Judge, id: u16) -> bool
+    ensures { result ≡ is_lawless judge.now id }
+{
+    let params = judge.rules().cluster.params();
+    id == 0 || (id > params.static_slots && params.minislots == 0)
+}
+
+/// Writes what a record spells on a channel.
+#[tactic(auto, unfolding(crate::specs::FrameText::spelled_text))]
+fn write_spelled<W: Write>(
+    writer: &mut W,
+    judge: &Judge,
+    channel: Channel,
+    original: u32,
+    bytes: &[u8],
+) -> io::Result<()>
+    ensures { Writes W.contents writer.old writer.new result
+        (spelled_text judge.now channel judge.now.records (spelled channel original bytes.now)) }
+{
+    match spelled(channel, original, bytes) {
+        Ok(frame) if !is_lawless(judge, frame.id) => {
+            let lane = judge.lane(channel);
+            let waits = is_waiting(lane, judge.records());
+            write_good(writer, judge.rules().cluster.params(), lane, waits, &frame)
+        }
+        _ => write!(writer, "- - - - -"),
+    }
+}
+
+/// Writes the record of a frame, and the place that its header names.
+#[tactic(auto, unfolding(crate::specs::FrameText::front_text))]
+fn write_front<W: Write>(writer: &mut W, at: &At, place: &Place) -> io::Result<()>
+    ensures { Writes W.contents writer.old writer.new result (front_text at.now place.now) }
+{
+    write!(writer, "frame ")?;
+    write_at(writer, &Some(*at))?;
+    write!(writer, " ")?;
+    write_place(writer, place)?;
+    write!(writer, " ")
+}
+
+/// Writes the line of a frame, after the judgement of its record.
+#[tactic(auto, unfolding(crate::specs::FrameText::frame_line))]
+fn write_frame<W: Write>(
+    writer: &mut W,
+    judge: &Judge,
+    channel: Channel,
+    head: &Head,
+    bytes: &[u8],
+) -> io::Result<()>
+    ensures { Writes W.contents writer.old writer.new result (frame_line judge.now channel (record {
+      time = head.now.time;
+      link = head.now.link;
+      original = head.now.original;
+      bytes = bytes.now;
+    })) }
+{
+    let at = At {
+        number: judge.records(),
+        time: head.time,
+    };
+    write_front(writer, &at, &place_in(channel, bytes))?;
+    write_spelled(writer, judge, channel, head.original, bytes)?;
+    writeln!(writer)
+}
+
+// ---- the cycle of a frame that waited
+
+/// Writes the number of the cycle that a frame opened.
+fn write_opened<W: Write>(writer: &mut W, waiting: &Waiting, lane: &Lane) -> io::Result<()>
+    ensures { Writes W.contents writer.old writer.new result (opened_text waiting.now lane.now) }
+{
+    if lane.cycles == waiting.cycles.saturating_add(1) {
+        write!(writer, "{}", lane.number)
+    } else {
+        write!(writer, "-")
+    }
+}
+
+/// Writes the line of a cycle that a frame opened.
+#[tactic(auto, unfolding(crate::specs::FrameText::opens_line))]
+fn write_opens<W: Write>(writer: &mut W, waiting: &Waiting, lane: &Lane) -> io::Result<()>
+    ensures { Writes W.contents writer.old writer.new result (opens_line waiting.now lane.now) }
+{
+    write!(writer, "opens {} ", waiting.number)?;
+    write_opened(writer, waiting, lane)?;
+    writeln!(writer)
+}
+
+/// Returns whether a frame waits no longer, and opened its cycle.
+fn has_opened(waiting: &Waiting, lane: &Lane) -> bool
+    ensures { result ≡ has_opened waiting.now lane.now }
+{
+    if is_waiting(lane, waiting.number) {
+        return false;
+    }
+    match lane.current {
+        Some(cycle) => cycle == waiting.cycle,
+        None => false,
+    }
+}
+
+/// Writes the line of a cycle, if the frame that waited has opened one.
+#[tactic(auto, unfolding(crate::specs::FrameText::opens_text))]
+fn write_opening<W: Write>(writer: &mut W, waiting: &Option<Waiting>, lane: &Lane) -> io::Result<()>
+    ensures { Writes W.contents writer.old writer.new result (opens_text waiting.now lane.now) }
+{
+    match waiting {
+        Some(waiting) if has_opened(waiting, lane) => write_opens(writer, waiting, lane),
+        _ => Ok(()),
+    }
+}
+
+// ---- a record, and the end
+
+/// Writes the lines of a record of this kind, after its judgement.
+#[tactic(auto, unfolding(crate::specs::FrameText::frame_text))]
+pub(crate) fn write_frames<W: Write>(
+    writer: &mut W,
+    judge: &Judge,
+    waiting: &Option<Waiting>,
+    kind: Kind,
+    head: &Head,
+    bytes: &[u8],
+) -> io::Result<()>
+    ensures { Writes W.contents writer.old writer.new result (frame_text waiting.now judge.now (record {
+      time = head.now.time;
+      link = head.now.link;
+      original = head.now.original;
+      bytes = bytes.now;
+    }) kind) }
+{
+    match kind {
+        Kind::Frame(channel) if judge.rules().judges(channel) => {
+            write_opening(writer, waiting, judge.lane(channel))?;
+            write_frame(writer, judge, channel, head, bytes)
+        }
+        _ => Ok(()),
+    }
+}
+
+/// Writes the lines of the frames that waited up to the end.
+#[tactic(auto, unfolding(crate::specs::FrameText::last_text))]
+pub(crate) fn write_last<W: Write>(
+    writer: &mut W,
+    judge: &Judge,
+    a: &Option<Waiting>,
+    b: &Option<Waiting>,
+) -> io::Result<()>
+    ensures { Writes W.contents writer.old writer.new result (last_text a.now b.now judge.now) }
+{
+    write_opening(writer, a, judge.lane(Channel::A))?;
+    write_opening(writer, b, judge.lane(Channel::B))
+}
