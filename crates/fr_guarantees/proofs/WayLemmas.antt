@@ -130,7 +130,8 @@ offered_alone n channel fate other offer babble k t at silent = by_offer offer a
     babbles (Some bytes) j here = by (length bytes.items == 0) j here
       where
         by : (b : Bool) (i : ℕ)
-            → slice_get (cond b [] (record { node = n; channel = channel; babble = true; bytes = bytes; fate = other } ∷ []))
+            → slice_get (cond b []
+            (record { node = n; channel = channel; babble = true; bytes = bytes; fate = other } ∷ []))
             i ≡ Some t → ⊥
         by true i e = let none : ⊥ = cc in none
         by false zero e = differ t.babble (ap (λ (s : Sent). s.babble) (sym (same_some _ t e))) silent

@@ -15,7 +15,8 @@ use Rattle.fr_slots.specs.declared.channel.Channel.{Channel}
 use Rattle.fr_slots.specs.declared.channel.Channel.TheVariants.{A, B}
 use Rattle.fr_judging.specs.Judging.{State, turn, turned, judge, take_kind, next_record, frame_on, good, count_record}
 use Rattle.fr_judging.specs.Judging.{fresh, finish, finish_on, finish_channel, tell_end, tell_nothing, says_nothing}
-use Rattle.fr_judging.specs.Judging.{settle, end_cycle, end_in, has_finding, is_some_number, none_found, find, symbol_place}
+use Rattle.fr_judging.specs.Judging.{settle, end_cycle, end_in, has_finding, is_some_number, none_found, find}
+use Rattle.fr_judging.specs.Judging.{symbol_place}
 use Rattle.fr_judging.specs.Judging.{place_frame, speak, next_of}
 use Rattle.fr_judging.specs.Rules.{judges, other_channel, rules_of, has_sender_in, has_sender}
 use Rattle.fr_judging.specs.declared.lane.Lane.{Lane}

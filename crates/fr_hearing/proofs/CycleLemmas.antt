@@ -15,7 +15,8 @@ use Rattle.fr_core.proofs.CaseLemmas.{both, both_first, both_rest}
 use Rattle.fr_frame.specs.Fields.{Fields}
 use Rattle.fr_guardian.proofs.AloneLemmas.{each_at}
 use Rattle.fr_hearing.proofs.NextLemmas.{IsNextOf, next_window, after_first, after_static, after_dynamic, some_minislot}
-use Rattle.fr_hearing.proofs.PassageLemmas.{IsHeardAt, with_frame, IsAt, due_at_some, static_step, first_step, dynamic_step}
+use Rattle.fr_hearing.proofs.PassageLemmas.{IsHeardAt, with_frame, IsAt, due_at_some, static_step, first_step}
+use Rattle.fr_hearing.proofs.PassageLemmas.{dynamic_step}
 use Rattle.fr_hearing.proofs.SizeLemmas.{found_at}
 use Rattle.fr_hearing.specs.Heard.{Spot, cycle_start, after_frame, IsAllowed, AreFree, static_end, IsFirst, AreHeard}
 use Rattle.fr_hearing.specs.Heard.{FollowOn}
@@ -41,7 +42,8 @@ abbrev pub AreHeardAt : Description → Channel → List Recorded → Type 0
 AreHeardAt d channel [] = Unit {0}
 AreHeardAt d channel (r ∷ rs) = IsHeardAt d channel r × AreHeardAt d channel rs
 
-abbrev pub frames_of : (d : Description) (channel : Channel) (rs : List Recorded) → AreHeardAt d channel rs → List Fields
+abbrev pub frames_of : (d : Description) (channel : Channel) (rs : List Recorded) → AreHeardAt d channel rs
+    → List Fields
 frames_of d channel [] h = []
 frames_of d channel (r ∷ rs) h = with_frame d channel r h.0 (frames_of d channel rs h.1)
 
@@ -76,7 +78,8 @@ has_owner d channel cycle cluster fits clocked =
     let there = found_at (owns_in channel cycle) node.value.owned line.value line.is in
     let is_node : IsNode d.params node.value = each_at (IsNode d.params) d.plans here.place node.value
     cluster.nodes_are here.at in
-    let own_is : IsOwn line.value = each_at IsOwn node.value.owned there.place line.value is_node.0.owned_are there.at in
+    let own_is : IsOwn line.value = each_at IsOwn node.value.owned there.place line.value is_node.0.owned_are
+    there.at in
     let few : line.value.slot ≤ d.params.static_slots =
     (faultless d.params node.value is_node.1).owned_are_static there.place line.value there.at in
     let claimed : claims line.value.slot channel cycle line.value ≡ true =

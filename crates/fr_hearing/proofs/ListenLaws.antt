@@ -107,7 +107,8 @@ pub own_sound : (channel : Channel) (n : ℕ) (xs : List Sent) → list_all (is_
     → list_all is_sound (own channel n xs) ≡ true
 own_sound channel n [] e = refl
 own_sound channel n (t ∷ xs) e =
-    by (is_of n t) (is_channel t.channel channel) (both_first (is_sound_on channel t) (list_all (is_sound_on channel) xs)
+    by (is_of n t) (is_channel t.channel channel)
+    (both_first (is_sound_on channel t) (list_all (is_sound_on channel) xs)
     e)
     (own_sound channel n xs (both_rest (is_sound_on channel t) (list_all (is_sound_on channel) xs) e))
   where

@@ -69,7 +69,8 @@ module _ (c : Standpoint) (w : Opportunity) (some : 1 ≤ c.windows) where
         },
       ))
   inner_case false is e =
-      dynamic_case (dynamic_next c) (ltb-false c.statics c.params.static_slots is) (least_of (next_in c.a) (next_in c.b))
+      dynamic_case (dynamic_next c) (ltb-false c.statics c.params.static_slots is)
+      (least_of (next_in c.a) (next_in c.b))
       refl e
 
 next_case : (c : Standpoint) (w : Opportunity) → next_of c ≡ Some w → IsNextOf c w

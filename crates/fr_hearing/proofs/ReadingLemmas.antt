@@ -162,7 +162,8 @@ module _ (time : ℕ) (packet : List ℕ) (some : 1 ≤ length packet) (few : le
       let s : State = p.state in
       let size = length_head time (length packet) in
       let due : needed s.phase ≡ 16 = ap needed is.phase_is in
-      let first = read_part (record_header time (length packet)) s [] (omega (arith, size)) (omega (arith, size, due)) in
+      let first = read_part (record_header time (length packet)) s [] (omega (arith, size))
+      (omega (arith, size, due)) in
       let between : State = go first.state (RecordBytes 1000 210 (head_of time (length packet))) in
       let here : ended s first.state (record_header time (length packet)) ≡ held_in between [] =
       ap (λ (t : State). held_in t []) (after_header s first.state is.phase_is (first.order_is ∙ is.order_is)) in

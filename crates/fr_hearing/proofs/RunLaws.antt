@@ -1,5 +1,5 @@
--- In a run without faults on a channel the frames that a listener receives are those of whole cycles, and a recording of
--- them has no finding.
+-- In a run without faults on a channel the frames that a listener receives are those of whole cycles, and a recording
+-- of them has no finding.
 use Rattle.std.proofs.Common.{◌≡◌, ℕ, zero, suc, ◌+◌, ◌*◌, ◌%◌, ◌<◌, ◌≤◌, Bool, true, false, cond, List, [], ◌∷◌}
 use Rattle.std.proofs.Common.{◌++◌, length, map, Option, Some, None, refl, sym, ap, subst, ◌∙◌, arith, ◌⊎◌, inl, inr}
 use Rattle.std.specs.Option.{option_or}
@@ -33,7 +33,8 @@ use Rattle.fr_hearing.specs.Heard.{Spot, after_frame, cycle_start, IsAllowed, Is
 use Rattle.fr_hearing.specs.Runs.{AreReceived, CyclesAreHeard, packets_seen, packets_of, logged}
 use Rattle.fr_hearing.specs.Runs.{AreLogged, NoAlarmInRun, NoAlarmOfBoth, IsComplete, FinishedIsComplete, ClockIsTold}
 use Rattle.fr_judging.specs.Judging.{fresh, finish, has_finding}
-use Rattle.fr_judging.specs.Rules.{other_channel, due_at, due_or, rules_of, judges, has_sender, has_sender_in, is_clocked, unclocked}
+use Rattle.fr_judging.specs.Rules.{other_channel, due_at, due_or, rules_of, judges, has_sender, has_sender_in}
+use Rattle.fr_judging.specs.Rules.{is_clocked, unclocked}
 use Rattle.fr_logged.specs.Dues.{due_of}
 use Rattle.fr_logged.specs.declared.due.Due.{Due}
 use Rattle.fr_recording.specs.Records.{Record}
@@ -73,7 +74,8 @@ cycles_are_heard w head channel some healthy =
       first = b.frame;
       rest = b.rest;
       received = subst (AreReceived d.params channel w.bus.sealed) b.is (received_are d channel w.bus.sealed h);
-      cycles = are_heard d w.bus.cycles channel head.run.lawful (healthy.clocked some) (frames_of d channel w.bus.sealed h) b;
+      cycles = are_heard d w.bus.cycles channel head.run.lawful (healthy.clocked some)
+          (frames_of d channel w.bus.sealed h) b;
     }
 
 -- ---- each of them is a frame
@@ -88,7 +90,11 @@ due_in d slot channel cycle x e = by (nat_le 1 slot && nat_le slot last_slot) re
   where
     by : (b : Bool) → (nat_le 1 slot && nat_le slot last_slot) ≡ b
         → due_or d channel cycle (cond b (Some slot) None) ≡ Some x → IsDueAt d slot channel cycle x
-    by true is f = record { few = leb-true slot 2047 (both_rest (nat_le 1 slot) (nat_le slot last_slot) is); due_is = f }
+    by true is f = record {
+      few = leb-true slot 2047
+          (both_rest (nat_le 1 slot) (nat_le slot last_slot) is);
+      due_is = f;
+    }
     by false is f = absurd (let none : ⊥ = cc in none)
 
 module _ (d : Description) (channel : Channel) (cluster : IsCluster d) where

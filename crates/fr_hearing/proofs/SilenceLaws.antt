@@ -15,7 +15,8 @@ use Rattle.fr_hearing.specs.Alarms.{AreOn, judged, NoAlarmInSilence}
 use Rattle.fr_hearing.specs.Listening.{IsThere}
 use Rattle.fr_judging.specs.Judging.{State, turn, turned, judge, fresh, finish, finish_on, finish_channel}
 use Rattle.fr_judging.specs.Judging.{has_finding}
-use Rattle.fr_judging.specs.Rules.{judges, other_channel, rules_of, has_sender, has_sender_in, sends_on, own_includes, transmits_on}
+use Rattle.fr_judging.specs.Rules.{judges, other_channel, rules_of, has_sender, has_sender_in, sends_on, own_includes}
+use Rattle.fr_judging.specs.Rules.{transmits_on}
 use Rattle.fr_judging.specs.declared.rules.Rules.{Rules}
 use Rattle.fr_logged.proofs.SenderLemmas.{due_nobody}
 use Rattle.fr_logged.specs.Dues.{due_of}

@@ -1,6 +1,7 @@
 -- The calls of a run, gathered for each cycle and then for each task, and the scripts that they make.
 use Rattle.std.proofs.Common.{◌≡◌, ◌≢◌, ℕ, zero, suc, ◌+◌, ◌<◌, ◌≤◌, ◌==◌, ◌&&◌, true, false, inl, inr, List}
-use Rattle.std.proofs.Common.{[], ◌∷◌, ◌++◌, length, drop, get_or, set, replicate, refl, sym, ap, ◌∙◌, arith, append_assoc}
+use Rattle.std.proofs.Common.{[], ◌∷◌, ◌++◌, length, drop, get_or, set, replicate, refl, sym, ap, ◌∙◌, arith}
+use Rattle.std.proofs.Common.{append_assoc}
 use Rattle.std.proofs.lemmas.Bool.{cases_Bool, cases_eq, eq-eqb}
 use Rattle.std.proofs.lemmas.Bool.Decides.{nat_tests}
 use Rattle.std.proofs.lemmas.Grind.{flat_map-append}
@@ -17,7 +18,8 @@ use Rattle.fr_scenario.specs.Contents.{node_at, task_at}
 use Rattle.fr_scenario.specs.declared.statement.Statement.{Statement}
 use Rattle.fr_scenario.specs.declared.statement.Statement.TheVariants.{Nothing, Calls, Fault, Faults, Expected}
 use Rattle.fr_scenario.specs.Gathering.{place_of, scripts_from, with_task_line}
-use Rattle.fr_scenario.specs.RunCalls.{Made, calls_by, made_by, made_at, calls_at, place_in, place_by, lines_of, ArePlaces, AreLines}
+use Rattle.fr_scenario.specs.RunCalls.{Made, calls_by, made_by, made_at, calls_at, place_in, place_by, lines_of}
+use Rattle.fr_scenario.specs.RunCalls.{ArePlaces, AreLines}
 use Rattle.fr_scenario.specs.RunContents.{planned, line_at, lines_at, lines_in_run, scripts_in_run}
 
 -- ---- one place in the cycles so far

@@ -1,6 +1,7 @@
 -- The lines of a run, cycle after cycle, and the scripts of its tasks.
 use mir.Val.{bool_byte}
-use Rattle.std.proofs.Common.{◌≡◌, ℕ, zero, suc, ◌+◌, ◌-◌, ◌<◌, ◌≤◌, ◌==◌, Bool, true, false, cond, inl, inr, List, [], ◌∷◌}
+use Rattle.std.proofs.Common.{◌≡◌, ℕ, zero, suc, ◌+◌, ◌-◌, ◌<◌, ◌≤◌, ◌==◌, Bool, true, false, cond, inl, inr, List, []}
+use Rattle.std.proofs.Common.{◌∷◌}
 use Rattle.std.proofs.Common.{◌++◌, refl, sym, ap, ◌∙◌, arith, append_assoc, ltb}
 use Rattle.std.proofs.lemmas.Bool.{cases_Bool, cases_eq, eq-eqb, ltb-true, ltb-false}
 use Rattle.std.proofs.lemmas.Bool.Decides.{nat_tests}
@@ -127,7 +128,8 @@ module _ (only : ℕ) where
   pub count_only : (cycles : ℕ)
       → bool_byte (ltb only cycles) ≡ count_by (names_cycle (Only only)) (range_with_len 0 cycles)
   count_only cycles = elim (cases_Bool (ltb only cycles)) [
-    | inl less ↦ let low = ltb-true only cycles less in rw less (sym (count_in cycles 0 (omega arith) (omega (arith, low))))
+    | inl less ↦ let low = ltb-true only cycles less in
+        rw less (sym (count_in cycles 0 (omega arith) (omega (arith, low))))
     | inr more ↦ let high = ltb-false only cycles more in rw more (sym (count_after cycles 0 (omega (arith, high))))
   ]
 

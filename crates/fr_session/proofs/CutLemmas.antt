@@ -1,6 +1,8 @@
 -- Sessions that a stream cuts short.
-use Rattle.std.proofs.Common.{◌≡◌, ℕ, zero, suc, ◌+◌, ◌-◌, ◌≤◌, true, List, [], ◌∷◌, ◌++◌, length, Option, Some, None, Result, Ok, Err, refl}
-use Rattle.std.proofs.Common.{sym, ap, ap₂, subst, inl, inr, ◌∙◌, append_assoc, zero-add, arith, take, drop, take-append-drop}
+use Rattle.std.proofs.Common.{◌≡◌, ℕ, zero, suc, ◌+◌, ◌-◌, ◌≤◌, true, List, [], ◌∷◌, ◌++◌, length, Option, Some, None}
+use Rattle.std.proofs.Common.{Result, Ok, Err, refl}
+use Rattle.std.proofs.Common.{sym, ap, ap₂, subst, inl, inr, ◌∙◌, append_assoc, zero-add, arith, take, drop}
+use Rattle.std.proofs.Common.{take-append-drop}
 use Rattle.std.proofs.KnownBytes.{Appends-nil, Consumes-nil, Keeps-refl}
 use Rattle.std.proofs.lemmas.List.{append-nil, length-drop}
 use Rattle.std.proofs.Math.Seq.{take-length}
@@ -77,7 +79,8 @@ rest_fits text count more fits within =
     omega (arith, fits, within, len)
 
 -- none were taken
-pub wrote_none : {E : Type 0} (before after : Option (List ℕ)) (r : Result ℕ E) (text : List ℕ) (count : ℕ) → r ≡ Ok count
+pub wrote_none : {E : Type 0} (before after : Option (List ℕ)) (r : Result ℕ E) (text : List ℕ) (count : ℕ)
+    → r ≡ Ok count
     → count ≡ 0 → WriteAppends before after r text → Keeps before after
 wrote_none before after r text count is none told =
     kept before after (subst (λ (k : ℕ). Appends before after (take k text)) none

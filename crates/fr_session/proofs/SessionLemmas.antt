@@ -41,11 +41,13 @@ serves_more terms old number (first ∷ lines) replies between line reply new so
       serves_more terms mid (number + 1) lines later between line reply new rest there,
     )
 
-pub are_lines_more : (lines : List (List ℕ)) (line : List ℕ) → AreLines lines → IsLine line → AreLines (lines ++ line ∷ [])
+pub are_lines_more : (lines : List (List ℕ)) (line : List ℕ) → AreLines lines → IsLine line
+    → AreLines (lines ++ line ∷ [])
 are_lines_more [] line all is = (is, tt)
 are_lines_more (first ∷ lines) line all is = (all.0, are_lines_more lines line all.1 is)
 
-pub feeds_more : (lines : List (List ℕ)) (line left : List ℕ) → flat_map with_feed (lines ++ line ∷ []) ++ left ≡ flat_map
+pub feeds_more : (lines : List (List ℕ)) (line left : List ℕ)
+    → flat_map with_feed (lines ++ line ∷ []) ++ left ≡ flat_map
     with_feed lines ++ (line ++ 10 ∷ left)
 feeds_more [] line left =
     ap (λ l. l ++ left) (append-nil (with_feed line)) ∙ append_assoc line (10 ∷ []) left

@@ -98,7 +98,8 @@ does_one w made v does = (v, does, refl)
 
 module _ (streamed : Streamed) (s : Contents) (d : Description) where
   pub called_one : (l new : LiveState) (node task cycle : ℕ) (call : Call) (r : Result Answer StepError)
-      (place : CallPlace) (answer : Answer) → place ≡ place_in l node call → r ≡ Ok answer → StepsAlike l (event_of node task call) (with_answer r) new
+      (place : CallPlace) (answer : Answer) → place ≡ place_in l node call → r ≡ Ok answer
+      → StepsAlike l (event_of node task call) (with_answer r) new
       → ForEachWorld l (λ w. IfOk r (λ (a : Answer). a ≡ call_answer (interface_at w node) task call))
       → Alike l (λ w v. (calls : List ExecutedCall) × MakesCalls (asked node task cycle call ∷ []) w calls v
       × TellsBetween streamed s d w calls v (told_call streamed (asked node task cycle call) place answer)) new

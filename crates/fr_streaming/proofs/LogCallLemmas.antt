@@ -1,5 +1,6 @@
 -- What a call of a task adds to the log of commits.
-use Rattle.std.proofs.Common.{◌≡◌, ◌≢◌, ℕ, ◌<◌, Bool, true, false, cond, List, [], ◌∷◌, ◌++◌, length, Option, Some, None}
+use Rattle.std.proofs.Common.{◌≡◌, ◌≢◌, ℕ, ◌<◌, Bool, true, false, cond, List, [], ◌∷◌, ◌++◌, length, Option, Some}
+use Rattle.std.proofs.Common.{None}
 use Rattle.std.proofs.Common.{refl, sym, ap, ap₂, subst, ◌∙◌, append-nil, arith, inl, inr}
 use Rattle.std.specs.Prelude.{codes, option_map}
 use Rattle.std.specs.List.{All}
@@ -70,7 +71,8 @@ known_buffer s h buffer payload None is there free = absurd (let none : ⊥ = cc
 known_buffer s h buffer payload (Some line) is there free =
     pending-there h s buffer line is (sym (ap (λ (x : Standing). buffer_at x.plan buffer) is.leaves) ∙ there)
 
-module _ (l : LiveState) (w : WorldState) (history : IsWorldHistory l w) (n : ℕ) (within : n < length w.interfaces) where
+module _ (l : LiveState) (w : WorldState) (history : IsWorldHistory l w) (n : ℕ)
+    (within : n < length w.interfaces) where
   abbrev here : State
   here = interface_at w n
 

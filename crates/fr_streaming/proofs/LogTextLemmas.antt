@@ -1,5 +1,6 @@
 -- The text of the log, as the code writes it along lists.
-use Rattle.std.proofs.Common.{◌≡◌, ◌≤◌, ◌<◌, ℕ, zero, suc, ◌+◌, List, [], ◌∷◌, ◌++◌, length, map, take, drop, Option, Some}
+use Rattle.std.proofs.Common.{◌≡◌, ◌≤◌, ◌<◌, ℕ, zero, suc, ◌+◌, List, [], ◌∷◌, ◌++◌, length, map, take, drop, Option}
+use Rattle.std.proofs.Common.{Some}
 use Rattle.std.proofs.Common.{None, refl, sym, ap, ap₂, subst, ◌∙◌, append_assoc, append-nil, arith, get_or}
 use Rattle.std.specs.Prelude.{slice_get}
 use Rattle.std.specs.Io.KnownBytes.{Appends}
@@ -44,7 +45,8 @@ sent_append d r cycle node (x ∷ xs) ys =
 
 pub sent_more : (d : Description) (r : Recorded) (cycle n : ℕ) (os : List NodeOffers) (none : NodeOffers)
     (old mid new : Option (List ℕ)) → n < length os → Appends old mid (sent_from d r cycle 0 (take n os))
-    → Appends mid new (sent_at d r cycle n (get_or os n none)) → Appends old new (sent_from d r cycle 0 (take (n + 1) os))
+    → Appends mid new (sent_at d r cycle n (get_or os n none))
+    → Appends old new (sent_from d r cycle 0 (take (n + 1) os))
 sent_more d r cycle n os none old mid new lt before one =
     let o : NodeOffers = get_or os n none in
     let at = here os n o (slice_get-get_or os n none lt) in

@@ -1,5 +1,6 @@
 -- What a window adds to the log of commits.
-use Rattle.std.proofs.Common.{◌≡◌, ◌≤◌, ◌<◌, ℕ, zero, suc, ◌+◌, ◌-◌, Bool, true, false, cond, List, [], ◌∷◌, ◌++◌, length}
+use Rattle.std.proofs.Common.{◌≡◌, ◌≤◌, ◌<◌, ℕ, zero, suc, ◌+◌, ◌-◌, Bool, true, false, cond, List, [], ◌∷◌, ◌++◌}
+use Rattle.std.proofs.Common.{length}
 use Rattle.std.proofs.Common.{map, Option, Some, None, Ok, refl, sym, ap, ap₂, subst, ◌∙◌, append-nil, arith}
 use Rattle.std.specs.Prelude.{codes, nat_lt, slice_get}
 use Rattle.std.specs.Fmt.{decimal}
@@ -324,7 +325,8 @@ module _ (d : Description) (cycle nodes : ℕ) (faults : List FaultLine) (l n : 
       let s = interface_at w m in
       let cycle_now = run_cycle (s.entries ++ fetch_entry s window ∷ []) in
       let on = λ (channel : Channel).
-      fetch_lines d v like m cycle_now window made there does.window_is channel (offered s.plan s.entries window channel)
+      fetch_lines d v like m cycle_now window made there does.window_is channel
+      (offered s.plan s.entries window channel)
       ∙ ap₂ (λ (k : ℕ) (o : Offered). sent_lines_on d made k m channel (data_in o)) (cycle_is m below)
       (sym (offers_are m below channel)) in
       ap₂ (λ (xs ys : List (List ℕ)). xs ++ ys) (on A) (on B)

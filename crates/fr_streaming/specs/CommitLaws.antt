@@ -1,6 +1,7 @@
 -- What happens to the commits of a journal, which the log spells, and from which the fates and the sendings of the view
 -- of all commits after a run follow (project-defined).
-use Rattle.std.specs.Prelude.{◌≡◌, ℕ, ◌+◌, ◌==◌, true, List, [], ◌∷◌, ◌++◌, codes, length, slice_get, take, drop, Option}
+use Rattle.std.specs.Prelude.{◌≡◌, ℕ, ◌+◌, ◌==◌, true, List, [], ◌∷◌, ◌++◌, codes, length, slice_get, take, drop}
+use Rattle.std.specs.Prelude.{Option}
 use Rattle.std.specs.Prelude.{Some, None, if◌then◌else◌, IsSomeAnd}
 use Rattle.std.specs.List.{flat_map}
 use Rattle.fr_core.specs.Accounts.{run_cycle}
@@ -18,7 +19,8 @@ use Rattle.fr_showing.specs.declared.fates.Sending.{Sending}
 use Rattle.fr_showing.specs.Fates.{became, cycles_of, sendings}
 use Rattle.fr_slots.specs.declared.channel.Channel.TheVariants.{A, B}
 use Rattle.fr_slots.specs.History.{each_after}
-use Rattle.fr_streaming.specs.CommitLog.{commit_after, commit_text, ended_text, if_sealed, node_lines, sending, sent_line}
+use Rattle.fr_streaming.specs.CommitLog.{commit_after, commit_text, ended_text, if_sealed, node_lines, sending}
+use Rattle.fr_streaming.specs.CommitLog.{sent_line}
 
 -- ---- what happens
 

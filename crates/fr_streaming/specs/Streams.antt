@@ -132,7 +132,8 @@ TellsBetween Record s d old calls new text =
     record_text s d.params new.bus.sealed ≡ record_text s d.params old.bus.sealed ++ text
 TellsBetween Windows s d old calls new text =
     spans_text d.params new.bus.sealed ≡ spans_text d.params old.bus.sealed ++ text
-TellsBetween Heard s d old calls new text = capture_of d.params new.bus.sealed ≡ capture_of d.params old.bus.sealed ++ text
+TellsBetween Heard s d old calls new text =
+    capture_of d.params new.bus.sealed ≡ capture_of d.params old.bus.sealed ++ text
 
 -- Each world that leads to the data before is in this relation to one that leads to the data after, with some calls of
 -- tasks. The same text is written of each.

@@ -11,8 +11,8 @@
 //!
 //! - `Streams`: the text of a view after some calls and windows, and what a run in a world without history has written.
 //! - `CommitLog`: the lines of the log of commits, by the journals of the world with its whole history.
-//! - `CommitLaws`: what happens to the commits of a journal; the log and the view of all commits after a run follow from
-//!   it.
+//! - `CommitLaws`: what happens to the commits of a journal; the log and the view of all commits after a run follow
+//!   from it.
 //! - `Runs`: the run of a scenario, and the reasons why there is none.
 //!
 //! `LogSteps` follows the steps of the code, for private functions. It has the lines of the log by the kept data; the

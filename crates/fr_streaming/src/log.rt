@@ -1,7 +1,8 @@
 //! The lines of the log of commits.
 ghost use Rattle.std.specs.Prelude.{◌≡◌, ◌≤◌, [], length};
 ghost use Rattle.fr_streaming.specs.CommitLog.{commit_text, pending_text};
-ghost use Rattle.fr_streaming.specs.LogSteps.{call_text, commit_at, data_in, end_text, left_at, left_in, offers_in, offers_of};
+ghost use Rattle.fr_streaming.specs.LogSteps.{call_text, commit_at, data_in, end_text, left_at, left_in, offers_in};
+ghost use Rattle.fr_streaming.specs.LogSteps.{offers_of};
 ghost use Rattle.fr_streaming.specs.LogSteps.{overwritten_by, place_in, sent_at, sent_from, sent_on, withdrawn_by};
 ghost use Rattle.fr_text.specs.Writing.{Writes};
 

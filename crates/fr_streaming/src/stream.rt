@@ -122,9 +122,9 @@ fn notes_of(alloc: Global, scenario: &Scenario) -> Result<StreamNotes, AllocErro
 ///
 /// A run has 1 to 4,000,000 cycles, and the number of cycles, multiplied by the static slots and minislots of a cycle,
 /// fits in 32 bits. It needs the memory of one cycle. The events are those of `fr_playing::play::play`, and the text is
-/// that of `fr_showing::show::show_run`, except for commits: a line for each thing that happens to one, as the run goes.
-/// The file is read to its end first. It names cycles 0 to 1023 at most: calls of `*` are made in these alone, and
-/// faults of `*` in every cycle.
+/// that of `fr_showing::show::show_run`, except for commits: a line for each thing that happens to one, as the run
+/// goes. The file is read to its end first. It names cycles 0 to 1023 at most: calls of `*` are made in these alone,
+/// and faults of `*` in every cycle.
 ///
 /// It returns the numbers of the scenario's lines that name cycles, but none of the run. It also returns those of the
 /// expectations that name a cycle of the run, none of which is judged.

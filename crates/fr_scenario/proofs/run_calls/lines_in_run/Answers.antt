@@ -26,7 +26,8 @@ loop-cycle-preserved c =
     let statements = c.args.statements.now in
     let cycle = c.loop-cycle.cycle in
     let places = map (λ made. made.items) c.args.places.now in
-    let lines = λ (k cycle : ℕ). lines_of (node_at k) (task_at k) cycle (calls_at statements (get_or places cycle [])) in
+    let lines = λ (k cycle : ℕ). lines_of (node_at k) (task_at k) cycle
+    (calls_at statements (get_or places cycle [])) in
     let made = c.as_slice-made.result.now in
     let from = c.from.ensures in
     let here : made ≡ get_or places cycle [] =

@@ -12,4 +12,5 @@ returns-in-Ok g c =
 
 pub returns-in-Err : goal.returns-in-Err
 returns-in-Err g c =
-    memory_told g.W.Write.contents _ _ c.write_memory.result (trace_text Three c.args.interface.now) c.write_memory.ensures
+    memory_told g.W.Write.contents _ _ c.write_memory.result
+    (trace_text Three c.args.interface.now) c.write_memory.ensures

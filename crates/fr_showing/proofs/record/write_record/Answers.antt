@@ -34,7 +34,8 @@ loop-sealed-preserved g c =
       few = omega (arith, c.begun_with-begun.ensures, c.loop-sealed.invariant.few, digit (begins_cycle r));
       written =
           window_more rs n r c.loop-sealed-test.true c.sealed-item.is
-          (window_text c.args.scenario.now c.args.params.now) c.begun_with-begun.result (g.W.Write.contents c.args.writer.now)
+          (window_text c.args.scenario.now c.args.params.now) c.begun_with-begun.result
+          (g.W.Write.contents c.args.writer.now)
           (g.W.Write.contents c.loop-sealed.writer) (g.W.Write.contents c.write_window.new.writer) begun
           c.loop-sealed.invariant.written
           (subst (λ (k : ℕ). Appends (g.W.Write.contents c.loop-sealed.writer)

@@ -27,7 +27,8 @@ loop-sealed-preserved g c =
     record {
       begun = begun;
       written =
-          window_more rs n r lt at (span_line c.args.params.now) c.begun_with-begun.result (g.W.Write.contents c.args.writer.now)
+          window_more rs n r lt at (span_line c.args.params.now) c.begun_with-begun.result
+          (g.W.Write.contents c.args.writer.now)
           (g.W.Write.contents c.loop-sealed.writer) (g.W.Write.contents c.write_window.new.writer) begun
           c.loop-sealed.invariant.written
           (subst (λ (k : ℕ). Appends (g.W.Write.contents c.loop-sealed.writer)
