@@ -64,6 +64,13 @@ look();
 """A script that returns the document as text, once a walk is done."""
 
 
+def dumped(address: str, folder: Path) -> str:
+    """Returns the document of a page in Chromium, as text, after its scripts."""
+    words = [str(BROWSER), "--headless", "--no-sandbox", "--disable-gpu", f"--user-data-dir={folder}/profile",
+             "--window-size=1280,1000", "--virtual-time-budget=30000", "--dump-dom", address]
+    return subprocess.run(words, capture_output=True, text=True, timeout=SECONDS, check=True).stdout
+
+
 class Walks(Pages):
     """Walks through a page in a browser, and what they show."""
 
@@ -124,9 +131,7 @@ class Walks(Pages):
 @needs_node
 class InChromium(Walks):
     def opened(self, page: str, steps: tuple[str, ...]) -> str:
-        words = [str(BROWSER), "--headless", "--no-sandbox", "--disable-gpu", f"--user-data-dir={self.folder}/profile",
-                 "--window-size=1280,1000", "--virtual-time-budget=30000", "--dump-dom", self.with_walk(page, steps)]
-        return subprocess.run(words, capture_output=True, text=True, timeout=SECONDS, check=True).stdout
+        return dumped(self.with_walk(page, steps), self.folder)
 
     def test_a_walk(self) -> None:
         self.held(self.page(), STEPS)

@@ -329,7 +329,8 @@ class Help(Shows):
                     words = example.partition(" > ")[0].replace("examples/", f"{TOP}/examples/").split()
                     words = [str(self.folder / it) if it.endswith(".html") else it for it in words]
                     # The recording of the examples has a finding.
-                    self.assertEqual(self.asked(*words)[0], 3 if it.name == "monitor" else 0)
+                    has_finding = it.name == "monitor" or "--recording" in words
+                    self.assertEqual(self.asked(*words)[0], 3 if has_finding else 0)
 
     def test_version(self) -> None:
         self.assertEqual(self.printed("--version"), f"musmyrtle {version()}\n")

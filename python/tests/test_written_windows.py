@@ -1,4 +1,5 @@
-"""The record and the capture that a world without history writes: the bytes of `fr_view record` and `fr_view bus`."""
+"""The files that a world without history writes: the bytes of `fr_view record` and `fr_view bus`, and the traces of the
+same world with history, but for their first lines."""
 import os
 import subprocess
 import unittest
@@ -11,6 +12,7 @@ from musmyrtle.program import usual_program
 EXAMPLES = Path(__file__).resolve().parents[2] / "examples"
 THREE_NODES = EXAMPLES / "three-nodes/cluster.toml"
 VIEW = os.environ.get("FR_VIEW") or usual_program("fr_view") or ""
+BENCH = os.environ.get("FR_BENCH") or usual_program("fr_bench") or ""
 HEADER = bytes.fromhex("d4c3b2a1 0200 0400 00000000 00000000 08010000 d2000000")
 """The file header of docs/formats/views.md."""
 
@@ -66,9 +68,10 @@ class TestWrittenWindows(unittest.TestCase):
         self.assertFalse(self.lines.exists() or self.frames.exists())
 
     def test_a_world_with_history_has_none(self) -> None:
-        for record, capture in ((self.lines, None), (None, self.frames)):
+        folder = self.lines.parent
+        for record, capture, traces in ((self.lines, None, None), (None, self.frames, None), (None, None, folder)):
             with self.assertRaisesRegex(ValueError, "keeps its history"):
-                World(THREE_NODES, cycles=4, record=record, capture=capture)
+                World(THREE_NODES, cycles=4, record=record, capture=capture, traces=traces)
         self.assertFalse(self.lines.exists() or self.frames.exists())
 
     def test_a_file_that_cannot_be_opened(self) -> None:
@@ -78,6 +81,34 @@ class TestWrittenWindows(unittest.TestCase):
         self.assertNotIsInstance(caught.exception, ClusterRefused)
         with self.assertRaisesRegex(SessionOver, r"refused Capture"):
             World(THREE_NODES, capture=missing)
+
+    def test_traces(self) -> None:
+        traces = self.lines.parent / "traces"
+        traces.mkdir()
+        scenario = (EXAMPLES / "three-nodes/scenario").read_text()
+        with World(THREE_NODES, cycles=4) as world:
+            world.play_scenario(scenario, 4)
+            texts = [world.node(number).trace() for number in range(3)]
+            reports = ["".join(f"{line}\n" for line in world.block(f"report {number}")) for number in range(3)]
+        with World(THREE_NODES, traces=traces) as world:
+            world.play_scenario(scenario, 4)
+        for number, (text, report) in enumerate(zip(texts, reports)):
+            magic, params, node, *lines = text.splitlines(keepends=True)
+            words = node.split(" ")
+            node = " ".join([*words[:4], "1073741824", "3221225469\n"])
+            written = (traces / str(number)).read_text()
+            self.assertEqual(written, "".join(["frtrace 4\n", params, node, *lines]))
+            audit = subprocess.run([BENCH, "audit"], input=written, capture_output=True, text=True, check=True)
+            self.assertEqual(audit.stdout, report)
+
+    def test_a_trace_that_cannot_be_written(self) -> None:
+        with self.assertRaisesRegex(SessionOver, f"{self.lines}/0 can't be written"):
+            World(THREE_NODES, traces=self.lines)
+        traces = self.lines.parent / "traces"
+        traces.mkdir()
+        (traces / "1").symlink_to("/dev/full")
+        with self.assertRaisesRegex(SessionOver, f"{traces}/1 can't be written"):
+            World(THREE_NODES, traces=traces)
 
     def test_a_full_disk(self) -> None:
         with World(THREE_NODES, record="/dev/full") as world:

@@ -6,6 +6,7 @@ from concurrent.futures import FIRST_COMPLETED, Future, ThreadPoolExecutor, wait
 from pathlib import Path
 from typing import TypeVar
 
+from musmyrtle.breaking import deferred
 from musmyrtle.faults.answers import Answer
 from musmyrtle.faults.children import Children
 from musmyrtle.faults.whole_files import unusable, write_file
@@ -15,6 +16,8 @@ OUTCOME = ("fr_view", "outcome")
 """The program and its command that print the outcome of a run."""
 CLUSTER_FILE, SCENARIO_FILE = "cluster.toml", "scenario"
 NOT_STARTED = 126
+LOOK_SECONDS = 0.1
+"""The seconds after which a thread that waits for runs looks whether a signal has come."""
 Item = TypeVar("Item")
 Result = TypeVar("Result")
 
@@ -86,7 +89,9 @@ def pooled(work: Callable[[Item], Result], items: Iterable[Item], cores: int,
         try:
             while True:
                 for item in todo:
-                    running[pool.submit(work, item)] = item
+                    # A signal within `submit` would lose a thread that has started.
+                    with deferred():
+                        running[pool.submit(work, item)] = item
                     if len(running) >= 2 * cores:
                         break
                 if not running:
@@ -99,6 +104,10 @@ def pooled(work: Callable[[Item], Result], items: Iterable[Item], cores: int,
 
 
 def finished(running: dict[Future[Result], Item]) -> Iterator[tuple[Item, Result]]:
-    done, _ = wait(running, return_when=FIRST_COMPLETED)
+    done: set[Future[Result]] = set()
+    while not done:
+        # A signal that comes just before this thread sleeps doesn't wake it, and one within `wait` leaves locks taken.
+        with deferred():
+            done, _ = wait(running, LOOK_SECONDS, FIRST_COMPLETED)
     for future in done:
         yield running.pop(future), future.result()

@@ -13,6 +13,8 @@ from musmyrtle.visible import cut
 
 MAGIC = b"frtrace"
 FIRST_LINES = {f"frtrace {version}": version for version in (1, 2, 3)}
+LONG_TRACE = "frtrace 4"
+"""The first line of a trace that `fr_bench audit` alone reads."""
 REASONS = {
     "Line Late": ("the line comes too late", "Expected ownership lines, then buffers, then the line `queue`."),
     "Line Full": ("there is no room for the line", "Expected at most 64 ownership lines, 64 buffers and one receive "
@@ -148,6 +150,9 @@ def bad_magic(trace: TraceFile) -> Fault:
         return "the first line ends with a carriage return", reason, len(trace.text)
     if trace.text in FIRST_LINES:
         return "the first line has no line feed", right, len(trace.text) + 1
+    if trace.text == LONG_TRACE:
+        reason = "`fr_bench audit` reads version 4, and names the first line at fault."
+        return "traces of version 4 aren't explained here", reason, 1
     return "the first line doesn't name the format", right, 1
 
 

@@ -4,7 +4,7 @@ import os
 import re
 import subprocess
 import sys
-from collections.abc import Iterable, Iterator
+from collections.abc import Callable, Iterable, Iterator
 from contextlib import ExitStack
 from tempfile import TemporaryFile
 from typing import IO
@@ -61,15 +61,20 @@ def arguments() -> argparse.ArgumentParser:
         help="a capture (pcap or pcapng, link type 210) of any length; without it, or for -, standard input")
     add("--findings", metavar="N", type=lambda word: number_of(word, 0), default=20,
         help=f"the most findings of each name to print, 0 to {MOST_NUMBER} (20); all are counted")
-    add("--whole", action="store_true", help="the recording begins and ends with whole cycles")
     add("--channel", choices=("A", "B"), help="the only channel to judge")
+    add_judging(parser)
+    add_forms(parser)
+    return parser
+
+
+def add_judging(parser: argparse.ArgumentParser) -> None:
+    """Adds the options by which a recording is judged."""
+    parser.add_argument("--whole", action="store_true", help="the recording begins and ends with whole cycles")
     times = parser.add_mutually_exclusive_group()
     times.add_argument("--times", action="store_true",
                        help="judge times, too, with the macrotick_us of the cluster file")
     times.add_argument("--macrotick", metavar="NS", type=lambda word: number_of(word, 1),
                        help=f"judge times, too, with a macrotick of so many nanoseconds, 1 to {MOST_NUMBER}")
-    add_forms(parser)
-    return parser
 
 
 def macrotick(given: argparse.Namespace, network: Network) -> int | None:
@@ -91,6 +96,13 @@ def words_of(given: argparse.Namespace, inputs: Inputs, nanoseconds: int | None)
     words += [] if given.channel is None else ["--channel", given.channel]
     words += [] if nanoseconds is None else ["--macrotick", str(nanoseconds)]
     return [*words, "--", inputs.task.file(inputs.task.cluster)]
+
+
+def source_of(given: argparse.Namespace, files: ExitStack) -> IO[bytes]:
+    """Returns the recording that is given, opened. Raises `Stop` where the cluster file has the same input."""
+    if os.path.realpath(given.cluster) == os.path.realpath("/dev/stdin") and given.recording == STANDARD_INPUT:
+        raise Stop(USAGE, "the cluster file and the recording can't both come from standard input")
+    return recording_of(given.recording, files)
 
 
 def recording_of(name: str, files: ExitStack) -> IO[bytes]:
@@ -142,20 +154,15 @@ KINDS: dict[str, tuple[str, tuple[Column, ...], str]] = {
 """The kinds of rows, each with a title, columns, and a line for a table without rows."""
 
 
-def asked(inputs: Inputs, program: str, words: list[str], source: IO[bytes], tables: Tables,
-          is_live: bool) -> tuple[int, list[str]]:
-    """Runs the program on a recording, and returns its status and messages.
-
-    With IS_LIVE each row is printed as it comes.
-    """
+def asked(inputs: Inputs, program: str, words: list[str], source: IO[bytes], add: Callable[[str], None]
+          ) -> tuple[int, list[str]]:
+    """Runs the program on a recording, and returns its status and messages. ADD gets each line as it comes."""
     # A pipe for the messages could fill while the rows are read.
     try:
         with (TemporaryFile() as messages, inputs.children.started(
                 [program, *words], stdin=source, stdout=subprocess.PIPE, stderr=messages) as process):
             for line in process.stdout or ():
-                section = tables.add(line.decode(errors="replace").rstrip("\n"))
-                if section is not None and is_live:
-                    write(sys.stdout, as_json([section]))
+                add(line.decode(errors="replace").rstrip("\n"))
             process.wait()
             messages.seek(0)
             told = messages.read().decode(errors="replace").splitlines()
@@ -165,23 +172,43 @@ def asked(inputs: Inputs, program: str, words: list[str], source: IO[bytes], tab
     return process.returncode, told
 
 
+def judged(inputs: Inputs, given: argparse.Namespace, source: IO[bytes], add: Callable[[str], None], *more: str
+           ) -> tuple[int, list[str]]:
+    """Runs the program with the given words and MORE, and returns its status and messages. ADD gets each line.
+
+    Raises `Stop` where the program gives no answer.
+    """
+    words = [*more, *words_of(given, inputs, macrotick(given, inputs.network))]
+    program = inputs.program("fr_monitor")
+    program = itself(program) if is_launcher(program) else program
+    status, told = asked(inputs, program, words, source, add)
+    if status not in (FINE, FOUND, REFUSED):
+        answer = Answer(status, " ".join(told).strip() or f"status {status}", False)
+        raise Stop(USAGE, no_answer(program, words, answer))
+    return status, told
+
+
 def outcome(given: argparse.Namespace, inputs: Inputs, source: IO[bytes]) -> int:
     """Prints the tables of a recording, and returns the status."""
     # Only an accepted cluster has names, and the reason of a refusal is explained.
     inputs.of_cluster("fr_bench", "check")
     tables = Tables(inputs.network)
-    words = words_of(given, inputs, macrotick(given, inputs.network))
-    program = inputs.program("fr_monitor")
-    program = itself(program) if is_launcher(program) else program
-    status, told = asked(inputs, program, words, source, tables, given.json)
-    if status not in (FINE, FOUND, REFUSED):
-        answer = Answer(status, " ".join(told).strip() or f"status {status}", False)
-        raise Stop(USAGE, no_answer(program, words, answer))
+
+    def add(line: str) -> None:
+        section = tables.add(line)
+        if section is not None and given.json:
+            write(sys.stdout, as_json([section]))
+    status, told = judged(inputs, given, source, add)
     if not given.json and any(tables.rows.values()):
         printed(shown(given, tables.sections()))
+    tell(told)
+    return status
+
+
+def tell(told: list[str]) -> None:
+    """Passes the messages of the program on, a refusal with its reason."""
     for line in told:
         pass_on(f"{COMMAND}: {explained(line)}" if line.startswith("refused ") else line)
-    return status
 
 
 def shown(given: argparse.Namespace, sections: list[Section]) -> Iterable[str]:
@@ -225,9 +252,7 @@ def main(words: list[str]) -> int:
     try:
         with breaking_off(), ExitStack() as files:
             given = arguments().parse_args(words)
-            if os.path.realpath(given.cluster) == os.path.realpath("/dev/stdin") and given.recording == STANDARD_INPUT:
-                raise Stop(USAGE, "the cluster file and the recording can't both come from standard input")
-            source = recording_of(given.recording, files)
+            source = source_of(given, files)
             with opened(given.cluster) as inputs:
                 status = outcome(given, inputs, source)
         return status

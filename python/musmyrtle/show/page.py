@@ -4,9 +4,10 @@ import base64
 import re
 import sys
 import zlib
-from contextlib import suppress
+from contextlib import ExitStack, suppress
 from html import escape
 from pathlib import Path
+from typing import IO
 
 from musmyrtle.breaking import BrokenOff, breaking_off
 from musmyrtle.lint.command import FINE, Parser, shown_examples
@@ -14,19 +15,23 @@ from musmyrtle.missed import MISSED
 from musmyrtle.output import Stop, pass_on, write
 from musmyrtle.show.engines import COMMAND, Awaited, Inputs, opened
 from musmyrtle.show.facts import Facts
+from musmyrtle.show.monitor import MOST_NUMBER, add_judging, explained, source_of, tell
 from musmyrtle.show.options import CLUSTER, SCENARIO, statuses
 from musmyrtle.show.page_data import packed_run
 from musmyrtle.show.page_endless import packed_endless
+from musmyrtle.show.page_recording import has_page, packed_recording, range_of, recorded
 from musmyrtle.visible import visible
 from musmyrtle.world.bounds import MOST_CYCLES, MOST_ENDLESS
 
 FILES = Path(__file__).with_name("page_files")
-SCRIPTS = ("decode", "run", "lines", "cells", "view", "layout", "find", "buffers", "details", "slots", "paint", "panel",
-           "explore")
+SCRIPTS = ("decode", "run", "lines", "cells", "view", "layout", "find", "buffers", "details", "slots", "recording",
+           "paint", "panel", "explore")
 """The scripts of the page, each after those that it uses."""
 PURPOSE = ("Writes a page in which a run is explored in a browser: what was sent when, what each node received, and\n"
-           "what came of each commit.")
-EXAMPLE = ("page examples/three-nodes/cluster.toml examples/three-nodes/scenario --cycles 4 > run.html",)
+           "what came of each commit. With --recording it is the page of a recording of a real bus, with its findings.")
+EXAMPLE = ("page examples/three-nodes/cluster.toml examples/three-nodes/scenario --cycles 4 > run.html",
+           "page examples/three-nodes/cluster.toml --recording examples/recordings/disturbed.pcap > run.html")
+OF_RECORDING = "With --recording the statuses are those of `musmyrtle monitor`: 3 if there is a finding."
 LONGEST_TITLE = 100
 NO_ROOM = "NoRoom"
 """The refusal of a run whose history has no room."""
@@ -48,6 +53,17 @@ def page_of_run(inputs: Inputs, is_endless: bool) -> str:
             inputs.awaited = frozenset()
             pass_on(GOES_ON)
     return assembled(packed_endless(inputs), f"Run of {inputs.task.cluster}")
+
+
+def page_of_recording(inputs: Inputs, given: argparse.Namespace, source: IO[bytes]) -> tuple[str | None, int]:
+    """Returns the page of a recording, and the status. A recording that is refused from its start has no page."""
+    found, status, told = recorded(inputs, given, source)
+    page = None
+    if has_page(told):
+        cut_off = "; ".join(explained(it) for it in told if it.startswith("refused "))
+        page = assembled(packed_recording(inputs, given, found, cut_off), f"Recording of {inputs.task.cluster}")
+    tell(told)
+    return page, status
 
 
 def assembled(data: bytes, title: str) -> str:
@@ -80,15 +96,20 @@ def script(names: tuple[str, ...]) -> str:
 def arguments() -> argparse.ArgumentParser:
     """Returns the parser of the command's words."""
     parser = Parser(prog=f"{COMMAND} page", description=PURPOSE, allow_abbrev=False,
-                    epilog=f"{shown_examples(EXAMPLE)}\n{statuses(has_run=True)}",
+                    epilog=f"{shown_examples(EXAMPLE)}\n{statuses(has_run=True)}\n{OF_RECORDING}",
                     formatter_class=argparse.RawDescriptionHelpFormatter)
     parser.add_argument("cluster", metavar=CLUSTER, help="a cluster file")
-    parser.add_argument("scenario", metavar=SCENARIO, help="a scenario of this cluster")
-    parser.add_argument("--cycles", metavar="N", type=int_of_cycles, required=True,
-                        help=f"the cycles of the run, 1 to {MOST_CYCLES}, or more with --endless")
-    parser.add_argument("--endless", action="store_true",
-                        help="the page of a run without history, of up to 4,000,000 static slots and minislots in all "
-                             "its cycles; a run whose history has no room gets such a page in any case")
+    add = parser.add_argument
+    add("scenario", metavar=SCENARIO, nargs="?", help="a scenario of this cluster")
+    add("--cycles", metavar="N",
+        help=f"the cycles of the run, 1 to {MOST_CYCLES}, or more with --endless; with --recording the cycles to show, "
+             "as 0-63, or all without it")
+    add("--endless", action="store_true",
+        help="the page of a run without history, of up to 4,000,000 static slots and minislots in all its cycles; a "
+             "run whose history has no room gets such a page in any case")
+    add("--recording", metavar="RECORDING",
+        help="the page of this capture (pcap or pcapng, link type 210) in the place of a run; - is standard input")
+    add_judging(parser)
     return parser
 
 
@@ -104,9 +125,52 @@ def parsed(words: list[str]) -> argparse.Namespace:
     """Returns the words of the command. Ends with status 2 for wrong ones."""
     parser = arguments()
     given = parser.parse_args(words)
-    if given.cycles > MOST_CYCLES and not given.endless:
+    if given.recording is not None and (given.scenario is not None or given.endless):
+        parser.error(f"--recording takes the place of {SCENARIO} and --endless")
+    if given.recording is None:
+        check_run(parser, given)
+    try:
+        if given.recording is None:
+            given.cycles = int_of_cycles(given.cycles)
+        elif given.cycles is not None:
+            given.cycles = range_of(given.cycles)
+    except argparse.ArgumentTypeError as error:
+        parser.error(f"argument --cycles: {error}")
+    if given.recording is None and given.cycles > MOST_CYCLES and not given.endless:
         parser.error(f"a run of {given.cycles} cycles needs --endless: without it there are 1 to {MOST_CYCLES}")
+    given.findings, given.channel = MOST_NUMBER, None
     return given
+
+
+def check_run(parser: argparse.ArgumentParser, given: argparse.Namespace) -> None:
+    """Ends with status 2 where the words of a run are missing, or are those of a recording."""
+    absent = [name for name, value in ((SCENARIO, given.scenario), ("--cycles", given.cycles)) if value is None]
+    if absent:
+        parser.error(f"the following arguments are required: {', '.join(absent)}")
+    alone = {"--whole": given.whole, "--times": given.times, "--macrotick": given.macrotick is not None}
+    for name in (it for it, is_given in alone.items() if is_given):
+        parser.error(f"{name} needs --recording")
+
+
+def done_run(given: argparse.Namespace) -> int:
+    """Writes the page of a run, and returns the status."""
+    with opened(given.cluster, given.scenario, given.cycles) as inputs:
+        text = page_of_run(inputs, given.endless)
+    with suppress(BrokenPipeError):
+        write(sys.stdout, [text])
+    return MISSED if inputs.misses else FINE
+
+
+def done_recording(given: argparse.Namespace) -> int:
+    """Writes the page of a recording, and returns the status of `musmyrtle monitor`."""
+    with ExitStack() as files:
+        source = source_of(given, files)
+        with opened(given.cluster) as inputs:
+            text, status = page_of_recording(inputs, given, source)
+    if text is not None:
+        with suppress(BrokenPipeError):
+            write(sys.stdout, [text])
+    return status
 
 
 def main(words: list[str]) -> int:
@@ -114,11 +178,7 @@ def main(words: list[str]) -> int:
     try:
         with breaking_off():
             given = parsed(words)
-            with opened(given.cluster, given.scenario, given.cycles) as inputs:
-                text = page_of_run(inputs, given.endless)
-            with suppress(BrokenPipeError):
-                write(sys.stdout, [text])
-        return MISSED if inputs.misses else FINE
+            return done_recording(given) if given.recording is not None else done_run(given)
     except Stop as stop:
         return stop.tell(COMMAND)
     except BrokenOff as signal:

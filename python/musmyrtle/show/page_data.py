@@ -4,6 +4,7 @@ from typing import Any
 
 from musmyrtle.show.facts import ARRIVED, Facts, text
 from musmyrtle.show.log import ENDS
+from musmyrtle.show.network import Network
 from musmyrtle.show.page_calls import Answers, add_commits
 from musmyrtle.show.page_columns import Columns
 from musmyrtle.show.page_record import Record
@@ -52,7 +53,7 @@ def header_of(facts: Facts, outcomes: list[list[str]], idle: list[int], missing:
     return {
         "version": version(), "cluster": shown(inputs.task.cluster), "scenario": shown(inputs.task.scenario or ""),
         "cycles": inputs.cycles, "macrotick_us": network.macrotick, "params": vars(network.cluster.parameters),
-        "nodes": [{**node_of(facts, it), "outcome": outcomes[it]} for it in range(len(network.cluster.nodes))],
+        "nodes": [{**node_of(network, it), "outcome": outcomes[it]} for it in range(len(network.cluster.nodes))],
         "plan": [it.split(" ") for it in inputs.of_cluster("fr_bench", "plan").lines if not it.startswith("guard ")],
         "faults": fault_lines(facts), "idle": idle, "arrived": ARRIVED,
         "is_endless": bool(missing), "missing": missing,
@@ -66,9 +67,9 @@ def shown(name: str) -> str:
     return visible(name[:LONGEST_NAME])
 
 
-def node_of(facts: Facts, number_of_node: int) -> dict[str, Any]:
+def node_of(network: Network, number_of_node: int) -> dict[str, Any]:
     """Returns the name of a node and its buffers."""
-    node, network = facts.network.cluster.nodes[number_of_node], facts.network
+    node = network.cluster.nodes[number_of_node]
     name = network.node_names[node.number]
     buffers = [{"name": None if its is None else shown(its), "kind": it.kind, "slot": it.slot, "channels": it.channels,
                 "base": it.cycles.base, "repetition": it.cycles.repetition}

@@ -5,6 +5,7 @@ import time
 import weakref
 from collections import deque
 from collections.abc import Iterable
+from dataclasses import dataclass
 
 from musmyrtle.world.child import Child, Gone, Late
 from musmyrtle.world.faults import is_fault_line
@@ -19,6 +20,28 @@ MOST_ASKED = 10_000
 FileName = str | os.PathLike[str]
 
 
+@dataclass(frozen=True)
+class Outputs:
+    """The files to which a world without history writes: its record, a capture, and the folder of its traces."""
+
+    record: FileName | None = None
+    capture: FileName | None = None
+    traces: FileName | None = None
+
+    def words(self) -> list[str]:
+        """Returns the options of the program."""
+        named = (("record", self.record), ("capture", self.capture), ("trace", self.traces))
+        return [f"--{option}={os.fspath(name)}" for option, name in named if name is not None]
+
+    def refused(self, said: str) -> str | None:
+        """Returns the file of a refusal that the program prints, or None for another one."""
+        kind, _, node = said.removeprefix("refused ").partition(" ")
+        if kind == "Trace" and self.traces is not None:
+            return os.path.join(os.fspath(self.traces), node)
+        name = {"Record": self.record, "Capture": self.capture}.get(kind)
+        return None if name is None else os.fspath(name)
+
+
 class Session:
     """Asks a program requests and returns its replies, in order and each to the request it belongs to.
 
@@ -29,22 +52,20 @@ class Session:
     """
 
     def __init__(self, program: FileName, cluster: FileName, cycles: int | None, timeout: float | None = None, *,
-                 endless: bool = False, record: FileName | None = None, capture: FileName | None = None) -> None:
+                 endless: bool = False, outputs: Outputs = Outputs()) -> None:
         """Starts the program and reads its first line.
 
-        ENDLESS asks for a world without history, whose CYCLES are None for the most. RECORD and CAPTURE are files to
-        which it writes its windows, or None. TIMEOUT is the time limit of each
-        request in seconds, or None for no limit. Raises `NotStarted`, `ClusterRefused`, `BadCycles` where the cluster
-        can't have so many, `NoRoom`, `SessionOver` where the program speaks another version, and `TimedOut`.
+        ENDLESS asks for a world without history, whose CYCLES are None for the most. OUTPUTS are the files to which it
+        writes. TIMEOUT is the time limit of each request in seconds, or None for no limit. Raises `NotStarted`,
+        `ClusterRefused`, `BadCycles` where the cluster can't have so many, `NoRoom`, `SessionOver` where the program
+        speaks another version, and `TimedOut`.
         """
         command = [os.fspath(program), os.fspath(cluster), *(["--endless"] if endless else []),
-                   *([] if cycles is None else ["--cycles", str(cycles)]),
-                   *([] if record is None else [f"--record={os.fspath(record)}"]),
-                   *([] if capture is None else [f"--capture={os.fspath(capture)}"])]
+                   *([] if cycles is None else ["--cycles", str(cycles)]), *outputs.words()]
         self.lock = threading.RLock()
         self.asked: deque[str] = deque(maxlen=MOST_ASKED if endless else None)
         self.kept: list[str] = []
-        self._files = {"refused Record": record, "refused Capture": capture}
+        self._outputs = outputs
         self._timeout = timeout
         self._over: str | None = None
         self._is_waiting = self._is_closed = False
@@ -176,8 +197,8 @@ class Session:
     def _last_words(self) -> str:
         """Returns the end of standard error. Of a file that fails it names the file."""
         said = self._child.last_words()
-        file = self._files.get(said)
-        return said if file is None else f"{os.fspath(file)} can't be written ({said})"
+        file = self._outputs.refused(said)
+        return said if file is None else f"{file} can't be written ({said})"
 
     def _whole(self, first: str, deadline: float | None) -> str:
         """Returns the reply that begins with the line `lines K` and has K further lines."""

@@ -21,7 +21,7 @@ from musmyrtle.world.node import Buffer, Node
 from musmyrtle.world.playing import Host, Play
 from musmyrtle.world.refusals import BadCycles, BadName, TooManyFaults, UnknownNode, WrongLength, refusal
 from musmyrtle.world.replies import Channel, Counters, Moment, Record, Window, record_of, window_of
-from musmyrtle.world.session import CLOSE_SECONDS, FileName, Session
+from musmyrtle.world.session import CLOSE_SECONDS, FileName, Outputs, Session
 from musmyrtle.world.stepping import requests_of
 from musmyrtle.world.world_program import usual_world
 
@@ -47,7 +47,7 @@ class World:
     """
 
     def __init__(self, cluster: FileName, cycles: int | None = None, *, endless: bool = False,
-                 record: FileName | None = None, capture: FileName | None = None,
+                 record: FileName | None = None, capture: FileName | None = None, traces: FileName | None = None,
                  program: FileName | None = None, timeout: float | None = None) -> None:
         """Opens the world of a cluster file for a run of so many cycles, 1 to 1024.
 
@@ -56,9 +56,11 @@ class World:
         `record` has the window that was sealed last alone.
 
         RECORD and CAPTURE are the files to which a world without history writes the record of the bus and a capture of
-        it, each window once it is sealed. They are emptied first, and each call that returns has its windows there.
-        Raises `ValueError` for a world that keeps its history, and `SessionOver` where a file can't be opened; if one
-        can't be written, the call that sealed the window raises it.
+        it, each window once it is sealed. TRACES is a folder that exists: the file `N` in it gets the trace of node N,
+        which `fr_bench audit` reads once the world is closed, or as it comes if the file is a named pipe. All these
+        files are emptied first, and each call that returns has its windows and entries there. Raises `ValueError` for a
+        world that keeps its history, and `SessionOver` where a file can't be opened; if one can't be written, the call
+        with the window or the entry raises it.
 
         PROGRAM is the `fr_world` to run, which `usual_world` finds otherwise. TIMEOUT is the time limit in seconds of
         each request and of the opening, or None. Raises `BadCycles` for another number of cycles, `NoRoom` where a
@@ -66,8 +68,10 @@ class World:
         a key `name` of the cluster file isn't a string, and `TimedOut`.
         """
         self._is_endless = endless or cycles is None
-        if not self._is_endless and not (record is None and capture is None):
-            raise ValueError("a world that keeps its history writes no file as it goes: use `capture` and `record`")
+        outputs = Outputs(record, capture, traces)
+        if not self._is_endless and outputs.words():
+            raise ValueError(
+                "a world that keeps its history writes no file as it goes: use `capture`, `record` and `trace`")
         try:
             if cycles is not None:
                 cycles = endless_cycles(cycles) if self._is_endless else run_cycles(cycles)
@@ -79,7 +83,7 @@ class World:
         self._unread = ""
         self._read_clock: Clock | None = None
         self._session = Session(program or usual_world(), cluster, cycles, timeout, endless=self._is_endless,
-                                record=record, capture=capture)
+                                outputs=outputs)
         try:
             self._names = self._read_names(self._data)
         except BaseException:

@@ -51,7 +51,7 @@ class Explorer {
     document.getElementById("nodes").append(...this.buttons);
     showMissing(document.getElementById("missing"), run);
     showMissed(document.getElementById("missed"), run, this.choose);
-    showFaults(document.getElementById("faults"), run, this.choose);
+    (run.isRecording ? showFindings : showFaults)(document.getElementById("faults"), run, this.choose);
     showErrors(document.getElementById("errors"), run, this.choose);
   }
 

@@ -57,7 +57,7 @@ function paintCycles(context, {run, view, theme, height, lanes}) {
     lanes.forEach((it) => paintMinislots(context, it, begin, end, minislots));
     if (width > 70) {
       context.fillStyle = theme.ink;
-      context.fillText(`cycle ${cycle}`, Math.max(x, 0) + 4, 10);
+      context.fillText(`cycle ${cycleText(run, cycle)}`, Math.max(x, 0) + 4, 10);
     }
   }
 }

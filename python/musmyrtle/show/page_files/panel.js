@@ -76,7 +76,8 @@ function showErrors(place, run, choose) {
   const {cycles, rows} = errorTable(run, MOST_PARTS);
   const parts = rows[0].counts.map((_, part) => partText(run, part * cycles, cycles));
   const table = {
-    caption: "Errors that nodes counted", isList: false, head: ["node", "all", ...parts],
+    caption: run.isRecording ? "Findings in the slots of nodes" : "Errors that nodes counted", isList: false,
+    head: ["node", "all", ...parts],
     rows: rows.map(({total, counts, first}, node) => [
       {text: nodeName(run, node), choice: {kind: "node", number: node}}, String(total),
       ...counts.map((it, part) => (it ? {text: String(it), choice: first[part]} : "0"))]),
@@ -87,7 +88,8 @@ function showErrors(place, run, choose) {
 /** Returns `cycle 3`, or `cycles 0 to 63`. */
 function partText(run, first, cycles) {
   const last = Math.min(run.header.cycles, first + cycles) - 1;
-  return first === last ? `cycle ${first}` : `cycles ${first} to ${last}`;
+  const [begin, end] = [first, last].map((it) => it + (run.header.first_cycle || 0));
+  return first === last ? `cycle ${begin}` : `cycles ${begin} to ${end}`;
 }
 
 /** Fills an element with what the page of this run doesn't have, a sentence each. */
@@ -124,7 +126,8 @@ function showResults(place, run, choices, choose) {
 function showView(place, run, view, choose) {
   const {count, lines} = inView(run, view, MOST_ROWS);
   const table = carriedTable(run, "In view", lines);
-  const told = `${counted(count, "line")} of the record from ${timeText(run, Math.round(view.from))} to `
+  const source = run.isRecording ? "recording" : "record";
+  const told = `${counted(count, "line")} of the ${source} from ${timeText(run, Math.round(view.from))} to `
     + `${timeText(run, Math.round(view.from + view.span))}.`;
   const more = count > lines.length ? ` The first ${lines.length} are listed; zoom in for others.` : "";
   place.replaceChildren(element("p", {}, told + more), tableElement(table, choose));

@@ -21,6 +21,8 @@ class Run {
     for (const name of ["record_data", "commit_data", "answer_committed", "answer_frame"]) {
       this.starts[name] = beginnings(its[`${name}_size`]);
     }
+    /** True of the page of a recording, which has no commits and no calls. */
+    this.isRecording = this.header.is_recording === true;
     /** False of an endless run, of which no node's observations are known. */
     this.hasSeen = its.seen_state.length > 0;
     this.firstSent = beginnings(its.commit_sends);
@@ -121,8 +123,17 @@ function cut(name) {
 
 /** Returns `pedal (0)`, or `node 0` without a name. */
 function nodeName(run, node) {
-  const name = run.header.nodes[node].name;
+  const {name, is_nobody: isNobody} = run.header.nodes[node];
+  if (isNobody) {
+    return "no configured sender";
+  }
   return name === null ? `node ${node}` : `${cut(name)} (${node})`;
+}
+
+/** Returns the number of a cycle, or of a recording `3 (count 41)`. */
+function cycleText(run, cycle) {
+  const {first_cycle: first, first_count: count} = run.header;
+  return run.isRecording ? `${first + cycle} (count ${(count + cycle) % 64})` : String(cycle);
 }
 
 /** Returns `position (1)`, or `buffer 1` without a name. */

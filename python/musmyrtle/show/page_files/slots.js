@@ -7,7 +7,8 @@ function placeText(run, window, channel) {
   const slot = run.slots[channel][window];
   const minislot = run.columns.window_minislot[window];
   const place = slot ? `Slot ${slot} on ${CHANNELS[channel]}` : `${CHANNELS[channel]} without a slot`;
-  return `${place} in cycle ${run.columns.window_cycle[window]}${minislot ? `, minislot ${minislot}` : ""}`;
+  const cycle = cycleText(run, run.columns.window_cycle[window]);
+  return `${place} in cycle ${cycle}${minislot ? `, minislot ${minislot}` : ""}`;
 }
 
 /** Returns the place of a window, with a line for each transmission, for the pointer. */
@@ -24,9 +25,9 @@ function detailsOfWindow(run, window, channel) {
   const length = run.lengths[channel][window];
   const lines = run.linesAt(window, channel);
   details.facts = [`It begins at ${timeText(run, begin)} and takes ${timeText(run, length)}.`,
-                   lines.length ? `It has ${counted(lines.length, "line")} in the record.` : "Nothing was sent."];
-  details.tables = [carriedTable(run, "Transmissions", lines), receivedTable(run, window, channel)];
-  details.line = lines.map((it) => recordLine(run, it)).join("\n");
+                   linesText(run, lines)];
+  details.tables = [sendsTable(run, lines), receivedTable(run, window, channel)];
+  details.line = run.isRecording ? "" : lines.map((it) => recordLine(run, it)).join("\n");
   details.lit.places = [2 * window + channel];
   details.span = [begin, begin + Math.max(1, length)];
   for (let node = 0; node < run.nodes; node += 1) {
@@ -35,12 +36,29 @@ function detailsOfWindow(run, window, channel) {
     }
   }
   lines.filter((it) => run.word("record_what", it) !== "corrupt")
-    .forEach((it) => details.lit.nodes.set(run.columns.record_node[it], "sends"));
+    .forEach((it) => details.lit.nodes.set(run.columns.record_node[it], run.isRecording ? "configured" : "sends"));
   return details;
+}
+
+/** Returns how many lines of the record a window has, or how many records of a recording. */
+function linesText(run, lines) {
+  if (run.isRecording) {
+    const count = lines.filter((it) => run.columns.record_number[it] !== NO_RECORD).length;
+    return count ? `It has ${counted(count, "record")}.` : "Nothing was recorded.";
+  }
+  return lines.length ? `It has ${counted(lines.length, "line")} in the record.` : "Nothing was sent.";
+}
+
+/** Returns the table of what was sent, or recorded. */
+function sendsTable(run, lines) {
+  return carriedTable(run, run.isRecording ? "Records" : "Transmissions", lines);
 }
 
 /** Returns a table of lines of the record. */
 function carriedTable(run, caption, lines) {
+  if (run.isRecording) {
+    return recordedTable(run, caption, lines);
+  }
   return {caption, head: ["cycle", "at", "slot", "channel", "node", "what", "what came of it", "bytes", "commit",
                           "fault"], rows: new Rows(lines, (it) => carriedRow(run, it))};
 }
@@ -67,6 +85,9 @@ function whatText(run, line) {
   const what = run.word("record_what", line);
   if (what === "corrupt") {
     return `fault for bit ${run.columns.record_bit[line]}`;
+  }
+  if (what === "missing" || what === "broken") {
+    return what === "missing" ? "no frame" : "broken record";
   }
   const flags = run.word("record_flags", line);
   const frame = flags === "-" ? "bytes that are no frame" : flags[1] === "n" ? "null frame" : "data frame";
@@ -101,12 +122,12 @@ function storedText(run, node, word) {
 
 /** Returns the details of a cycle: when it is, and what was sent in it. */
 function detailsOfCycle(run, cycle) {
-  const details = emptyDetails(`Cycle ${cycle}`);
+  const details = emptyDetails(`Cycle ${cycleText(run, cycle)}`);
   const begin = cycle * run.cycleLength;
   const first = run.firstOfWindow[run.firstOfCycle[cycle]];
   const lines = Array.from({length: run.firstOfWindow[run.firstOfCycle[cycle + 1]] - first}, (_, it) => first + it);
   details.facts = [`It begins at ${timeText(run, begin)} and takes ${timeText(run, run.cycleLength)}.`];
-  details.tables = [carriedTable(run, "Transmissions", lines)];
+  details.tables = [sendsTable(run, lines)];
   details.span = [begin, begin + run.cycleLength];
   return details;
 }
@@ -139,7 +160,7 @@ function detailsOfSlot(run, slot) {
   return details;
 }
 
-/** Returns in how many cycles a slot opened on each channel. */
+/** Returns in how many cycles a slot opened on each channel, as far as the page knows. */
 function openedText(run, slot, places) {
   const counts = CHANNELS.map((_, channel) => places.filter((it) => (it & 1) === channel).length);
   return `It opened in ${counted(counts[0], "cycle")} on A and in ${counted(counts[1], "cycle")} on B, of `
@@ -209,7 +230,7 @@ const TEXTS = {
   node: (run, {number}) => nodeName(run, number), buffer: (run, {number}) => receiverName(run, bufferAt(number)),
   commit: (run, {number}) => commitText(run, number), slot: (_, {number}) => `slot ${number}`,
   window: (run, {number, channel}) => placeText(run, number, channel), fault: (run, {number}) => faultText(run, number),
-  cycle: (_, {number}) => `cycle ${number}`,
+  cycle: (run, {number}) => `cycle ${cycleText(run, number)}`,
 };
 
 /** Returns the node, buffer, cycle and bytes of a commit. */

@@ -1,0 +1,159 @@
+"""The frames of a recording and their findings, from the lines that `fr_monitor --frames` prints."""
+from dataclasses import dataclass, field
+
+from musmyrtle.show.network import Network
+from musmyrtle.show.recordings import BACK, FINDING, Place, back_row, finding_row, number, text
+from musmyrtle.show.tables import Name
+
+FRAME, OPENS = "frame", "opens"
+CYCLE_COUNTS = 64
+ELSEWHERE = ("Missing", "Silent", "Symbol", "Nothing")
+"""The findings that aren't about the frame of their record."""
+
+
+@dataclass(slots=True)
+class Frame:
+    """A record of a frame: its number and time, and the place that its header names.
+
+    `cycle` is the number of its cycle on its channel, `begin` and `length` are those of its slot in macroticks. A
+    broken record has no flags and no data. `reasons` has its findings in words.
+    """
+
+    record: int
+    seconds: str | None
+    count: int | None
+    channel: str
+    slot: int | None
+    cycle: int | None
+    begin: int | None
+    length: int | None
+    flags: str | None
+    data: str | None
+    reasons: list[str] = field(default_factory=list)
+
+
+@dataclass(slots=True)
+class Note:
+    """A finding, or the return of a slot, in words.
+
+    `frame` is the frame that it is about. `cycle` is the number of the cycle on the channel in which a frame was
+    missing.
+    """
+
+    place: Place
+    name: str
+    why: str
+    node: int | None
+    frame: Frame | None
+    cycle: int | None
+
+
+@dataclass(slots=True)
+class Lane:
+    """A channel: its open cycle and its count, and the latest number of each count.
+
+    `base` is the number of its first cycle on the axis that both channels share. `pending` has the broken records
+    whose count is that of no open cycle yet.
+    """
+
+    open: tuple[int, int] | None = None
+    latest: dict[int, int] = field(default_factory=dict)
+    base: int | None = None
+    pending: list[Frame] = field(default_factory=list)
+
+
+class Recorded:
+    """The lines of a recording, which are added one by one."""
+
+    def __init__(self, network: Network) -> None:
+        self.network = network
+        self.frames: dict[int, Frame] = {}
+        self.notes: list[Note] = []
+        self.lanes = {"A": Lane(), "B": Lane()}
+        self.records = 0
+
+    def add(self, line: str) -> None:
+        """Adds a line. Those of the summary but its first have nothing for a page."""
+        words = line.split(" ")
+        if words[0] == FRAME:
+            self.add_frame(words)
+        elif words[0] == OPENS:
+            self.open(self.frames[int(words[1])], number(words[2]))
+        elif words[0] in (FINDING, BACK):
+            self.add_note(words)
+        elif words[0] == "records":
+            self.records = int(words[1])
+
+    def add_frame(self, words: list[str]) -> None:
+        """Adds the frame of a line."""
+        place = Place.of(words)
+        cycle, begin, length = map(number, words[6:9])
+        frame = Frame(place.record or 0, place.seconds, place.cycle, place.channel, place.slot, cycle, begin, length,
+                      text(words[9]), text(words[10]))
+        self.frames[frame.record] = frame
+        lane = self.lanes[frame.channel]
+        if frame.data is None:
+            if lane.open is not None and lane.open[1] == frame.count:
+                frame.cycle = lane.open[0]
+            elif frame.count is not None:
+                lane.pending.append(frame)
+        elif cycle is not None:
+            self.open(frame, cycle)
+
+    def open(self, frame: Frame, cycle: int | None) -> None:
+        """Puts a frame into a cycle, which is open then, and the broken records with its count before it."""
+        frame.cycle = cycle
+        if cycle is None or frame.count is None:
+            return
+        lane = self.lanes[frame.channel]
+        if lane.open != (cycle, frame.count):
+            lane.open = cycle, frame.count
+            lane.latest[frame.count] = cycle
+            self.align(frame.channel, lane)
+        for it in lane.pending:
+            it.cycle = cycle if it.count == frame.count else None
+        lane.pending.clear()
+
+    def align(self, channel: str, lane: Lane) -> None:
+        """Puts the first cycle of a channel beside the nearest cycle of the other channel with its count."""
+        other = self.lanes["B" if channel == "A" else "A"]
+        if lane.base is not None or lane.open is None:
+            return
+        (cycle, count), half = lane.open, CYCLE_COUNTS // 2
+        if other.base is None or other.open is None:
+            lane.base = -cycle
+        else:
+            ahead = (count - other.open[1] + half) % CYCLE_COUNTS - half
+            lane.base = other.base + other.open[0] + ahead - cycle
+
+    def add_note(self, words: list[str]) -> None:
+        """Adds a finding, or the return of a slot."""
+        row = (finding_row if words[0] == FINDING else back_row)(self.network, words)
+        place, node, name, why = Place.of(words), row.values["node"], str(row.values["name"]), str(row.values["why"])
+        frame, cycle = None, None
+        if name == "Missing" and place.cycle is not None:
+            cycle = self.lanes[place.channel].latest.get(place.cycle)
+        elif name not in ELSEWHERE and place.record is not None:
+            frame = self.frames.get(place.record)
+        if frame is not None and name != BACK:
+            frame.reasons.append(why)
+        its_node = node.number if isinstance(node, Name) else None
+        self.notes.append(Note(place, name, why, its_node, frame, cycle))
+
+    # ---- the axis of both channels
+
+    def first(self) -> int:
+        """Returns the first cycle of the channels on the axis that they share."""
+        return min((it.base for it in self.lanes.values() if it.base is not None), default=0)
+
+    def on_axis(self, channel: str, cycle: int | None) -> int | None:
+        """Returns the number of a channel's cycle in the recording, from 0, if it is known."""
+        base = self.lanes[channel].base
+        return None if cycle is None or base is None else base + cycle - self.first()
+
+    def count_of_first(self) -> int:
+        """Returns the cycle count of cycle 0 of the recording."""
+        for it in self.lanes.values():
+            if it.base is not None and it.open is not None:
+                return (it.open[1] - (it.base + it.open[0] - self.first())) % CYCLE_COUNTS
+        return 0
