@@ -72,6 +72,7 @@ SLIPS: list[tuple[str, Words, str]] = [
     ("fr_world", ("--endless",), "missing: FILE"),
     ("fr_world", (CLUSTER, "--cycles", "4", "--record", "lines"), "--record needs --endless"),
     ("fr_world", (CLUSTER, "--cycles", "4", "--capture=bus.pcap"), "--capture needs --endless"),
+    ("fr_world", (CLUSTER, "--cycles", "4", "--trace", "traces"), "--trace needs --endless"),
     ("fr_world", (CLUSTER, "--endless", "--record"), "--record has no value"),
     ("fr_world", (CLUSTER, "--endless", "--captre", "bus.pcap"), "no option --captre; did you mean --capture?"),
     ("fr_world", ("--cycles=4", CLUSTER, "--cycles", "4"), "--cycles stands twice"),
@@ -87,6 +88,7 @@ SLIPS: list[tuple[str, Words, str]] = [
     ("fr_monitor", (CLUSTER, "--channel", "AB"), "--channel must be A or B, not AB"),
     ("fr_monitor", (CLUSTER, "--findigs", "4"), "fr_monitor has no option --findigs; did you mean --findings?"),
     ("fr_monitor", (CLUSTER, "--whole=1"), "--whole takes no value"),
+    ("fr_monitor", (CLUSTER, "--frames=1"), "--frames takes no value"),
 ]
 """A program, words that it answers with `usage`, and the text that names the slip.
 
@@ -124,7 +126,7 @@ ALONE: list[tuple[str, Words, str]] = [
 POOL = ["a", "4", "0", "1024", "1025", "04", "--cycles", "--cycles=4", "--cycles=", "--free", "--free=1", "--channel",
         "A", "--channel=B", "C", "--node=3", "--node", "16", "--from", "--from-window", "--cycle=5", "--cycle", "--own",
         "--all", "--endless", "--until-fault", "--whole", "--findings=5", "--macrotick", "--record", "--capture=c",
-        "--", "-", "-x", "--x", "", " ", "\u00e9", "--=", "*", "--cycles --channel", "-4"]
+        "--trace", "--", "-", "-x", "--x", "", " ", "\u00e9", "--=", "*", "--cycles --channel", "-4"]
 SHAPES = {
     "fr_bench": [["audit"], ["check", "a"], ["midpoint"], ["run", "a", "b", "--cycles", "4"]],
     "fr_view": [["schedule", "a"], ["frames"], ["matrix", "a", "b", "--cycles", "4"],

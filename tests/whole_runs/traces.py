@@ -270,7 +270,7 @@ class Traces:
     def ends(self):
         """Checks truncated traces, and bytes after the end."""
         for lines, error in ((["frtrace 1"], "Truncated"), ([], "BadMagic"), (["frtrace 2"], "Truncated"),
-                             (["frtrace 3"], "Truncated"), (["frtrace 4"], "BadMagic"),
+                             (["frtrace 3"], "Truncated"), (["frtrace 5"], "BadMagic"),
                              ([*self.frames, "x"], f"BadLine {len(self.frames) + 1}")):
             self.check(f"the lines are {[line[:10] for line in lines[-1:]]}", lines, refused(error))
         text = "\n".join(self.frames)

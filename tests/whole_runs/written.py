@@ -1,4 +1,4 @@
-"""The record and the capture that sessions without history write, and the files that fail."""
+"""The record, the capture and the traces that sessions without history write, and the files that fail."""
 import os
 import subprocess
 import threading
@@ -17,6 +17,13 @@ def unnumbered(record):
     return b"".join(line.rpartition(b" ")[0] + b" -\n" for line in record.splitlines())
 
 
+def lengthened(trace):
+    """Returns a trace of version 3 as one of version 4, with the room of an endless session."""
+    lines = trace.splitlines()
+    node = " ".join([*lines[2].split()[:4], "1073741824", "3221225469"])
+    return text_of(["frtrace 4", lines[1], node, *lines[3:]])
+
+
 def requests_of(scenario, cycles):
     """Yields the requests of a single-threaded run with an old scenario, whose tasks have their lines in order."""
     lines = [line.split(" ") for line in scenario.read_text().splitlines()[1:-1]]
@@ -31,8 +38,8 @@ def requests_of(scenario, cycles):
 class Written:
     """Sessions with files for the record and the capture."""
 
-    def __init__(self, runs, folder, view):
-        self.runs, self.folder, self.view = runs, folder, view
+    def __init__(self, runs, folder, view, bench):
+        self.runs, self.folder, self.view, self.bench = runs, folder, view, bench
         self.lines, self.frames = folder / "lines", folder / "bus.pcap"
         self.both = [f"--record={self.lines}", "--capture", self.frames]
 
@@ -44,6 +51,10 @@ class Written:
         self.emptied()
         self.failures()
         self.pipes()
+        self.traces()
+        self.traces_as_they_come()
+        self.traced_failures()
+        self.traced_pipes()
         self.words()
 
     def session(self, cluster, asked, *options):
@@ -167,9 +178,137 @@ class Written:
                 self.runs.compare("a record to a pipe whose reader goes", (is_front, errors, status),
                                   (True, b"refused Record\n", 1))
 
+    def traced(self, cluster, asked, *options, rest=b""):
+        """Returns the answer of a session, and the traces that it wrote."""
+        folder = self.folder / "traces"
+        folder.mkdir(exist_ok=True)
+        for file in folder.iterdir():
+            file.unlink()
+        got = run([self.runs.program, cluster, "--endless", "--trace", folder, *options],
+                  text_of(asked).encode() + rest)
+        return got, {file.name: file.read_text() for file in folder.iterdir()}
+
+    def kept_traces(self, cluster, asked, nodes):
+        """Returns the traces of a session with history, as one without it has them."""
+        told = run([self.runs.program, cluster, "--cycles", "8"],
+                   text_of([*asked, *(f"trace {node}" for node in range(nodes))]).encode())[0].decode()
+        _, *texts = told.split("frtrace 3\n")
+        return {str(node): lengthened("frtrace 3\n" + text.partition("\nend\n")[0] + "\nend\n")
+                for node, text in enumerate(texts)}
+
+    def traces(self):
+        """Checks that traces are those of sessions with history, and that they audit to the reports."""
+        one = [f"{step} {node}" for step in ("look", "fetch", "put") for node in range(3)] + ["seal"]
+        one += [f"{step} {node}" for step in ("take", "observe") for node in range(3)] + ["advance"]
+        refused_calls = ["commit 0 9 0 x0a0b", "commit 0 0 9 x0a0b", "commit 0 0 0 x0a", "read 1 0 9", "pop 0 0",
+                         "fetch 0", "observe 1", "commit 9 0 0 x0a0b", "withdraw 0 0 9", "nothing", "seal"]
+        ways = {"events": one * 2, "windows": ["window"] * 5, "cycles": ["cycle", "run 3"],
+                "a window begun": [*one[:5], *refused_calls, "window"],
+                "a window observed by some": [*one[:12], "read 1 0 1", *one[10:11], "window"], "nothing": []}
+        calls = ["commit 0 0 0 x0a0b", *refused_calls, "withdraw 0 0 0", "withdraw 0 0 0", "commit 0 0 0 x0c0d",
+                 "babble 2 A x00", "mute 1 B * s*", "read 1 0 1"]
+        for name, way in ways.items():
+            asked = [*calls, *way, "read 1 0 1", "commit 0 0 0 x0e0f", *way]
+            (told, errors, status), found = self.traced(THREE_NODES, asked)
+            self.runs.compare(f"traces by {name}", (found, errors, status),
+                              (self.kept_traces(THREE_NODES, asked, 3), b"", 0))
+            self.runs.compare(f"replies beside traces by {name}", told,
+                              run([self.runs.program, THREE_NODES, "--endless"], text_of(asked).encode())[0])
+        if os.access(self.bench, os.X_OK):
+            self.audits([*calls, *ways["cycles"]])
+        unended = self.traced(THREE_NODES, ["window"], rest=b"commit 0 0 0 x0a0b")
+        self.runs.compare("an unfinished line isn't traced", unended[1], self.kept_traces(THREE_NODES, ["window"], 3))
+
+    def audits(self, asked):
+        """Checks that each trace audits to the report of its node, and that one of a session cut off is rejected."""
+        told, found = self.traced(THREE_NODES, [*asked, *(f"report {node}" for node in range(3))])
+        for node in range(3):
+            report, errors, status = run([self.bench, "audit"], found[str(node)].encode())
+            self.runs.compare(f"the audit of the trace of node {node}", (report in told[0], errors, status),
+                              (True, b"", 0))
+        cut = run([self.bench, "audit"], found["1"].removesuffix("end\n").encode())
+        self.runs.compare("the audit of a trace without its end", (cut[0], cut[2]), (b"", 1))
+
+    def traces_as_they_come(self):
+        """Checks that each reply comes once its entries are in the traces."""
+        folder = self.folder / "traces"
+        talk = Talk(self.runs.program, THREE_NODES, None, ["--endless", "--trace", folder])
+        try:
+            counts = []
+            for line in (None, "now", "commit 0 0 0 x0a0b", "commit 0 0 9 x0a0b", "window", "look 1", "fetch 1"):
+                (talk.line() if line is None else talk.ask(line))
+                counts.append([file.read_text().partition("begin\n")[2].count("\n")
+                               for file in sorted(folder.iterdir())])
+        finally:
+            talk.close()
+        self.runs.compare("traces as they come", counts[1:], [[0, 0, 0], [1, 0, 0], [1, 0, 0], [3, 2, 2], [3, 2, 2],
+                                                              [3, 3, 2]])
+
+    def traced_failures(self):
+        """Checks what a trace that can't be opened or written leaves."""
+        asked = b"now\ncommit 0 0 0 x0a0b\nwindow\nnow\n"
+        cluster = [self.runs.program, THREE_NODES, "--endless"]
+        for folder in (self.folder / "in/no/folder", THREE_NODES, ""):
+            self.runs.compare(f"traces to {folder!r}", run([*cluster, "--trace", folder], asked), refused("Trace 0"))
+        folder = self.folder / "some"
+        folder.mkdir()
+        (folder / "1").mkdir()
+        self.runs.compare("a trace that is a folder", run([*cluster, "--trace", folder], asked), refused("Trace 1"))
+        self.runs.compare("files beside it", sorted(file.name for file in folder.iterdir()), ["0", "1"])
+        (folder / "1").rmdir()
+        (folder / "1").symlink_to(FULL)
+        self.runs.compare("a trace to a full disk", run([*cluster, "--trace", folder], asked), refused("Trace 1"))
+        both = run([*cluster, "--record", FULL, "--trace", self.folder / "traces"], asked)
+        self.runs.compare("traces beside a full disk",
+                          (both[1:], [file.read_text().endswith("end\n")
+                                      for file in sorted((self.folder / "traces").iterdir())]),
+                          ((b"refused Record\n", 1), [False] * 3))
+
+    def traced_pipes(self):
+        """Checks named pipes for traces: with readers that are slow, and with one that goes."""
+        asked = ["commit 0 0 0 x0a0b", *["run 1000"] * 20]
+        kept = self.traced(THREE_NODES, asked)[1]
+        folder = self.folder / "pipes"
+        folder.mkdir()
+        for node in range(3):
+            os.mkfifo(folder / str(node))
+        for is_slow in (True, False):
+            ran = subprocess.Popen([self.runs.program, THREE_NODES, "--endless", "--trace", folder], cwd=EXAMPLES,
+                                   stdin=subprocess.PIPE, stdout=subprocess.PIPE, stderr=subprocess.PIPE)
+            readers = [open(folder / str(node), "rb") for node in range(3)]
+            given = threading.Thread(target=lambda: ran.stdin.write(text_of(asked).encode()) and ran.stdin.close())
+            given.start()
+            first = readers[1].read(10_000)
+            if not is_slow:
+                readers[1].close()
+            found = [b""] * 3
+
+            def read(node):
+                found[node] = readers[node].read()
+            reading = [threading.Thread(target=read, args=(node,)) for node in range(3) if is_slow or node != 1]
+            for thread in reading:
+                thread.start()
+            ran.stdout.read()
+            errors = ran.stderr.read()
+            status = ran.wait(SECONDS)
+            for thread in [given, *reading]:
+                thread.join()
+            for file in [ran.stdout, ran.stderr, *readers]:
+                file.close()
+            found[1] = first + found[1]
+            texts = [text.decode() for text in found]
+            if is_slow:
+                self.runs.compare("traces to slow pipes", (texts == [kept[str(node)] for node in range(3)], errors,
+                                                           status), (True, b"", 0))
+            else:
+                are_fronts = all(kept[str(node)].startswith(texts[node]) and not texts[node].endswith("\nend\n")
+                                 for node in range(3))
+                self.runs.compare("a trace to a pipe whose reader goes", (are_fronts, errors, status),
+                                  (True, b"refused Trace 1\n", 1))
+
     def words(self):
         """Checks the words for files."""
-        for option in ("--record", "--capture"):
+        for option in ("--record", "--capture", "--trace"):
             for words in (["--cycles", "4", option, "x"], ["--endless", option],
                           ["--endless", option, "x", option, "x"], [option, "x"]):
                 self.runs.check(f"words {words}", [THREE_NODES, *words], USAGE)
