@@ -93,14 +93,14 @@ read_words() {
         ! find_command "${1-}" || command=$1
     elif [ "$name" = fr_world ]; then
         places=FILE
-        options='--cycles --record --capture'
+        options='--cycles --record --capture --trace'
         flags=--endless
         input=requests
         read_arguments "$@"
     elif [ "$name" = fr_monitor ]; then
         places=FILE
         options='--findings --channel --macrotick'
-        flags=--whole
+        flags='--whole --frames'
         input=RECORDING
         read_arguments "$@"
     elif find_command "${1-}"; then
@@ -243,9 +243,9 @@ find_missing() {
     fi
 }
 
-# Finds a file for the windows of a run with history.
+# Finds a file or a folder for a run with history.
 find_stray() {
-    for option in --record --capture; do
+    for option in --record --capture --trace; do
         case "$given" in
         *' --endless '*) ;;
         *" $option "*) slip="$option needs --endless" ;;
