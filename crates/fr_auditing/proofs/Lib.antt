@@ -4,7 +4,6 @@ pub mod LongCutLemmas
 pub mod LongFoundLemmas
 pub mod LongLineLemmas
 pub mod LongNodeLemmas
-pub mod LongPieceLemmas
 pub mod LongStreamLemmas
 pub mod LongTextLemmas
 pub mod ReplayLemmas

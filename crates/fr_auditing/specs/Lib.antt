@@ -1,6 +1,5 @@
 pub mod AuditorFields
 pub mod KeptReport
-pub mod LongAudit
 pub mod LongReading
 pub mod LongStream
 pub mod LongText

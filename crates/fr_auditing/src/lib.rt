@@ -15,7 +15,6 @@
 //! - `LongText`: the text of version 4 of a trace.
 //! - `LongReading`, `LongStream`: the line `node` of version 4; the state after each byte of such a text.
 //! - `Tracking`: the state of an auditor that keeps no journal, and the state of the text at which it stands.
-//! - `LongAudit`: the audit of a reader.
 //! - `KeptReport`: the text of a report, from the data that an interface keeps.
 //!
 //! Modules that follow the steps of the code, for private functions, with the module that has the meaning:
@@ -31,7 +30,6 @@
 //! `NodePlan` can have.
 #![tactic(auto)]
 
-pub mod audit;
 pub mod auditor;
 pub mod head;
 pub mod kept;
