@@ -1,10 +1,12 @@
 //! The receive FIFO.
 
 ghost use Rattle.std.specs.Prelude.{◌≡◌, ◌+◌, ◌<◌, ◌≤◌, ◌^◌, ◌↔◌, [], length, slice_get, IfOk, IsTrue};
+ghost use Rattle.std.specs.Option.{option_copied};
 
+use crate::receive::arrived;
 use circular_buffer::HeapCircularBuffer;
 use fr_frame::frame::Frame;
-use fr_journal::entry::{Arrival, Origin};
+use fr_journal::entry::{Arrival, Moment};
 use fr_slots::channel::Channel;
 use std::alloc::{AllocError, Global};
 use std::marker::Model;
@@ -44,19 +46,25 @@ impl ReceiveQueue {
         Ok(ReceiveQueue { ring, lost: 0 })
     }
 
-    /// Appends a frame that this entry observed on the channel. In a full receive FIFO it replaces the oldest, which is
-    /// lost.
+    /// Appends a frame that the entry of this moment observed on the channel. In a full receive FIFO it replaces the
+    /// oldest, which is lost.
     ///
     /// The number of lost frames, with one more, must fit 32 bits.
-    pub fn arrive(&mut self, entry: u32, channel: Channel, frame: Frame)
+    pub fn arrive(&mut self, moment: Moment, channel: Channel, frame: Frame)
         requires { self.old.lost + 1 < 2 ^ 32 }
-        ensures { self.new ≡ with_frame self.old (arrival_of entry channel frame) }
+        ensures { self.new ≡ with_frame self.old (arrival_of moment channel frame) }
     {
-        let origin = Origin { entry, channel };
-        let overwritten = self.ring.push_back(Arrival { origin, frame });
+        let overwritten = self.ring.push_back(arrived(moment, channel, frame));
         if overwritten.is_some() {
             self.lost += 1;
         }
+    }
+
+    /// Returns the oldest frame, if there is one, and leaves it.
+    pub fn oldest(&self) -> Option<&Arrival>
+        ensures { option_copied result ≡ slice_get self.now.frames 0 }
+    {
+        self.ring.front()
     }
 
     /// Removes the oldest frame and returns it, if there is one.

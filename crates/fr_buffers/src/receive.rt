@@ -6,7 +6,7 @@ ghost use Rattle.fr_journal.specs.Held.{arrival_of};
 
 use fr_frame::frame::Frame;
 use fr_frame::lent::LentFrame;
-use fr_journal::entry::{Arrival, Origin};
+use fr_journal::entry::{Arrival, Moment, Origin};
 use fr_slots::channel::Channel;
 use std::marker::Model;
 
@@ -33,28 +33,21 @@ impl RxBuffer {
         RxBuffer { held: None }
     }
 
-    /// Stores a frame in place of the one before. This entry observed it on the channel.
-    pub fn store(&mut self, entry: u32, channel: Channel, frame: &Frame)
-        ensures { self.new ≡ Some (arrival_of entry channel frame.now) }
+    /// Stores a frame in place of the one before. The entry of this moment observed it on the channel.
+    pub fn store(&mut self, moment: Moment, channel: Channel, frame: &Frame)
+        ensures { self.new ≡ Some (arrival_of moment channel frame.now) }
     {
-        self.held = Some(Arrival {
-            origin: Origin { entry, channel },
-            frame: frame.duplicate(),
-        });
+        self.held = Some(arrived(moment, channel, frame.duplicate()));
     }
 
     /// Stores a lent frame by copying it over the one before.
-    pub fn store_lent(&mut self, entry: u32, channel: Channel, frame: &LentFrame<'_>)
-        ensures { self.new ≡ Some (arrival_of entry channel frame.now) }
+    pub fn store_lent(&mut self, moment: Moment, channel: Channel, frame: &LentFrame<'_>)
+        ensures { self.new ≡ Some (arrival_of moment channel frame.now) }
     {
-        let origin = Origin { entry, channel };
         if let Some(arrival) = &mut self.held {
-            replace(arrival, origin, frame);
+            replace(arrival, moment, channel, frame);
         } else {
-            self.held = Some(Arrival {
-                origin,
-                frame: Frame::from_lent(frame),
-            });
+            self.held = Some(arrived(moment, channel, Frame::from_lent(frame)));
         }
     }
 
@@ -67,10 +60,28 @@ impl RxBuffer {
     }
 }
 
-/// Replaces the arrival by this frame and its origin.
-fn replace(arrival: &mut Arrival, origin: Origin, frame: &LentFrame<'_>)
-    ensures { arrival.new ≡ record { origin = origin; frame = frame.now } }
+/// Returns the frame as it arrived at this moment on the channel.
+pub(crate) fn arrived(moment: Moment, channel: Channel, frame: Frame) -> Arrival
+    ensures { result ≡ arrival_of moment channel frame }
 {
-    arrival.origin = origin;
+    Arrival {
+        origin: Origin {
+            entry: moment.entry,
+            channel,
+        },
+        cycle: moment.cycle,
+        frame,
+    }
+}
+
+/// Replaces the arrival by this frame, of this moment on the channel.
+fn replace(arrival: &mut Arrival, moment: Moment, channel: Channel, frame: &LentFrame<'_>)
+    ensures { arrival.new ≡ arrival_of moment channel frame.now }
+{
+    arrival.origin = Origin {
+        entry: moment.entry,
+        channel,
+    };
+    arrival.cycle = moment.cycle;
     arrival.frame.replace_by(frame);
 }

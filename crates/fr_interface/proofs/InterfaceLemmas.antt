@@ -1,5 +1,5 @@
 -- An interface with one more entry, whose kept data made the same call.
-use Rattle.std.proofs.Common.{◌≡◌, ℕ, ◌+◌, ◌-◌, ◌≤◌, ◌<◌, [], ◌∷◌, ◌++◌, sym, ap, subst, ◌∙◌}
+use Rattle.std.proofs.Common.{◌≡◌, [], ◌∷◌, ◌++◌, sym, ap, subst, ◌∙◌}
 use Rattle.fr_interface.specs.declared.interface.Interface.TheInside.{Inside}
 use Rattle.fr_interface.specs.InterfaceFields.{state_in, IsLawful}
 use Rattle.fr_interface.specs.Standing.{Standing, IsHistory, KeepsTerms}

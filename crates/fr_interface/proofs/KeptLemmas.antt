@@ -13,6 +13,7 @@ use Rattle.fr_interface.proofs.ChangeLemmas.{length-each, get_each}
 use Rattle.fr_interface.proofs.TransmitLemmas.{committed-most}
 use Rattle.fr_interface.proofs.WaitingLemmas.{waiting-none, waiting-other, waiting-pop, waiting-observe, lost-most}
 use Rattle.fr_journal.specs.Arrivals.{moves, moves_at, oldest, is_answered_pop}
+use Rattle.fr_journal.specs.Cycles.{moment_after}
 use Rattle.fr_journal.specs.Forms.{Entry}
 use Rattle.fr_journal.specs.declared.entry.Entry.TheVariants.{Pop, Observe}
 use Rattle.fr_journal.specs.declared.entry.Origin.{Origin}
@@ -101,8 +102,8 @@ module _ (params : Parameters) (plan : Plan) (xs : List Entry) where
 
   pub queue-observe : (n : ℕ) (a b : Seen) (window : Opportunity) → IsLegalJournal params plan xs
       → open_window xs ≡ Some window → (o : Option Queue) → plan.queue ≡ o
-      → with_arrivals plan (length xs) window (data_frame_seen params window A a) (data_frame_seen params window B b) o
-      (option_map (waiting_of params plan xs) o)
+      → with_arrivals plan (moment_after xs) window (data_frame_seen params window A a)
+      (data_frame_seen params window B b) o (option_map (waiting_of params plan xs) o)
       ≡ option_map (waiting_of params plan (xs ++ Observe n a b ∷ [])) o
   queue-observe n a b window legal opened None there = refl
   queue-observe n a b window legal opened (Some q) there = ap Some

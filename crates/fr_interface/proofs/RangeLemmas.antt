@@ -17,9 +17,13 @@ use Rattle.fr_interface.specs.Ranges.{IsWithin, IsRangeOf, AreRanges, IsTakingRa
 use Rattle.fr_interface.specs.Ranges.{buffer_slots, own_slots}
 use Rattle.fr_interface.proofs.HandingLemmas.{get_take}
 use Rattle.fr_journal.specs.declared.entry.Arrival.{Arrival}
+use Rattle.fr_journal.specs.declared.entry.Moment.{Moment}
 use Rattle.fr_journal.specs.Arrivals.{takes_window}
 use Rattle.fr_journal.specs.Held.{arrival_of}
-use Rattle.fr_journal.specs.Offers.{is_admitting, transmitter, ownership}
+use Rattle.fr_buffers.specs.Transmitting.{Transmitter}
+use Rattle.fr_interface.specs.Sending.{OffersNothing, offered_by, offered_in, owner_on, sender_at, sender_in, sender_on}
+use Rattle.fr_journal.specs.declared.entry.Offered.TheVariants.{Nothing}
+use Rattle.fr_journal.specs.Offers.{is_admitting, line_of, may_begin, transmitter, ownership}
 use Rattle.fr_slots.specs.declared.channel.Channel.{Channel}
 use Rattle.fr_slots.specs.declared.channel.Channel.TheVariants.{A, B}
 use Rattle.fr_slots.specs.declared.filter.Filter.{Filter}
@@ -27,7 +31,7 @@ use Rattle.fr_slots.specs.declared.plan.Buffer.{Buffer}
 use Rattle.fr_slots.specs.declared.plan.Own.{Own}
 use Rattle.fr_slots.specs.Faults.{claims}
 use Rattle.fr_slots.specs.Plans.{Plan, admits_slot, admits_window, is_receive}
-use Rattle.fr_slots.specs.Windows.{Opportunity, slot_of}
+use Rattle.fr_slots.specs.Windows.{Opportunity, is_static, slot_of}
 use Rattle.fr_slots.proofs.PlaceLemmas.{map-get, same_some}
 
 -- ---- places
@@ -237,6 +241,66 @@ ownership-in owned slot channel cycle range is =
     (passes-of (λ (o : Own). o.slot) (claims slot channel cycle) slot range owned is
     (λ o pass. eqb-true o.slot slot (and_parts _ _ (and_parts _ _ pass).0).0))
 
+-- ---- a slot without lines
+
+range_empty : {X : Type 0} (xs : List X) (first end : ℕ) → first ≡ end → slice_range xs first end ≡ []
+range_empty xs first end same = let none : end - first ≡ 0 = omega (arith, same) in
+    ap (λ (n : ℕ). take n (drop first xs)) none
+
+module _ (plan : Plan) (window : Opportunity) (channel : Channel) where
+  owner_none : (o : Option ℕ) → ((slot : ℕ) → o ≡ Some slot → ownership plan.owned slot channel window.cycle ≡ None)
+      → option_and_then (line_of plan window channel) o ≡ None
+  owner_none None none = refl
+  owner_none (Some slot) none = by_static (is_static window)
+    where
+      by_static : (t : Bool) → cond t (ownership plan.owned slot channel window.cycle) None ≡ None
+      by_static true = none slot refl
+      by_static false = refl
+
+  sender_none : (buffers : List Transmitter) (o : Option ℕ) → transmitter plan window channel ≡ None
+      → sender_in plan buffers window channel o ≡ None
+  sender_none buffers None none = refl
+  sender_none buffers (Some slot) none = by_turn (may_begin plan window channel)
+    where
+      by_turn : (t : Bool)
+          → cond t (option_and_then (sender_at buffers) (transmitter plan window channel)) None ≡ None
+      by_turn true = ap (option_and_then (sender_at buffers)) none
+      by_turn false = refl
+
+  offered_none : (o : Option ℕ) → offered_in None None o ≡ Nothing
+  offered_none None = refl
+  offered_none (Some slot) = refl
+
+  nothing_from : transmitter plan window channel ≡ None → owner_on plan window channel ≡ None
+      → OffersNothing plan window channel
+  nothing_from sends owns = λ buffers.
+      let sender : sender_on plan buffers window channel ≡ None = sender_none buffers (slot_of window channel) sends in
+      λ i. record {
+        sender = sender i;
+        own = owns i;
+        offered = ((λ j. offered_by window channel (owns j) (sender j)) ∙ offered_none (slot_of window channel)) i;
+      }
+
+  pub nothing-none : slot_of window channel ≡ None → OffersNothing plan window channel
+  nothing-none none = nothing_from (transmitter-none plan window channel none)
+      (ap (option_and_then (line_of plan window channel)) none)
+
+  pub nothing-empty : (slot : ℕ) (sending owning : LineRange) → slot_of window channel ≡ Some slot
+      → IsRangeOf slot (buffer_slots plan.buffers) sending → IsRangeOf slot (own_slots plan.owned) owning
+      → eqb sending.first sending.end ≡ true → eqb owning.first owning.end ≡ true → OffersNothing plan window channel
+  nothing-empty slot sending owning there sends owns no_buffer no_line =
+      let buffers = range_empty plan.buffers sending.first sending.end (eqb-true sending.first sending.end no_buffer) in
+      let lines = range_empty plan.owned owning.first owning.end (eqb-true owning.first owning.end no_line) in
+      nothing_from
+      (transmitter-in plan window channel slot sending there sends
+      ∙ ap (λ (l : List Buffer). option_map (λ p. sending.first + p)
+      (position (is_admitting window channel) l)) buffers)
+      (owner_none (slot_of window channel) (λ other at.
+      let same : other ≡ slot = same_some other slot (sym at ∙ there) in
+      ap (λ (n : ℕ). ownership plan.owned n channel window.cycle) same
+      ∙ sym (ownership-in plan.owned slot channel window.cycle owning owns)
+      ∙ ap (λ (l : List Own). ownership l slot channel window.cycle) lines))
+
 -- ---- one more line
 
 -- a place of a list with one more item is one of the list, or the last
@@ -416,18 +480,18 @@ module _ (one other : LineRange) (place : ℕ) where
 -- ---- frames that buffers store
 
 module _ (window : Opportunity) (channel : Channel) where
-  frame_none : (number : ℕ) (b : Buffer) → is_some (frame_on number window channel None b) ≡ false
-  frame_none number b = by_test (admits_window b.filter window channel)
+  frame_none : (moment : Moment) (b : Buffer) → is_some (frame_on moment window channel None b) ≡ false
+  frame_none moment b = by_test (admits_window b.filter window channel)
     where
-      by_test : (t : Bool) → is_some (cond t (option_map (arrival_of number channel) None) None) ≡ false
+      by_test : (t : Bool) → is_some (cond t (option_map (arrival_of moment channel) None) None) ≡ false
       by_test true = refl
       by_test false = refl
 
-  frame_admits : (number : ℕ) (frame : Option Fields) (b : Buffer)
-      → is_some (frame_on number window channel frame b) ≡ true → admits_window b.filter window channel ≡ true
-  frame_admits number frame b some = by_test (admits_window b.filter window channel) some
+  frame_admits : (moment : Moment) (frame : Option Fields) (b : Buffer)
+      → is_some (frame_on moment window channel frame b) ≡ true → admits_window b.filter window channel ≡ true
+  frame_admits moment frame b some = by_test (admits_window b.filter window channel) some
     where
-      by_test : (t : Bool) → is_some (cond t (option_map (arrival_of number channel) frame) None) ≡ true → t ≡ true
+      by_test : (t : Bool) → is_some (cond t (option_map (arrival_of moment channel) frame) None) ≡ true → t ≡ true
       by_test true some = refl
       by_test false some = absurd (let none : ⊥ = cc in none)
 
@@ -437,8 +501,8 @@ module _ (window : Opportunity) (channel : Channel) where
   taking-none buffers frame is = record {
     ordered = omega arith;
     ends = omega arith;
-    covers = λ number place b there some. absurd (both_ways _
-        (ap (λ (f : Option Fields). is_some (frame_on number window channel f b)) is ∙ frame_none number b) some);
+    covers = λ moment place b there some. absurd (both_ways _
+        (ap (λ (f : Option Fields). is_some (frame_on moment window channel f b)) is ∙ frame_none moment b) some);
   }
 
   -- if the channel has no slot
@@ -447,8 +511,8 @@ module _ (window : Opportunity) (channel : Channel) where
   taking-nowhere buffers frame is = record {
     ordered = omega arith;
     ends = omega arith;
-    covers = λ number place b there some. absurd (both_ways _ (admits-none b.filter window channel is)
-        (frame_admits number frame b some));
+    covers = λ moment place b there some. absurd (both_ways _ (admits-none b.filter window channel is)
+        (frame_admits moment frame b some));
   }
 
   pub taking-of : (buffers : List Buffer) (frame : Option Fields) (slot : ℕ) (range : LineRange)
@@ -457,20 +521,20 @@ module _ (window : Opportunity) (channel : Channel) where
   taking-of buffers frame slot range there is = record {
     ordered = is.ordered;
     ends = omega (arith, is.ends, length_map (λ (b : Buffer). b.filter.slot) buffers);
-    covers = λ number place b at some.
+    covers = λ moment place b at some.
         is.covers place (map-get (λ (b : Buffer). b.filter.slot) buffers place b at ∙ ap (λ (n : ℕ). Some n)
-        (admits-slot b.filter window channel slot there (frame_admits number frame b some)));
+        (admits-slot b.filter window channel slot there (frame_admits moment frame b some)));
   }
 
-module _ (number : ℕ) (window : Opportunity) (a b : Option Fields) where
+module _ (moment : Moment) (window : Opportunity) (a b : Option Fields) where
   -- the line stores nothing
   abbrev TakesNone : Buffer → Type 0
-  TakesNone line = taken_by number window a b line ≡ None
+  TakesNone line = taken_by moment window a b line ≡ None
 
-  none_taken : (line : Buffer) → is_some (frame_on number window A a line) ≡ false
-      → is_some (frame_on number window B b line) ≡ false → TakesNone line
-  none_taken line on_a on_b = by_mode (is_receive line.mode) (frame_on number window A a line)
-      (frame_on number window B b line) on_a on_b
+  none_taken : (line : Buffer) → is_some (frame_on moment window A a line) ≡ false
+      → is_some (frame_on moment window B b line) ≡ false → TakesNone line
+  none_taken line on_a on_b = by_mode (is_receive line.mode) (frame_on moment window A a line)
+      (frame_on moment window B b line) on_a on_b
     where
       by_mode : (t : Bool) (x y : Option Arrival) → is_some x ≡ false → is_some y ≡ false
           → cond t (option_or x y) None ≡ None
@@ -481,7 +545,7 @@ module _ (number : ℕ) (window : Opportunity) (a b : Option Fields) where
 
   stored_skip : (lines : List Buffer) (held : List (Option Arrival)) (first : ℕ)
       → ((place : ℕ) (line : Buffer) → slice_get lines place ≡ Some line → place < first → TakesNone line)
-      → stored_all number window a b (take first lines) held ≡ held
+      → stored_all moment window a b (take first lines) held ≡ held
   stored_skip lines held zero h = refl
   stored_skip [] held (suc first) h = refl
   stored_skip (line ∷ lines) [] (suc first) h = refl
@@ -491,7 +555,7 @@ module _ (number : ℕ) (window : Opportunity) (a b : Option Fields) where
 
   stored_cut : (lines : List Buffer) (held : List (Option Arrival)) (end : ℕ)
       → ((place : ℕ) (line : Buffer) → slice_get lines place ≡ Some line → end ≤ place → TakesNone line)
-      → stored_all number window a b (take end lines) held ≡ stored_all number window a b lines held
+      → stored_all moment window a b (take end lines) held ≡ stored_all moment window a b lines held
   stored_cut [] held zero h = refl
   stored_cut [] held (suc end) h = refl
   stored_cut (line ∷ lines) [] zero h = refl
@@ -500,7 +564,7 @@ module _ (number : ℕ) (window : Opportunity) (a b : Option Fields) where
       λ i. option_or (sym (h 0 line refl (omega arith)) i) x ∷ stored_cut lines held zero
       (λ place y is le. h (suc place) y is (omega arith)) i
   stored_cut (line ∷ lines) (x ∷ held) (suc end) h =
-      ap (λ (rest : List (Option Arrival)). option_or (taken_by number window a b line) x ∷ rest)
+      ap (λ (rest : List (Option Arrival)). option_or (taken_by moment window a b line) x ∷ rest)
       (stored_cut lines held end (λ place y is le. h (suc place) y is (omega (arith, le))))
 
   module _ (lines : List Buffer) (one other : LineRange) (of_a : IsTakingRange lines window A a one)
@@ -509,16 +573,16 @@ module _ (number : ℕ) (window : Opportunity) (a b : Option Fields) where
         → TakesNone line
     outside place line there out =
         none_taken line
-        (false_from_ne_true _ (λ some. out (joined-one one other place (of_a.covers number place line there some))))
-        (false_from_ne_true _ (λ some. out (joined-other one other place (of_b.covers number place line there some))))
+        (false_from_ne_true _ (λ some. out (joined-one one other place (of_a.covers moment place line there some))))
+        (false_from_ne_true _ (λ some. out (joined-other one other place (of_b.covers moment place line there some))))
 
     -- the frames stored before the range and after it
-    pub stored-before : (held : List (Option Arrival)) → stored_all number window a b
+    pub stored-before : (held : List (Option Arrival)) → stored_all moment window a b
         (take (joined one other).first lines) held ≡ held
     stored-before held = stored_skip lines held (joined one other).first
         (λ place line there lt. outside place line there (λ inside. let none : ⊥ = omega (arith, lt, inside.0) in none))
 
-    pub stored-within : (held : List (Option Arrival)) → stored_all number window a b
-        (take (joined one other).end lines) held ≡ stored_all number window a b lines held
+    pub stored-within : (held : List (Option Arrival)) → stored_all moment window a b
+        (take (joined one other).end lines) held ≡ stored_all moment window a b lines held
     stored-within held = stored_cut lines held (joined one other).end
         (λ place line there le. outside place line there (λ inside. let none : ⊥ = omega (arith, le, inside.1) in none))

@@ -4,7 +4,9 @@ use Rattle.std.proofs.Common.{length, map, Option, Some, None, refl, sym, ap, �
 use Rattle.std.specs.Option.{option_and_then, option_or}
 use Rattle.fr_frame.specs.Fields.{Fields}
 use Rattle.fr_interface.specs.Known.{held_in, taken_by, stored_all}
+use Rattle.fr_journal.specs.Cycles.{moment_after}
 use Rattle.fr_journal.specs.declared.entry.Arrival.{Arrival}
+use Rattle.fr_journal.specs.declared.entry.Moment.{Moment}
 use Rattle.fr_journal.specs.Forms.{Entry}
 use Rattle.fr_journal.specs.declared.entry.Entry.TheVariants.{Observe}
 use Rattle.fr_journal.specs.Held.{held, arrival_at, arrival_in, data_frame_seen}
@@ -53,10 +55,10 @@ held-other params xs e (b ∷ lines) none =
 module _ (params : Parameters) (xs : List Entry) (n : ℕ) (a b : Seen) (window : Opportunity)
     (opened : open_window xs ≡ Some window) where
   held_after : (f : Filter) → held params f (xs ++ Observe n a b ∷ []) ≡ option_or
-      (arrival_in params f (length xs) a b window) (held params f xs)
+      (arrival_in params f (moment_after xs) a b window) (held params f xs)
   held_after f =
       last_after-snoc (arrival_at params f) xs (Observe n a b)
-      ∙ ap (λ (o : Option Opportunity). option_or (option_and_then (arrival_in params f (length xs) a b) o)
+      ∙ ap (λ (o : Option Opportunity). option_or (option_and_then (arrival_in params f (moment_after xs) a b) o)
       (held params f xs)) opened
 
   stored : (t : Bool) (x y z : Option Arrival) → z ≡ option_or x y
@@ -65,26 +67,27 @@ module _ (params : Parameters) (xs : List Entry) (n : ℕ) (a b : Seen) (window 
   stored false x y z is = refl
 
   pub held-observe : (lines : List Buffer)
-      → stored_all (length xs) window (data_frame_seen params window A a) (data_frame_seen params window B b) lines
-      (map (held_in params xs) lines) ≡ map (held_in params (xs ++ Observe n a b ∷ [])) lines
+      → stored_all (moment_after xs) window (data_frame_seen params window A a)
+      (data_frame_seen params window B b) lines (map (held_in params xs) lines)
+      ≡ map (held_in params (xs ++ Observe n a b ∷ [])) lines
   held-observe [] = refl
   held-observe (line ∷ lines) = λ i.
-      stored (is_receive line.mode) (arrival_in params line.filter (length xs) a b window) (held params line.filter xs)
-      (held params line.filter (xs ++ Observe n a b ∷ [])) (held_after line.filter) i
+      stored (is_receive line.mode) (arrival_in params line.filter (moment_after xs) a b window)
+      (held params line.filter xs) (held params line.filter (xs ++ Observe n a b ∷ [])) (held_after line.filter) i
       ∷ held-observe lines i
 
 -- ---- one buffer after another
 
-module _ (number : ℕ) (window : Opportunity) (a b : Option Fields) where
+module _ (moment : Moment) (window : Opportunity) (a b : Option Fields) where
   pub stored_all-more : (lines : List Buffer) (held : List (Option Arrival)) (i : ℕ) (line : Buffer)
       (h : Option Arrival) → i < length lines → length held ≡ length lines
-      → line ≡ get_or lines i line → h ≡ get_or (stored_all number window a b (take i lines) held) i h
-      → set (stored_all number window a b (take i lines) held) i (option_or (taken_by number window a b line) h)
-      ≡ stored_all number window a b (take (suc i) lines) held
+      → line ≡ get_or lines i line → h ≡ get_or (stored_all moment window a b (take i lines) held) i h
+      → set (stored_all moment window a b (take i lines) held) i (option_or (taken_by moment window a b line) h)
+      ≡ stored_all moment window a b (take (suc i) lines) held
   stored_all-more [] held i line h lt same is was = absurd (omega (arith, lt))
   stored_all-more (l ∷ ls) [] i line h lt same is was = absurd (omega (arith, same))
   stored_all-more (l ∷ ls) (x ∷ xs) zero line h lt same is was =
-      λ i. option_or (taken_by number window a b (is i)) (was i) ∷ xs
+      λ i. option_or (taken_by moment window a b (is i)) (was i) ∷ xs
   stored_all-more (l ∷ ls) (x ∷ xs) (suc n) line h lt same is was =
-      ap (λ (rest : List (Option Arrival)). option_or (taken_by number window a b l) x ∷ rest)
+      ap (λ (rest : List (Option Arrival)). option_or (taken_by moment window a b l) x ∷ rest)
       (stored_all-more ls xs n line h (omega (arith, lt)) (omega (arith, same)) is was)

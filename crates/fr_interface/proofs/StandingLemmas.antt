@@ -19,7 +19,7 @@ use Rattle.fr_interface.specs.Standing.{entries_before, after_commit, after_read
 use Rattle.fr_interface.specs.Standing.{after_taking_back, after_pop, sending_fault, withdraw_refused, queue_fault}
 use Rattle.fr_interface.specs.Standing.{pop_refused, held_at, oldest_at, source_where, source_at, tally_where, tally_at}
 use Rattle.fr_interface.specs.Standing.{received_where, received_at, is_full, commit_fault, commit_refused, read_fault}
-use Rattle.fr_interface.specs.Standing.{read_refused, fetch_refused, observe_refused}
+use Rattle.fr_interface.specs.Standing.{read_refused, fetch_refused, observe_refused, moment_before}
 use Rattle.fr_interface.specs.State.{State, with_entry, is_host_full, unless_transmit, commit_refusal, unless_receive}
 use Rattle.fr_interface.specs.State.{read_refusal, fetch_refusal, observe_refusal, withdraw_entry, read_entry}
 use Rattle.fr_interface.specs.State.{pop_entry, fetch_entry, received_by, received_in, source_by, source_of, arrived_of}
@@ -38,8 +38,10 @@ use Rattle.fr_interface.proofs.SenderLemmas.{frame-place, frame-nothing}
 use Rattle.fr_interface.proofs.TestLemmas.{fetchable}
 use Rattle.fr_interface.proofs.TransmitLemmas.{transmitters-withdraw, transmitters-commit, transmitters-other}
 use Rattle.fr_journal.specs.Counts.{counters_of}
+use Rattle.fr_journal.specs.Cycles.{begins_cycle_at, cycles_of, run_cycle, moment_after}
 use Rattle.fr_journal.specs.Forms.{Entry}
-use Rattle.fr_journal.specs.declared.entry.Entry.TheVariants.{Commit, Read, Fetch, Observe}
+use Rattle.fr_journal.specs.declared.entry.Entry.TheVariants.{Commit, Withdraw, Read, Pop, Fetch, Observe}
+use Rattle.fr_journal.specs.declared.entry.Moment.{Moment}
 use Rattle.fr_journal.specs.declared.entry.Offered.{Offered}
 use Rattle.fr_journal.specs.declared.entry.Origin.{Origin}
 use Rattle.fr_journal.specs.Entries.{is_host, is_slot, IsEntry, IsOffered}
@@ -69,7 +71,7 @@ use Rattle.fr_slots.specs.declared.plan.Queue.{Queue}
 use Rattle.fr_slots.specs.Plans.{Plan, is_receive, buffer_at, with_limits}
 use Rattle.fr_slots.specs.Parameters.{Parameters}
 use Rattle.fr_slots.specs.declared.plan.Own.{Own}
-use Rattle.fr_slots.specs.Windows.{Opportunity, IsInRange, slot_of}
+use Rattle.fr_slots.specs.Windows.{Opportunity, IsInRange, opens_cycle, slot_of}
 use Rattle.fr_status.specs.Forms.{Seen}
 
 -- ---- counts
@@ -107,6 +109,43 @@ legal-more s e legal entry_is here = record {
   legal = AllAfter-snoc _ _ _ legal.legal here;
 }
 
+-- ---- cycles
+
+pub cycles-more : (xs : List Entry) (e : Entry)
+    → cycles_of (xs ++ e ∷ []) ≡ cycles_of xs + cond (begins_cycle_at e) 1 0
+cycles-more xs e = omega (arith, sum_by-append (λ x. cond (begins_cycle_at x) 1 0) xs (e ∷ []))
+
+pub cycles-other : (xs : List Entry) (e : Entry) → begins_cycle_at e ≡ false → cycles_of (xs ++ e ∷ []) ≡ cycles_of xs
+cycles-other xs e other =
+    let none : cond {A = ℕ} (begins_cycle_at e) 1 0 ≡ 0 = ap (λ (b : Bool). cond {A = ℕ} b 1 0) other in
+    omega (arith, cycles-more xs e, none)
+
+cycles_first : (e : Entry) (xs : List Entry) → cycles_of (e ∷ xs) ≡ cond (begins_cycle_at e) 1 0 + cycles_of xs
+cycles_first e xs = omega (arith, sum_by-append (λ x. cond (begins_cycle_at x) 1 0) (e ∷ []) xs)
+
+slots_first : (e : Entry) (xs : List Entry) → count_by is_slot (e ∷ xs) ≡ cond (is_slot e) 1 0 + count_by is_slot xs
+slots_first e xs = omega (arith, sum_by-append (λ x. cond (is_slot x) 1 0) (e ∷ []) xs)
+
+one_at_most : (t : Bool) → cond {A = ℕ} t 1 0 ≤ 1
+one_at_most true = omega arith
+one_at_most false = omega arith
+
+begins_slot : (e : Entry) → cond {A = ℕ} (begins_cycle_at e) 1 0 ≤ cond {A = ℕ} (is_slot e) 1 0
+begins_slot (Commit task buffer payload) = omega arith
+begins_slot (Withdraw task buffer of) = omega arith
+begins_slot (Read task buffer from) = omega arith
+begins_slot (Pop task from) = omega arith
+begins_slot (Fetch w a b) = one_at_most (opens_cycle w)
+begins_slot (Observe window a b) = omega arith
+
+-- only a fetch begins a cycle
+pub cycles-most : (xs : List Entry) → cycles_of xs ≤ count_by is_slot xs
+cycles-most [] = omega arith
+cycles-most (e ∷ xs) = omega (arith, cycles_first e xs, slots_first e xs, begins_slot e, cycles-most xs)
+
+pub moment-is : (s : State) → moment_before (standing_of s) ≡ moment_after s.entries
+moment-is s = λ i. record { entry = entries-length s i; cycle = run_cycle s.entries }
+
 -- ---- a commit
 
 pub standing-commit : (s : State) (task buffer : ℕ) (payload : List ℕ)
@@ -127,6 +166,7 @@ standing-commit s task buffer payload =
       slot_limit = s.plan.slot_entries;
       hosts = counts.0 i;
       slots = counts.1 i;
+      cycles = cycles-other s.entries e refl i;
       opening = opening-commit s.entries task buffer payload i;
       transmit = transmit i;
       receive = held-other s.params s.entries e s.plan.buffers (λ f. refl) i;
@@ -172,6 +212,7 @@ standing-withdraw s task buffer =
       slot_limit = s.plan.slot_entries;
       hosts = counts.0 i;
       slots = counts.1 i;
+      cycles = cycles-other s.entries e refl i;
       opening = opening-withdraw s.entries task buffer (pending_commit buffer s.entries) i;
       transmit = sym (transmitters-withdraw s.entries task buffer s.plan) i;
       receive = held-other s.params s.entries e s.plan.buffers (λ f. refl) i;
@@ -222,6 +263,7 @@ standing-pop s task =
       slot_limit = s.plan.slot_entries;
       hosts = counts.0 i;
       slots = counts.1 i;
+      cycles = cycles-other s.entries e refl i;
       opening = opening-pop s.entries task from i;
       transmit = transmitters-other s.plan s.entries e (λ n. refl) (λ k. refl) (λ k. refl) i;
       receive = held-other s.params s.entries e s.plan.buffers (λ f. refl) i;
@@ -267,6 +309,7 @@ standing-read s task buffer from =
       slot_limit = s.plan.slot_entries;
       hosts = counts.0 i;
       slots = counts.1 i;
+      cycles = cycles-other s.entries e refl i;
       opening = opening-read s.entries task buffer from i;
       transmit = transmitters-other s.plan s.entries e (λ n. refl) (λ k. refl) (λ k. refl) i;
       receive = held-other s.params s.entries e s.plan.buffers (λ f. refl) i;
@@ -318,6 +361,7 @@ standing-fetch s window a b from_a from_b sent =
       slot_limit = s.plan.slot_entries;
       hosts = counts.0 i;
       slots = counts.1 i;
+      cycles = cycles-more s.entries e i;
       opening = opening-fetch s.entries window a b i;
       transmit = sym (transmitters-fetch s.plan s.entries window a b from_a from_b sent) i;
       receive = held-other s.params s.entries e s.plan.buffers (λ f. refl) i;
@@ -377,19 +421,19 @@ standing-observe s n a b window legal opened =
     let counts = slot_more s.entries e refl in
     let frame_a = data_frame_seen s.params window A a in
     let frame_b = data_frame_seen s.params window B b in
-    let number : length s.entries ≡ entries_before (standing_of s) = sym (entries-length s) in
+    let moment : moment_after s.entries ≡ moment_before (standing_of s) = sym (moment-is s) in
     let receive : map (held_in s.params (s.entries ++ e ∷ [])) s.plan.buffers ≡ stored_all
-    (entries_before (standing_of s)) window frame_a frame_b s.plan.buffers
+    (moment_before (standing_of s)) window frame_a frame_b s.plan.buffers
     (map (held_in s.params s.entries) s.plan.buffers) =
     sym (held-observe s.params s.entries n a b window opened s.plan.buffers)
-    ∙ ap (λ (k : ℕ). stored_all k window frame_a frame_b s.plan.buffers
-    (map (held_in s.params s.entries) s.plan.buffers)) number in
+    ∙ ap (λ (k : Moment). stored_all k window frame_a frame_b s.plan.buffers
+    (map (held_in s.params s.entries) s.plan.buffers)) moment in
     let queue : option_map (waiting_of s.params s.plan (s.entries ++ e ∷ [])) s.plan.queue ≡ with_arrivals s.plan
-    (entries_before (standing_of s)) window frame_a frame_b s.plan.queue
+    (moment_before (standing_of s)) window frame_a frame_b s.plan.queue
     (option_map (waiting_of s.params s.plan s.entries) s.plan.queue) =
     sym (queue-observe s.params s.plan s.entries n a b window legal opened s.plan.queue refl)
-    ∙ ap (λ (k : ℕ). with_arrivals s.plan k window frame_a frame_b s.plan.queue
-    (option_map (waiting_of s.params s.plan s.entries) s.plan.queue)) number in
+    ∙ ap (λ (k : Moment). with_arrivals s.plan k window frame_a frame_b s.plan.queue
+    (option_map (waiting_of s.params s.plan s.entries) s.plan.queue)) moment in
     λ i. record {
       params = s.params;
       plan = s.plan;
@@ -397,6 +441,7 @@ standing-observe s n a b window legal opened =
       slot_limit = s.plan.slot_entries;
       hosts = counts.0 i;
       slots = counts.1 i;
+      cycles = cycles-other s.entries e refl i;
       opening = opening-observe s.entries n a b i;
       transmit = transmitters-other s.plan s.entries e (λ n. refl) (λ k. refl) (λ k. refl) i;
       receive = receive i;
@@ -459,6 +504,14 @@ pub arrivals-fit : (h : Standing) (s : State) (w : Opportunity) → IsHistory h 
 arrivals-fit h s w is opened = for_some (λ (w : Waiting). w.lost + 2 < 2 ^ 32) h.queue
     (subst (ArrivalsFit w) is.leaves (λ is_open. losses_fit s.params s.plan s.entries
     (omega (arith, is.slot_room, is.legal.few)) w is_open s.plan.queue) opened)
+
+-- one more cycle fits its number, if a window can be fetched
+abbrev CyclesFit : Standing → Type 0
+CyclesFit h = h.cycles + 2 ≤ 2 ^ 32
+
+pub cycles-fit : (h : Standing) (s : State) → IsHistory h s → h.cycles + 2 ≤ 2 ^ 32
+cycles-fit h s is = subst CyclesFit is.leaves
+    (omega (arith, cycles-most s.entries, is.slot_room, is.legal.few))
 
 pub one-held-each : (h : Standing) (s : State) → IsHistory h s → length h.receive ≡ length h.plan.buffers
 one-held-each h s is = subst (λ (x : Standing). length x.receive ≡ length x.plan.buffers) is.leaves
@@ -620,11 +673,11 @@ module _ (p : Plan) (host slot : ℕ) where
       by_slot None = refl
       by_slot (Some n) = frame_at-limits params l w channel n outgoing.own outgoing.sender
 
-  pub arrivals-limits : (number : ℕ) (w : Opportunity) (a b : Option Fields) (q : Option Queue)
+  pub arrivals-limits : (moment : Moment) (w : Opportunity) (a b : Option Fields) (q : Option Queue)
       (waiting : Option Waiting)
-      → with_arrivals (with_limits p host slot) number w a b q waiting ≡ with_arrivals p number w a b q waiting
-  arrivals-limits number w a b None waiting = refl
-  arrivals-limits number w a b (Some q) waiting = refl
+      → with_arrivals (with_limits p host slot) moment w a b q waiting ≡ with_arrivals p moment w a b q waiting
+  arrivals-limits moment w a b None waiting = refl
+  arrivals-limits moment w a b (Some q) waiting = refl
 
 -- the offer of a fetch
 pub answer-outgoing : (h : Standing) (s : State) (window : Opportunity) (channel : Channel) → IsHistory h s

@@ -14,7 +14,9 @@ use Rattle.fr_interface.specs.Known.{waiting_of, queued_on, with_arrival}
 use Rattle.fr_journal.specs.Arrivals.{Move, arrives, pops, arrive_all, moves_at, moves, arrived, length_after}
 use Rattle.fr_journal.specs.Arrivals.{queue_length, queue_content, queue_lost, oldest, is_answered_pop, is_for_queue}
 use Rattle.fr_journal.specs.Arrivals.{queue_arrival_on, queue_arrivals_in}
+use Rattle.fr_journal.specs.Cycles.{moment_after}
 use Rattle.fr_journal.specs.declared.entry.Arrival.{Arrival}
+use Rattle.fr_journal.specs.declared.entry.Moment.{Moment}
 use Rattle.fr_journal.specs.Forms.{Entry}
 use Rattle.fr_journal.specs.declared.entry.Entry.TheVariants.{Commit, Withdraw, Read, Pop, Fetch, Observe}
 use Rattle.fr_journal.specs.declared.entry.Origin.{Origin}
@@ -167,11 +169,11 @@ module _ (params : Parameters) (plan : Plan) (q : Queue) where
 
   -- ---- an observed window
 
-  one_arrival : (number : ℕ) (window : Opportunity) (channel : Channel) (seen : Seen)
-      → option_to_list (queued_on plan q number window channel (data_frame_seen params window channel seen))
-      ≡ queue_arrival_on params plan q number window channel seen
-  one_arrival number window channel seen = by_test (is_for_queue plan q window channel)
-      (option_map (arrival_of number channel) (data_frame_seen params window channel seen))
+  one_arrival : (moment : Moment) (window : Opportunity) (channel : Channel) (seen : Seen)
+      → option_to_list (queued_on plan q moment window channel (data_frame_seen params window channel seen))
+      ≡ queue_arrival_on params plan q moment window channel seen
+  one_arrival moment window channel seen = by_test (is_for_queue plan q window channel)
+      (option_map (arrival_of moment channel) (data_frame_seen params window channel seen))
     where
       by_test : (t : Bool) (o : Option Arrival) → option_to_list (cond t o None) ≡ cond t (option_to_list o) []
       by_test true o = refl
@@ -180,22 +182,22 @@ module _ (params : Parameters) (plan : Plan) (q : Queue) where
   pub waiting-observe : plan.queue ≡ Some q → (xs : List Entry) (n : ℕ) (a b : Seen) (window : Opportunity)
       → IsLegalJournal params plan xs → open_window xs ≡ Some window
       → with_arrival (with_arrival (waiting_of params plan xs q)
-      (queued_on plan q (length xs) window A (data_frame_seen params window A a)))
-      (queued_on plan q (length xs) window B (data_frame_seen params window B b))
+      (queued_on plan q (moment_after xs) window A (data_frame_seen params window A a)))
+      (queued_on plan q (moment_after xs) window B (data_frame_seen params window B b))
       ≡ waiting_of params plan (xs ++ Observe n a b ∷ []) q
   waiting-observe there xs n a b window legal opened =
       let ms : List Move = moves params plan q xs in
       let popped : ℕ = count_by is_answered_pop xs in
-      let from_a : Option Arrival = queued_on plan q (length xs) window A (data_frame_seen params window A a) in
-      let from_b : Option Arrival = queued_on plan q (length xs) window B (data_frame_seen params window B b) in
+      let from_a : Option Arrival = queued_on plan q (moment_after xs) window A (data_frame_seen params window A a) in
+      let from_b : Option Arrival = queued_on plan q (moment_after xs) window B (data_frame_seen params window B b) in
       let first = arrival-by q.capacity popped ms from_a (balanced params plan q there xs legal) in
       let second = arrival-by q.capacity popped (ms ++ arrive_all (option_to_list from_a)) from_b first.1 in
-      let lists : option_to_list from_a ++ option_to_list from_b ≡ queue_arrivals_in params plan q (length xs) a b
+      let lists : option_to_list from_a ++ option_to_list from_b ≡ queue_arrivals_in params plan q (moment_after xs) a b
       (open_window xs) =
-      (λ i. one_arrival (length xs) window A a i ++ one_arrival (length xs) window B b i)
-      ∙ ap (queue_arrivals_in params plan q (length xs) a b) (sym opened) in
+      (λ i. one_arrival (moment_after xs) window A a i ++ one_arrival (moment_after xs) window B b i)
+      ∙ ap (queue_arrivals_in params plan q (moment_after xs) a b) (sym opened) in
       let joined : (ms ++ arrive_all (option_to_list from_a)) ++ arrive_all (option_to_list from_b) ≡ ms ++ arrive_all
-      (queue_arrivals_in params plan q (length xs) a b (open_window xs)) =
+      (queue_arrivals_in params plan q (moment_after xs) a b (open_window xs)) =
       append_assoc ms (arrive_all (option_to_list from_a)) (arrive_all (option_to_list from_b))
       ∙ ap (λ (l : List Move). ms ++ l) (sym (arrive_all-append (option_to_list from_a) (option_to_list from_b)))
       ∙ ap (λ (l : List Arrival). ms ++ arrive_all l) lists in
@@ -203,7 +205,7 @@ module _ (params : Parameters) (plan : Plan) (q : Queue) where
       ∙ second.0
       ∙ ap (waiting_by q.capacity popped) joined
       ∙ sym (same_popped xs (Observe n a b) (arrive_all
-      (queue_arrivals_in params plan q (length xs) a b (open_window xs))) refl refl)
+      (queue_arrivals_in params plan q (moment_after xs) a b (open_window xs))) refl refl)
 
   -- ---- the number of arrivals
 
@@ -212,17 +214,17 @@ module _ (params : Parameters) (plan : Plan) (q : Queue) where
   one_at_most true (Some a) = omega arith
   one_at_most false o = omega arith
 
-  two_at_most : (number : ℕ) (a b : Seen) (window : Option Opportunity)
-      → length (queue_arrivals_in params plan q number a b window) ≤ 2
-  two_at_most number a b None = omega arith
-  two_at_most number a b (Some window) =
+  two_at_most : (moment : Moment) (a b : Seen) (window : Option Opportunity)
+      → length (queue_arrivals_in params plan q moment a b window) ≤ 2
+  two_at_most moment a b None = omega arith
+  two_at_most moment a b (Some window) =
       omega (
         arith,
-        length-append (queue_arrival_on params plan q number window A a)
-            (queue_arrival_on params plan q number window B b),
-        one_at_most (is_for_queue plan q window A) (option_map (arrival_of number A)
+        length-append (queue_arrival_on params plan q moment window A a)
+            (queue_arrival_on params plan q moment window B b),
+        one_at_most (is_for_queue plan q window A) (option_map (arrival_of moment A)
             (data_frame_seen params window A a)),
-        one_at_most (is_for_queue plan q window B) (option_map (arrival_of number B)
+        one_at_most (is_for_queue plan q window B) (option_map (arrival_of moment B)
             (data_frame_seen params window B b)),
       )
 
@@ -234,10 +236,10 @@ module _ (params : Parameters) (plan : Plan) (q : Queue) where
   digit_one true = omega arith
   digit_one false = omega arith
 
-  at_open : (number : ℕ) (a b : Seen) (o : Option Opportunity)
-      → length (queue_arrivals_in params plan q number a b o) ≤ 2 * cond {A = ℕ} (is_some o) 1 0
-  at_open number a b None = omega arith
-  at_open number a b (Some window) = omega (arith, two_at_most number a b (Some window))
+  at_open : (moment : Moment) (a b : Seen) (o : Option Opportunity)
+      → length (queue_arrivals_in params plan q moment a b o) ≤ 2 * cond {A = ℕ} (is_some o) 1 0
+  at_open moment a b None = omega arith
+  at_open moment a b (Some window) = omega (arith, two_at_most moment a b (Some window))
 
   marked : (before : List Entry) (e : Entry) (o : Option Opportunity) → open_window (before ++ e ∷ []) ≡ o
       → open_one (before ++ e ∷ []) ≡ cond {A = ℕ} (is_some o) 1 0
@@ -274,10 +276,10 @@ module _ (params : Parameters) (plan : Plan) (q : Queue) where
   )
   step before (Observe window a b) =
       let arrivals : length (arrived (moves_at params plan q before (Observe window a b))) ≡ length
-      (queue_arrivals_in params plan q (length before) a b (open_window before)) =
-      ap length (arrived-all (queue_arrivals_in params plan q (length before) a b (open_window before))) in
-      let most : length (queue_arrivals_in params plan q (length before) a b (open_window before)) ≤ 2 * cond {A = ℕ}
-      (is_some (open_window before)) 1 0 = at_open (length before) a b (open_window before) in
+      (queue_arrivals_in params plan q (moment_after before) a b (open_window before)) =
+      ap length (arrived-all (queue_arrivals_in params plan q (moment_after before) a b (open_window before))) in
+      let most : length (queue_arrivals_in params plan q (moment_after before) a b (open_window before))
+      ≤ 2 * cond {A = ℕ} (is_some (open_window before)) 1 0 = at_open (moment_after before) a b (open_window before) in
       let closed : open_one (before ++ Observe window a b ∷ []) ≡ 0 =
       marked before (Observe window a b) None (open_window-snoc before (Observe window a b)) in
       let one : cond {A = ℕ} (is_some (open_window before)) 1 0 ≤ 1 = digit_one (is_some (open_window before)) in
@@ -312,13 +314,13 @@ module _ (params : Parameters) (plan : Plan) (q : Queue) where
 -- ---- the frames that the code stores in the receive FIFO
 
 -- the arrival of the frame that the receive FIFO stores, if it stores it
-pub queued_is : (plan : Plan) (q : Queue) (number : ℕ) (window : Opportunity) (channel : Channel)
+pub queued_is : (plan : Plan) (q : Queue) (moment : Moment) (window : Opportunity) (channel : Channel)
     (frame taken : Option Fields) → taken ≡ cond (is_for_queue plan q window channel) frame None
-    → option_map (arrival_of number channel) taken ≡ queued_on plan q number window channel frame
-queued_is plan q number window channel frame taken is =
-    ap (option_map (arrival_of number channel)) is ∙ by_test (is_for_queue plan q window channel) frame
+    → option_map (arrival_of moment channel) taken ≡ queued_on plan q moment window channel frame
+queued_is plan q moment window channel frame taken is =
+    ap (option_map (arrival_of moment channel)) is ∙ by_test (is_for_queue plan q window channel) frame
   where
-    by_test : (t : Bool) (o : Option Fields) → option_map (arrival_of number channel) (cond t o None)
-        ≡ cond t (option_map (arrival_of number channel) o) None
+    by_test : (t : Bool) (o : Option Fields) → option_map (arrival_of moment channel) (cond t o None)
+        ≡ cond t (option_map (arrival_of moment channel) o) None
     by_test true o = refl
     by_test false o = refl

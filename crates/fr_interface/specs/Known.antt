@@ -8,6 +8,7 @@ use Rattle.fr_frame.specs.Fields.{Fields}
 use Rattle.fr_interface.specs.declared.opening.Opening.{Opening}
 use Rattle.fr_journal.specs.Arrivals.{moves, queue_content, queue_lost, is_for_queue}
 use Rattle.fr_journal.specs.declared.entry.Arrival.{Arrival}
+use Rattle.fr_journal.specs.declared.entry.Moment.{Moment}
 use Rattle.fr_journal.specs.Forms.{Entry}
 use Rattle.fr_journal.specs.Fate.{held_commit, tally_of}
 use Rattle.fr_journal.specs.Held.{held, arrival_of}
@@ -64,21 +65,21 @@ change_at f (x ∷ xs) (suc place) = x ∷ change_at f xs place
 abbrev pub held_in : Parameters → List Entry → Buffer → Option Arrival
 held_in params entries b = if is_receive b.mode then held params b.filter entries else None
 
-abbrev pub frame_on : ℕ → Opportunity → Channel → Option Fields → Buffer → Option Arrival
-frame_on number window channel frame b = if admits_window b.filter window channel
-    then option_map (arrival_of number channel) frame else None
+abbrev pub frame_on : Moment → Opportunity → Channel → Option Fields → Buffer → Option Arrival
+frame_on moment window channel frame b = if admits_window b.filter window channel
+    then option_map (arrival_of moment channel) frame else None
 
 -- the frame that a receive buffer stores of these data frames, if any: A's before B's
-abbrev pub taken_by : ℕ → Opportunity → Option Fields → Option Fields → Buffer → Option Arrival
-taken_by number window a b buffer = if is_receive buffer.mode
-    then option_or (frame_on number window A a buffer) (frame_on number window B b buffer) else None
+abbrev pub taken_by : Moment → Opportunity → Option Fields → Option Fields → Buffer → Option Arrival
+taken_by moment window a b buffer = if is_receive buffer.mode
+    then option_or (frame_on moment window A a buffer) (frame_on moment window B b buffer) else None
 
-abbrev pub stored_all : ℕ → Opportunity → Option Fields → Option Fields → List Buffer → List (Option Arrival)
+abbrev pub stored_all : Moment → Opportunity → Option Fields → Option Fields → List Buffer → List (Option Arrival)
     → List (Option Arrival)
-stored_all number window a b [] held = held
-stored_all number window a b (line ∷ lines) [] = []
-stored_all number window a b (line ∷ lines) (h ∷ held) =
-    option_or (taken_by number window a b line) h ∷ stored_all number window a b lines held
+stored_all moment window a b [] held = held
+stored_all moment window a b (line ∷ lines) [] = []
+stored_all moment window a b (line ∷ lines) (h ∷ held) =
+    option_or (taken_by moment window a b line) h ∷ stored_all moment window a b lines held
 
 -- ---- the receive FIFO
 
@@ -91,21 +92,21 @@ waiting_of params plan entries q =
       lost = queue_lost params plan q entries;
     }
 
-abbrev pub queued_on : Plan → Queue → ℕ → Opportunity → Channel → Option Fields → Option Arrival
-queued_on plan q number window channel frame = if is_for_queue plan q window channel
-    then option_map (arrival_of number channel) frame else None
+abbrev pub queued_on : Plan → Queue → Moment → Opportunity → Channel → Option Fields → Option Arrival
+queued_on plan q moment window channel frame = if is_for_queue plan q window channel
+    then option_map (arrival_of moment channel) frame else None
 
 abbrev pub with_arrival : Waiting → Option Arrival → Waiting
 with_arrival w None = w
 with_arrival w (Some a) = with_frame w a
 
 -- a receive FIFO after a window with these data frames, if any: A's before B's
-abbrev pub with_arrivals : Plan → ℕ → Opportunity → Option Fields → Option Fields → Option Queue → Option Waiting
+abbrev pub with_arrivals : Plan → Moment → Opportunity → Option Fields → Option Fields → Option Queue → Option Waiting
     → Option Waiting
-with_arrivals plan number window a b None waiting = waiting
-with_arrivals plan number window a b (Some q) waiting =
-    option_map (λ w. with_arrival (with_arrival w (queued_on plan q number window A a))
-    (queued_on plan q number window B b)) waiting
+with_arrivals plan moment window a b None waiting = waiting
+with_arrivals plan moment window a b (Some q) waiting =
+    option_map (λ w. with_arrival (with_arrival w (queued_on plan q moment window A a))
+    (queued_on plan q moment window B b)) waiting
 
 abbrev pub empty_queue : Queue → Waiting
 empty_queue q = record { capacity = q.capacity; frames = []; lost = 0 }

@@ -5,6 +5,7 @@ use Rattle.std.specs.Prelude.{if◌then◌else◌, min, max}
 use Rattle.fr_frame.specs.Fields.{Fields}
 use Rattle.fr_interface.specs.declared.index.LineRange.{LineRange}
 use Rattle.fr_interface.specs.Known.{frame_on}
+use Rattle.fr_journal.specs.declared.entry.Moment.{Moment}
 use Rattle.fr_slots.specs.declared.channel.Channel.{Channel}
 use Rattle.fr_slots.specs.declared.plan.Buffer.{Buffer}
 use Rattle.fr_slots.specs.declared.plan.Own.{Own}
@@ -52,5 +53,5 @@ pub record IsTakingRange (buffers : List Buffer) (window : Opportunity) (channel
     (range : LineRange) : Type 0 where
   pub ordered : range.first ≤ range.end
   pub ends : range.end ≤ length buffers
-  pub covers : (number place : ℕ) (b : Buffer) → slice_get buffers place ≡ Some b
-      → is_some (frame_on number window channel frame b) ≡ true → IsWithin place range
+  pub covers : (moment : Moment) (place : ℕ) (b : Buffer) → slice_get buffers place ≡ Some b
+      → is_some (frame_on moment window channel frame b) ≡ true → IsWithin place range

@@ -1,5 +1,5 @@
 -- The offers of given transmit buffers in a window, and their frames (chapter 5; the modes are project-defined).
-use Rattle.std.specs.Prelude.{ℕ, ◌*◌, List, [], replicate, slice_get, Option, Some, None, is_some, true, false}
+use Rattle.std.specs.Prelude.{◌≡◌, ℕ, ◌*◌, List, [], replicate, slice_get, Option, Some, None, is_some, true, false}
 use Rattle.std.specs.Prelude.{if◌then◌else◌, option_map, unwrap_or}
 use Rattle.std.specs.Option.{option_and_then}
 use Rattle.fr_buffers.specs.Transmitting.{Transmitter, offer_of, payload_of, pending_of, after_send}
@@ -61,6 +61,12 @@ outgoing_on plan buffers window channel = record {
   own = owner_on plan window channel;
   offered = offered_by window channel (owner_on plan window channel) (sender_on plan buffers window channel);
 }
+
+-- whatever the transmit buffers hold, the node offers nothing
+abbrev pub OffersNothing : Plan → Opportunity → Channel → Type 0
+OffersNothing plan window channel =
+    (buffers : List Transmitter)
+    → outgoing_on plan buffers window channel ≡ record { sender = None; own = None; offered = Nothing }
 
 -- the same for an interface of this state
 abbrev pub outgoing_in : State → Opportunity → Channel → Outgoing

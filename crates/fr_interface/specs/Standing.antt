@@ -1,6 +1,6 @@
 -- The data that an interface keeps, in place of the calls before.
-use Rattle.std.specs.Prelude.{◌≡◌, ℕ, ◌+◌, ◌^◌, ◌≤◌, nat_le, nat_lt, not, Bool, List, map, Option, Some, None, is_some}
-use Rattle.std.specs.Prelude.{if◌then◌else◌, count_by, option_map, slice_get}
+use Rattle.std.specs.Prelude.{◌≡◌, ℕ, ◌+◌, ◌-◌, ◌^◌, ◌≤◌, nat_le, nat_lt, not, Bool, List, map, Option, Some, None}
+use Rattle.std.specs.Prelude.{is_some, if◌then◌else◌, count_by, option_map, slice_get}
 use Rattle.std.specs.Option.{option_and_then}
 use Rattle.fr_buffers.specs.Transmitting.{Transmitter, with_commit, after_withdraw, entry_of}
 use Rattle.fr_buffers.specs.Waiting.{Waiting, without_oldest}
@@ -19,7 +19,9 @@ use Rattle.fr_interface.specs.Known.{with_arrivals, with_seen}
 use Rattle.fr_interface.specs.Sending.{after_sender}
 use Rattle.fr_interface.specs.State.{State, has_words, is_not_above, unless_open}
 use Rattle.fr_journal.specs.Counts.{counters_of}
+use Rattle.fr_journal.specs.Cycles.{cycles_of}
 use Rattle.fr_journal.specs.declared.entry.Arrival.{Arrival}
+use Rattle.fr_journal.specs.declared.entry.Moment.{Moment}
 use Rattle.fr_journal.specs.declared.fate.Tally.{Tally}
 use Rattle.fr_journal.specs.Held.{origin_of}
 use Rattle.fr_journal.specs.Legal.{IsLegalJournal, AreEntries}
@@ -29,7 +31,7 @@ use Rattle.fr_slots.specs.Parameters.{Parameters, IsParameters}
 use Rattle.fr_slots.specs.declared.plan.Buffer.{Buffer}
 use Rattle.fr_slots.specs.declared.plan.Queue.{Queue}
 use Rattle.fr_slots.specs.Plans.{Plan, is_receive, buffer_at, with_limits}
-use Rattle.fr_slots.specs.Windows.{Opportunity, window_fits}
+use Rattle.fr_slots.specs.Windows.{Opportunity, opens_cycle, window_fits}
 use Rattle.fr_status.specs.declared.counters.Counters.{Counters}
 use Rattle.fr_status.specs.declared.status.SlotStatus.{SlotStatus}
 
@@ -40,6 +42,7 @@ pub record Standing : Type 0 where
   pub slot_limit : ℕ
   pub hosts : ℕ
   pub slots : ℕ
+  pub cycles : ℕ
   pub opening : Opening
   pub transmit : List Transmitter
   pub receive : List (Option Arrival)
@@ -55,6 +58,7 @@ standing_of s = record {
   slot_limit = s.plan.slot_entries;
   hosts = count_by is_host s.entries;
   slots = count_by is_slot s.entries;
+  cycles = cycles_of s.entries;
   opening = opening_of s.entries;
   transmit = transmitters s.plan s.entries;
   receive = map (held_in s.params s.entries) s.plan.buffers;
@@ -100,6 +104,10 @@ ForEachHistory h P = (s : State) → IsHistory h s → P s
 abbrev pub entries_before : Standing → ℕ
 entries_before h = h.hosts + h.slots
 
+-- the moment of the next entry
+abbrev pub moment_before : Standing → Moment
+moment_before h = record { entry = entries_before h; cycle = h.cycles - 1 }
+
 abbrev pub after_commit : Standing → ℕ → List ℕ → Standing
 after_commit h buffer payload = record h {
   hosts = h.hosts + 1;
@@ -118,6 +126,7 @@ after_pop h = record h { hosts = h.hosts + 1; queue = option_map without_oldest 
 abbrev pub after_fetch : Standing → Opportunity → Option Sender → Option Sender → Standing
 after_fetch h window from_a from_b = record h {
   slots = h.slots + 1;
+  cycles = h.cycles + (if opens_cycle window then 1 else 0);
   opening = record { window = Some window; last = Some window.number };
   transmit = after_sender (after_sender h.transmit from_a) from_b;
 }
@@ -128,8 +137,8 @@ abbrev pub after_observe : Standing → Opportunity → Option SlotStatus → Op
 after_observe h window status_a status_b frame_a frame_b = record h {
   slots = h.slots + 1;
   opening = record { window = None; last = h.opening.last };
-  receive = stored_all (entries_before h) window frame_a frame_b h.plan.buffers h.receive;
-  queue = with_arrivals h.plan (entries_before h) window frame_a frame_b h.plan.queue h.queue;
+  receive = stored_all (moment_before h) window frame_a frame_b h.plan.buffers h.receive;
+  queue = with_arrivals h.plan (moment_before h) window frame_a frame_b h.plan.queue h.queue;
   counters = with_seen (with_seen h.counters A status_a) B status_b;
 }
 

@@ -11,6 +11,7 @@ standing_in i = record {
   slot_limit = i.slot_limit;
   hosts = i.hosts;
   slots = i.slots;
+  cycles = i.cycles;
   opening = i.opening;
   transmit = i.transmit.items;
   receive = i.receive.items;

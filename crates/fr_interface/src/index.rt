@@ -1,6 +1,6 @@
 //! A plan with an index of its lines, so that a call reads only a few of them.
 
-ghost use Rattle.std.specs.Prelude.{◌≡◌, ◌+◌, ◌<◌, ◌≤◌, [], ◌∷◌, ◌++◌, List, ℕ, length, slice_range, IfOk};
+ghost use Rattle.std.specs.Prelude.{◌≡◌, ◌==◌, ◌+◌, ◌<◌, ◌≤◌, [], ◌∷◌, ◌++◌, List, ℕ, length, slice_range, IfOk};
 ghost use Rattle.fr_interface.specs.Ranges.{AreRanges, buffer_slots, own_slots, slot_count, widened, joined};
 ghost use Rattle.fr_slots.specs.Numbers.{most_lines};
 
@@ -24,6 +24,13 @@ pub(crate) struct LineRange {
 impl LineRange {
     /// The empty range.
     pub(crate) const EMPTY: LineRange = LineRange { first: 0, end: 0 };
+
+    /// Returns whether the range has no place.
+    pub(crate) fn is_empty(self) -> bool
+        ensures { result ≡ (self.first == self.end) }
+    {
+        self.first == self.end
+    }
 
     /// Returns the range up to and with a later place.
     fn widened(self, place: u8) -> LineRange

@@ -398,6 +398,14 @@ impl Interface {
         self.state.received(buffer)
     }
 
+    /// Returns the oldest frame of the receive FIFO, with its origin (project-defined): the frame that the next `pop`
+    /// takes. Returns none for an empty FIFO, and for a plan without one.
+    pub fn oldest(&self) -> Option<Arrival>
+        ensures { result ≡ oldest_of self.now }
+    {
+        self.state.oldest()
+    }
+
     /// Returns the valid data frame of the origin, an observe and its channel (chapter 9). Returns none if that entry
     /// isn't an observe, or had no such frame there.
     pub fn frame_at(&self, origin: Origin) -> Option<Frame>

@@ -1,12 +1,12 @@
 //! The effects of an observed window on the receive buffers, the receive FIFO and the counters.
 
-ghost use Rattle.std.specs.Prelude.{◌≡◌, ◌+◌, ◌<◌, ◌^◌, length, is_some, None, if◌then◌else◌, option_map};
+ghost use Rattle.std.specs.Prelude.{◌≡◌, ◌+◌, ◌<◌, ◌^◌, length, is_some, None, true, if◌then◌else◌, option_map};
 ghost use Rattle.std.specs.List.{list_any};
 ghost use Rattle.std.specs.Option.{option_and_then, option_copied, option_or, ForSome};
 ghost use Rattle.fr_interface.specs.Known.{frame_on, taken_by, stored_all, with_arrival, with_arrivals};
 ghost use Rattle.fr_interface.specs.Known.{with_seen};
 ghost use Rattle.fr_interface.specs.Ranges.{IsTakingRange};
-ghost use Rattle.fr_interface.specs.Seeing.{status_seen};
+ghost use Rattle.fr_interface.specs.Seeing.{IsQuiet, status_seen};
 ghost use Rattle.fr_journal.specs.Arrivals.{takes_window, is_for_queue};
 ghost use Rattle.fr_journal.specs.Held.{arrival_of, data_frame_seen, with_data};
 ghost use Rattle.fr_status.specs.Counting.{HasRoom};
@@ -16,6 +16,7 @@ use fr_buffers::queue::ReceiveQueue;
 use fr_buffers::receive::RxBuffer;
 use fr_frame::frame::Frame;
 use fr_frame::lent::LentFrame;
+use fr_journal::entry::Moment;
 use fr_slots::channel::Channel;
 use fr_slots::params::Params;
 use fr_slots::plan::{Buffer, Queue};
@@ -24,12 +25,33 @@ use fr_status::counters::Counters;
 use fr_status::seen::Seen;
 use fr_status::status::{SlotStatus, lent_status_of};
 
+/// The status of a slot in which no transmission of another node was observed.
+const NO_BIT: SlotStatus = SlotStatus {
+    valid: false,
+    syntax: false,
+    content: false,
+    boundary: false,
+    conflict: false,
+};
+
 /// The status of the slot on a channel of a window, and the valid data frame in it. The payload of the frame stays
 /// among the observed bytes. A channel without a slot has neither.
 #[derive(Drop)]
 pub(crate) struct Told<'a> {
     pub status: Option<SlotStatus>,
     pub frame: Option<LentFrame<'a>>,
+}
+
+/// Returns whether no transmission of another node was observed.
+#[tactic(auto, unfolding(fr_status::specs::Status::status_in, fr_status::specs::Status::frame_in))]
+fn is_quiet(seen: &Seen) -> bool
+    ensures { result ≡ true → IsQuiet seen.now }
+{
+    match seen {
+        Seen::Silence => true,
+        Seen::Own => true,
+        _ => false,
+    }
 }
 
 impl<'a> Told<'a> {
@@ -44,6 +66,13 @@ impl<'a> Told<'a> {
                 frame: None,
             };
         };
+        // Most windows show nothing to most nodes.
+        if is_quiet(seen) {
+            return Told {
+                status: Some(NO_BIT),
+                frame: None,
+            };
+        }
         let (status, frame) = lent_status_of(params, window.cycle, slot, channel, seen);
         Told {
             status: Some(status),
@@ -73,17 +102,17 @@ pub(crate) fn count_seen(counters: &mut Counters, channel: Channel, status: Opti
 fn store_on(
     buffer: &mut RxBuffer,
     line: &Buffer,
-    number: u32,
+    moment: Moment,
     window: &Window,
     channel: Channel,
     frame: &Option<LentFrame<'_>>,
 ) -> bool
-    ensures stored { buffer.new ≡ option_or (frame_on number window.now channel frame.now line.now) buffer.old }
-    ensures told { result ≡ is_some (frame_on number window.now channel frame.now line.now) }
+    ensures stored { buffer.new ≡ option_or (frame_on moment window.now channel frame.now line.now) buffer.old }
+    ensures told { result ≡ is_some (frame_on moment window.now channel frame.now line.now) }
 {
     match frame {
         Some(frame) if line.filter.admits_window(window, channel) => {
-            buffer.store_lent(number, channel, frame);
+            buffer.store_lent(moment, channel, frame);
             true
         }
         _ => false,
@@ -94,15 +123,15 @@ fn store_on(
 fn store_in(
     buffer: &mut RxBuffer,
     line: &Buffer,
-    number: u32,
+    moment: Moment,
     window: &Window,
     a: &Option<LentFrame<'_>>,
     b: &Option<LentFrame<'_>>,
 )
-    ensures { buffer.new ≡ option_or (taken_by number window.now a.now b.now line.now) buffer.old }
+    ensures { buffer.new ≡ option_or (taken_by moment window.now a.now b.now line.now) buffer.old }
 {
-    if line.mode.is_receive() && !store_on(buffer, line, number, window, Channel::A, a) {
-        let _ = store_on(buffer, line, number, window, Channel::B, b);
+    if line.mode.is_receive() && !store_on(buffer, line, moment, window, Channel::A, a) {
+        let _ = store_on(buffer, line, moment, window, Channel::B, b);
     }
 }
 
@@ -125,13 +154,13 @@ fn taking_range(
 pub(crate) fn store_all(
     buffers: &mut [RxBuffer],
     plan: &IndexedPlan,
-    number: u32,
+    moment: Moment,
     window: &Window,
     a: &Option<LentFrame<'_>>,
     b: &Option<LentFrame<'_>>,
 )
     requires { length buffers.old ≡ length plan.now.buffers }
-    ensures { buffers.new ≡ stored_all number window.now a.now b.now plan.now.buffers buffers.old }
+    ensures { buffers.new ≡ stored_all moment window.now a.now b.now plan.now.buffers buffers.old }
 {
     let range_a = taking_range(plan, window, Channel::A, a);
     let range_b = taking_range(plan, window, Channel::B, b);
@@ -139,7 +168,7 @@ pub(crate) fn store_all(
     let lines = plan.as_plan().buffers();
     for place in usize::from(range.first)..usize::from(range.end) {
         let buffer = &mut buffers[place];
-        store_in(buffer, &lines[place], number, window, a, b);
+        store_in(buffer, &lines[place], moment, window, a, b);
     }
 }
 
@@ -186,13 +215,18 @@ fn frame_for_queue<'a, 'b>(
 }
 
 /// Appends the data frame of the channel to the receive FIFO, if the FIFO stores it.
-fn arrive(waiting: &mut ReceiveQueue, number: u32, channel: Channel, frame: Option<&LentFrame<'_>>)
+fn arrive(
+    waiting: &mut ReceiveQueue,
+    moment: Moment,
+    channel: Channel,
+    frame: Option<&LentFrame<'_>>,
+)
     requires { waiting.old.lost + 1 < 2 ^ 32 }
     ensures { waiting.new ≡ with_arrival waiting.old
-        (option_map (arrival_of number channel) (option_copied frame.entry)) }
+        (option_map (arrival_of moment channel) (option_copied frame.entry)) }
 {
     if let Some(frame) = frame {
-        waiting.arrive(number, channel, Frame::from_lent(frame));
+        waiting.arrive(moment, channel, Frame::from_lent(frame));
     }
 }
 
@@ -201,20 +235,20 @@ fn arrive(waiting: &mut ReceiveQueue, number: u32, channel: Channel, frame: Opti
 pub(crate) fn arrive_all(
     queue: &mut Option<ReceiveQueue>,
     plan: &IndexedPlan,
-    number: u32,
+    moment: Moment,
     window: &Window,
     a: &Option<LentFrame<'_>>,
     b: &Option<LentFrame<'_>>,
 )
     requires { ForSome queue.old (λ w. w.lost + 2 < 2 ^ 32) }
-    ensures { queue.new ≡ with_arrivals plan.now number window.now a.now b.now plan.now.queue queue.old }
+    ensures { queue.new ≡ with_arrivals plan.now moment window.now a.now b.now plan.now.queue queue.old }
 {
     if let Some(line) = plan.queue() {
         if let Some(waiting) = queue {
             let a = frame_for_queue(plan, &line, window, Channel::A, a);
             let b = frame_for_queue(plan, &line, window, Channel::B, b);
-            arrive(waiting, number, Channel::A, a);
-            arrive(waiting, number, Channel::B, b);
+            arrive(waiting, moment, Channel::A, a);
+            arrive(waiting, moment, Channel::B, b);
         }
     }
 }

@@ -1,11 +1,11 @@
 //! The offers of a node in a window, and their frames.
 
-ghost use Rattle.std.specs.Prelude.{◌≡◌, ◌<◌, length, IfSome};
+ghost use Rattle.std.specs.Prelude.{◌≡◌, ◌<◌, length, true, IfSome};
 ghost use Rattle.std.specs.List.{position};
 ghost use Rattle.fr_journal.specs.Entries.{IsOffered};
 ghost use Rattle.fr_slots.specs.Faults.{claims};
 ghost use Rattle.fr_interface.specs.Sending.{owner_on, outgoing_on, offered_by, null_frame_with, data_frame_with};
-ghost use Rattle.fr_interface.specs.Sending.{frame_by};
+ghost use Rattle.fr_interface.specs.Sending.{frame_by, OffersNothing};
 ghost use Rattle.fr_journal.specs.Offers.{is_admitting, transmitter, may_begin, ownership, line_of, sync_of};
 ghost use Rattle.fr_journal.specs.Offers.{startup_of, preamble_in, IsHandedOut, bytes_of};
 
@@ -129,6 +129,16 @@ fn offered_by(
     }
 }
 
+/// Returns whether the plan has no line for the slot that the window has on the channel. Then nothing is offered.
+fn is_idle(plan: &IndexedPlan, window: &Window, channel: Channel) -> bool
+    ensures { result ≡ true → OffersNothing plan.now window.now channel }
+{
+    match window.slot(channel) {
+        Some(slot) => plan.buffer_range(slot).is_empty() && plan.own_range(slot).is_empty(),
+        None => true,
+    }
+}
+
 /// Returns the offer in the window on the channel, by these transmit buffers.
 pub(crate) fn outgoing_on(
     plan: &IndexedPlan,
@@ -139,6 +149,14 @@ pub(crate) fn outgoing_on(
     ensures value { result ≡ outgoing_on plan.now buffers.now window.now channel }
     ensures fits { IsOffered result.offered }
 {
+    // Most nodes have no line for the slot of most windows.
+    if is_idle(plan, window, channel) {
+        return Outgoing {
+            sender: None,
+            own: None,
+            offered: Offered::Nothing,
+        };
+    }
     let sender = sender_on(plan, buffers, window, channel);
     let own = owner_on(plan, window, channel);
     Outgoing {

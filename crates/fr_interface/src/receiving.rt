@@ -41,10 +41,18 @@ pub(crate) fn arrival_at(buffers: &[RxBuffer], number: u8) -> Option<Arrival>
     ensures { result ≡ option_and_then (λ h. h) (slice_get buffers.now number) }
 {
     let arrival = buffers.get(usize::from(number))?.held()?;
-    Some(Arrival {
+    Some(copy_of(arrival))
+}
+
+/// Returns a copy of the arrival.
+fn copy_of(arrival: &Arrival) -> Arrival
+    ensures { result ≡ arrival.now }
+{
+    Arrival {
         origin: arrival.origin,
+        cycle: arrival.cycle,
         frame: arrival.frame.duplicate(),
-    })
+    }
 }
 
 /// Returns the source of the content of the buffer of this number.
@@ -54,6 +62,14 @@ pub(crate) fn observed_at(buffers: &[RxBuffer], number: u8) -> Option<Source>
 {
     let arrival = buffers.get(usize::from(number))?.held()?;
     Some(Source::Observed(arrival.origin))
+}
+
+/// Returns the oldest frame of the receive FIFO, if there is one, and leaves it there.
+pub(crate) fn first_of(queue: &Option<ReceiveQueue>) -> Option<Arrival>
+    ensures { result ≡ option_and_then (λ w. slice_get w.frames 0) queue.now }
+{
+    let arrival = queue.as_ref()?.oldest()?;
+    Some(copy_of(arrival))
 }
 
 /// Pops the oldest frame of the receive FIFO, if there is one.

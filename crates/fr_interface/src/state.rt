@@ -1,6 +1,8 @@
 //! The data that an interface keeps for its calls, without the calls before.
 
+ghost use Rattle.std.specs.Prelude.{◌≡◌, ◌+◌, ◌<◌, ◌^◌, if◌then◌else◌};
 ghost use Rattle.fr_interface.specs.Standing.{IsHistory, ForEachHistory};
+ghost use Rattle.fr_slots.specs.Windows.{opens_cycle};
 
 use crate::call::{Answer, Call};
 use crate::errors::{HostError, InterfaceError, SlotError};
@@ -11,7 +13,9 @@ use crate::interface::{
 use crate::observed::{Told, arrive_all, count_seen, store_all};
 use crate::offers::{Outgoing, outgoing_on, spelled_by};
 use crate::opening::Opening;
-use crate::receiving::{arrival_at, observed_at, pop_from, receive_buffers, receive_queue};
+use crate::receiving::{
+    arrival_at, first_of, observed_at, pop_from, receive_buffers, receive_queue,
+};
 use crate::sending::{
     commit_at, commit_to, pending_at, send_from, tally_at, transmit_buffers, withdraw_from,
 };
@@ -21,17 +25,29 @@ use fr_buffers::receive::RxBuffer;
 use fr_buffers::transmit::TxBuffer;
 use fr_frame::frame::Bytes;
 use fr_frame::payload::Payload;
-use fr_journal::entry::{Arrival, Offered};
+use fr_journal::entry::{Arrival, Moment, Offered};
 use fr_journal::fate::Tally;
 use fr_slots::channel::Channel;
 use fr_slots::numbers::TaskId;
 use fr_slots::params::Params;
 use fr_slots::plan::NodePlan;
-use fr_slots::window::Window;
+use fr_slots::window::{Window, opens_cycle};
 use fr_status::counters::Counters;
 use fr_status::seen::Seen;
 use std::alloc::Global;
 use std::marker::Model;
+
+/// Returns the number of cycles that have begun once the window is fetched.
+fn cycles_with(cycles: u32, window: &Window) -> u32
+    requires { cycles + 1 < 2 ^ 32 }
+    ensures { result ≡ cycles + (if opens_cycle window.now then 1 else 0) }
+{
+    if opens_cycle(window) {
+        cycles + 1
+    } else {
+        cycles
+    }
+}
 
 // No call scans the journal. The results are kept here, and the invariant of `Interface` states that they are those of
 // the journal. With a scan at each call, the audits of two traces took 21.5 s and 276 s; without scans they take less
@@ -45,6 +61,8 @@ pub struct InterfaceState {
     slot_limit: u32,
     hosts: u32,
     slots: u32,
+    // The number of cycles that have begun.
+    cycles: u32,
     opening: Opening,
     // Each buffer of the plan has an element in both lists, so its number is its index. A receive buffer has an empty
     // transmit buffer, and the other way round.
@@ -76,6 +94,7 @@ impl InterfaceState {
     ghost use Rattle.fr_interface.specs.State.{received_by};
     ghost use Rattle.fr_interface.specs.Standing.{after_commit, after_read, after_fetch, after_observe, commit_refused};
     ghost use Rattle.fr_interface.specs.Standing.{read_refused, fetch_refused, observe_refused, entries_before};
+    ghost use Rattle.fr_interface.specs.Standing.{moment_before};
     ghost use Rattle.fr_interface.specs.Standing.{withdraw_refused, pop_refused, oldest_at, source_at, tally_at};
     ghost use Rattle.fr_interface.specs.Standing.{received_at, KeepsTerms};
     ghost use Rattle.fr_slots.specs.Plans.{buffer_at, with_limits};
@@ -114,6 +133,7 @@ impl InterfaceState {
             slot_limit,
             hosts: 0,
             slots: 0,
+            cycles: 0,
             opening: Opening::NONE,
             transmit,
             receive,
@@ -129,6 +149,17 @@ impl InterfaceState {
         ensures few { result + 2 ≤ 2 ^ 32 }
     {
         self.hosts + self.slots
+    }
+
+    /// Returns the moment of the next entry.
+    fn moment(&self) -> Moment
+        ensures value { result ≡ moment_before self.now }
+        ensures entry { result.entry + 2 ≤ 2 ^ 32 }
+    {
+        Moment {
+            entry: self.entries(),
+            cycle: self.cycles.saturating_sub(1),
+        }
     }
 
     /// Commits a payload as `Interface::commit` does, and returns the number of its entry.
@@ -320,11 +351,28 @@ impl InterfaceState {
                     *bytes = None;
                 }
             }
-            Offered::Null | Offered::Data(_) => {
-                let (params, buffers) = (&self.params, self.transmit.as_slice());
-                *bytes = spelled_by(params, &self.plan, buffers, window, channel, outgoing);
-            }
+            Offered::Null | Offered::Data(_) => self.spell(window, channel, outgoing, bytes),
         }
+    }
+
+    /// Writes the bytes of the node's frame on the channel over the old ones.
+    ///
+    /// It isn't inlined, so that a window without an offer doesn't pay for the room of a frame.
+    #[inline(never)]
+    fn spell(
+        &self,
+        window: &Window,
+        channel: Channel,
+        outgoing: &Outgoing,
+        bytes: &mut Option<Bytes>,
+    )
+        ensures spelled { IsHandedOut channel
+            (frame_by self.now.params self.now.plan self.now.transmit window.now channel outgoing.now) bytes.new }
+        ensures bytes { bytes.new ≡ bytes_of channel
+            (frame_by self.now.params self.now.plan self.now.transmit window.now channel outgoing.now) }
+    {
+        let (params, buffers) = (&self.params, self.transmit.as_slice());
+        *bytes = spelled_by(params, &self.plan, buffers, window, channel, outgoing);
     }
 
     /// Returns the node's offer on the channel in a window, if the window is fetched now.
@@ -392,6 +440,7 @@ impl InterfaceState {
             window: Some(window),
             last: Some(window.number),
         };
+        self.cycles = cycles_with(self.cycles, &window);
         self.slots += 1;
     }
 
@@ -409,15 +458,15 @@ impl InterfaceState {
         if window.number != number {
             return Err(SlotError::WrongWindow);
         }
-        let entry = self.entries();
+        let moment = self.moment();
         let told_a = Told::of(&self.params, &window, Channel::A, a);
         let told_b = Told::of(&self.params, &window, Channel::B, b);
         count_seen(&mut self.counters, Channel::A, told_a.status);
         count_seen(&mut self.counters, Channel::B, told_b.status);
         let (frame_a, frame_b) = (&told_a.frame, &told_b.frame);
         let plan = &self.plan;
-        store_all(&mut self.receive, plan, entry, &window, frame_a, frame_b);
-        arrive_all(&mut self.queue, plan, entry, &window, frame_a, frame_b);
+        store_all(&mut self.receive, plan, moment, &window, frame_a, frame_b);
+        arrive_all(&mut self.queue, plan, moment, &window, frame_a, frame_b);
         self.opening = Opening {
             window: None,
             last: self.opening.last,
@@ -439,8 +488,8 @@ impl InterfaceState {
         }
     }
 
-    /// Returns the entry of a transmit buffer's pending commit, which was neither sent nor withdrawn. Returns none if no
-    /// commit is pending, and for a buffer that isn't a transmit buffer of the plan.
+    /// Returns the entry of a transmit buffer's pending commit, which was neither sent nor withdrawn. Returns none if
+    /// no commit is pending, and for a buffer that isn't a transmit buffer of the plan.
     pub fn pending(&self, buffer: u8) -> Option<u32>
         ensures value { result ≡ pending_at self.now.transmit buffer }
         ensures history { ForEachHistory self.now (λ s. IsSome (buffer_at s.plan buffer)
@@ -471,6 +520,13 @@ impl InterfaceState {
             return None;
         }
         arrival_at(&self.receive, buffer)
+    }
+
+    /// Returns the oldest frame of the receive FIFO, which the next pop takes, with its origin.
+    pub fn oldest(&self) -> Option<Arrival>
+        ensures { result ≡ oldest_at self.now }
+    {
+        first_of(&self.queue)
     }
 
     /// Returns the number of frames in the receive FIFO.

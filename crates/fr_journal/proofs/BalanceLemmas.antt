@@ -4,6 +4,7 @@ use Rattle.std.proofs.Common.{Some, refl, ap, subst, ◌∙◌, arith, option_ma
 use Rattle.std.specs.Prelude.{IsSomeAnd, count_by, is_some, slice_get}
 use Rattle.std.proofs.lemmas.List.Sums.{fold-append, sum_by-append}
 use Rattle.fr_journal.specs.Arrivals.{Move, pops, arrive_all, moves_at, moves, arrived, length_after, queue_length}
+use Rattle.fr_journal.specs.Cycles.{moment_after}
 use Rattle.fr_journal.specs.Arrivals.{queue_content, oldest, is_answered_pop, queue_arrivals_in, queue_lost}
 use Rattle.fr_journal.specs.declared.entry.Arrival.{Arrival}
 use Rattle.fr_journal.specs.Forms.{Entry}
@@ -112,7 +113,7 @@ module _ (params : Parameters) (plan : Plan) (q : Queue) where
   IsBalanced-snoc there xs (Read task buffer from) h legal = by_arrivals xs (Read task buffer from) [] refl refl h
   IsBalanced-snoc there xs (Fetch window a b) h legal = by_arrivals xs (Fetch window a b) [] refl refl h
   IsBalanced-snoc there xs (Observe window a b) h legal = by_arrivals xs (Observe window a b)
-      (arrive_all (queue_arrivals_in params plan q (length xs) a b (open_window xs))) refl refl h
+      (arrive_all (queue_arrivals_in params plan q (moment_after xs) a b (open_window xs))) refl refl h
   IsBalanced-snoc there xs (Pop task from) h legal =
       by_pop xs task from (subst (λ (o : Option Queue). IsSomeAnd o
       (λ r. from ≡ option_map origin_of (oldest r.capacity (moves params plan r xs)))) there legal.queued) h

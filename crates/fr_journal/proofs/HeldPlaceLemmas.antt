@@ -4,7 +4,9 @@ use Rattle.std.proofs.Common.{Some, None, refl, arith, length-append, option_map
 use Rattle.std.specs.Prelude.{IfSome}
 use Rattle.std.specs.Option.{option_and_then}
 use Rattle.fr_frame.specs.Fields.{Fields}
+use Rattle.fr_journal.specs.Cycles.{moment_after}
 use Rattle.fr_journal.specs.declared.entry.Arrival.{Arrival}
+use Rattle.fr_journal.specs.declared.entry.Moment.{Moment}
 use Rattle.fr_journal.specs.Forms.{Entry}
 use Rattle.fr_journal.specs.declared.entry.Entry.TheVariants.{Commit, Withdraw, Read, Pop, Fetch, Observe}
 use Rattle.fr_journal.specs.Entries.{IsOrigin}
@@ -21,41 +23,41 @@ use Rattle.fr_slots.specs.Windows.{Opportunity}
 use Rattle.fr_slots.proofs.HistoryLemmas.{IfSome-or}
 use Rattle.fr_status.specs.Forms.{Seen}
 
-abbrev IsFrom : ℕ → Arrival → Type 0
-IsFrom number arrival = arrival.origin.entry ≡ number
+abbrev IsFrom : Moment → Arrival → Type 0
+IsFrom moment arrival = arrival.origin.entry ≡ moment.entry
 
-from_number : (number : ℕ) (channel : Channel) (o : Option Fields)
-    → IfSome (option_map (arrival_of number channel) o) (IsFrom number)
-from_number number channel None = tt
-from_number number channel (Some f) = refl
+from_entry_of : (moment : Moment) (channel : Channel) (o : Option Fields)
+    → IfSome (option_map (arrival_of moment channel) o) (IsFrom moment)
+from_entry_of moment channel None = tt
+from_entry_of moment channel (Some f) = refl
 
-from_cond : (b : Bool) (o : Option Arrival) (number : ℕ) → IfSome o (IsFrom number)
-    → IfSome (cond b o None) (IsFrom number)
-from_cond true o number h = h
-from_cond false o number h = tt
+from_cond : (b : Bool) (o : Option Arrival) (moment : Moment) → IfSome o (IsFrom moment)
+    → IfSome (cond b o None) (IsFrom moment)
+from_cond true o moment h = h
+from_cond false o moment h = tt
 
-from_channel : (params : Parameters) (filter : Filter) (number : ℕ) (window : Opportunity) (channel : Channel)
-    (seen : Seen) → IfSome (arrival_on params filter number window channel seen) (IsFrom number)
-from_channel params filter number window channel seen =
-    from_cond (admits_window filter window channel) (option_map (arrival_of number channel)
-    (data_frame_seen params window channel seen)) number
-    (from_number number channel (data_frame_seen params window channel seen))
+from_channel : (params : Parameters) (filter : Filter) (moment : Moment) (window : Opportunity) (channel : Channel)
+    (seen : Seen) → IfSome (arrival_on params filter moment window channel seen) (IsFrom moment)
+from_channel params filter moment window channel seen =
+    from_cond (admits_window filter window channel) (option_map (arrival_of moment channel)
+    (data_frame_seen params window channel seen)) moment
+    (from_entry_of moment channel (data_frame_seen params window channel seen))
 
-from_window : (params : Parameters) (filter : Filter) (number : ℕ) (a b : Seen) (window : Option Opportunity)
-    → IfSome (option_and_then (arrival_in params filter number a b) window) (IsFrom number)
-from_window params filter number a b None = tt
-from_window params filter number a b (Some window) =
-    IfSome-or (IsFrom number) (arrival_on params filter number window A a) (arrival_on params filter number window B b)
-    (from_channel params filter number window A a) (from_channel params filter number window B b)
+from_window : (params : Parameters) (filter : Filter) (moment : Moment) (a b : Seen) (window : Option Opportunity)
+    → IfSome (option_and_then (arrival_in params filter moment a b) window) (IsFrom moment)
+from_window params filter moment a b None = tt
+from_window params filter moment a b (Some window) =
+    IfSome-or (IsFrom moment) (arrival_on params filter moment window A a) (arrival_on params filter moment window B b)
+    (from_channel params filter moment window A a) (from_channel params filter moment window B b)
 
-from_entry : (params : Parameters) (filter : Filter) (number : ℕ) (window : Option Opportunity) (e : Entry)
-    → IfSome (arrival_by params filter number window e) (IsFrom number)
-from_entry params filter number window (Commit task buffer payload) = tt
-from_entry params filter number window (Withdraw task buffer of) = tt
-from_entry params filter number window (Read task buffer from) = tt
-from_entry params filter number window (Pop task from) = tt
-from_entry params filter number window (Fetch w a b) = tt
-from_entry params filter number window (Observe w a b) = from_window params filter number a b window
+from_entry : (params : Parameters) (filter : Filter) (moment : Moment) (window : Option Opportunity) (e : Entry)
+    → IfSome (arrival_by params filter moment window e) (IsFrom moment)
+from_entry params filter moment window (Commit task buffer payload) = tt
+from_entry params filter moment window (Withdraw task buffer of) = tt
+from_entry params filter moment window (Read task buffer from) = tt
+from_entry params filter moment window (Pop task from) = tt
+from_entry params filter moment window (Fetch w a b) = tt
+from_entry params filter moment window (Observe w a b) = from_window params filter moment a b window
 
 abbrev IsBelow : ℕ → Arrival → Type 0
 IsBelow bound arrival = arrival.origin.entry < bound
@@ -64,9 +66,9 @@ weaker : (o : Option Arrival) (m n : ℕ) → m ≤ n → IfSome o (IsBelow m) �
 weaker None m n le h = tt
 weaker (Some a) m n le h = omega arith
 
-below_next : (o : Option Arrival) (number : ℕ) → IfSome o (IsFrom number) → IfSome o (IsBelow (number + 1))
-below_next None number h = tt
-below_next (Some a) number h = omega arith
+below_next : (o : Option Arrival) (moment : Moment) → IfSome o (IsFrom moment) → IfSome o (IsBelow (moment.entry + 1))
+below_next None moment h = tt
+below_next (Some a) moment h = omega (arith, h)
 
 held-below_from : (params : Parameters) (filter : Filter) (before xs : List Entry)
     → IfSome (last_after (arrival_at params filter) before xs) (IsBelow (length before + length xs))
@@ -78,7 +80,7 @@ held-below_from params filter before (e ∷ xs) =
     (weaker _ (length (before ++ e ∷ []) + length xs) (length before + length (e ∷ xs))
     (omega (arith, length-append before (e ∷ []))) (held-below_from params filter (before ++ e ∷ []) xs))
     (weaker _ (length before + 1) (length before + length (e ∷ xs)) (omega arith)
-    (below_next _ (length before) (from_entry params filter (length before) (open_window before) e)))
+    (below_next _ (moment_after before) (from_entry params filter (moment_after before) (open_window before) e)))
 
 -- the origin of the held frame is one of these entries
 pub held-below : (params : Parameters) (filter : Filter) (entries : List Entry)

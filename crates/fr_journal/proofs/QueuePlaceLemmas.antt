@@ -5,7 +5,9 @@ use Rattle.std.specs.Prelude.{IfSome, option_to_list, slice_get}
 use Rattle.fr_frame.specs.Fields.{Fields}
 use Rattle.fr_journal.specs.Arrivals.{Move, is_for_queue, queue_arrival_on, queue_arrivals_in, moves_at, moves, arrived}
 use Rattle.fr_journal.specs.Arrivals.{queue_length, oldest}
+use Rattle.fr_journal.specs.Cycles.{moment_after}
 use Rattle.fr_journal.specs.declared.entry.Arrival.{Arrival}
+use Rattle.fr_journal.specs.declared.entry.Moment.{Moment}
 use Rattle.fr_journal.specs.Forms.{Entry}
 use Rattle.fr_journal.specs.declared.entry.Entry.TheVariants.{Commit, Withdraw, Read, Pop, Fetch, Observe}
 use Rattle.fr_journal.specs.Entries.{IsOrigin}
@@ -34,30 +36,30 @@ weaker : (xs : List Arrival) (m n : ℕ) → m ≤ n → AreBelow m xs → AreBe
 weaker [] m n le h = tt
 weaker (a ∷ xs) m n le h = (omega (arith, le, h.0), weaker xs m n le h.1)
 
-from_number : (number : ℕ) (channel : Channel) (o : Option Fields)
-    → AreBelow (number + 1) (option_to_list (option_map (arrival_of number channel) o))
-from_number number channel None = tt
-from_number number channel (Some f) = (omega arith, tt)
+from_moment : (moment : Moment) (channel : Channel) (o : Option Fields)
+    → AreBelow (moment.entry + 1) (option_to_list (option_map (arrival_of moment channel) o))
+from_moment moment channel None = tt
+from_moment moment channel (Some f) = (omega arith, tt)
 
 from_cond : (b : Bool) (xs : List Arrival) (bound : ℕ) → AreBelow bound xs → AreBelow bound (cond b xs [])
 from_cond true xs bound h = h
 from_cond false xs bound h = tt
 
 module _ (params : Parameters) (plan : Plan) (q : Queue) where
-  from_channel : (number : ℕ) (window : Opportunity) (channel : Channel) (seen : Seen)
-      → AreBelow (number + 1) (queue_arrival_on params plan q number window channel seen)
-  from_channel number window channel seen =
+  from_channel : (moment : Moment) (window : Opportunity) (channel : Channel) (seen : Seen)
+      → AreBelow (moment.entry + 1) (queue_arrival_on params plan q moment window channel seen)
+  from_channel moment window channel seen =
       from_cond (is_for_queue plan q window channel) (option_to_list
-      (option_map (arrival_of number channel) (data_frame_seen params window channel seen))) (number + 1)
-      (from_number number channel (data_frame_seen params window channel seen))
+      (option_map (arrival_of moment channel) (data_frame_seen params window channel seen))) (moment.entry + 1)
+      (from_moment moment channel (data_frame_seen params window channel seen))
 
-  from_window : (number : ℕ) (a b : Seen) (window : Option Opportunity)
-      → AreBelow (number + 1) (queue_arrivals_in params plan q number a b window)
-  from_window number a b None = tt
-  from_window number a b (Some window) =
-      joined (number + 1) (queue_arrival_on params plan q number window A a)
-      (queue_arrival_on params plan q number window B b) (from_channel number window A a)
-      (from_channel number window B b)
+  from_window : (moment : Moment) (a b : Seen) (window : Option Opportunity)
+      → AreBelow (moment.entry + 1) (queue_arrivals_in params plan q moment a b window)
+  from_window moment a b None = tt
+  from_window moment a b (Some window) =
+      joined (moment.entry + 1) (queue_arrival_on params plan q moment window A a)
+      (queue_arrival_on params plan q moment window B b) (from_channel moment window A a)
+      (from_channel moment window B b)
 
   from_entry : (before : List Entry) (e : Entry) → AreBelow (length before + 1)
       (arrived (moves_at params plan q before e))
@@ -68,8 +70,8 @@ module _ (params : Parameters) (plan : Plan) (q : Queue) where
   from_entry before (Fetch w a b) = tt
   from_entry before (Observe w a b) =
       subst (AreBelow (length before + 1)) (sym
-      (arrived-all (queue_arrivals_in params plan q (length before) a b (open_window before))))
-      (from_window (length before) a b (open_window before))
+      (arrived-all (queue_arrivals_in params plan q (moment_after before) a b (open_window before))))
+      (from_window (moment_after before) a b (open_window before))
 
   below_from : (before xs : List Entry) → AreBelow (length before + length xs)
       (arrived (each_after (moves_at params plan q) before xs))

@@ -10,7 +10,9 @@ use Rattle.fr_frame.specs.Fields.{Fields}
 use Rattle.fr_journal.specs.Arrivals.{is_for_queue, queue_arrival_on, queue_arrivals_in, moves_at, moves, arrived}
 use Rattle.fr_journal.specs.Arrivals.{queue_content, queue_length, oldest}
 use Rattle.fr_journal.specs.Counts.{seen_on}
+use Rattle.fr_journal.specs.Cycles.{moment_after}
 use Rattle.fr_journal.specs.declared.entry.Arrival.{Arrival}
+use Rattle.fr_journal.specs.declared.entry.Moment.{Moment}
 use Rattle.fr_journal.specs.Forms.{Entry}
 use Rattle.fr_journal.specs.declared.entry.Entry.TheVariants.{Commit, Withdraw, Read, Pop, Fetch, Observe}
 use Rattle.fr_journal.specs.Entries.{IsEntry}
@@ -34,9 +36,11 @@ use Rattle.fr_status.specs.Forms.{Seen}
 use Rattle.fr_status.specs.declared.seen.Seen.TheVariants.{Silence, Own, Conflict, Noise, Overrun, Bytes}
 use Rattle.fr_status.specs.Status.{frame_in, passed, passes, fits_static_slot, fits_dynamic_slot}
 
--- the arrival is the valid data frame on its channel in the observe of this number
-pub record IsBrought (params : Parameters) (number : ℕ) (window : Opportunity) (x y : Seen) (a : Arrival) : Type 0 where
-  pub entry_is : a.origin.entry ≡ number
+-- the arrival is the valid data frame on its channel in the observe of this moment
+pub record IsBrought (params : Parameters) (moment : Moment) (window : Opportunity) (x y : Seen) (a : Arrival)
+    : Type 0 where
+  pub entry_is : a.origin.entry ≡ moment.entry
+  pub cycle_is : a.cycle ≡ moment.cycle
   pub frame_is : data_frame_seen params window a.origin.channel (seen_on a.origin.channel x y) ≡ Some a.frame
 
 -- the entry after these is an observe with the arrival
@@ -47,7 +51,7 @@ pub record IsSeenBy (params : Parameters) (before : List Entry) (e : Entry) (a :
   pub entry_is : e ≡ Observe number x y
   pub window : Opportunity
   pub opened : open_window before ≡ Some window
-  pub brought : IsBrought params (length before) window x y a
+  pub brought : IsBrought params (moment_after before) window x y a
 
 -- the journal has an observe with the arrival
 abbrev pub IsSeenIn : Parameters → List Entry → Arrival → Type 0
@@ -58,14 +62,14 @@ kept : {X : Type 0} (b : Bool) (o : Option X) (y : X) → cond b o None ≡ Some
 kept true o y e = e
 kept false o y e = absurd (let none : ⊥ = cc in none)
 
-on_channel : (params : Parameters) (number : ℕ) (window : Opportunity) (channel : Channel) (x y : Seen)
+on_channel : (params : Parameters) (moment : Moment) (window : Opportunity) (channel : Channel) (x y : Seen)
     (f : Option Fields) (a : Arrival)
     → data_frame_seen params window channel (seen_on channel x y) ≡ f
-    → option_map (arrival_of number channel) f ≡ Some a → IsBrought params number window x y a
-on_channel params number window channel x y None a is e = absurd (let none : ⊥ = cc in none)
-on_channel params number window channel x y (Some f) a is e =
-    subst (IsBrought params number window x y) (same_some (arrival_of number channel f) a e)
-    (record { entry_is = refl; frame_is = is })
+    → option_map (arrival_of moment channel) f ≡ Some a → IsBrought params moment window x y a
+on_channel params moment window channel x y None a is e = absurd (let none : ⊥ = cc in none)
+on_channel params moment window channel x y (Some f) a is e =
+    subst (IsBrought params moment window x y) (same_some (arrival_of moment channel f) a e)
+    (record { entry_is = refl; cycle_is = refl; frame_is = is })
 
 -- ---- receive buffers
 
@@ -74,23 +78,23 @@ either_some None p a e = inr e
 either_some (Some x) p a e = inl e
 
 module _ (params : Parameters) (filter : Filter) where
-  from_channel : (number : ℕ) (window : Opportunity) (channel : Channel) (x y : Seen) (a : Arrival)
-      → arrival_on params filter number window channel (seen_on channel x y) ≡ Some a
-      → IsBrought params number window x y a
-  from_channel number window channel x y a e =
-      on_channel params number window channel x y (data_frame_seen params window channel (seen_on channel x y)) a refl
-      (kept (admits_window filter window channel) (option_map (arrival_of number channel)
+  from_channel : (moment : Moment) (window : Opportunity) (channel : Channel) (x y : Seen) (a : Arrival)
+      → arrival_on params filter moment window channel (seen_on channel x y) ≡ Some a
+      → IsBrought params moment window x y a
+  from_channel moment window channel x y a e =
+      on_channel params moment window channel x y (data_frame_seen params window channel (seen_on channel x y)) a refl
+      (kept (admits_window filter window channel) (option_map (arrival_of moment channel)
       (data_frame_seen params window channel (seen_on channel x y))) a e)
 
-  from_either : (number : ℕ) (window : Opportunity) (x y : Seen) (a : Arrival)
-      → ((arrival_on params filter number window A x ≡ Some a) ⊎ (arrival_on params filter number window B y ≡ Some a))
-      → IsBrought params number window x y a
-  from_either number window x y a (inl e) = from_channel number window A x y a e
-  from_either number window x y a (inr e) = from_channel number window B x y a e
+  from_either : (moment : Moment) (window : Opportunity) (x y : Seen) (a : Arrival)
+      → ((arrival_on params filter moment window A x ≡ Some a) ⊎ (arrival_on params filter moment window B y ≡ Some a))
+      → IsBrought params moment window x y a
+  from_either moment window x y a (inl e) = from_channel moment window A x y a e
+  from_either moment window x y a (inr e) = from_channel moment window B x y a e
 
   from_window : (before : List Entry) (number : ℕ) (x y : Seen) (a : Arrival) (w : Option Opportunity)
       → open_window before ≡ w
-      → option_and_then (arrival_in params filter (length before) x y) w ≡ Some a
+      → option_and_then (arrival_in params filter (moment_after before) x y) w ≡ Some a
       → IsSeenBy params before (Observe number x y) a
   from_window before number x y a None is e = absurd (let none : ⊥ = cc in none)
   from_window before number x y a (Some w) is e = record {
@@ -100,8 +104,9 @@ module _ (params : Parameters) (filter : Filter) where
     entry_is = refl;
     window = w;
     opened = is;
-    brought = from_either (length before) w x y a (either_some (arrival_on params filter (length before) w A x)
-        (arrival_on params filter (length before) w B y) a e);
+    brought = from_either (moment_after before) w x y a
+        (either_some (arrival_on params filter (moment_after before) w A x)
+        (arrival_on params filter (moment_after before) w B y) a e);
   }
 
   from_entry : (before : List Entry) (e : Entry) (a : Arrival) → arrival_at params filter before e ≡ Some a
@@ -136,23 +141,23 @@ among_cond true (Some x) zero a e = e
 among_cond true (Some x) (suc k) a e = absurd (let none : ⊥ = cc in none)
 
 module _ (params : Parameters) (plan : Plan) (q : Queue) where
-  queued_on : (number : ℕ) (window : Opportunity) (channel : Channel) (x y : Seen) (a : Arrival)
-      → IsAmong (queue_arrival_on params plan q number window channel (seen_on channel x y)) a
-      → IsBrought params number window x y a
-  queued_on number window channel x y a h =
-      on_channel params number window channel x y (data_frame_seen params window channel (seen_on channel x y)) a refl
-      (among_cond (is_for_queue plan q window channel) (option_map (arrival_of number channel)
+  queued_on : (moment : Moment) (window : Opportunity) (channel : Channel) (x y : Seen) (a : Arrival)
+      → IsAmong (queue_arrival_on params plan q moment window channel (seen_on channel x y)) a
+      → IsBrought params moment window x y a
+  queued_on moment window channel x y a h =
+      on_channel params moment window channel x y (data_frame_seen params window channel (seen_on channel x y)) a refl
+      (among_cond (is_for_queue plan q window channel) (option_map (arrival_of moment channel)
       (data_frame_seen params window channel (seen_on channel x y))) h.place a h.at)
 
-  queued_either : (number : ℕ) (window : Opportunity) (x y : Seen) (a : Arrival)
-      → (IsAmong (queue_arrival_on params plan q number window A x) a ⊎ IsAmong
-      (queue_arrival_on params plan q number window B y) a) → IsBrought params number window x y a
-  queued_either number window x y a (inl h) = queued_on number window A x y a h
-  queued_either number window x y a (inr h) = queued_on number window B x y a h
+  queued_either : (moment : Moment) (window : Opportunity) (x y : Seen) (a : Arrival)
+      → (IsAmong (queue_arrival_on params plan q moment window A x) a ⊎ IsAmong
+      (queue_arrival_on params plan q moment window B y) a) → IsBrought params moment window x y a
+  queued_either moment window x y a (inl h) = queued_on moment window A x y a h
+  queued_either moment window x y a (inr h) = queued_on moment window B x y a h
 
   queued_window : (before : List Entry) (number : ℕ) (x y : Seen) (k : ℕ) (a : Arrival) (w : Option Opportunity)
       → open_window before ≡ w
-      → slice_get (queue_arrivals_in params plan q (length before) x y w) k ≡ Some a
+      → slice_get (queue_arrivals_in params plan q (moment_after before) x y w) k ≡ Some a
       → IsSeenBy params before (Observe number x y) a
   queued_window before number x y k a None is e = absurd (let none : ⊥ = cc in none)
   queued_window before number x y k a (Some w) is e = record {
@@ -162,8 +167,9 @@ module _ (params : Parameters) (plan : Plan) (q : Queue) where
     entry_is = refl;
     window = w;
     opened = is;
-    brought = queued_either (length before) w x y a (among-append (queue_arrival_on params plan q (length before) w A x)
-        (queue_arrival_on params plan q (length before) w B y) k a e);
+    brought = queued_either (moment_after before) w x y a
+        (among-append (queue_arrival_on params plan q (moment_after before) w A x)
+        (queue_arrival_on params plan q (moment_after before) w B y) k a e);
   }
 
   queued_entry : (before : List Entry) (e : Entry) (k : ℕ) (a : Arrival)
@@ -176,7 +182,7 @@ module _ (params : Parameters) (plan : Plan) (q : Queue) where
   queued_entry before (Observe number x y) k a e =
       queued_window before number x y k a (open_window before) refl
       (sym (ap (λ (l : List Arrival). slice_get l k) (arrived-all
-      (queue_arrivals_in params plan q (length before) x y (open_window before)))) ∙ e)
+      (queue_arrivals_in params plan q (moment_after before) x y (open_window before)))) ∙ e)
 
   -- the arrivals are those of each entry, in order
   arrived-each : (before entries : List Entry) → arrived (each_after (moves_at params plan q) before entries) ≡

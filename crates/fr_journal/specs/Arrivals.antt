@@ -2,7 +2,9 @@
 use Rattle.std.specs.Prelude.{ℕ, ◌+◌, ◌-◌, min, Bool, false, not, ◌&&◌, List, [], ◌∷◌, ◌++◌, length, drop, Option, Some}
 use Rattle.std.specs.Prelude.{None, is_some, if◌then◌else◌, option_map, count_by, option_to_list, slice_get}
 use Rattle.std.specs.List.{fold, list_any}
+use Rattle.fr_journal.specs.Cycles.{moment_after}
 use Rattle.fr_journal.specs.declared.entry.Arrival.{Arrival}
+use Rattle.fr_journal.specs.declared.entry.Moment.{Moment}
 use Rattle.fr_journal.specs.Forms.{Entry}
 use Rattle.fr_journal.specs.declared.entry.Entry.TheVariants.{Commit, Withdraw, Read, Pop, Fetch, Observe}
 use Rattle.fr_journal.specs.Held.{data_frame_seen, arrival_of}
@@ -32,16 +34,16 @@ is_for_queue plan q window channel =
     queue_admits_slot q window.cycle channel (slot_of window channel)
     && not (list_any (takes_window window channel) plan.buffers)
 
-abbrev pub queue_arrival_on : Parameters → Plan → Queue → ℕ → Opportunity → Channel → Seen → List Arrival
-queue_arrival_on params plan q number window channel seen =
+abbrev pub queue_arrival_on : Parameters → Plan → Queue → Moment → Opportunity → Channel → Seen → List Arrival
+queue_arrival_on params plan q moment window channel seen =
     if is_for_queue plan q window channel
-    then option_to_list (option_map (arrival_of number channel) (data_frame_seen params window channel seen))
+    then option_to_list (option_map (arrival_of moment channel) (data_frame_seen params window channel seen))
     else []
 
-abbrev pub queue_arrivals_in : Parameters → Plan → Queue → ℕ → Seen → Seen → Option Opportunity → List Arrival
-queue_arrivals_in params plan q number a b None = []
-queue_arrivals_in params plan q number a b (Some window) = queue_arrival_on params plan q number window A a
-    ++ queue_arrival_on params plan q number window B b
+abbrev pub queue_arrivals_in : Parameters → Plan → Queue → Moment → Seen → Seen → Option Opportunity → List Arrival
+queue_arrivals_in params plan q moment a b None = []
+queue_arrivals_in params plan q moment a b (Some window) = queue_arrival_on params plan q moment window A a
+    ++ queue_arrival_on params plan q moment window B b
 
 -- a step of a receive FIFO: a frame arrives, or a task pops
 pub data Move : Type 0 where
@@ -59,7 +61,7 @@ moves_at params plan q before (Read task buffer from) = []
 moves_at params plan q before (Pop task from) = pops ∷ []
 moves_at params plan q before (Fetch window a b) = []
 moves_at params plan q before (Observe window a b) =
-    arrive_all (queue_arrivals_in params plan q (length before) a b (open_window before))
+    arrive_all (queue_arrivals_in params plan q (moment_after before) a b (open_window before))
 
 -- arrivals and pops, in the order of the entries, and an arrival on channel A before one on B
 abbrev pub moves : Parameters → Plan → Queue → List Entry → List Move

@@ -1,11 +1,13 @@
 -- The content of a receive buffer: the last valid data frame that it admitted (chapter 9; channel A before B is
 -- project-defined).
-use Rattle.std.specs.Prelude.{◌≡◌, ℕ, true, List, [], length, Option, Some, None, if◌then◌else◌, option_map, take}
+use Rattle.std.specs.Prelude.{◌≡◌, true, List, [], Option, Some, None, if◌then◌else◌, option_map, take}
 use Rattle.std.specs.Prelude.{slice_get}
 use Rattle.std.specs.Option.{option_and_then, option_or}
 use Rattle.fr_frame.specs.Fields.{Fields}
 use Rattle.fr_journal.specs.Counts.{seen_on}
+use Rattle.fr_journal.specs.Cycles.{moment_after}
 use Rattle.fr_journal.specs.declared.entry.Arrival.{Arrival}
+use Rattle.fr_journal.specs.declared.entry.Moment.{Moment}
 use Rattle.fr_journal.specs.Forms.{Entry}
 use Rattle.fr_journal.specs.declared.entry.Entry.TheVariants.{Commit, Withdraw, Read, Pop, Fetch, Observe}
 use Rattle.fr_journal.specs.declared.entry.Origin.{Origin}
@@ -31,31 +33,35 @@ data_frame_seen params window channel seen =
     option_and_then with_data
     (option_and_then (λ slot. frame_in params window.cycle slot channel seen) (slot_of window channel))
 
-abbrev pub arrival_of : ℕ → Channel → Fields → Arrival
-arrival_of number channel frame = record { origin = record { entry = number; channel = channel }; frame = frame }
+abbrev pub arrival_of : Moment → Channel → Fields → Arrival
+arrival_of moment channel frame = record {
+  origin = record { entry = moment.entry; channel = channel };
+  cycle = moment.cycle;
+  frame = frame;
+}
 
--- the arrival from the observe of this number, on a channel, if the filter admits it
-abbrev pub arrival_on : Parameters → Filter → ℕ → Opportunity → Channel → Seen → Option Arrival
-arrival_on params filter number window channel seen =
+-- the arrival from the observe of this moment, on a channel, if the filter admits it
+abbrev pub arrival_on : Parameters → Filter → Moment → Opportunity → Channel → Seen → Option Arrival
+arrival_on params filter moment window channel seen =
     if admits_window filter window channel
-    then option_map (arrival_of number channel) (data_frame_seen params window channel seen) else None
+    then option_map (arrival_of moment channel) (data_frame_seen params window channel seen) else None
 
 -- the arrival on both channels: A's frame, if A has one, and otherwise B's
-abbrev pub arrival_in : Parameters → Filter → ℕ → Seen → Seen → Opportunity → Option Arrival
-arrival_in params filter number a b window =
-    option_or (arrival_on params filter number window A a) (arrival_on params filter number window B b)
+abbrev pub arrival_in : Parameters → Filter → Moment → Seen → Seen → Opportunity → Option Arrival
+arrival_in params filter moment a b window =
+    option_or (arrival_on params filter moment window A a) (arrival_on params filter moment window B b)
 
--- the arrival from the entry of this number, if this window is open before it
-abbrev pub arrival_by : Parameters → Filter → ℕ → Option Opportunity → Entry → Option Arrival
-arrival_by params filter number window (Commit task buffer payload) = None
-arrival_by params filter number window (Withdraw task buffer of) = None
-arrival_by params filter number window (Read task buffer from) = None
-arrival_by params filter number window (Pop task from) = None
-arrival_by params filter number window (Fetch w a b) = None
-arrival_by params filter number window (Observe w a b) = option_and_then (arrival_in params filter number a b) window
+-- the arrival from the entry of this moment, if this window is open before it
+abbrev pub arrival_by : Parameters → Filter → Moment → Option Opportunity → Entry → Option Arrival
+arrival_by params filter moment window (Commit task buffer payload) = None
+arrival_by params filter moment window (Withdraw task buffer of) = None
+arrival_by params filter moment window (Read task buffer from) = None
+arrival_by params filter moment window (Pop task from) = None
+arrival_by params filter moment window (Fetch w a b) = None
+arrival_by params filter moment window (Observe w a b) = option_and_then (arrival_in params filter moment a b) window
 
 abbrev pub arrival_at : Parameters → Filter → List Entry → Entry → Option Arrival
-arrival_at params filter before e = arrival_by params filter (length before) (open_window before) e
+arrival_at params filter before e = arrival_by params filter (moment_after before) (open_window before) e
 
 -- the content of a receive buffer with this filter, after some entries
 abbrev pub held : Parameters → Filter → List Entry → Option Arrival

@@ -1,5 +1,6 @@
 pub mod Arrivals
 pub mod Counts
+pub mod Cycles
 pub mod Entries
 pub mod Fate
 pub mod Forms

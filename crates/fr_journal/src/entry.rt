@@ -17,10 +17,20 @@ pub struct Origin {
     pub channel: Channel,
 }
 
-/// A valid data frame that a node received, with its origin.
+/// The moment of an entry.
+#[derive(Clone, Copy, PartialEq, Eq)]
+pub struct Moment {
+    /// The number of the entry, from 0.
+    pub entry: u32,
+    /// The cycle of the run, from 0. It is 0 before the first cycle, too.
+    pub cycle: u32,
+}
+
+/// A valid data frame that a node received, with its origin and the cycle of the run in which it came, from 0.
 #[derive(Drop, PartialEq, Eq)]
 pub struct Arrival {
     pub origin: Origin,
+    pub cycle: u32,
     pub frame: Frame,
 }
 

@@ -61,8 +61,8 @@ fn is_row(params: &Params, slot: u16, begins: u16) -> bool
     begins <= params.minislots && slot <= LAST_SLOT
 }
 
-/// Returns the number of minislots of a slot whose longest transmission has so many bytes, at most 262; 0 if nothing was
-/// sent (chapter 5; the length is project-defined). The end of the segment may cut it off.
+/// Returns the number of minislots of a slot whose longest transmission has so many bytes, at most 262; 0 if nothing
+/// was sent (chapter 5; the length is project-defined). The end of the segment may cut it off.
 pub fn row_length(params: &Params, bytes: u16) -> u16
     requires { bytes ≤ 262 }
     ensures value { result ≡ row_length params.now bytes }

@@ -1,6 +1,6 @@
 -- Windows: one transmission opportunity on both channels (project-defined).
-use Rattle.std.specs.Prelude.{◌≡◌, ℕ, ◌≤◌, ◌<◌, ◌^◌, ◌==◌, nat_le, not, Bool, true, ◌&&◌, ◌||◌, Option, Some, None}
-use Rattle.std.specs.Prelude.{is_some, if◌then◌else◌}
+use Rattle.std.specs.Prelude.{◌≡◌, ℕ, ◌≤◌, ◌<◌, ◌^◌, ◌==◌, nat_le, not, Bool, true, false, ◌&&◌, ◌||◌, Option}
+use Rattle.std.specs.Prelude.{Some, None, is_some, if◌then◌else◌}
 use Rattle.fr_slots.specs.declared.channel.Channel.{Channel}
 use Rattle.fr_slots.specs.declared.channel.Channel.TheVariants.{A, B}
 use Rattle.fr_slots.specs.Numbers.{IsSlot, last_minislot, cycle_count}
@@ -48,6 +48,16 @@ dynamic_window number cycle minislot a b =
     if nat_le 1 minislot && nat_le minislot last_minislot && (is_some a || is_some b)
     then Some (record { number = number; cycle = cycle; minislot = minislot; a = a; b = b })
     else None
+
+-- ---- cycles
+
+abbrev pub is_first_slot : Option ℕ → Bool
+is_first_slot None = false
+is_first_slot (Some slot) = slot == 1
+
+-- a cycle begins with static slot 1
+abbrev pub opens_cycle : Opportunity → Bool
+opens_cycle w = is_static w && is_first_slot w.a
 
 -- ---- the windows of a cluster
 

@@ -1,6 +1,7 @@
 //! Windows: transmission opportunities.
 
 ghost use Rattle.std.specs.Prelude.{◌≡◌};
+ghost use Rattle.fr_slots.specs.Windows.{opens_cycle};
 
 use crate::channel::Channel;
 use crate::numbers::{Cycle, SlotId};
@@ -92,4 +93,11 @@ impl Window {
     {
         self.minislot == 0
     }
+}
+
+/// Returns whether the window is the first of its cycle: its static slot 1 (chapter 5).
+pub fn opens_cycle(window: &Window) -> bool
+    ensures { result ≡ opens_cycle window.now }
+{
+    window.is_static() && window.a.is_some_and(|slot| slot.number() == 1)
 }

@@ -11,7 +11,7 @@ use Rattle.fr_interface.proofs.observed.arrive_all.Goals as goal
 pub returns-in-Some-queue : goal.returns-in-Some-queue
 returns-in-Some-queue c =
     let p = c.args.plan.now in
-    let n = c.args.number in
+    let n = c.args.moment in
     let w = c.args.window.now in
     let q = c.in-Some.line in
     let waiting = c.in-Some-queue.waiting in

@@ -11,7 +11,7 @@ use Rattle.fr_interface.proofs.observed.store_all.Goals as goal
 
 pub loop-place-init : goal.loop-place-init
 loop-place-init c =
-    let n = c.args.number in
+    let n = c.args.moment in
     let w = c.args.window.now in
     let a = c.args.a.now in
     let b = c.args.b.now in
@@ -26,7 +26,7 @@ loop-place-init c =
 
 pub loop-place-preserved : goal.loop-place-preserved
 loop-place-preserved c =
-    let n = c.args.number in
+    let n = c.args.moment in
     let w = c.args.window.now in
     let a = c.args.a.now in
     let b = c.args.b.now in
@@ -56,7 +56,7 @@ loop-place-preserved c =
 
 pub returns : goal.returns
 returns c =
-    let n = c.args.number in
+    let n = c.args.moment in
     let w = c.args.window.now in
     let a = c.args.a.now in
     let b = c.args.b.now in

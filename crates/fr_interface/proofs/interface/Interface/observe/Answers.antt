@@ -1,4 +1,4 @@
-use Rattle.std.proofs.Common.{◌≡◌, ◌<◌, ◌-◌, arith, sym, ◌∙◌}
+use Rattle.std.proofs.Common.{arith, sym}
 use Rattle.fr_interface.specs.InterfaceFields.{state_in}
 use Rattle.fr_interface.proofs.InterfaceLemmas.{lawful-more}
 use Rattle.fr_interface.proofs.StandingLemmas.{observe-room}

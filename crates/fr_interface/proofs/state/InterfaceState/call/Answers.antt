@@ -1,9 +1,7 @@
-use Rattle.std.proofs.Common.{◌≡◌, ℕ, length, Option, ap, sym, ◌∙◌}
+use Rattle.std.proofs.Common.{◌≡◌, ℕ, length, ap, sym, ◌∙◌}
 use Rattle.fr_interface.specs.Calls.{call_answer}
 use Rattle.fr_interface.specs.declared.call.Answer.TheVariants.{Committed, Withdrawn}
-use Rattle.fr_interface.specs.declared.call.Call.{Call}
-use Rattle.fr_interface.specs.Standing.{Standing, IsHistory, entries_before}
-use Rattle.fr_interface.specs.State.{State}
+use Rattle.fr_interface.specs.Standing.{entries_before}
 use Rattle.fr_interface.proofs.StandingLemmas.{entries-length, answer-pending}
 use Rattle.fr_interface.proofs.state.InterfaceState.call.Goals as goal
 

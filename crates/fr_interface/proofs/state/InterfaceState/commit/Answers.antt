@@ -1,4 +1,4 @@
-use Rattle.std.proofs.Common.{◌≡◌, ℕ, ◌+◌, ◌*◌, ◌<◌, ◌^◌, false, List, length, arith, ap, sym, subst, ◌∙◌}
+use Rattle.std.proofs.Common.{◌≡◌, ◌+◌, ◌*◌, ◌<◌, ◌^◌, List, length, arith, ap, sym, subst, ◌∙◌}
 use Rattle.std.specs.Prelude.{IfSome, slice_get}
 use Rattle.fr_buffers.specs.Transmitting.{Transmitter, with_commit}
 use Rattle.fr_interface.specs.StateFields.{standing_in}
@@ -10,7 +10,6 @@ use Rattle.fr_interface.proofs.StandingLemmas.{history-commit, commit-fits}
 use Rattle.fr_interface.proofs.TestLemmas.{words_from_test}
 use Rattle.fr_journal.specs.declared.entry.Entry.TheVariants.{Commit}
 use Rattle.fr_slots.specs.Faults.{words_of}
-use Rattle.fr_slots.specs.Plans.{is_receive}
 use Rattle.fr_interface.proofs.state.InterfaceState.commit.Goals as goal
 
 pub commit_to-requires-clause-there : goal.commit_to-requires-clause-there

@@ -1,4 +1,4 @@
-use Rattle.std.proofs.Common.{◌≡◌, ℕ, List, Some, None, arith, ap, sym, subst, ◌∙◌}
+use Rattle.std.proofs.Common.{◌≡◌, ◌+◌, cond, List, Some, None, arith, ap, sym, subst, ◌∙◌}
 use Rattle.std.specs.Vec.{with_items}
 use Rattle.fr_buffers.specs.Transmitting.{Transmitter}
 use Rattle.fr_interface.specs.declared.offers.Outgoing.{Outgoing}
@@ -7,17 +7,24 @@ use Rattle.fr_interface.specs.Sending.{outgoing_on, after_sender}
 use Rattle.fr_interface.specs.Standing.{Standing, IsHistory, Leaves, limited, after_fetch, fetch_refused}
 use Rattle.fr_interface.specs.State.{with_entry, fetch_entry}
 use Rattle.fr_interface.proofs.KeptLemmas.{written}
-use Rattle.fr_interface.proofs.StandingLemmas.{history-fetch, outgoing-limits}
+use Rattle.fr_interface.proofs.StandingLemmas.{cycles-fit, history-fetch, outgoing-limits}
 use Rattle.fr_journal.specs.Entries.{IsOffered}
 use Rattle.fr_slots.specs.declared.channel.Channel.TheVariants.{A, B}
-use Rattle.fr_slots.specs.Windows.{Opportunity, IsInRange}
+use Rattle.fr_slots.specs.Windows.{Opportunity, IsInRange, opens_cycle}
 use Rattle.fr_interface.proofs.state.InterfaceState.fetch.Goals as goal
+
+pub cycles_with-self-inside-requires : goal.cycles_with-self-inside-requires
+cycles_with-self-inside-requires c =
+    omega (arith, cycles-fit (standing_in c.self.inside) c.self.invariant.0 c.self.invariant.1)
 
 pub invariant_of-self : goal.invariant_of-self
 invariant_of-self c =
     let h = standing_in c.self.inside in
     let window = c.args.window.now in
     let window_is : c.kept_window-window.result ≡ window = c.kept_window-window.ensures.value in
+    let cycles_is : c.cycles_with-self-inside.result ≡ h.cycles + cond (opens_cycle window) 1 0 =
+    c.cycles_with-self-inside.ensures ∙ ap (λ (w : Opportunity). h.cycles + cond (opens_cycle w) 1 0)
+    window_is in
     let number_is : c.window.inside.number ≡ window.number =
     ap (λ (w : Opportunity). w.number) (c.window.view_is ∙ window_is) in
     let ranged : IsInRange window = c.kept_window-window.ensures.fits in
@@ -57,6 +64,7 @@ invariant_of-self c =
       with_entry c.self.invariant.0 (fetch_entry c.self.invariant.0 window),
       subst (λ (x : Standing). Leaves x (with_entry c.self.invariant.0 (fetch_entry c.self.invariant.0 window)))
           (λ i. record (after_fetch g window (sym lim_a i).sender (sym lim_b i).sender) {
+            cycles = sym cycles_is i;
             opening = record { window = Some (sym window_is i); last = Some (sym number_is i) };
             transmit =
                 (ap_after i);
@@ -71,6 +79,9 @@ returns-clause-history c = λ s is.
     let h = standing_in c.self.inside in
     let window = c.args.window.now in
     let window_is : c.kept_window-window.result ≡ window = c.kept_window-window.ensures.value in
+    let cycles_is : c.cycles_with-self-inside.result ≡ h.cycles + cond (opens_cycle window) 1 0 =
+    c.cycles_with-self-inside.ensures ∙ ap (λ (w : Opportunity). h.cycles + cond (opens_cycle w) 1 0)
+    window_is in
     let number_is : c.window.inside.number ≡ window.number =
     ap (λ (w : Opportunity). w.number) (c.window.view_is ∙ window_is) in
     let ranged : IsInRange window = c.kept_window-window.ensures.fits in
@@ -109,6 +120,7 @@ returns-clause-history c = λ s is.
     c.requires.accepted in
     subst (λ (x : Standing). Leaves x (with_entry s (fetch_entry s window)))
     (λ i. record (after_fetch g window (sym lim_a i).sender (sym lim_b i).sender) {
+      cycles = sym cycles_is i;
       opening = record { window = Some (sym window_is i); last = Some (sym number_is i) };
       transmit =
           (ap_after i);

@@ -1,8 +1,5 @@
-use Rattle.std.proofs.Common.{◌≡◌, ap, ◌∙◌}
-use Rattle.fr_interface.specs.Handing.{offer_of}
-use Rattle.fr_interface.specs.Sending.{outgoing_on, frame_by}
-use Rattle.fr_interface.specs.Standing.{Standing, IsHistory}
-use Rattle.fr_interface.specs.State.{State}
+use Rattle.std.proofs.Common.{ap, ◌∙◌}
+use Rattle.fr_interface.specs.Sending.{frame_by}
 use Rattle.fr_interface.proofs.StandingLemmas.{answer-frame}
 use Rattle.fr_journal.specs.Offers.{bytes_of}
 use Rattle.fr_slots.specs.declared.channel.Channel.TheVariants.{A, B}

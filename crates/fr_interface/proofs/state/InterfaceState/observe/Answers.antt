@@ -1,9 +1,9 @@
-use Rattle.std.proofs.Common.{◌≡◌, ℕ, ◌+◌, arith, ap, sym, subst, ◌∙◌, rules}
+use Rattle.std.proofs.Common.{◌≡◌, arith, ap, sym, subst, ◌∙◌, rules}
 use Rattle.std.specs.Vec.{with_items}
 use Rattle.fr_interface.specs.StateFields.{standing_in}
 use Rattle.fr_interface.specs.Known.{stored_all, with_arrivals, with_seen}
 use Rattle.fr_interface.specs.Seeing.{status_seen}
-use Rattle.fr_interface.specs.Standing.{Standing, IsHistory, Leaves, limited, entries_before, after_observe}
+use Rattle.fr_interface.specs.Standing.{Standing, IsHistory, Leaves, limited, moment_before, after_observe}
 use Rattle.fr_interface.specs.State.{with_entry}
 use Rattle.fr_interface.proofs.KeptLemmas.{written}
 use Rattle.fr_interface.proofs.StandingLemmas.{history-observe, count-fits_a, count-fits_b, arrivals-fit}
@@ -33,7 +33,7 @@ invariant_of-self c =
     let window = c.in-Some.window in
     let a = c.args.a.now in
     let b = c.args.b.now in
-    let entry : c.entries-entry.result ≡ entries_before h = c.entries-entry.ensures.value ∙ ap entries_before
+    let moment : c.moment-moment.result ≡ moment_before h = c.moment-moment.ensures.value ∙ ap moment_before
     (sym c.self.view_is) in
     let status_a : c.of-told_a.result.status ≡ status_seen h.params window A a = c.of-told_a.ensures.status in
     let status_b : c.of-told_b.result.status ≡ status_seen h.params window B b = c.of-told_b.ensures.status in
@@ -44,19 +44,19 @@ invariant_of-self c =
     c.count_seen-2.ensures ∙ (λ i. with_seen (c.count_seen.ensures i) B (status_b i)) ∙
     (λ i. with_seen (with_seen h.counters A (status_a i)) B (status_seen h.params window B b)) in
     let receive : (with_items c.self.inside.receive c.store_all.new.buffers).items ≡ stored_all
-    (entries_before h) window (data_frame_seen h.params window A a)
+    (moment_before h) window (data_frame_seen h.params window A a)
     (data_frame_seen h.params window B b) h.plan.buffers h.receive =
     written c.self.inside.receive.len c.store_all.new.buffers _
     (omega (arith, c.deref_mut.ensures.len, c.store_all.auto.buffers))
     ∙ c.store_all.ensures
-    ∙ (λ i. stored_all (entry i) window (frame_a i) (frame_b i) h.plan.buffers (c.deref_mut.ensures.value i)) in
-    let queue : c.arrive_all.new.queue ≡ with_arrivals h.plan (entries_before h) window
+    ∙ (λ i. stored_all (moment i) window (frame_a i) (frame_b i) h.plan.buffers (c.deref_mut.ensures.value i)) in
+    let queue : c.arrive_all.new.queue ≡ with_arrivals h.plan (moment_before h) window
     (data_frame_seen h.params window A a) (data_frame_seen h.params window B b) h.plan.queue h.queue =
-    c.arrive_all.ensures ∙ (λ i. with_arrivals h.plan (entry i) window (frame_a i) (frame_b i) h.plan.queue h.queue) in
+    c.arrive_all.ensures ∙ (λ i. with_arrivals h.plan (moment i) window (frame_a i) (frame_b i) h.plan.queue h.queue) in
     let g = limited h in
-    let arrived : c.arrive_all.new.queue ≡ with_arrivals g.plan (entries_before h) window
+    let arrived : c.arrive_all.new.queue ≡ with_arrivals g.plan (moment_before h) window
     (data_frame_seen h.params window A a) (data_frame_seen h.params window B b) h.plan.queue h.queue =
-    queue ∙ sym (arrivals-limits h.plan h.host_limit h.slot_limit (entries_before h) window
+    queue ∙ sym (arrivals-limits h.plan h.host_limit h.slot_limit (moment_before h) window
     (data_frame_seen h.params window A a) (data_frame_seen h.params window B b) h.plan.queue h.queue) in
     let numbered : window.number ≡ c.args.number = search rules in (
       with_entry c.self.invariant.0 (Observe c.args.number a b),
@@ -74,7 +74,7 @@ returns-clause-history c = λ s is.
     let window = c.in-Some.window in
     let a = c.args.a.now in
     let b = c.args.b.now in
-    let entry : c.entries-entry.result ≡ entries_before h = c.entries-entry.ensures.value ∙ ap entries_before
+    let moment : c.moment-moment.result ≡ moment_before h = c.moment-moment.ensures.value ∙ ap moment_before
     (sym c.self.view_is) in
     let status_a : c.of-told_a.result.status ≡ status_seen h.params window A a = c.of-told_a.ensures.status in
     let status_b : c.of-told_b.result.status ≡ status_seen h.params window B b = c.of-told_b.ensures.status in
@@ -85,19 +85,19 @@ returns-clause-history c = λ s is.
     c.count_seen-2.ensures ∙ (λ i. with_seen (c.count_seen.ensures i) B (status_b i)) ∙
     (λ i. with_seen (with_seen h.counters A (status_a i)) B (status_seen h.params window B b)) in
     let receive : (with_items c.self.inside.receive c.store_all.new.buffers).items ≡ stored_all
-    (entries_before h) window (data_frame_seen h.params window A a)
+    (moment_before h) window (data_frame_seen h.params window A a)
     (data_frame_seen h.params window B b) h.plan.buffers h.receive =
     written c.self.inside.receive.len c.store_all.new.buffers _
     (omega (arith, c.deref_mut.ensures.len, c.store_all.auto.buffers))
     ∙ c.store_all.ensures
-    ∙ (λ i. stored_all (entry i) window (frame_a i) (frame_b i) h.plan.buffers (c.deref_mut.ensures.value i)) in
-    let queue : c.arrive_all.new.queue ≡ with_arrivals h.plan (entries_before h) window
+    ∙ (λ i. stored_all (moment i) window (frame_a i) (frame_b i) h.plan.buffers (c.deref_mut.ensures.value i)) in
+    let queue : c.arrive_all.new.queue ≡ with_arrivals h.plan (moment_before h) window
     (data_frame_seen h.params window A a) (data_frame_seen h.params window B b) h.plan.queue h.queue =
-    c.arrive_all.ensures ∙ (λ i. with_arrivals h.plan (entry i) window (frame_a i) (frame_b i) h.plan.queue h.queue) in
+    c.arrive_all.ensures ∙ (λ i. with_arrivals h.plan (moment i) window (frame_a i) (frame_b i) h.plan.queue h.queue) in
     let g = limited h in
-    let arrived : c.arrive_all.new.queue ≡ with_arrivals g.plan (entries_before h) window
+    let arrived : c.arrive_all.new.queue ≡ with_arrivals g.plan (moment_before h) window
     (data_frame_seen h.params window A a) (data_frame_seen h.params window B b) h.plan.queue h.queue =
-    queue ∙ sym (arrivals-limits h.plan h.host_limit h.slot_limit (entries_before h) window
+    queue ∙ sym (arrivals-limits h.plan h.host_limit h.slot_limit (moment_before h) window
     (data_frame_seen h.params window A a) (data_frame_seen h.params window B b) h.plan.queue h.queue) in
     let numbered : window.number ≡ c.args.number = search rules in
     subst (λ (x : Standing). Leaves x (with_entry s (Observe c.args.number a b)))

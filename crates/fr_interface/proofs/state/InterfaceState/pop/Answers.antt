@@ -1,4 +1,4 @@
-use Rattle.std.proofs.Common.{◌≡◌, ℕ, arith, ap, not, sym, subst, ◌∙◌, option_map}
+use Rattle.std.proofs.Common.{◌≡◌, arith, ap, not, sym, subst, ◌∙◌, option_map}
 use Rattle.std.specs.Prelude.{is_some}
 use Rattle.fr_interface.specs.StateFields.{standing_in}
 use Rattle.fr_interface.specs.Standing.{Standing, IsHistory, after_pop}

@@ -1,4 +1,4 @@
-use Rattle.std.proofs.Common.{◌≡◌, ℕ, ◌+◌, ◌<◌, false, List, Option, arith, ap, sym, subst, ◌∙◌, option_map}
+use Rattle.std.proofs.Common.{◌≡◌, List, Option, arith, ap, sym, subst, ◌∙◌, option_map}
 use Rattle.std.specs.Option.{option_and_then}
 use Rattle.std.specs.Prelude.{slice_get}
 use Rattle.fr_interface.specs.StateFields.{standing_in}
@@ -8,7 +8,6 @@ use Rattle.fr_interface.proofs.StandingLemmas.{history-read, held-read}
 use Rattle.fr_journal.specs.declared.entry.Arrival.{Arrival}
 use Rattle.fr_journal.specs.Entries.{IsOrigin}
 use Rattle.fr_journal.specs.Held.{origin_of}
-use Rattle.fr_slots.specs.Plans.{is_receive}
 use Rattle.fr_interface.proofs.state.InterfaceState.read.Goals as goal
 
 pub invariant_of-self : goal.invariant_of-self
