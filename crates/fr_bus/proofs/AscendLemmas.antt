@@ -9,7 +9,8 @@ use Rattle.std.specs.Option.{option_or}
 use Rattle.fr_bus.proofs.NextLemmas.{some_if, and_left}
 use Rattle.fr_bus.specs.Courses.{Standpoint, IsAhead, IsCourse, opportunities, first_passed, later_passed, first_next}
 use Rattle.fr_bus.specs.Courses.{inner_next, dynamic_next, opening, cycle_of, next_of}
-use Rattle.fr_bus.specs.Windows.{opens_cycle, least_of}
+use Rattle.fr_bus.specs.Windows.{least_of}
+use Rattle.fr_slots.specs.Windows.{opens_cycle}
 use Rattle.fr_minislot.proofs.RowLemmas.{row_has_one}
 use Rattle.fr_minislot.specs.Lanes.{Standing, standing_after, closed, opened_in, next_in}
 use Rattle.fr_minislot.specs.DynamicRows.{is_row, last_slot}

@@ -7,7 +7,8 @@ use Rattle.std.proofs.lemmas.List.Sums.{sum_by-append}
 use Rattle.std.specs.Prelude.{count_by, ◌&&◌, not, is_some}
 use Rattle.std.specs.List.{filter, fold}
 use Rattle.fr_bus.specs.Courses.{lane_on, course_of, ended, first_passed, later_passed, course_after}
-use Rattle.fr_bus.specs.Windows.{begins_cycle, is_first_slot, cycles_begun, with_window, this_cycle, is_row_of}
+use Rattle.fr_bus.specs.Windows.{begins_cycle, cycles_begun, with_window, this_cycle, is_row_of}
+use Rattle.fr_slots.specs.Windows.{is_first_slot}
 use Rattle.fr_bus.specs.Windows.{counts_on, is_static_one, statics_of}
 use Rattle.fr_bus.specs.Outcome.{longest}
 use Rattle.fr_bus.specs.Record.{Recorded}

@@ -1,17 +1,20 @@
 -- Stations whose flags and sides are kept apart.
 use Rattle.std.proofs.Common.{◌≡◌, ℕ, zero, suc, ◌+◌, ◌<◌, ◌≤◌, Bool, false, List, [], ◌∷◌, ◌++◌, length, drop}
-use Rattle.std.proofs.Common.{replicate, refl, sym, ap, ◌∙◌, add-one, arith}
+use Rattle.std.proofs.Common.{replicate, refl, sym, ap, subst, ◌∙◌, add-one, arith, true, Option, Some, None, get_or}
 use Rattle.std.specs.Prelude.{slice_index_or, slice_set}
 use Rattle.arrayvec.specs.ArrayVec.{ArrayVec}
 use Rattle.fr_bus.specs.declared.station.Sides.{Sides}
 use Rattle.fr_bus.specs.declared.station.Stations.TheInside.{Inside}
-use Rattle.fr_bus.specs.Outcome.{sent_from, sent_of}
+use Rattle.fr_bus.specs.declared.station.Side.{Side}
+use Rattle.fr_bus.specs.Outcome.{fate_of, sent_from, sent_in, sent_of, transmission}
 use Rattle.fr_bus.specs.Record.{side_on}
 use Rattle.fr_bus.specs.States.{idle_station, babbling, muting}
+use Rattle.fr_bus.specs.Stations.{AllSendNothing, SendNothing, SendsNothing}
 use Rattle.fr_bus.specs.Stations.{Station, station_of, stations_of, silent_sides, side_in, with_babble, with_mute}
 use Rattle.fr_bus.specs.StationsFields.{stations_in, HasRoom}
 use Rattle.fr_schedule.specs.Descriptions.{Description}
-use Rattle.fr_slots.specs.Windows.{Opportunity}
+use Rattle.fr_guardian.specs.Guarding.{passes}
+use Rattle.fr_slots.specs.Windows.{Opportunity, slot_of}
 use Rattle.fr_slots.specs.declared.channel.Channel.{Channel}
 use Rattle.fr_slots.specs.declared.channel.Channel.TheVariants.{A, B}
 
@@ -132,3 +135,33 @@ pub sent_more : (d : Description) (w : Opportunity) (n k : ℕ) (ss : List Stati
 sent_more d w n k ss within =
     sent_next d w n k ss within
     ∙ ap (λ m. sent_of d w k (slice_index_or ss n idle_station) ++ sent_from d w (k + 1) (drop m ss)) (sym (add-one n))
+
+-- ---- stations that send nothing
+
+-- all from one on send nothing if it and all after it do
+quiet_from : (n : ℕ) (ss : List Sides) (s : Sides) → n < length ss → s ≡ get_or ss n s → SendNothing s
+    → AllSendNothing (drop (suc n) ss) → AllSendNothing (drop n ss)
+quiet_from n [] s within is here rest = absurd (let none : ⊥ = omega (arith, within) in none)
+quiet_from zero (t ∷ ts) s within is here rest = (subst SendNothing is here, rest)
+quiet_from (suc n) (t ∷ ts) s within is here rest = quiet_from n ts s (omega (arith, within)) is here rest
+
+pub quiet_more : (n : ℕ) (ss : List Sides) (s : Sides) → n < length ss → s ≡ get_or ss n s → SendNothing s
+    → AllSendNothing (drop (n + 1) ss) → AllSendNothing (drop n ss)
+quiet_more n ss s within is here rest =
+    quiet_from n ss s within is here (subst (λ (m : ℕ). AllSendNothing (drop m ss)) (add-one n) rest)
+
+quiet_side : (d : Description) (w : Opportunity) (n : ℕ) (channel : Channel) (side : Side) (slot : Option ℕ)
+    → SendsNothing side → sent_in d w n channel side slot ≡ []
+quiet_side d w n channel side None quiet = refl
+quiet_side d w n channel side (Some slot) quiet =
+    λ i. transmission n channel false (fate_of side.mute (passes d n w channel)) (quiet.0 i)
+    ++ transmission n channel true (fate_of false (passes d n w channel)) (quiet.1 i)
+
+pub quiet_stations : (ps ts : List Bool) (ss : List Sides) → AllSendNothing ss → (d : Description) (w : Opportunity)
+    (n : ℕ) → sent_from d w n (stations_of ps ts ss) ≡ []
+quiet_stations (p ∷ ps) (t ∷ ts) (s ∷ ss) quiet d w n =
+    λ i. (quiet_side d w n A s.a (slot_of w A) quiet.0.0 i ++ quiet_side d w n B s.b (slot_of w B) quiet.0.1 i)
+    ++ quiet_stations ps ts ss quiet.1 d w (n + 1) i
+quiet_stations (p ∷ ps) (t ∷ ts) [] quiet d w n = refl
+quiet_stations (p ∷ ps) [] ss quiet d w n = refl
+quiet_stations [] ts ss quiet d w n = refl

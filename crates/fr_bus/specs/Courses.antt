@@ -3,7 +3,8 @@ use Rattle.std.specs.Prelude.{◌≡◌, ℕ, ◌+◌, ◌-◌, ◌*◌, ◌^◌
 use Rattle.std.specs.Prelude.{Some}
 use Rattle.std.specs.Prelude.{option_map, if◌then◌else◌}
 use Rattle.std.specs.Option.{option_or}
-use Rattle.fr_bus.specs.Windows.{opens_cycle, has_row, cycles_begun, this_cycle, counts_on, statics_of, first_of_cycle}
+use Rattle.fr_bus.specs.Windows.{has_row, cycles_begun, this_cycle, counts_on, statics_of, first_of_cycle}
+use Rattle.fr_slots.specs.Windows.{opens_cycle}
 use Rattle.fr_bus.specs.Windows.{least_of}
 use Rattle.fr_bus.specs.Outcome.{longest}
 use Rattle.fr_bus.specs.Record.{Recorded}

@@ -1,5 +1,5 @@
 -- The nodes' calls in the open window.
-use Rattle.std.specs.Prelude.{Bool, true, false, List, [], ◌∷◌, ℕ, None, Some}
+use Rattle.std.specs.Prelude.{◌≡◌, Bool, true, false, List, [], ◌∷◌, ℕ, None, Some}
 use Rattle.arrayvec.specs.ArrayVec.{ArrayVec}
 use Rattle.fr_bus.specs.declared.station.Side.{Side}
 use Rattle.fr_bus.specs.declared.station.Sides.{Sides}
@@ -30,6 +30,17 @@ silent_side = record { offer = None; babble = None; mute = false }
 
 abbrev pub silent_sides : Sides
 silent_sides = record { a = silent_side; b = silent_side }
+
+-- there is neither an offer nor a babble
+abbrev pub SendsNothing : Side → Type 0
+SendsNothing side = (side.offer ≡ None) × (side.babble ≡ None)
+
+abbrev pub SendNothing : Sides → Type 0
+SendNothing s = SendsNothing s.a × SendsNothing s.b
+
+abbrev pub AllSendNothing : List Sides → Type 0
+AllSendNothing [] = Unit {0}
+AllSendNothing (s ∷ ss) = SendNothing s × AllSendNothing ss
 
 abbrev pub side_in : Channel → Sides → Side
 side_in A s = s.a

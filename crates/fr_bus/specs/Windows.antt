@@ -9,17 +9,9 @@ use Rattle.fr_minislot.specs.DynamicRows.{opened_after}
 use Rattle.fr_slots.specs.declared.channel.Channel.{Channel}
 use Rattle.fr_slots.specs.declared.channel.Channel.TheVariants.{A, B}
 use Rattle.fr_slots.specs.Parameters.{Parameters}
-use Rattle.fr_slots.specs.Windows.{Opportunity, slot_of, is_static, static_window}
+use Rattle.fr_slots.specs.Windows.{Opportunity, slot_of, is_static, static_window, opens_cycle}
 
 -- ---- cycles of a run
-
-abbrev pub is_first_slot : Option ℕ → Bool
-is_first_slot None = false
-is_first_slot (Some slot) = slot == 1
-
--- a cycle begins with static slot 1
-abbrev pub opens_cycle : Opportunity → Bool
-opens_cycle w = is_static w && is_first_slot w.a
 
 abbrev pub begins_cycle : Recorded → Bool
 begins_cycle r = opens_cycle r.window

@@ -9,12 +9,11 @@ ghost use Rattle.fr_bus.specs.Windows.{has_row, least_of};
 ghost use Rattle.fr_minislot.specs.Lanes.{close_refusal};
 ghost use Rattle.fr_slots.specs.Windows.{is_static};
 
-use crate::windows::opens_cycle;
 use fr_minislot::lane::Lane;
 use fr_slots::channel::Channel;
 use fr_slots::numbers::{Cycle, SlotId};
 use fr_slots::params::Params;
-use fr_slots::window::Window;
+use fr_slots::window::{Window, opens_cycle};
 use std::marker::Model;
 
 /// The progress of a run (chapter 5; windows are project-defined).

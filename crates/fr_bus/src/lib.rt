@@ -55,4 +55,3 @@ mod kept;
 pub mod live;
 pub mod outcome;
 mod station;
-pub mod windows;

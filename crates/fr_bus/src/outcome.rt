@@ -225,7 +225,12 @@ pub(crate) fn all_sent(
     ensures { IfOk result (λ list. list.items ≡ sent_from guardian.now window.now 0 stations.now) }
 {
     // So a frame is copied only to its station, to the record, and to each node that takes it.
-    let mut list = Vec::with_capacity(alloc, stations.count_offered())?;
+    let count = stations.count_offered();
+    let mut list = Vec::with_capacity(alloc, count)?;
+    // In most windows no node sends.
+    if count == 0 {
+        return Ok(list);
+    }
     for number in 0..stations.len() {
         let node = NodeId::from_number(number as u8);
         add_station(&mut list, guardian, window, node, stations)?;

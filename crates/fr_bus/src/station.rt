@@ -1,11 +1,15 @@
 //! The nodes' puts and takes in the open window, and the faults of nodes.
 
-ghost use Rattle.std.specs.Prelude.{◌≡◌, ◌<◌, ◌≤◌, length, replicate, None, Some, OnErr, OnOk, IfOk};
+ghost use Rattle.std.specs.Prelude.{◌≡◌, ◌<◌, ◌≤◌, ℕ, [], length, replicate, None, Some, OnErr, OnOk, IfOk};
 ghost use Rattle.std.specs.Prelude.{slice_index_or, slice_set};
 ghost use Rattle.std.specs.Result.{result_err};
 ghost use Rattle.fr_bus.specs.Record.{side_on};
 ghost use Rattle.fr_bus.specs.States.{idle_station, silent_side, offering, taking, babbling, muting};
+ghost use Rattle.fr_bus.specs.Outcome.{sent_from};
+ghost use Rattle.fr_bus.specs.Stations.{AllSendNothing, SendNothing, SendsNothing};
 ghost use Rattle.fr_bus.specs.Stations.{side_in, silent_sides, with_offers, with_babble, with_mute};
+ghost use Rattle.fr_schedule.specs.Descriptions.{Description};
+ghost use Rattle.fr_slots.specs.Windows.{Opportunity};
 
 use fr_frame::frame::{Bytes, duplicate_bytes};
 use fr_interface::interface::Offer;
@@ -81,7 +85,8 @@ impl Sides {
 
     /// Returns the greatest number of transmissions.
     fn count_offered(&self) -> usize
-        ensures { result ≤ 4 }
+        ensures few { result ≤ 4 }
+        ensures none { result ≡ 0 → SendNothing self.now }
     {
         self.a.count_offered() + self.b.count_offered()
     }
@@ -212,7 +217,8 @@ impl Stations {
 
     /// Returns the greatest number of transmissions.
     pub(crate) fn count_offered(&self) -> usize
-        ensures { result ≤ 64 }
+        ensures few { result ≤ 64 }
+        ensures none { result ≡ 0 → (d : Description) (w : Opportunity) (n : ℕ) → sent_from d w n self.now ≡ [] }
     {
         count_offered(self.sides.as_slice())
     }
@@ -221,7 +227,8 @@ impl Stations {
 /// Returns the number of offers and babbles, some of which may be no transmissions.
 fn count_offered(sides: &[Sides]) -> usize
     requires { length sides.now ≤ 16 }
-    ensures { result ≤ 64 }
+    ensures few { result ≤ 64 }
+    ensures none { result ≡ 0 → AllSendNothing sides.now }
 {
     let mut count = 0;
     for both in sides {
@@ -244,7 +251,8 @@ impl Side {
 
     /// Returns the greatest number of transmissions of the side.
     fn count_offered(&self) -> usize
-        ensures { result ≤ 2 }
+        ensures few { result ≤ 2 }
+        ensures none { result ≡ 0 → SendsNothing self.now }
     {
         match (&self.offer, &self.babble) {
             (Some(_), Some(_)) => 2,

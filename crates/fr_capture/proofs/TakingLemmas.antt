@@ -1,11 +1,12 @@
 -- The receivers of a frame, if it is known whether data frames came.
 use Rattle.std.proofs.Common.{◌≡◌, Bool, true, false, cond, ◌&&◌, Option, Some, None, refl}
-use Rattle.std.specs.Prelude.{is_some, option_map}
+use Rattle.std.specs.Prelude.{[], is_some, option_map}
 use Rattle.std.specs.Option.{option_or}
 use Rattle.fr_capture.specs.Taking.{buffer_takes, is_from, queue_takes}
 use Rattle.fr_capture.specs.TakingSteps.{queue_takes_by, takes_by}
 use Rattle.fr_frame.specs.Fields.{Fields}
 use Rattle.fr_journal.specs.Counts.{seen_on}
+use Rattle.fr_journal.specs.Cycles.{moment_after}
 use Rattle.fr_journal.specs.Held.{arrival_of, data_frame_seen}
 use Rattle.fr_slots.specs.declared.channel.Channel.{Channel}
 use Rattle.fr_slots.specs.declared.channel.Channel.TheVariants.{A, B}
@@ -22,8 +23,8 @@ takes_words receives admits_a admits_b a b B = receives && cond (a && admits_a) 
 
 by_tests : (receives admits_a admits_b : Bool) (a b : Option Fields) (channel : Channel)
     → takes_words receives admits_a admits_b (is_some a) (is_some b) channel
-    ≡ (receives && is_from channel (option_or (cond admits_a (option_map (arrival_of 0 A) a) None)
-    (cond admits_b (option_map (arrival_of 0 B) b) None)))
+    ≡ (receives && is_from channel (option_or (cond admits_a (option_map (arrival_of (moment_after []) A) a) None)
+    (cond admits_b (option_map (arrival_of (moment_after []) B) b) None)))
 by_tests false admits_a admits_b a b A = refl
 by_tests false admits_a admits_b a b B = refl
 by_tests true true admits_b (Some x) b A = refl

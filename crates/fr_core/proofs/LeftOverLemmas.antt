@@ -3,7 +3,8 @@ use Rattle.std.proofs.Common.{◌≡◌, ℕ, Bool, true, false, cond, ◌&&◌,
 use Rattle.std.proofs.Common.{refl, sym, ap, ◌∙◌, option_map}
 use Rattle.std.specs.Prelude.{◌==◌, is_some}
 use Rattle.std.proofs.lemmas.Bool.{eqb-true, eq-eqb}
-use Rattle.fr_core.specs.Accounts.{Kept, commits, withdraws, turns, is_window_of, is_buffer_of, run_cycle, kept_at}
+use Rattle.fr_core.specs.Accounts.{Kept, commits, withdraws, turns, is_window_of, is_buffer_of, kept_at}
+use Rattle.fr_journal.specs.Cycles.{run_cycle}
 use Rattle.fr_core.specs.Accounts.{account, is_event, Left, empty, given, taken_back, sent_out, is_turn_of, left_after}
 use Rattle.fr_core.specs.Accounts.{left_over}
 use Rattle.fr_core.proofs.CaseLemmas.{differ}

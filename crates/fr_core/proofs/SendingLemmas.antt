@@ -9,7 +9,8 @@ use Rattle.std.proofs.lemmas.Iterator.Adapters.{position_from-zero}
 use Rattle.std.proofs.lemmas.List.Quantifiers.{position-Some}
 use Rattle.std.proofs.lemmas.Option.{slice_get-get_or}
 use Rattle.fr_core.proofs.TimingLemmas.{IsTimed}
-use Rattle.fr_core.specs.Accounts.{is_slot_at, is_window_of, is_buffer_of, run_cycle, account, is_turn_of, left_over}
+use Rattle.fr_core.specs.Accounts.{is_slot_at, is_window_of, is_buffer_of, account, is_turn_of, left_over}
+use Rattle.fr_journal.specs.Cycles.{run_cycle}
 use Rattle.fr_core.proofs.LeftOverLemmas.{Takes, IsTaking, left_over_is}
 use Rattle.fr_core.proofs.CaseLemmas.{both, both_first, both_rest, differ}
 use Rattle.fr_core.proofs.TakingLemmas.{unsent, sent_is_ready}

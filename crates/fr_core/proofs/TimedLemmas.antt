@@ -3,9 +3,10 @@ use Rattle.std.proofs.Common.{◌≡◌, ◌≤◌, ◌<◌, ℕ, ◌+◌, ◌-�
 use Rattle.std.proofs.Common.{map, Some, refl, sym, ap, subst, ◌∙◌, arith, slice_get}
 use Rattle.std.specs.Prelude.{count_by}
 use Rattle.std.proofs.lemmas.Option.{slice_get_within}
-use Rattle.fr_bus.specs.Windows.{begins_cycle, cycles_begun, opens_cycle}
+use Rattle.fr_bus.specs.Windows.{begins_cycle, cycles_begun}
+use Rattle.fr_slots.specs.Windows.{opens_cycle}
 use Rattle.fr_bus.specs.Record.{Recorded}
-use Rattle.fr_core.specs.Accounts.{begins_cycle_at}
+use Rattle.fr_journal.specs.Cycles.{begins_cycle_at}
 use Rattle.fr_core.proofs.TimingLemmas.{IsOnTime, AreOnTime, IsTimed, count_more}
 use Rattle.fr_core.specs.Agreeing.{Handed, handed_at, fetched, offers_of, Follows}
 use Rattle.fr_core.proofs.CaseLemmas.{both_first}

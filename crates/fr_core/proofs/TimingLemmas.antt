@@ -6,13 +6,15 @@ use Rattle.std.specs.List.{find, fold, range_with_len}
 use Rattle.std.specs.Option.{option_or}
 use Rattle.std.proofs.lemmas.Bool.{ne_eqb}
 use Rattle.std.proofs.lemmas.List.Sums.{sum_by-append}
-use Rattle.fr_core.specs.Accounts.{is_window_of, run_cycle, recorded_cycle}
+use Rattle.fr_core.specs.Accounts.{is_window_of, recorded_cycle}
+use Rattle.fr_journal.specs.Cycles.{run_cycle}
 use Rattle.fr_journal.specs.Forms.{Entry}
 use Rattle.fr_journal.specs.declared.entry.Entry.TheVariants.{Commit, Withdraw, Read, Pop, Fetch, Observe}
 use Rattle.fr_bus.specs.States.{IsRecorded}
 use Rattle.fr_schedule.specs.Descriptions.{Description}
 use Rattle.fr_bus.specs.Windows.{begins_cycle, cycles_begun, with_window, this_cycle, is_static_one, opens_any}
-use Rattle.fr_bus.specs.Windows.{opens_cycle, window_at, next_dynamic, statics_of, next_in_cycle, first_of_cycle}
+use Rattle.fr_bus.specs.Windows.{window_at, next_dynamic, statics_of, next_in_cycle, first_of_cycle}
+use Rattle.fr_slots.specs.Windows.{opens_cycle}
 use Rattle.fr_bus.specs.Windows.{following}
 use Rattle.fr_bus.specs.Record.{Recorded}
 use Rattle.fr_core.proofs.CaseLemmas.{differ, kept, both_first}

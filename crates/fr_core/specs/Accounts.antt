@@ -1,6 +1,6 @@
 -- The account of a static slot: the entries of its owner's journal that decide the owner's transmissions there
 -- (project-defined).
-use Rattle.std.specs.Prelude.{◌≡◌, ℕ, ◌+◌, ◌-◌, ◌%◌, ◌==◌, Bool, true, false, ◌&&◌, List, [], ◌∷◌, ◌++◌, take, count_by}
+use Rattle.std.specs.Prelude.{◌≡◌, ℕ, ◌+◌, ◌-◌, ◌%◌, ◌==◌, Bool, true, false, ◌&&◌, List, [], ◌∷◌, ◌++◌, take}
 use Rattle.std.specs.Prelude.{slice_get, Option, Some, None, if◌then◌else◌}
 use Rattle.std.specs.List.{filter}
 use Rattle.std.specs.Option.{option_and_then}
@@ -8,10 +8,11 @@ use Rattle.arrayvec.specs.ArrayVec.{ArrayVec}
 use Rattle.fr_bus.specs.declared.outcome.Sent.{Sent}
 use Rattle.fr_bus.specs.Outcome.{fate_of, transmission, all_passed, is_of, seen_of}
 use Rattle.fr_bus.specs.Record.{Recorded, corrupt_on, seen_by}
-use Rattle.fr_bus.specs.Windows.{opens_cycle, cycles_begun}
+use Rattle.fr_bus.specs.Windows.{cycles_begun}
 use Rattle.fr_core.specs.Receivers.{IsOwner, is_muted}
 use Rattle.fr_frame.specs.Fields.{Fields}
 use Rattle.fr_interface.specs.State.{State}
+use Rattle.fr_journal.specs.Cycles.{run_cycle}
 use Rattle.fr_journal.specs.Forms.{Entry}
 use Rattle.fr_journal.specs.declared.entry.Entry.TheVariants.{Commit, Withdraw, Read, Pop, Fetch, Observe}
 use Rattle.fr_journal.specs.declared.entry.Offered.{Offered}
@@ -48,18 +49,6 @@ is_window_of slot w = is_static w && is_slot_at slot w.a
 abbrev pub is_buffer_of : ℕ → Option Buffer → Bool
 is_buffer_of slot None = false
 is_buffer_of slot (Some b) = transmits b && b.filter.slot == slot
-
-abbrev pub begins_cycle_at : Entry → Bool
-begins_cycle_at (Commit task buffer payload) = false
-begins_cycle_at (Withdraw task buffer of) = false
-begins_cycle_at (Read task buffer from) = false
-begins_cycle_at (Pop task from) = false
-begins_cycle_at (Fetch w a b) = opens_cycle w
-begins_cycle_at (Observe number a b) = false
-
--- the run cycle of the window that was fetched last: the number of windows of static slot 1, less one
-abbrev pub run_cycle : List Entry → ℕ
-run_cycle entries = count_by begins_cycle_at entries - 1
 
 abbrev pub kept_at : Plan → ℕ → List Entry → Entry → List Kept
 kept_at plan slot before (Commit task buffer payload) =

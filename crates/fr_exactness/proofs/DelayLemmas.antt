@@ -11,7 +11,8 @@ use Rattle.std.proofs.lemmas.List.Quantifiers.{position-Some}
 use Rattle.std.proofs.lemmas.Option.{get_or_from_slice_get}
 use Rattle.fr_bus.specs.Record.{Recorded}
 use Rattle.fr_bus.specs.Courses.{IsCourse, course_of}
-use Rattle.fr_bus.specs.Windows.{cycles_begun, this_cycle, counts_on, is_row_of, opens_cycle, following}
+use Rattle.fr_bus.specs.Windows.{cycles_begun, this_cycle, counts_on, is_row_of, following}
+use Rattle.fr_slots.specs.Windows.{opens_cycle}
 use Rattle.fr_bus.specs.Outcome.{longest}
 use Rattle.fr_core.proofs.CaseLemmas.{both, both_first, both_rest}
 use Rattle.fr_exactness.proofs.FollowingLemmas.{following_fits}

@@ -8,7 +8,8 @@ use Rattle.std.proofs.lemmas.List.{append-nil, append_assoc}
 use Rattle.std.proofs.lemmas.Nat.{mod_below}
 use Rattle.fr_bus.specs.Courses.{opportunities}
 use Rattle.fr_bus.specs.Record.{Recorded}
-use Rattle.fr_bus.specs.Windows.{cycles_begun, this_cycle, counts_on, is_first_slot, is_row_of, opens_cycle}
+use Rattle.fr_bus.specs.Windows.{cycles_begun, this_cycle, counts_on, is_row_of}
+use Rattle.fr_slots.specs.Windows.{is_first_slot, opens_cycle}
 use Rattle.fr_core.proofs.CaseLemmas.{both_first}
 use Rattle.fr_core.specs.Worlds.{WorldState}
 use Rattle.fr_exactness.proofs.DelayLemmas.{IsOver, keeps_over, late_mute, lower_mute, static_mute, way_mute}

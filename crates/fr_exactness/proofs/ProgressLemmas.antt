@@ -13,10 +13,12 @@ use Rattle.fr_bus.proofs.NextLemmas.{next_on, next_is, next_minislot_is}
 use Rattle.fr_bus.specs.Courses.{IsCourse, course_of, first_passed, later_passed, course_after, opportunities}
 use Rattle.fr_bus.specs.Outcome.{longest}
 use Rattle.fr_bus.specs.Record.{Recorded}
-use Rattle.fr_bus.specs.Windows.{begins_cycle, cycles_begun, with_window, this_cycle, is_row_of, counts_on, opens_cycle}
+use Rattle.fr_bus.specs.Windows.{begins_cycle, cycles_begun, with_window, this_cycle, is_row_of, counts_on}
+use Rattle.fr_slots.specs.Windows.{opens_cycle}
 use Rattle.fr_bus.specs.Windows.{opens_any, window_at, next_dynamic, statics_of, next_in_cycle, first_of_cycle}
 use Rattle.fr_bus.specs.Windows.{following}
-use Rattle.fr_bus.specs.Windows.{least_of, is_first_slot}
+use Rattle.fr_bus.specs.Windows.{least_of}
+use Rattle.fr_slots.specs.Windows.{is_first_slot}
 use Rattle.fr_core.proofs.TimingLemmas.{count_more}
 use Rattle.fr_exactness.proofs.FollowingLemmas.{found, either_within}
 use Rattle.fr_guarantees.specs.Guarantees.{cycle_of}

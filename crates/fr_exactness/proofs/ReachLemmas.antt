@@ -12,7 +12,8 @@ use Rattle.std.proofs.Math.Nat.{add-mul, mul-le-mul_right}
 use Rattle.fr_bus.specs.Outcome.{longest}
 use Rattle.fr_bus.specs.Record.{Recorded}
 use Rattle.fr_bus.specs.States.{BusState}
-use Rattle.fr_bus.specs.Windows.{cycles_begun, this_cycle, counts_on, is_first_slot, is_row_of, opens_cycle}
+use Rattle.fr_bus.specs.Windows.{cycles_begun, this_cycle, counts_on, is_row_of}
+use Rattle.fr_slots.specs.Windows.{is_first_slot, opens_cycle}
 use Rattle.fr_core.proofs.CaseLemmas.{both, both_first, both_rest}
 use Rattle.fr_core.proofs.SendingLemmas.{offers_ready}
 use Rattle.fr_core.specs.declared.error.StepError.TheVariants.{Host}

@@ -11,7 +11,8 @@ use Rattle.std.proofs.lemmas.Bool.Decides.{eqb_tells}
 use Rattle.fr_bus.proofs.CourseLemmas.{fold_more}
 use Rattle.fr_bus.specs.Courses.{IsCourse, course_of}
 use Rattle.fr_bus.specs.Record.{Recorded}
-use Rattle.fr_bus.specs.Windows.{cycles_begun, with_window, this_cycle, is_first_slot, opens_cycle}
+use Rattle.fr_bus.specs.Windows.{cycles_begun, with_window, this_cycle}
+use Rattle.fr_slots.specs.Windows.{is_first_slot, opens_cycle}
 use Rattle.fr_bus.specs.Windows.{is_static_one, statics_of, opens_any, window_at, next_dynamic, next_in_cycle}
 use Rattle.fr_bus.specs.Windows.{first_of_cycle, following}
 use Rattle.fr_core.proofs.CaseLemmas.{both_first, both_rest}

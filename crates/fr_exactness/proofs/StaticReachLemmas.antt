@@ -11,7 +11,8 @@ use Rattle.std.proofs.Math.Nat.{add-mul, mul-le-mul_right}
 use Rattle.fr_bus.specs.Courses.{opportunities}
 use Rattle.fr_bus.specs.Record.{Recorded}
 use Rattle.fr_bus.specs.States.{BusState}
-use Rattle.fr_bus.specs.Windows.{cycles_begun, this_cycle, statics_of, opens_cycle}
+use Rattle.fr_bus.specs.Windows.{cycles_begun, this_cycle, statics_of}
+use Rattle.fr_slots.specs.Windows.{opens_cycle}
 use Rattle.fr_core.proofs.CaseLemmas.{both, both_first}
 use Rattle.fr_core.proofs.SendingLemmas.{transmits_there, offers_ready}
 use Rattle.fr_core.specs.declared.error.StepError.TheVariants.{Host}

@@ -8,7 +8,8 @@ use Rattle.std.proofs.Math.Nat.{mul-le-mul_right}
 use Rattle.fr_bus.specs.Courses.{IsCourse, course_of, opportunities}
 use Rattle.fr_bus.specs.Outcome.{longest}
 use Rattle.fr_bus.specs.Record.{Recorded}
-use Rattle.fr_bus.specs.Windows.{cycles_begun, this_cycle, counts_on, is_row_of, opens_cycle, is_first_slot, following}
+use Rattle.fr_bus.specs.Windows.{cycles_begun, this_cycle, counts_on, is_row_of, following}
+use Rattle.fr_slots.specs.Windows.{opens_cycle, is_first_slot}
 use Rattle.fr_core.proofs.CaseLemmas.{both_first}
 use Rattle.fr_core.specs.Worlds.{WorldState}
 use Rattle.fr_exactness.proofs.LeadLemmas.{leads_not, leads_on}

@@ -2,7 +2,8 @@
 use Rattle.std.specs.Prelude.{◌≡◌, ℕ, ◌+◌, ◌-◌, ◌*◌, ◌%◌, ◌≤◌, ◌<◌, true, not, ◌&&◌, List, [], ◌∷◌, ◌++◌, length}
 use Rattle.std.specs.Prelude.{Some, None, slice_get, if◌then◌else◌}
 use Rattle.fr_bus.specs.States.{collecting_of}
-use Rattle.fr_bus.specs.Windows.{cycles_begun, opens_cycle}
+use Rattle.fr_bus.specs.Windows.{cycles_begun}
+use Rattle.fr_slots.specs.Windows.{opens_cycle}
 use Rattle.fr_core.specs.Carried.{Waits}
 use Rattle.fr_core.specs.declared.event.Event.TheVariants.{Commit}
 use Rattle.fr_core.specs.Steps.{step_refusal, step_done}

@@ -3,7 +3,8 @@ use Rattle.std.proofs.Common.{◌≡◌, ℕ, ◌+◌, Bool, true, false, cond, 
 use Rattle.std.proofs.Common.{option_map, refl, sym, ap, ◌∙◌, arith}
 use Rattle.std.specs.Prelude.{count_by, slice_get}
 use Rattle.std.proofs.lemmas.List.Sums.{sum_by-append}
-use Rattle.fr_core.specs.Accounts.{begins_cycle_at}
+use Rattle.fr_journal.specs.Cycles.{begins_cycle_at, moment_after}
+use Rattle.fr_journal.specs.declared.entry.Moment.{Moment}
 use Rattle.std.specs.Option.{option_and_then, option_or}
 use Rattle.fr_expecting.proofs.PlaceLemmas.{here}
 use Rattle.fr_expecting.specs.Contents.{IsPlace, found_left, payload_at, payload_from, payload_held, payload_in}
@@ -33,12 +34,12 @@ payload_or : (x y : Option Arrival)
 payload_or None y = refl
 payload_or (Some x) y = refl
 
-payload_if : (number : ℕ) (channel : Channel) (admitted : Bool) (frame : Option Fields)
+payload_if : (moment : Moment) (channel : Channel) (admitted : Bool) (frame : Option Fields)
     → cond admitted (option_map payload_of frame) None
-    ≡ option_map payload_in (cond admitted (option_map (arrival_of number channel) frame) None)
-payload_if number channel false frame = refl
-payload_if number channel true None = refl
-payload_if number channel true (Some frame) = refl
+    ≡ option_map payload_in (cond admitted (option_map (arrival_of moment channel) frame) None)
+payload_if moment channel false frame = refl
+payload_if moment channel true None = refl
+payload_if moment channel true (Some frame) = refl
 
 module _ (s : State) (filter : Filter) (n : ℕ) where
   abbrev before : List Entry
@@ -48,27 +49,29 @@ module _ (s : State) (filter : Filter) (n : ℕ) where
   on_channel : (channel : Channel) (w : Opportunity) (number : ℕ) (a b : Seen)
       → slice_get s.entries n ≡ Some (Observe number a b) → open_window before ≡ Some w
       → payload_on s filter n channel w
-      ≡ option_map payload_in (arrival_on s.params filter n w channel (seen_on channel a b))
+      ≡ option_map payload_in (arrival_on s.params filter (moment_after before) w channel (seen_on channel a b))
   on_channel channel w number a b is opened =
       let frames : frame_named s.params s.entries (record { entry = n; channel = channel })
       ≡ data_frame_seen s.params w channel (seen_on channel a b) =
       ap (option_and_then (frame_in_entry s.params channel (open_window before))) is
       ∙ ap (λ (o : Option Opportunity). frame_in_entry s.params channel o (Observe number a b)) opened in
       ap (λ (f : Option Fields). cond (admits_window filter w channel) (option_map payload_of f) None) frames
-      ∙ payload_if n channel (admits_window filter w channel) (data_frame_seen s.params w channel (seen_on channel a b))
+      ∙ payload_if (moment_after before) channel (admits_window filter w channel)
+      (data_frame_seen s.params w channel (seen_on channel a b))
 
   in_window : (number : ℕ) (a b : Seen) → slice_get s.entries n ≡ Some (Observe number a b)
       → (o : Option Opportunity) → open_window before ≡ o
       → option_and_then (payload_from s filter n) o
-      ≡ option_map payload_in (option_and_then (arrival_in s.params filter n a b) o)
+      ≡ option_map payload_in (option_and_then (arrival_in s.params filter (moment_after before) a b) o)
   in_window number a b is None opened = refl
   in_window number a b is (Some w) opened =
       (λ i. option_or (on_channel A w number a b is opened i) (on_channel B w number a b is opened i))
-      ∙ sym (payload_or (arrival_on s.params filter n w A a) (arrival_on s.params filter n w B b))
+      ∙ sym (payload_or (arrival_on s.params filter (moment_after before) w A a)
+      (arrival_on s.params filter (moment_after before) w B b))
 
   of_entry : (e : Entry) → slice_get s.entries n ≡ Some e
       → option_and_then (payload_from s filter n) (closed_window before e)
-      ≡ option_map payload_in (arrival_by s.params filter n (open_window before) e)
+      ≡ option_map payload_in (arrival_by s.params filter (moment_after before) (open_window before) e)
   of_entry (Commit task buffer payload) is = refl
   of_entry (Withdraw task buffer of) is = refl
   of_entry (Read task buffer from) is = refl
@@ -83,16 +86,14 @@ module _ (s : State) (filter : Filter) (n : ℕ) where
   payload_more e is =
       let h = here s.entries n e is in
       let brought : payload_at s filter n
-      ≡ option_map payload_in (arrival_by s.params filter n (open_window before) e) =
+      ≡ option_map payload_in (arrival_by s.params filter (moment_after before) (open_window before) e) =
       ap (λ (o : Option Entry). option_and_then (payload_from s filter n) (option_and_then (closed_window before) o)) is
       ∙ of_entry e is in
-      let numbered : arrival_at s.params filter before e ≡ arrival_by s.params filter n (open_window before) e =
-      ap (λ (m : ℕ). arrival_by s.params filter m (open_window before) e) h.place in
       ap (payload_held s.params filter) h.passed
       ∙ ap (option_map payload_in) (last_after-snoc (arrival_at s.params filter) before e)
       ∙ payload_or (arrival_at s.params filter before e) (held s.params filter before)
       ∙ ap (λ (o : Option (List ℕ)). option_or o (payload_held s.params filter before))
-      (ap (option_map payload_in) numbered ∙ sym brought)
+      (sym brought)
 
 -- ---- places
 

@@ -4,7 +4,7 @@ use Rattle.std.proofs.Common.{length, take, drop, Some, refl, sym, ap, ◌∙◌
 use Rattle.std.specs.Prelude.{◌==◌, count_by, slice_get}
 use Rattle.std.proofs.lemmas.Bool.{ne_eqb}
 use Rattle.std.proofs.lemmas.List.Sums.{sum_by-append}
-use Rattle.fr_core.specs.Accounts.{begins_cycle_at}
+use Rattle.fr_journal.specs.Cycles.{begins_cycle_at}
 use Rattle.fr_expecting.proofs.PlaceLemmas.{here, nothing_left}
 use Rattle.fr_expecting.specs.Expected.{through}
 use Rattle.fr_journal.specs.Forms.{Entry}

@@ -3,7 +3,7 @@
 use Rattle.std.specs.Prelude.{◌≡◌, ℕ, ◌+◌, ◌≤◌, List, length, take, slice_get, count_by, Option, Some, None, option_map}
 use Rattle.std.specs.Prelude.{if◌then◌else◌}
 use Rattle.std.specs.Option.{option_and_then, option_or}
-use Rattle.fr_core.specs.Accounts.{begins_cycle_at}
+use Rattle.fr_journal.specs.Cycles.{begins_cycle_at}
 use Rattle.fr_expecting.specs.declared.expectation.Expectation.{Expectation}
 use Rattle.fr_expecting.specs.declared.missed.Found.{Found}
 use Rattle.fr_expecting.specs.declared.missed.Found.TheVariants.{Nothing, Data}

@@ -4,7 +4,7 @@ use Rattle.std.specs.Prelude.{ℕ, ◌+◌, ◌-◌, ◌==◌, not, Bool, true, 
 use Rattle.std.specs.Prelude.{Option, Some, None, option_to_list, if◌then◌else◌}
 use Rattle.std.specs.List.{filter, flat_map, range_with_len}
 use Rattle.std.specs.Str.{bytes_eq}
-use Rattle.fr_core.specs.Accounts.{begins_cycle_at}
+use Rattle.fr_journal.specs.Cycles.{begins_cycle_at}
 use Rattle.fr_expecting.specs.declared.expectation.Expectation.{Expectation}
 use Rattle.fr_expecting.specs.declared.missed.Found.{Found}
 use Rattle.fr_expecting.specs.declared.missed.Found.TheVariants.{NoBuffer, Nothing, Data}

@@ -2,19 +2,18 @@
 
 ghost use Rattle.std.specs.Prelude.{◌≡◌, ◌+◌, ◌≤◌, ◌<◌, ◌^◌, if◌then◌else◌, slice_get, take, Some};
 ghost use Rattle.std.specs.Option.{option_or};
-ghost use Rattle.fr_core.specs.Accounts.{begins_cycle_at};
+ghost use Rattle.fr_journal.specs.Cycles.{begins_cycle_at};
 ghost use Rattle.fr_expecting.specs.Contents.{IsPlace, payload_at, payload_on};
 ghost use Rattle.fr_expecting.specs.Expected.{through};
 ghost use Rattle.fr_journal.specs.Lent.{whole};
 
-use fr_bus::windows::opens_cycle;
 use fr_frame::payload::Payload;
 use fr_interface::interface::Interface;
 use fr_journal::entry::Origin;
 use fr_journal::lent::LentEntry;
 use fr_slots::channel::Channel;
 use fr_slots::filter::Filter;
-use fr_slots::window::Window;
+use fr_slots::window::{Window, opens_cycle};
 
 /// A place in a node's journal.
 #[derive(Drop)]

@@ -16,7 +16,8 @@ use Rattle.fr_bus.specs.declared.outcome.SentFate.{SentFate}
 use Rattle.fr_bus.specs.Outcome.{transmission, sent_in, is_of, passed_on, all_passed, longest, fate_of, is_passed}
 use Rattle.fr_bus.specs.Record.{Recorded, IsOutcome, is_offer_of, offer_in, side_on}
 use Rattle.fr_bus.specs.States.{IsRecorded, idle_station}
-use Rattle.fr_bus.specs.Windows.{begins_cycle, is_first_slot, cycles_begun, with_window, this_cycle, is_row_of}
+use Rattle.fr_bus.specs.Windows.{begins_cycle, cycles_begun, with_window, this_cycle, is_row_of}
+use Rattle.fr_slots.specs.Windows.{is_first_slot}
 use Rattle.fr_bus.specs.Windows.{counts_on}
 use Rattle.fr_core.proofs.CaseLemmas.{both_first, both_rest, both}
 use Rattle.fr_core.proofs.HandingLemmas.{fetch_of, bytes_on, handed_on}

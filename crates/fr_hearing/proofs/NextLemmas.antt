@@ -11,7 +11,8 @@ use Rattle.fr_bus.specs.Courses.{Standpoint, first_passed, passed, course_of, fi
 use Rattle.fr_bus.specs.Courses.{inner_next, dynamic_next, opening, cycle_of, next_of}
 use Rattle.fr_bus.specs.Outcome.{longest}
 use Rattle.fr_bus.specs.Record.{Recorded}
-use Rattle.fr_bus.specs.Windows.{is_first_slot, least_of, following}
+use Rattle.fr_bus.specs.Windows.{least_of, following}
+use Rattle.fr_slots.specs.Windows.{is_first_slot}
 use Rattle.fr_core.proofs.CaseLemmas.{both_first, both_rest}
 use Rattle.fr_minislot.specs.DynamicRows.{is_row, last_slot}
 use Rattle.fr_minislot.specs.Lanes.{Standing, closed, opened_in, next_in}

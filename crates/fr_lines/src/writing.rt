@@ -193,8 +193,13 @@ pub fn write_queue<W: Write>(writer: &mut W, queue: &Queue) -> io::Result<()>
     writeln!(writer, " {base} {repetition}")
 }
 
-/// Writes the line of a fetch.
-fn write_fetch<W: Write>(writer: &mut W, window: &Window, a: Offered, b: Offered) -> io::Result<()>
+/// Writes the line of a fetch of the window, with these offers on A and on B.
+pub fn write_fetch<W: Write>(
+    writer: &mut W,
+    window: &Window,
+    a: Offered,
+    b: Offered,
+) -> io::Result<()>
     ensures { Writes W.contents writer.old writer.new result (line_text (entry_words (entries.Fetch window.now a b))) }
 {
     let (number, cycle) = (window.number, window.cycle.number());
@@ -206,8 +211,8 @@ fn write_fetch<W: Write>(writer: &mut W, window: &Window, a: Offered, b: Offered
     writeln!(writer)
 }
 
-/// Writes the line of an observe.
-fn write_observe<W: Write>(writer: &mut W, window: u32, a: &Seen, b: &Seen) -> io::Result<()>
+/// Writes the line of an observe of the window of this number, with these observations on A and on B.
+pub fn write_observe<W: Write>(writer: &mut W, window: u32, a: &Seen, b: &Seen) -> io::Result<()>
     ensures { Writes W.contents writer.old writer.new result
         (line_text (entry_words (entries.Observe window a.now b.now))) }
 {

@@ -1,6 +1,6 @@
 -- A step of the kept data is a step of each world that leads to them.
-use Rattle.std.proofs.Common.{◌≡◌, ℕ, Option, Some, None, refl, sym, subst, ap, ◌∙◌}
-use Rattle.std.specs.Prelude.{option_map, Result, Ok, Err, IfOk, OnOk, OnErr}
+use Rattle.std.proofs.Common.{◌≡◌, ℕ, true, false, List, [], ◌∷◌, ◌++◌, Option, Some, None, refl, sym, subst, ap, ◌∙◌}
+use Rattle.std.specs.Prelude.{option_map, Result, Ok, Err, IfOk, OnOk, OnErr, is_err}
 use Rattle.std.specs.Result.{result_err}
 use Rattle.fr_bus.specs.declared.error.BusError.TheVariants as bus
 use Rattle.fr_bus.specs.Standing.{bare}
@@ -23,6 +23,8 @@ use Rattle.fr_core.specs.Steps.{event_of, reply_of}
 use Rattle.fr_core.specs.Worlds.{WorldState, interface_at}
 use Rattle.fr_live.proofs.CallLemmas.{reply_call}
 use Rattle.fr_live.proofs.RefusalLemmas.{seal_refuses}
+use Rattle.fr_core.specs.Agreement.{IsWorld}
+use Rattle.fr_live.specs.LiveSteps.{Accepts, AcceptsAlike, LiveAccepts}
 use Rattle.fr_live.specs.LiveSteps.{LiveApplies, LiveSteps, AppliesAlike, StepsAlike, SealsMachine, with_answer}
 use Rattle.fr_live.specs.LiveSteps.{with_receipt, without_value}
 use Rattle.fr_live.specs.LiveWorlds.{LiveState, Leads, IsWorldHistory}
@@ -183,3 +185,51 @@ applies_alike old new event outcome applies w is =
     let step = applies w is.leads in
     let answer = answered (step_reply w event) outcome in
     (step.0, step.1, record { leads = step.2; world_is = kept_step w event answer step.0 step.1 is.world_is })
+
+-- ---- accepted events
+
+accepts_then : (first later : List Event) (w u v : WorldState) → Accepts w first u → Accepts u later v
+    → Accepts w (first ++ later) v
+unfolding Accepts
+accepts_then [] later w u v one two = subst (λ (x : WorldState). Accepts x later v) one two
+accepts_then (e ∷ es) later w u v one two = (one.0, accepts_then es later (step_done w e) u v one.1 two)
+
+pub accepted_none : (old new : LiveState) → new ≡ old → LiveAccepts old [] new
+unfolding Accepts
+accepted_none old new same w is = (w, refl, subst (Leads w) (sym same) is)
+
+-- further events
+pub accepted_then : (old mid new : LiveState) (first later : List Event) → LiveAccepts old first mid
+    → LiveAccepts mid later new → LiveAccepts old (first ++ later) new
+accepted_then old mid new first later one two w is =
+    let before = one w is in
+    let after = two before.0 before.2 in
+    (after.0, accepts_then first later w before.0 after.0 before.1 after.1, after.2)
+
+module _ {X : Type 0} (old new : LiveState) (event : Event) where
+  pub accepted_one : (r : Result X StepError) → is_err r ≡ false
+      → ((w : WorldState) → Leads w old → result_err r ≡ step_refusal w event)
+      → ((w : WorldState) → Leads w old → OnOk r (Leads (step_done w event) new)) → LiveAccepts old (event ∷ []) new
+  unfolding Accepts
+  accepted_one (Ok x) accepted refusal leads w is =
+      (step_done w event, (sym (refusal w is), refl), leads w is)
+  accepted_one (Err e) accepted refusal leads w is = absurd (let none : ⊥ = cc accepted in none)
+
+  -- a refused event changes nothing
+  pub refused_none : (r : Result X StepError) → is_err r ≡ true → OnErr r (new ≡ old) → LiveAccepts old [] new
+  unfolding Accepts
+  refused_none (Ok x) refused same w is = absurd (let none : ⊥ = cc refused in none)
+  refused_none (Err e) refused same w is = (w, refl, subst (Leads w) (sym same) is)
+
+kept_all : (events : List Event) (w v : WorldState) → Accepts w events v → IsWorld w → IsWorld v
+unfolding Accepts
+kept_all [] w v same kept = subst IsWorld (sym same) kept
+kept_all (e ∷ es) w v accepts kept =
+    kept_all es (step_done w e) v accepts.1
+    (kept_step w e (Ok (step_reply w e)) (step_done w e) (accepts.0, refl, refl) kept)
+
+pub accepts_alike : (old new : LiveState) (events : List Event) → LiveAccepts old events new
+    → AcceptsAlike old events new
+accepts_alike old new events accepts w is =
+    let done = accepts w is.leads in
+    (done.0, done.1, record { leads = done.2; world_is = kept_all events w done.0 done.1 is.world_is })

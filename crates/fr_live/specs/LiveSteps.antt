@@ -1,6 +1,6 @@
 -- One step of a world that keeps no history (project-defined): when it is refused, by the kept data, and the world with
 -- its history after it.
-use Rattle.std.specs.Prelude.{◌≡◌, ℕ, Option, Some, None, option_map, Result, Ok, Err, if◌then◌else◌}
+use Rattle.std.specs.Prelude.{◌≡◌, ℕ, List, [], ◌∷◌, Option, Some, None, option_map, Result, Ok, Err, if◌then◌else◌}
 use Rattle.fr_bus.specs.declared.error.BusError.TheVariants.{NotCollecting, Memory}
 use Rattle.fr_bus.specs.Standing.{bare}
 use Rattle.fr_bus.specs.States.{collecting_of, put_refusal, take_refusal, inject_refusal, seal_refusal, advance_refusal}
@@ -12,8 +12,8 @@ use Rattle.fr_core.specs.declared.event.Reply.{Reply}
 use Rattle.fr_core.specs.declared.event.Reply.TheVariants.{Committed}
 use Rattle.fr_interface.specs.declared.call.Answer.{Answer}
 use Rattle.fr_interface.specs.declared.interface.Receipt.{Receipt}
-use Rattle.fr_core.specs.declared.event.Event.TheVariants.{Seal}
-use Rattle.fr_core.specs.Steps.{Steps, Applies, reply_of, step_done, unless_collecting}
+use Rattle.fr_core.specs.declared.event.Event.TheVariants.{Look, Fetch, Put, Take, Observe, Seal}
+use Rattle.fr_core.specs.Steps.{Steps, Applies, reply_of, step_done, step_refusal, unless_collecting}
 use Rattle.fr_core.specs.Worlds.{WorldState}
 use Rattle.fr_interface.specs.Standing.{commit_refused, fetch_refused, observe_refused}
 use Rattle.fr_live.specs.LiveWorlds.{LiveState, Leads, IsWorldHistory, has_node, standing_at, carried_at}
@@ -101,3 +101,25 @@ SealsMachine old (Ok x) new = (seal_refusal (bare old.bus.bus) ≡ None)
     × ((w : WorldState) → Leads w old → Leads (step_done w Seal) new)
 SealsMachine old (Err (Bus Memory)) new = (seal_refusal (bare old.bus.bus) ≡ None) × (new ≡ old)
 SealsMachine old (Err e) new = (option_map Bus (seal_refusal (bare old.bus.bus)) ≡ Some e) × (new ≡ old)
+
+-- ---- accepted events
+
+-- each event is accepted in its turn, and they lead from `old` to `new`
+unfoldable pub Accepts : WorldState → List Event → WorldState → Type 0
+Accepts old [] new = new ≡ old
+Accepts old (event ∷ events) new = (step_refusal old event ≡ None) × Accepts (step_done old event) events new
+
+-- each world that leads to the data accepts the events, and then leads to the data after them
+abbrev pub LiveAccepts : LiveState → List Event → LiveState → Type 0
+LiveAccepts old events new = (w : WorldState) → Leads w old → (v : WorldState) × Accepts w events v × Leads v new
+
+abbrev pub AcceptsAlike : LiveState → List Event → LiveState → Type 0
+AcceptsAlike old events new =
+    (w : WorldState) → IsWorldHistory old w → (v : WorldState) × Accepts w events v × IsWorldHistory new v
+
+-- the events of a node before the seal of a window, and those after it
+abbrev pub offer_events : ℕ → List Event
+offer_events n = Look n ∷ Fetch n ∷ Put n ∷ []
+
+abbrev pub see_events : ℕ → List Event
+see_events n = Take n ∷ Observe n ∷ []

@@ -14,7 +14,7 @@
 //! # Definitions
 //!
 //! - `LiveWorlds`: the kept data, and the worlds with their whole histories that lead to them.
-//! - `LiveSteps`: the refusals by the kept data, and a step of each such world.
+//! - `LiveSteps`: the refusals by the kept data, a step of each such world, and accepted events.
 //!
 //! # Inner workings
 //!

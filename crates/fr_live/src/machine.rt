@@ -127,7 +127,8 @@ fn done(outcome: Result<(), StepError>) -> Result<Reply, StepError>
 }
 
 impl LiveMachine {
-    ghost use Rattle.std.specs.Prelude.{◌≡◌, Ok, Err, IfOk, OnOk, OnErr, Some, option_map, length, if◌then◌else◌};
+    ghost use Rattle.std.specs.Prelude.{◌≡◌, ◌≤◌, Ok, Err, IfOk, OnOk, OnErr, Some, option_map, length, take};
+    ghost use Rattle.std.specs.Prelude.{if◌then◌else◌};
     ghost use Rattle.std.specs.List.{list_all};
     ghost use Rattle.std.specs.Result.{result_err};
     ghost use Rattle.fr_bus.specs.Standing.{bare};
@@ -139,7 +140,8 @@ impl LiveMachine {
     ghost use Rattle.fr_interface.specs.Calls.{call_answer};
     ghost use Rattle.fr_interface.specs.Standing.{commit_refused};
     ghost use Rattle.fr_live.specs.LiveWorlds.{OpensMachine, ForEachLead, Leads, has_node, standing_at, carried_at};
-    ghost use Rattle.fr_live.specs.LiveSteps.{LiveApplies, LiveSteps, SealsMachine, if_node, look_in_turn};
+    ghost use Rattle.fr_live.specs.LiveSteps.{LiveAccepts, LiveApplies, LiveSteps, SealsMachine, if_node};
+    ghost use Rattle.fr_live.specs.LiveSteps.{look_in_turn, offer_events, see_events};
     ghost use Rattle.fr_live.specs.LiveSteps.{fetch_in_turn, put_in_turn, take_in_turn, observe_in_turn};
 
     /// Returns the data of the opening world.
@@ -343,6 +345,9 @@ impl LiveMachine {
     }
 
     /// Injects a fault in the open window.
+    ///
+    /// It isn't inlined, so that other events don't pay for the room of a frame.
+    #[inline(never)]
     fn inject(&mut self, fault: &Fault) -> Result<(), StepError>
         ensures refusal { result_err result ≡ option_map Bus (inject_refusal (bare self.old.bus.bus) fault.now) }
         ensures leads { ForEachLead self.old (λ w. OnOk result
@@ -413,7 +418,50 @@ impl LiveMachine {
             Event::Inject(fault) => self.inject(fault),
             Event::Seal => self.seal(),
             Event::Advance => self.advance(),
-            _ => without_reply(self.step(event)),
+            _ => self.apply_call(event),
         }
+    }
+
+    /// Executes an event of a host, without its answer.
+    ///
+    /// It isn't inlined, so that other events don't pay for the room of a reply.
+    #[inline(never)]
+    fn apply_call(&mut self, event: &Event) -> Result<(), StepError>
+        ensures { LiveApplies self.old event.now result self.new }
+    {
+        without_reply(self.step(event))
+    }
+
+    /// Executes the look, the fetch and the put of the node, up to the first one that is refused. Returns how many were
+    /// accepted.
+    pub(crate) fn offer(&mut self, node: NodeId) -> usize
+        ensures few { result ≤ 3 }
+        ensures accepts { LiveAccepts self.old (take result (offer_events node)) self.new }
+    {
+        if self.look(node).is_err() {
+            return 0;
+        }
+        if self.fetch(node).is_err() {
+            return 1;
+        }
+        if self.put(node).is_err() {
+            return 2;
+        }
+        3
+    }
+
+    /// Executes the take and the observe of the node, up to the first one that is refused. Returns how many were
+    /// accepted.
+    pub(crate) fn see(&mut self, node: NodeId) -> usize
+        ensures few { result ≤ 2 }
+        ensures accepts { LiveAccepts self.old (take result (see_events node)) self.new }
+    {
+        if self.take(node).is_err() {
+            return 0;
+        }
+        if self.observe(node).is_err() {
+            return 1;
+        }
+        2
     }
 }

@@ -33,13 +33,14 @@ impl Model for LiveWorld {
 }
 
 impl LiveWorld {
-    ghost use Rattle.std.specs.Prelude.{◌≡◌, IfOk};
+    ghost use Rattle.std.specs.Prelude.{◌≡◌, ◌≤◌, IfOk, take};
     ghost use Rattle.std.specs.List.{list_all};
     ghost use Rattle.fr_core.specs.Headline.{Headline};
     ghost use Rattle.fr_core.specs.Steps.{event_of};
     ghost use Rattle.fr_core.specs.Worlds.{interface_at, is_between};
     ghost use Rattle.fr_interface.specs.Calls.{call_answer};
-    ghost use Rattle.fr_live.specs.LiveSteps.{AppliesAlike, StepsAlike, with_answer};
+    ghost use Rattle.fr_live.specs.LiveSteps.{AcceptsAlike, AppliesAlike, StepsAlike, offer_events, see_events};
+    ghost use Rattle.fr_live.specs.LiveSteps.{with_answer};
     ghost use Rattle.fr_live.specs.LiveWorlds.{OpensLiveWorld, ForEachWorld};
 
     /// Returns the opening world of a cluster for a run of so many cycles, 1 to 4,000,000. The bus is at cycle 0, slot
@@ -76,6 +77,24 @@ impl LiveWorld {
         ensures { AppliesAlike self.old event.now result self.new }
     {
         self.machine.apply(event)
+    }
+
+    /// Executes the look, the fetch and the put of the node, up to the first one that is refused, without their
+    /// answers. Returns how many were accepted, 0 to 3. This is faster than one event after another (project-defined).
+    pub fn offer(&mut self, node: NodeId) -> usize
+        ensures few { result ≤ 3 }
+        ensures accepts { AcceptsAlike self.old (take result (offer_events node)) self.new }
+    {
+        self.machine.offer(node)
+    }
+
+    /// Executes the take and the observe of the node, up to the first one that is refused, without their answers.
+    /// Returns how many were accepted, 0 to 2.
+    pub fn see(&mut self, node: NodeId) -> usize
+        ensures few { result ≤ 2 }
+        ensures accepts { AcceptsAlike self.old (take result (see_events node)) self.new }
+    {
+        self.machine.see(node)
     }
 
     /// Makes a call of a task at the node's interface, as `step` does for the event of the call, and fails as that

@@ -12,9 +12,9 @@ use crate::grid::{Grid, across, down, is_headed, is_wide};
 use crate::look::{look_in, marks_in, sender_in, turned_bit};
 use crate::view::View;
 use fr_bus::outcome::Sealed;
-use fr_bus::windows::opens_cycle;
 use fr_slots::numbers::SlotId;
 use fr_slots::params::Params;
+use fr_slots::window::opens_cycle;
 use std::io;
 use std::io::Write;
 

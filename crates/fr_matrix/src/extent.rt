@@ -8,9 +8,9 @@ ghost use Rattle.fr_matrix.specs.Places.{columns_in, grid_of, has_row, has_sent,
 use crate::grid::{Grid, MOST_COLUMNS, columns_of};
 use crate::view::View;
 use fr_bus::outcome::{Sealed, Sent};
-use fr_bus::windows::opens_cycle;
 use fr_slots::channel::Channel;
 use fr_slots::params::Params;
+use fr_slots::window::opens_cycle;
 
 /// The greatest number of cycles in a matrix.
 pub const MOST_CYCLES: usize = 64;

@@ -3,7 +3,8 @@ use Rattle.std.proofs.Common.{◌≡◌, ℕ, zero, suc, ◌+◌, ◌-◌, Bool,
 use Rattle.std.proofs.Common.{sym, ap, subst, ◌∙◌, ◌⊎◌, inl, inr, arith, append_assoc}
 use Rattle.std.proofs.lemmas.List.Sums.{sum_by_push}
 use Rattle.fr_bus.specs.Record.{Recorded}
-use Rattle.fr_bus.specs.Windows.{opens_cycle, begins_cycle, cycles_begun}
+use Rattle.fr_bus.specs.Windows.{begins_cycle, cycles_begun}
+use Rattle.fr_slots.specs.Windows.{opens_cycle}
 use Rattle.fr_core.specs.declared.event.Event.{Event}
 use Rattle.fr_core.specs.Worlds.{WorldState, interface_at}
 use Rattle.fr_interface.specs.State.{State}

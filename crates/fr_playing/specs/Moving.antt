@@ -4,7 +4,8 @@ use Rattle.std.specs.Prelude.{Option, Some, None, Ok, Err, if◌then◌else◌}
 use Rattle.std.specs.List.{flat_map, range_with_len, fold}
 use Rattle.fr_bus.specs.Record.{Recorded}
 use Rattle.fr_bus.specs.States.{BusState, collecting_of}
-use Rattle.fr_bus.specs.Windows.{opens_cycle, cycles_begun}
+use Rattle.fr_bus.specs.Windows.{cycles_begun}
+use Rattle.fr_slots.specs.Windows.{opens_cycle}
 use Rattle.fr_core.specs.declared.error.StepError.{StepError}
 use Rattle.fr_core.specs.declared.error.StepError.TheVariants.{WrongTurn}
 use Rattle.fr_core.specs.declared.event.Event.{Event}

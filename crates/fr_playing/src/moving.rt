@@ -10,13 +10,12 @@ ghost use Rattle.fr_playing.specs.Moving.{MovesOn, is_at_cycle, EndsCycle, RunsC
 
 use crate::striking::strike_all;
 use fr_bus::bus::Bus;
-use fr_bus::windows::opens_cycle;
 use fr_core::error::StepError;
 use fr_core::event::Event;
 use fr_core::world::World;
 use fr_runs::fault_line::FaultLine;
 use fr_slots::numbers::NodeId;
-use fr_slots::window::Window;
+use fr_slots::window::{Window, opens_cycle};
 use std::alloc::{AllocError, Global};
 
 /// The greatest number of windows of a cycle: one for each of 1,023 static slots and 8,000 minislots (project-defined).

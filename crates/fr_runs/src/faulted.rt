@@ -11,11 +11,10 @@ ghost use Rattle.fr_slots.specs.Windows.{slot_of};
 use crate::fault_line::{FaultLine, keep_lines_of};
 use fr_bus::fault::Fault;
 use fr_bus::outcome::{Sealed, Sent, SentFate};
-use fr_bus::windows::opens_cycle;
 use fr_frame::frame::Bytes;
 use fr_slots::channel::Channel;
 use fr_slots::numbers::{NodeId, SlotId};
-use fr_slots::window::Window;
+use fr_slots::window::{Window, opens_cycle};
 use std::alloc::{AllocError, Global};
 
 /// Returns the bit that the fault flips on the channel, if it flips one.

@@ -11,12 +11,12 @@ ghost use Rattle.fr_runs.specs.Stepping.{IsSteppedAt, AreStepped};
 ghost use Rattle.fr_slots.specs.Numbers.{most_entries};
 
 use fr_bus::outcome::Sealed;
-use fr_bus::windows::opens_cycle;
 use fr_core::script::{Line, Script};
 use fr_core::walk::{entries_of, interface_at, sealed_at};
 use fr_interface::interface::Interface;
 use fr_journal::lent::LentEntry;
 use fr_slots::numbers::{NODES, NodeId, TASKS, TaskId};
+use fr_slots::window::opens_cycle;
 
 /// The greatest number of tasks of a node.
 const COUNT: usize = TASKS as usize;

@@ -4,12 +4,11 @@ ghost use Rattle.std.specs.Prelude.{◌≡◌, ◌<◌};
 
 use crate::failure::RunFailure;
 use crate::shared::Common;
-use fr_bus::windows::opens_cycle;
 use fr_desks::gate::Gate;
 use fr_desks::wire::{Wire, WireError};
 use fr_runs::fault_line::{FaultLine, keep_lines_of};
 use fr_slots::numbers::NodeId;
-use fr_slots::window::Window;
+use fr_slots::window::{Window, opens_cycle};
 use std::sync::Wait;
 use std::time::Clock;
 

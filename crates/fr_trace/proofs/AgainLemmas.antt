@@ -31,8 +31,8 @@ use Rattle.fr_slots.specs.declared.plan.Queue.{Queue}
 use Rattle.fr_slots.specs.Faults.{plan_fault}
 use Rattle.fr_slots.specs.History.{AllAfter}
 use Rattle.fr_slots.specs.Parameters.{Parameters, IsParameters}
-use Rattle.fr_slots.specs.Plans.{Plan, IsPlan, IsNodePlan, IsBuffer, IsOwn, IsQueueOrNone, QueueFits, Each, AllFit, buffer_fits}
-use Rattle.fr_slots.specs.Plans.{own_fits, with_buffer, with_own, with_queue}
+use Rattle.fr_slots.specs.Plans.{Plan, IsPlan, IsNodePlan, IsBuffer, IsOwn, IsQueueOrNone, QueueFits, Each, AllFit}
+use Rattle.fr_slots.specs.Plans.{buffer_fits, own_fits, with_buffer, with_own, with_queue}
 use Rattle.fr_text.specs.Spaces.{words_of, line_of}
 use Rattle.fr_trace.specs.Answers.{made_by}
 use Rattle.fr_trace.specs.Stream.{Phase, magic, params, node, lines, body, finished, reading, after_magic}
@@ -171,7 +171,8 @@ module _ (Came : List ℕ → Phase → Type 0)
       → Came (plan_text v p (with_lines plan before [])) (lines v p (with_lines plan before []))
       → Came (plan_text v p (with_lines plan (before ++ more) [])) (lines v p (with_lines plan (before ++ more) []))
   owned_came v p plan [] before few fit ranges told came =
-      subst (λ (owned : List Own). Came (plan_text v p (with_lines plan owned [])) (lines v p (with_lines plan owned [])))
+      subst (λ (owned : List Own).
+      Came (plan_text v p (with_lines plan owned [])) (lines v p (with_lines plan owned [])))
       (sym (append-nil before)) came
   owned_came v p plan (o ∷ more) before few fit ranges told came =
       let spelled : IsSpelledOwn o = record { is = ranges.0; fits = fit.0 } in
@@ -181,7 +182,8 @@ module _ (Came : List ℕ → Phase → Type 0)
       (next (plan_text v p here) (line_of (own_words v o)) (lines v p here) (lines v p (with_own here o)) came refl
       (own_no_feed v o spelled) (own_short v o spelled)
       (own_line_read v p here o refl refl (omega arith) spelled told.0)) in
-      subst (λ (owned : List Own). Came (plan_text v p (with_lines plan owned [])) (lines v p (with_lines plan owned [])))
+      subst (λ (owned : List Own).
+      Came (plan_text v p (with_lines plan owned [])) (lines v p (with_lines plan owned [])))
       (append_assoc before (o ∷ []) more)
       (owned_came v p plan more (before ++ o ∷ []) (omega (arith, length-append before (o ∷ []))) fit.1 ranges.1 told.1
       one)

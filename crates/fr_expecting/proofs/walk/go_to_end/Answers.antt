@@ -1,6 +1,6 @@
 use Rattle.std.proofs.Common.{◌≡◌, ◌∙◌, ℕ, ◌+◌, ◌≤◌, true, length, take, Some, sym, ap, arith}
 use Rattle.std.specs.Prelude.{slice_get}
-use Rattle.fr_core.specs.Accounts.{begins_cycle_at}
+use Rattle.fr_journal.specs.Cycles.{begins_cycle_at}
 use Rattle.fr_expecting.proofs.PlaceLemmas.{lent_there}
 use Rattle.fr_expecting.proofs.ThroughLemmas.{begun_in, through_all, through_next}
 use Rattle.fr_journal.specs.Lent.{whole}

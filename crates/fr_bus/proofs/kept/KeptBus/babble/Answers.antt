@@ -17,7 +17,8 @@ invariant_of-self c =
     record {
       bus = inject_done c.self.invariant.bus (Babble c.args.node c.args.channel c.args.bytes);
       run = history_change (standing_in c.self.inside) c.self.invariant.bus c.self.invariant.run
-          (λ l. slice_set l c.args.node (babbling c.args.channel c.args.bytes (slice_index_or l c.args.node idle_station)))
+          (λ l. slice_set l c.args.node
+          (babbling c.args.channel c.args.bytes (slice_index_or l c.args.node idle_station)))
           c.babble.new.self
           c.babble.ensures (length-set stations c.args.node new);
       put_count_is = counted_same is_put stations c.babble.new.self c.args.node c.self.inside.put_count new idle_station
