@@ -1,6 +1,6 @@
 -- The answer to words follows from a parse, since the command is of the kind for which `clap` reports all faults.
-use Rattle.std.proofs.Common.{◌≡◌, ◌∷◌, [], Option, Some, None, Err, List, option_map, ap, ap₂, sym, refl, true, arith}
-use Rattle.std.proofs.Common.{inl, inr, codes, ◌∙◌}
+use Rattle.std.proofs.Common.{◌≡◌, ◌∷◌, [], Option, Some, None, Err, List, option_map, sym, refl, true, arith}
+use Rattle.std.proofs.Common.{inl, inr, codes}
 use Rattle.std.specs.Option.{ok_or}
 use Rattle.clap.specs.Values.{kind_of}
 use Rattle.clap.specs.Words.{HasKind, IsAmong, Kinds, Text, fault_of, is_simple, is_simple_and_free}
@@ -9,47 +9,35 @@ use Rattle.clap.proofs.OnLiterals.{clap_on_literals}
 use Rattle.fr_cli.specs.Commands.{is_true, order_error_of}
 use Rattle.fr_cli.specs.declared.error.OrderError.{OrderError}
 use Rattle.fr_cli.specs.declared.error.OrderError.TheVariants as refusal
-use Rattle.fr_cli.specs.WorldCommands.{Given, IsAnswer, are_allowed, entered, files_in, given_by, given_in}
-use Rattle.fr_cli.specs.WorldCommands.{if_allowed, run_in}
-use Rattle.fr_cli.specs.WorldCommands.{the_command, with_file, with_files, with_options}
-use Rattle.fr_cli.specs.declared.world.WorldRun.{WorldRun}
+use Rattle.fr_cli.specs.WorldCommands.{IsAnswer, entered, given_by, given_in, given_with, run_in, the_command}
+use Rattle.fr_cli.specs.WorldCommands.{with_files, with_keep, with_options, words_in}
 use Rattle.fr_cli.specs.declared.world.WorldCommand.{WorldCommand}
 
 pub are_simple : is_simple the_command ≡ true
-unfolding clap_on_literals with_options with_files
+unfolding clap_on_literals with_options with_files with_keep
 are_simple = refl
 
 pub are_free : is_simple_and_free the_command ≡ true
-unfolding clap_on_literals with_options with_files
+unfolding clap_on_literals with_options with_files with_keep
 are_free = refl
 
-files_alike : (f g : Text → Option Text) → ((id : Text) → f id ≡ g id) → files_in f ≡ files_in g
-files_alike f g same =
-    ap₂ (λ (a b : Option Text). record { record_file = a; capture_file = b; trace_folder = f (codes "trace") })
-    (same (codes "record")) (same (codes "capture"))
-    ∙ ap (λ (c : Option Text). record {
-      record_file = g (codes "record");
-      capture_file = g (codes "capture");
-      trace_folder = c;
-    }) (same (codes "trace"))
+words_alike : (f g : Text → Option Text) → ((id : Text) → f id ≡ g id) → words_in f ≡ words_in g
+words_alike f g same = λ i. record {
+  record_file = same (codes "record") i;
+  capture_file = same (codes "capture") i;
+  trace_folder = same (codes "trace") i;
+  trace_nodes = same (codes "trace-nodes") i;
+  kept_cycles = same (codes "keep") i;
+}
 
 -- two ways to the same words give the same command
 pub given_alike : (f g : Text → Option Text) → ((id : Text) → f id ≡ g id) → given_in f ≡ given_in g
 given_alike f g same =
     let flag = same (codes "endless") in
-    let files = files_alike f g same in
-    let run : run_in (is_true (f (codes "endless"))) (f (codes "cycles"))
-    ≡ run_in (is_true (g (codes "endless"))) (g (codes "cycles")) =
-    ap₂ (λ flag word. run_in (is_true flag) word) flag (same (codes "cycles")) in
-    let allowed : are_allowed (is_true (f (codes "endless"))) (files_in f)
-    ≡ are_allowed (is_true (g (codes "endless"))) (files_in g) =
-    ap₂ (λ word names. are_allowed (is_true word) names) flag files in
-    let given : with_file (f (codes "FILE")) (run_in (is_true (f (codes "endless"))) (f (codes "cycles"))) (files_in f)
-    ≡ with_file (g (codes "FILE")) (run_in (is_true (g (codes "endless"))) (g (codes "cycles"))) (files_in g) =
-    ap₂ (λ (file : Option Text) (run : Option WorldRun). with_file file run (files_in f)) (same (codes "FILE")) run
-    ∙ ap (λ names. with_file (g (codes "FILE")) (run_in (is_true (g (codes "endless"))) (g (codes "cycles"))) names)
-    files in
-    ap₂ if_allowed allowed given
+    let words = words_alike f g same in
+    let file = same (codes "FILE") in
+    let cycles = same (codes "cycles") in
+    λ i. given_with (is_true (flag i)) (file i) (run_in (is_true (flag i)) (cycles i)) (words i)
 
 -- an error of `clap` is a fault of the words, or a failed allocation
 pub refused_for : (words : List Text) (e : Error) → HasKind (fault_of the_command words) e

@@ -6,6 +6,7 @@ use Rattle.std.specs.Str.{bytes_eq}
 use Rattle.clap.specs.Words.{App, Row, Rule, Text, fault_of, first_of, new_app, new_rule, subcommand_of}
 use Rattle.clap.specs.Words.{with_rule, with_subcommand}
 use Rattle.fr_cli.specs.declared.view.Asked.{Asked}
+use Rattle.fr_cli.specs.declared.view.Asked.TheVariants.{Reasons, Origins}
 use Rattle.fr_cli.specs.declared.view.Asked.TheVariants.{Outcome, Answers, Commits, Record, Windows, Heard, Trace}
 use Rattle.fr_cli.specs.declared.view.Asked.TheVariants.{Matrix}
 use Rattle.fr_slots.specs.declared.channel.Channel.{Channel}
@@ -105,9 +106,16 @@ with_record = with_subcommand with_commits (of_long_run (codes "record")).top
 abbrev pub line_commands : App
 line_commands = with_subcommand with_record (of_long_run (codes "windows")).top
 
+-- with those that show why it went so
+abbrev pub with_reasons : App
+with_reasons = with_subcommand line_commands (of_long_run (codes "reasons")).top
+
+abbrev pub cause_commands : App
+cause_commands = with_subcommand with_reasons (of_long_run (codes "origins")).top
+
 -- and with those that show it in another form
 abbrev pub with_bus : App
-with_bus = with_subcommand line_commands (of_long_run (codes "bus")).top
+with_bus = with_subcommand cause_commands (of_long_run (codes "bus")).top
 
 abbrev pub with_matrix : App
 with_matrix = with_subcommand with_bus matrix_command.top
@@ -192,6 +200,8 @@ asked_by name first_word =
     else if bytes_eq name (codes "commits") then Some Commits
     else if bytes_eq name (codes "record") then Some Record
     else if bytes_eq name (codes "windows") then Some Windows
+    else if bytes_eq name (codes "reasons") then Some Reasons
+    else if bytes_eq name (codes "origins") then Some Origins
     else if bytes_eq name (codes "bus") then Some Heard
     else if bytes_eq name (codes "trace") then option_map Trace (node_asked (first_word (codes "NODE")))
     else if bytes_eq name (codes "matrix") then drawn_by first_word
@@ -225,6 +235,8 @@ streamed_by name =
     else if bytes_eq name (codes "commits") then Some streamed.Commits
     else if bytes_eq name (codes "record") then Some streamed.Record
     else if bytes_eq name (codes "windows") then Some streamed.Windows
+    else if bytes_eq name (codes "reasons") then Some streamed.Reasons
+    else if bytes_eq name (codes "origins") then Some streamed.Origins
     else if bytes_eq name (codes "bus") then Some streamed.Heard
     else None
 

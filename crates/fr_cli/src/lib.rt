@@ -31,6 +31,7 @@ pub mod command;
 mod commands;
 pub mod error;
 pub mod monitor;
+mod nodes;
 pub mod view;
 pub mod waiting;
 pub mod words;

@@ -6,6 +6,7 @@ ghost use Rattle.clap.specs.declared.builder.command.Command.TheViews.{out-Comma
 ghost use Rattle.fr_text.specs.Reading.{number_in};
 ghost use Rattle.fr_cli.specs.Commands.{is_true};
 ghost use Rattle.fr_cli.specs.ViewOrders.{IsAnswer, IsOrder, IsScheduleBy, IsShowBy, asked_by, asks, channel_asked};
+ghost use Rattle.fr_cli.specs.ViewOrders.{cause_commands};
 ghost use Rattle.fr_cli.specs.ViewOrders.{drawn_by, file_commands, flag_named, from_asked, has_schedule_by};
 ghost use Rattle.fr_cli.specs.ViewOrders.{IsLatencyBy, has_latency_by, latency_command, slot_in, way_asked};
 ghost use Rattle.fr_cli.specs.ViewOrders.{IsLinksBy, has_links_by};
@@ -34,6 +35,10 @@ pub enum Asked {
     Record,
     /// A line for each window.
     Windows,
+    /// The facts by which a commit wasn't sent or received: due buffers, openings, and effects of faults.
+    Reasons,
+    /// The answers, with the cycle of the run in which each frame came.
+    Origins,
     /// A capture of the bus, as a passive listener receives it.
     Heard,
     /// The trace of the node of this number, 0 to 15.
@@ -64,6 +69,10 @@ pub enum StreamAsked {
     Record,
     /// A line for each window.
     Windows,
+    /// The facts by which a commit wasn't sent or received: due buffers, openings, and effects of faults.
+    Reasons,
+    /// The answers, with the cycle of the run in which each frame came.
+    Origins,
     /// A capture of the bus, as a passive listener receives it.
     Heard,
 }
@@ -248,12 +257,22 @@ fn line_commands<'a>(alloc: Global, files: Command<'a>) -> Result<Command<'a>, A
     fourth.subcommand(of_long_run(alloc, "windows")?)
 }
 
+/// Adds the commands that show why a run went so, as lines.
+fn cause_commands<'a>(alloc: Global, lines: Command<'a>) -> Result<Command<'a>, AllocError>
+    requires { app_of lines ≡ line_commands }
+    ensures { IfOk result (λ c. app_of c ≡ cause_commands) }
+{
+    let first = lines.subcommand(of_long_run(alloc, "reasons")?)?;
+    first.subcommand(of_long_run(alloc, "origins")?)
+}
+
 /// Returns the program with all its commands.
 fn commands<'a>(alloc: Global) -> Result<Command<'a>, AllocError>
     ensures { IfOk result (λ c. app_of c ≡ the_commands) }
 {
     let lines = line_commands(alloc, file_commands(alloc)?)?;
-    let heard = lines.subcommand(of_long_run(alloc, "bus")?)?;
+    let causes = cause_commands(alloc, lines)?;
+    let heard = causes.subcommand(of_long_run(alloc, "bus")?)?;
     let drawn = heard.subcommand(matrix_command(alloc)?)?;
     drawn.subcommand(trace_command(alloc)?)
 }
@@ -416,6 +435,8 @@ fn asked_in(name: &str, arguments: &ArgMatches<'_>) -> Option<Asked>
         "commits" => Some(Asked::Commits),
         "record" => Some(Asked::Record),
         "windows" => Some(Asked::Windows),
+        "reasons" => Some(Asked::Reasons),
+        "origins" => Some(Asked::Origins),
         "bus" => Some(Asked::Heard),
         "trace" => Some(Asked::Trace(node_of(arguments.get_str("NODE")?)?)),
         "matrix" => drawn_in(arguments),
@@ -447,6 +468,8 @@ fn streamed_in(name: &str) -> Option<StreamAsked>
         "commits" => Some(StreamAsked::Commits),
         "record" => Some(StreamAsked::Record),
         "windows" => Some(StreamAsked::Windows),
+        "reasons" => Some(StreamAsked::Reasons),
+        "origins" => Some(StreamAsked::Origins),
         "bus" => Some(StreamAsked::Heard),
         _ => None,
     }

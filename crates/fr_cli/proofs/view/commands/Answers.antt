@@ -11,7 +11,7 @@ returns c =
     let matrix_is : app_of c.in_ok-matrix_command.field-0 ≡ matrix_command = c.in_ok-matrix_command.ensures.app in
     let trace_is : app_of c.in_ok-trace_command.field-0 ≡ trace_command = c.in_ok-trace_command.ensures.app in
     let heard : app_of c.in_ok-heard.heard ≡ with_bus =
-    c.in_ok-heard.ensures.shape (search rules) ∙ ap₂ with_subcommand c.in_ok-lines.ensures (ap top bus_is) in
+    c.in_ok-heard.ensures.shape (search rules) ∙ ap₂ with_subcommand c.in_ok-causes.ensures (ap top bus_is) in
     let drawn : app_of c.in_ok-drawn.drawn ≡ with_matrix =
     c.in_ok-drawn.ensures.shape (search rules) ∙ ap₂ with_subcommand heard (ap top matrix_is) in
     IfOk-weaker c.subcommand-3.result _ _ (λ m h. h.shape (search rules) ∙ ap₂ with_subcommand drawn (ap top trace_is))
