@@ -9,8 +9,9 @@ use Rattle.std.specs.List.{flat_map}
 use Rattle.std.specs.Prelude.{option_to_list, IfSome, slice_get}
 use Rattle.std.proofs.Common.{drop, subst, Option}
 use Rattle.fr_bus.specs.Record.{Recorded}
-use Rattle.fr_bus.specs.Windows.{opens_cycle, begins_cycle, cycles_begun}
-use Rattle.fr_core.specs.Accounts.{begins_cycle_at}
+use Rattle.fr_bus.specs.Windows.{begins_cycle, cycles_begun}
+use Rattle.fr_slots.specs.Windows.{opens_cycle}
+use Rattle.fr_journal.specs.Cycles.{begins_cycle_at}
 use Rattle.fr_core.specs.Settling.{fetched_window, fetches_at, windows_fetched, windows_of, HasWindows, IfThere}
 use Rattle.fr_core.specs.declared.script.Line.{Line}
 use Rattle.fr_core.specs.Scripts.{Scripted}
@@ -18,7 +19,7 @@ use Rattle.fr_interface.specs.State.{State}
 use Rattle.fr_journal.specs.declared.entry.Entry.TheVariants.{Commit, Withdraw, Read, Pop, Fetch, Observe}
 use Rattle.fr_journal.specs.Forms.{Entry}
 use Rattle.fr_runs.specs.Stepping.{is_fetch, is_by, lines_given, IsInStep, IsInTurn, IsStepped}
-use Rattle.fr_showing.specs.Fates.{cycles_of}
+use Rattle.fr_journal.specs.Cycles.{cycles_of}
 use Rattle.fr_slots.specs.History.{each_after}
 use Rattle.fr_slots.specs.Windows.{Opportunity}
 use Rattle.fr_concord.specs.Cycles.{AreWindowCycles, AreSentCycles, AreCallCycles, AreLineCycles}

@@ -5,7 +5,7 @@ use Rattle.std.proofs.lemmas.Bool.{and_parts, eqb-true, eq-eqb}
 use Rattle.std.proofs.lemmas.Grind.{flat_map-append}
 use Rattle.std.proofs.lemmas.List.{append-nil}
 use Rattle.std.specs.List.{flat_map, list_any}
-use Rattle.fr_commands.specs.PlanText.{buffer_text, dynamic_line, dynamic_text, node_text}
+use Rattle.fr_commands.specs.PlanText.{buffer_text, node_text}
 use Rattle.fr_concord.proofs.PlanRowLemmas.{among_left, among_right, among_either, from_flat, to_flat, any_among}
 use Rattle.fr_concord.proofs.PlanRowLemmas.{both_true, found_any}
 use Rattle.fr_concord.specs.DynamicRows.{DynamicRow, dynamic_row_line, IsRowFor, IsToldDynamic, AreDynamicRows}
@@ -13,7 +13,7 @@ use Rattle.fr_concord.specs.DynamicRows.{AreDynamicTables}
 use Rattle.fr_concord.specs.PlanRows.{IsAmong}
 use Rattle.fr_files.specs.NodeTexts.{of_nodes}
 use Rattle.fr_schedule.specs.Descriptions.{Description}
-use Rattle.fr_schedule.specs.SenderTable.{may_send, IsSender}
+use Rattle.fr_schedule.specs.SenderTable.{IsSender}
 use Rattle.fr_slots.specs.Admission.{cycle_admitted, includes}
 use Rattle.fr_slots.specs.declared.channel.Channel.{Channel}
 use Rattle.fr_slots.specs.declared.plan.Buffer.{Buffer}

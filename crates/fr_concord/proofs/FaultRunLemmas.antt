@@ -3,22 +3,20 @@ use Rattle.std.proofs.Common.{◌≡◌, ◌≢◌, ℕ, zero, suc, ◌+◌, ◌
 use Rattle.std.proofs.Common.{◌∷◌, ◌++◌, length, map, Option, Some, None, Ok, Err, refl, sym, ap, subst, ◌∙◌, arith}
 use Rattle.std.proofs.Common.{append_assoc, append-nil, lt-ltb, option_map, slice_index_or, not, ◌≤◌}
 use Rattle.std.specs.List.{flat_map, fold, range_with_len}
-use Rattle.std.specs.Prelude.{nat_lt}
-use Rattle.fr_bus.specs.Record.{Recorded}
 use Rattle.fr_bus.specs.declared.error.BusError.{BusError}
 use Rattle.fr_bus.specs.declared.error.BusError.TheVariants.{UnknownNode as BusNode, NotCollecting, TooManyFaults}
 use Rattle.fr_bus.specs.declared.error.Phase.{Phase}
 use Rattle.fr_bus.specs.declared.error.Phase.TheVariants.{Collect, Sealed, Finished}
-use Rattle.fr_bus.specs.States.{BusState, collects, knows, has_fault, inject_refusal, seal_refusal}
-use Rattle.fr_bus.specs.Windows.{opens_cycle, begins_cycle, cycles_begun}
+use Rattle.fr_bus.specs.States.{collects, knows, has_fault, inject_refusal, seal_refusal}
+use Rattle.fr_bus.specs.Windows.{cycles_begun}
+use Rattle.fr_slots.specs.Windows.{opens_cycle}
 use Rattle.fr_core.specs.Carried.{Carried, Idle}
 use Rattle.fr_core.specs.declared.error.StepError.{StepError}
 use Rattle.fr_core.specs.declared.error.StepError.TheVariants.{UnknownNode, WrongTurn, Bus}
 use Rattle.fr_core.specs.declared.event.Event.{Event}
-use Rattle.fr_core.specs.declared.event.Event.TheVariants.{Look, Observe, Inject, Seal, Advance}
-use Rattle.fr_core.specs.declared.event.Reply.{Reply}
+use Rattle.fr_core.specs.declared.event.Event.TheVariants.{Observe, Inject, Advance}
 use Rattle.fr_core.specs.Runs.{Answer, StepsAll}
-use Rattle.fr_core.specs.Steps.{Steps, step_refusal, step_done, step_reply, observe_in_turn, look_in_turn}
+use Rattle.fr_core.specs.Steps.{step_refusal, step_reply, observe_in_turn, look_in_turn}
 use Rattle.fr_core.specs.Steps.{unless_collecting}
 use Rattle.fr_core.specs.Worlds.{WorldState, carried_at, has_node, opening_world}
 use Rattle.fr_interface.specs.State.{State}
@@ -26,15 +24,14 @@ use Rattle.fr_playing.proofs.CycleLemmas.{IsStage, stage_after}
 use Rattle.fr_playing.proofs.PassLemmas.{IsSplit, passes_split, IsDone, passes_event, IsSound, as_many_nodes}
 use Rattle.fr_playing.proofs.StageLemmas.{begun_more}
 use Rattle.fr_playing.proofs.WindowLemmas.{IsFresh, IsRecordedIn, window_recorded, window_fresh, window_sound}
-use Rattle.fr_playing.specs.Calls.{Asked, asked_of, DoesCalls}
+use Rattle.fr_playing.specs.Calls.{asked_of, DoesCalls}
 use Rattle.fr_playing.specs.declared.call.ExecutedCall.{ExecutedCall}
-use Rattle.fr_playing.specs.declared.play.Played.{Played}
 use Rattle.fr_playing.specs.Moving.{observe_events, whole_window, window_events, run_cycle_after, struck_after}
-use Rattle.fr_playing.specs.Moving.{struck_events, first_refusal, hindrance, Strikes, DoesAll, MovesOn, is_at_cycle}
-use Rattle.fr_playing.specs.Moving.{WithinCycle, LastWindow, EndsCycle, PassesCycles, RunsCycles}
-use Rattle.fr_playing.specs.Playing.{PlaysCycle, PlaysCycles, IsPlayed, asked_by}
+use Rattle.fr_playing.specs.Moving.{struck_events, first_refusal, Strikes, MovesOn, is_at_cycle}
+use Rattle.fr_playing.specs.Moving.{WithinCycle, EndsCycle, PassesCycles, RunsCycles}
+use Rattle.fr_playing.specs.Playing.{PlaysCycles, asked_by}
 use Rattle.fr_playing.specs.Striking.{Passes, strike_events}
-use Rattle.fr_playing.specs.Windows.{played_events, PlaysWindow, PlaysWithin, PlaysWindows}
+use Rattle.fr_playing.specs.Windows.{PlaysWindow, PlaysWithin, PlaysWindows}
 use Rattle.fr_runs.specs.declared.fault_line.FaultLine.{FaultLine}
 use Rattle.fr_runs.specs.Striking.{strikes}
 use Rattle.fr_runs.specs.Suiting.{IsFaultAfter}
@@ -42,15 +39,15 @@ use Rattle.fr_scenario.specs.Spelled.{IsSaidFaultLine}
 use Rattle.fr_schedule.specs.Descriptions.{Description}
 use Rattle.fr_session.specs.declared.request.Request.{Request}
 use Rattle.fr_session.specs.declared.request.Request.TheVariants as request
-use Rattle.fr_session.specs.Keeping.{KeepsIf, KeepsLine}
+use Rattle.fr_session.specs.Keeping.{KeepsIf}
 use Rattle.fr_session.specs.Queries.{memory_text, moved_text}
-use Rattle.fr_session.specs.Reading.{asked_in}
-use Rattle.fr_session.specs.Sessions.{SessionState, DoesIf, state_of, terms_of, opening}
+use Rattle.fr_session.specs.declared.noted.Noted.{Noted}
+use Rattle.fr_session.specs.Sessions.{SessionState, DoesIf, nothing_noted, state_of, terms_of, with_faults}
 use Rattle.fr_slots.specs.History.{AllAfter}
 use Rattle.fr_slots.specs.Plans.{Each}
 use Rattle.fr_slots.specs.Windows.{Opportunity}
 use Rattle.fr_concord.specs.Determined.{HasShortCycles, MovesFreely, DoesFreely, ServesFreely, IsUnhindered}
-use Rattle.fr_concord.specs.FaultRuns.{fault_text, lines_of, AreLinesOf, AreSessionsPlayed}
+use Rattle.fr_concord.specs.FaultRuns.{fault_text, AreSessionsPlayed}
 use Rattle.fr_concord.specs.Spelled.{spelled}
 use Rattle.fr_concord.proofs.MoveLemmas.{passes_same}
 use Rattle.fr_concord.proofs.SpelledLemmas.{read_again}
@@ -370,11 +367,15 @@ module _ (d : Description) (lines : List FaultLine) where
 
 -- ---- the session
 
+-- these fault lines are kept, and no frame was received
+abbrev noting : List FaultLine → Noted
+noting faults = with_faults nothing_noted faults
+
 module _ (d : Description) (cycles : ℕ) where
   record Kept (w : WorldState) (faults : List FaultLine) (rest : List (List ℕ)) (new : SessionState) : Type 0 where
     number : ℕ
     replies : List ℕ
-    serves : ServesFreely (terms_of d cycles) (state_of w faults) number rest replies new
+    serves : ServesFreely (terms_of d cycles) (state_of w (noting faults)) number rest replies new
 
   keeps : (suits : Bool) (old : List FaultLine) (line : FaultLine) (reply : List ℕ) (new : List FaultLine)
       → suits ≡ true → KeepsIf suits old (line ∷ []) reply new → reply ≢ memory_text → new ≡ old ++ line ∷ []
@@ -384,33 +385,35 @@ module _ (d : Description) (cycles : ℕ) where
 
   line_kept : (w : WorldState) (kept : List FaultLine) (line : FaultLine) (number : ℕ) (reply : List ℕ)
       (between : SessionState) → IsSaidFaultLine line → IsFaultAfter d cycles kept line
-      → DoesFreely (terms_of d cycles) (state_of w kept) number (fault_text line) reply between
-      → between ≡ state_of w (kept ++ line ∷ [])
+      → DoesFreely (terms_of d cycles) (state_of w (noting kept)) number (fault_text line) reply between
+      → between ≡ state_of w (noting (kept ++ line ∷ []))
   line_kept w kept line number reply between fits suits does =
       let read = (read_again (request.Fault line) fits).read in
-      let done : DoesIf (terms_of d cycles) (state_of w kept) number (Some (request.Fault line)) reply between =
-      subst (λ (o : Option Request). DoesIf (terms_of d cycles) (state_of w kept) number o reply between) read
+      let done : DoesIf (terms_of d cycles) (state_of w (noting kept)) number
+      (Some (request.Fault line)) reply between =
+      subst (λ (o : Option Request). DoesIf (terms_of d cycles) (state_of w (noting kept)) number o reply between) read
       does.does in
-      let (told, same) = done in
+      let (told, same, latest) = done in
       let (truth, means, keeps_if) = told in
-      let faults : between.faults ≡ kept ++ line ∷ [] =
-      keeps truth kept line reply between.faults (means.1 suits) keeps_if does.memory.of_session in
-      ap (λ (v : WorldState). state_of v between.faults) same ∙ ap (state_of w) faults
+      let faults : between.noted.faults ≡ kept ++ line ∷ [] =
+      keeps truth kept line reply between.noted.faults (means.1 suits) keeps_if does.memory.of_session in
+      λ i. state_of (same i) (record { faults = faults i; latest = latest i })
 
   lines_kept : (w : WorldState) (kept faults : List FaultLine) (rest : List (List ℕ)) (number : ℕ) (replies : List ℕ)
       (new : SessionState) → Each IsSaidFaultLine faults → AllAfter (IsFaultAfter d cycles) kept faults
-      → ServesFreely (terms_of d cycles) (state_of w kept) number (map fault_text faults ++ rest) replies new
+      → ServesFreely (terms_of d cycles) (state_of w (noting kept)) number (map fault_text faults ++ rest) replies new
       → Kept w (kept ++ faults) rest new
   unfolding ServesFreely AllAfter
   lines_kept w kept [] rest number replies new spelled_all suit serves = record {
     number = number;
     replies = replies;
-    serves = subst (λ (l : List FaultLine). ServesFreely (terms_of d cycles) (state_of w l) number rest replies new)
+    serves = subst (λ (l : List FaultLine). ServesFreely (terms_of d cycles)
+        (state_of w (noting l)) number rest replies new)
         (sym (append-nil kept)) serves;
   }
   lines_kept w kept (line ∷ faults) rest number replies new spelled_all suit serves =
       let (between, reply, later, does, are, more) = serves in
-      let same : between ≡ state_of w (kept ++ line ∷ []) =
+      let same : between ≡ state_of w (noting (kept ++ line ∷ [])) =
       line_kept w kept line number reply between spelled_all.0 suit.0 does in
       let kept_all : Kept w ((kept ++ line ∷ []) ++ faults) rest new =
       lines_kept w (kept ++ line ∷ []) faults rest (number + 1) later new spelled_all.1 suit.1
@@ -431,17 +434,21 @@ module _ (d : Description) (cycles : ℕ) where
 
   last_run : (w : WorldState) (faults : List FaultLine) (number : ℕ) (replies : List ℕ) (new : SessionState)
       → cycles ≤ 1024
-      → ServesFreely (terms_of d cycles) (state_of w faults) number (spelled (request.Run cycles) ∷ []) replies new
+      → ServesFreely (terms_of d cycles) (state_of w (noting faults)) number
+      (spelled (request.Run cycles) ∷ []) replies new
       → Ran faults w new.world
   unfolding ServesFreely
   last_run w faults number replies new few serves =
       let (between, reply, later, does, are, done) = serves in
       let read = (read_again (request.Run cycles) few).read in
-      let told : DoesIf (terms_of d cycles) (state_of w faults) number (Some (request.Run cycles)) reply between =
-      subst (λ (o : Option Request). DoesIf (terms_of d cycles) (state_of w faults) number o reply between) read
+      let told : DoesIf (terms_of d cycles) (state_of w (noting faults)) number
+      (Some (request.Run cycles)) reply between =
+      subst (λ (o : Option Request). DoesIf (terms_of d cycles)
+      (state_of w (noting faults)) number o reply between) read
       does.does in
-      let free : MovesFreely (terms_of d cycles) (state_of w faults) between (Some (request.Run cycles)) reply =
-      subst (λ (o : Option Request). MovesFreely (terms_of d cycles) (state_of w faults) between o reply) read
+      let free : MovesFreely (terms_of d cycles) (state_of w (noting faults)) between
+      (Some (request.Run cycles)) reply =
+      subst (λ (o : Option Request). MovesFreely (terms_of d cycles) (state_of w (noting faults)) between o reply) read
       does.free in
       let (hinders, run, is, kept) = told in
       subst (λ (s : SessionState). Ran faults w s.world) (sym done.1) (record {

@@ -1,14 +1,14 @@
 -- The lines of a plan for guardians are the open macroticks of the cycles.
-use Rattle.std.proofs.Common.{◌≡◌, ◌≢◌, ℕ, zero, suc, ◌+◌, ◌-◌, ◌*◌, ◌%◌, ◌<◌, ◌≤◌, ◌==◌, Bool, true, false, ◌&&◌, ◌||◌}
+use Rattle.std.proofs.Common.{◌≡◌, ◌≢◌, ℕ, zero, suc, ◌+◌, ◌-◌, ◌%◌, ◌<◌, ◌≤◌, ◌==◌, Bool, true, false, ◌&&◌, ◌||◌}
 use Rattle.std.proofs.Common.{not, inl, inr, List, [], ◌∷◌, ◌++◌, Option, Some, None, refl, sym, ap, subst, ◌∙◌, arith}
 use Rattle.std.proofs.Common.{length, slice_get}
-use Rattle.std.specs.Prelude.{◌↔◌, Contains, slice_index_or}
+use Rattle.std.specs.Prelude.{Contains, slice_index_or}
 use Rattle.std.proofs.lemmas.Bool.{cases_Bool, eqb-true, eqb-false}
 use Rattle.std.proofs.lemmas.Grind.{flat_map-append}
 use Rattle.std.specs.List.{flat_map}
 use Rattle.fr_commands.specs.PlanText.{AreCycleTexts, AreGuardTexts, IsGuardText, cycles_told, guard_line}
 use Rattle.fr_concord.proofs.PlanRowLemmas.{among_left, among_right, among_either}
-use Rattle.fr_concord.specs.GuardRows.{GuardRow, guard_row_line, IsToldOpen, IsInSlot, AreGuardRows, ArePlansGuards}
+use Rattle.fr_concord.specs.GuardRows.{GuardRow, guard_row_line, IsToldOpen, IsInSlot, ArePlansGuards}
 use Rattle.fr_concord.specs.PlanRows.{IsAmong}
 use Rattle.fr_guardian.proofs.OpenLemmas.{slot_open, slot_closed}
 use Rattle.fr_guardian.proofs.PeriodLemmas.{period_some}

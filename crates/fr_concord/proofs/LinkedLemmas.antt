@@ -12,7 +12,9 @@ use Rattle.fr_capture.specs.Taking.{buffer_takes, is_from, queue_takes}
 use Rattle.fr_frame.specs.Fields.{Fields}
 use Rattle.fr_journal.specs.Arrivals.{is_for_queue, queue_admits_slot, takes_window}
 use Rattle.fr_journal.specs.Counts.{seen_on}
+use Rattle.fr_journal.specs.Cycles.{moment_after}
 use Rattle.fr_journal.specs.declared.entry.Arrival.{Arrival}
+use Rattle.fr_journal.specs.declared.entry.Moment.{Moment}
 use Rattle.fr_journal.specs.Held.{arrival_in, arrival_of, arrival_on, data_frame_seen}
 use Rattle.fr_links.specs.declared.links.Link.{Link}
 use Rattle.fr_links.specs.declared.receivers.Receiver.{Receiver}
@@ -36,12 +38,12 @@ use Rattle.fr_concord.specs.Linked.{AreTakersLinked, IsWindowOf, receiver_of}
 
 -- ---- a receive buffer stores only what it admits
 
-on_from : (admits : Bool) (o : Option Fields) (number : ℕ) (c channel : Channel)
-    → is_from channel (cond admits (option_map (arrival_of number c) o) None) ≡ true
+on_from : (admits : Bool) (o : Option Fields) (moment : Moment) (c channel : Channel)
+    → is_from channel (cond admits (option_map (arrival_of moment c) o) None) ≡ true
     → (admits ≡ true) × (is_channel c channel ≡ true)
-on_from true None number c channel is = absurd (let none : ⊥ = cc is in none)
-on_from true (Some f) number c channel is = (refl, is)
-on_from false o number c channel is = absurd (let none : ⊥ = cc is in none)
+on_from true None moment c channel is = absurd (let none : ⊥ = cc is in none)
+on_from true (Some f) moment c channel is = (refl, is)
+on_from false o moment c channel is = absurd (let none : ⊥ = cc is in none)
 
 or_from : (x y : Option Arrival) (channel : Channel) → is_from channel (option_or x y) ≡ true
     → (is_from channel x ≡ true) ⊎ (is_from channel y ≡ true)
@@ -49,18 +51,20 @@ or_from None y channel is = inr is
 or_from (Some x) y channel is = inl is
 
 admits_it : (p : Parameters) (f : Filter) (a b : Seen) (w : Opportunity) (channel : Channel)
-    → is_from channel (arrival_in p f 0 a b w) ≡ true → admits_window f w channel ≡ true
+    → is_from channel (arrival_in p f (moment_after []) a b w) ≡ true → admits_window f w channel ≡ true
 admits_it p f a b w A is =
-    elim (or_from (arrival_on p f 0 w A a) (arrival_on p f 0 w B b) A is) [
-      | inl on_a ↦ (on_from (admits_window f w A) (data_frame_seen p w A a) 0 A A on_a).0
+    elim (or_from (arrival_on p f (moment_after []) w A a) (arrival_on p f (moment_after []) w B b) A is) [
+      | inl on_a ↦ (on_from (admits_window f w A) (data_frame_seen p w A a) (moment_after []) A A on_a).0
       | inr on_b ↦
-          absurd (let none : ⊥ = cc (on_from (admits_window f w B) (data_frame_seen p w B b) 0 B A on_b).1 in none)
+          absurd (let none : ⊥ =
+          cc (on_from (admits_window f w B) (data_frame_seen p w B b) (moment_after []) B A on_b).1 in none)
     ]
 admits_it p f a b w B is =
-    elim (or_from (arrival_on p f 0 w A a) (arrival_on p f 0 w B b) B is) [
+    elim (or_from (arrival_on p f (moment_after []) w A a) (arrival_on p f (moment_after []) w B b) B is) [
       | inl on_a ↦
-          absurd (let none : ⊥ = cc (on_from (admits_window f w A) (data_frame_seen p w A a) 0 A B on_a).1 in none)
-      | inr on_b ↦ (on_from (admits_window f w B) (data_frame_seen p w B b) 0 B B on_b).0
+          absurd (let none : ⊥ =
+          cc (on_from (admits_window f w A) (data_frame_seen p w A a) (moment_after []) A B on_a).1 in none)
+      | inr on_b ↦ (on_from (admits_window f w B) (data_frame_seen p w B b) (moment_after []) B B on_b).0
     ]
 
 -- ---- a cycle that passes a test
@@ -79,8 +83,8 @@ module _ (l : Link) (w : Opportunity) (is : IsWindowOf l w) where
   receives_it : (p : Parameters) (a b : Seen) (line : Buffer) → buffer_takes p w a b l.channel line ≡ true
       → receives l line ≡ true
   receives_it p a b line takes =
-      let (mode, from) = and_parts (is_receive line.mode) (is_from l.channel (arrival_in p line.filter 0 a b w)) takes
-      in
+      let (mode, from) = and_parts (is_receive line.mode)
+      (is_from l.channel (arrival_in p line.filter (moment_after []) a b w)) takes in
       let admits : filter_admits line.filter w.cycle l.slot l.channel ≡ true =
       ap (admits_slot line.filter w.cycle l.channel) (sym is.slot_is) ∙ admits_it p line.filter a b w l.channel from in
       any_at (receives_in l line) w.cycle is.cycle_fits

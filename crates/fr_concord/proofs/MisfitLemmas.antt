@@ -1,13 +1,11 @@
 -- No line can be read with a word that `why` names as wrong.
-use Rattle.std.proofs.Common.{◌≡◌, ℕ, ◌+◌, Bool, true, false, cond, ◌||◌, List, [], ◌∷◌}
-use Rattle.std.proofs.Common.{take, Option, Some, None, is_some}
-use Rattle.std.proofs.Common.{Result, Ok, Err, inl, inr, refl, sym, ap, subst, ◌∙◌}
+use Rattle.std.proofs.Common.{◌≡◌, ℕ, Bool, true, false, cond, ◌||◌, List, [], ◌∷◌}
+use Rattle.std.proofs.Common.{take, Option, Some, None}
+use Rattle.std.proofs.Common.{Ok, Err, inl, inr, refl, sym, ap, subst, ◌∙◌}
 use Rattle.std.specs.Prelude.{codes, IsSome, option_map}
 use Rattle.std.specs.Str.{bytes_eq}
-use Rattle.std.proofs.lemmas.Bool.{cases_Bool}
 use Rattle.std.proofs.lemmas.Slice.Eq.{bytes_eq-Decides}
 use Rattle.fr_concord.specs.Misfits.{IsAfterFirst, AreWrongWords}
-use Rattle.fr_interface.specs.State.{State}
 use Rattle.fr_lines.proofs.FormLaws.{wrong_so}
 use Rattle.fr_lines.specs.declared.forms.WordPlace.{WordPlace}
 use Rattle.fr_lines.specs.declared.plan_lines.PlanLine.{PlanLine}
@@ -16,15 +14,11 @@ use Rattle.fr_lines.specs.declared.versions.Version.{Version}
 use Rattle.fr_lines.specs.Forms.{wrong_in, place_in, IsLine}
 use Rattle.fr_lines.specs.Reading.{params_in, node_in, plan_line_in, entry_in}
 use Rattle.fr_lines.specs.Spelling.{begin_line, end_line}
-use Rattle.fr_slots.specs.Parameters.{Parameters}
 use Rattle.fr_slots.specs.Plans.{Plan}
 use Rattle.fr_text.specs.Spaces.{words_of}
-use Rattle.fr_trace.specs.declared.error.TraceError.{TraceError}
 use Rattle.fr_trace.specs.declared.error.TraceError.TheVariants.{BadLine}
 use Rattle.fr_trace.specs.Stream.{Phase, magic, params, node, lines, body, finished, take_line, line_number}
-use Rattle.fr_trace.specs.Stream.{after_begin, after_entry, after_node, after_numbers, after_plan_line, line_count}
-use Rattle.fr_why.specs.declared.reason.Misfit.{Misfit}
-use Rattle.fr_why.specs.declared.reason.Misfit.TheVariants.{Word, Form, Late, Full, After}
+use Rattle.fr_trace.specs.Stream.{after_begin, after_entry, after_node, after_numbers, after_plan_line}
 use Rattle.fr_why.specs.Reasons.{first_word, is_of_journal, is_of_plan, misfit_in, misfit_in_plan, misfit_of, misplaced}
 use Rattle.fr_why.specs.Reasons.{place_of, told_version}
 

@@ -12,7 +12,9 @@ use Rattle.fr_capture.specs.Taking.{is_from, buffer_takes, queue_takes}
 use Rattle.fr_frame.specs.Fields.{Fields}
 use Rattle.fr_journal.specs.Arrivals.{is_for_queue}
 use Rattle.fr_journal.specs.Counts.{seen_on}
+use Rattle.fr_journal.specs.Cycles.{moment_after}
 use Rattle.fr_journal.specs.declared.entry.Arrival.{Arrival}
+use Rattle.fr_journal.specs.declared.entry.Moment.{Moment}
 use Rattle.fr_journal.specs.declared.entry.Entry.TheVariants.{Observe}
 use Rattle.fr_journal.specs.Forms.{Entry}
 use Rattle.fr_journal.specs.Held.{data_frame_seen, arrival_of, arrival_on, arrival_in, arrival_at, held}
@@ -34,8 +36,8 @@ use Rattle.fr_concord.specs.Receivers.{IsStored, AreBuffersStored, AreQueuesFill
 abbrev channel_of : Option Arrival → Option Channel
 channel_of o = option_map (λ (x : Arrival). x.origin.channel) o
 
--- the channel of an arrival doesn't depend on the number of its entry
-on_same : (b : Bool) (o : Option Fields) (channel : Channel) (m n : ℕ)
+-- the channel of an arrival doesn't depend on its moment
+on_same : (b : Bool) (o : Option Fields) (channel : Channel) (m n : Moment)
     → channel_of (cond b (option_map (arrival_of m channel) o) None)
     ≡ channel_of (cond b (option_map (arrival_of n channel) o) None)
 on_same true None channel m n = refl
@@ -49,9 +51,9 @@ or_same None y (Some u) v first second = absurd (let none : ⊥ = cc first in no
 or_same (Some x) y None v first second = absurd (let none : ⊥ = cc first in none)
 or_same (Some x) y (Some u) v first second = first
 
-number_free : (p : Parameters) (f : Filter) (m n : ℕ) (a b : Seen) (w : Opportunity)
+moment_free : (p : Parameters) (f : Filter) (m n : Moment) (a b : Seen) (w : Opportunity)
     → channel_of (arrival_in p f m a b w) ≡ channel_of (arrival_in p f n a b w)
-number_free p f m n a b w =
+moment_free p f m n a b w =
     or_same (arrival_on p f m w A a) (arrival_on p f m w B b) (arrival_on p f n w A a) (arrival_on p f n w B b)
     (on_same (admits_window f w A) (data_frame_seen p w A a) A m n)
     (on_same (admits_window f w B) (data_frame_seen p w B b) B m n)
@@ -93,22 +95,22 @@ module _ (p : Parameters) (b : Buffer) (before : List Entry) (w : Opportunity) (
   abbrev entry : Entry
   entry = Observe number on_a on_b
 
-  abbrev arrived : ℕ → Option Arrival
+  abbrev arrived : Moment → Option Arrival
   arrived n = arrival_in p b.filter n on_a on_b w
 
-  arrival_is : arrival_at p b.filter before entry ≡ arrived (length before)
-  arrival_is = ap (option_and_then (arrival_in p b.filter (length before) on_a on_b)) open_is
+  arrival_is : arrival_at p b.filter before entry ≡ arrived (moment_after before)
+  arrival_is = ap (option_and_then (arrival_in p b.filter (moment_after before) on_a on_b)) open_is
 
-  from_same : is_from channel (arrived 0) ≡ is_from channel (arrived (length before))
+  from_same : is_from channel (arrived (moment_after [])) ≡ is_from channel (arrived (moment_after before))
   from_same =
-      from_is channel (arrived 0)
-      ∙ ap (is_of channel) (number_free p b.filter 0 (length before) on_a on_b w)
-      ∙ sym (from_is channel (arrived (length before)))
+      from_is channel (arrived (moment_after []))
+      ∙ ap (is_of channel) (moment_free p b.filter (moment_after []) (moment_after before) on_a on_b w)
+      ∙ sym (from_is channel (arrived (moment_after before)))
 
   stored : buffer_takes p w on_a on_b channel b ≡ true → IsStored p b before entry channel
   stored takes =
-      let parts = and_parts (is_receive b.mode) (is_from channel (arrived 0)) takes in
-      let has = has_arrival (arrived (length before)) channel (sym from_same ∙ parts.1) in
+      let parts = and_parts (is_receive b.mode) (is_from channel (arrived (moment_after []))) takes in
+      let has = has_arrival (arrived (moment_after before)) channel (sym from_same ∙ parts.1) in
       let comes : arrival_at p b.filter before entry ≡ Some has.arrival = arrival_is ∙ has.there in
       record {
         arrival = has.arrival;
@@ -121,10 +123,10 @@ module _ (p : Parameters) (b : Buffer) (before : List Entry) (w : Opportunity) (
   takes_it : is_receive b.mode ≡ true → IsStored p b before entry channel
       → buffer_takes p w on_a on_b channel b ≡ true
   takes_it receives is =
-      let comes : arrived (length before) ≡ Some is.arrival = sym arrival_is ∙ is.arrives in
-      let here : is_from channel (arrived (length before)) ≡ true =
+      let comes : arrived (moment_after before) ≡ Some is.arrival = sym arrival_is ∙ is.arrives in
+      let here : is_from channel (arrived (moment_after before)) ≡ true =
       ap (is_from channel) comes ∙ ap (λ (c : Channel). is_channel c channel) is.channel_is ∙ same_channel channel in
-      both_true (is_receive b.mode) (is_from channel (arrived 0)) receives (from_same ∙ here)
+      both_true (is_receive b.mode) (is_from channel (arrived (moment_after []))) receives (from_same ∙ here)
 
 pub buffers_stored : AreBuffersStored
 buffers_stored p b before w number on_a on_b channel receives open_is = (
@@ -134,15 +136,15 @@ buffers_stored p b before w number on_a on_b channel receives open_is = (
 
 -- ---- the receive FIFO
 
-one_or_none : (b : Bool) (o : Option Fields) (number : ℕ) (channel : Channel)
-    → length (cond b (option_to_list (option_map (arrival_of number channel) o)) []) ≡ cond (b && is_some o) 1 0
-one_or_none true None number channel = refl
-one_or_none true (Some f) number channel = refl
-one_or_none false o number channel = refl
+one_or_none : (b : Bool) (o : Option Fields) (moment : Moment) (channel : Channel)
+    → length (cond b (option_to_list (option_map (arrival_of moment channel) o)) []) ≡ cond (b && is_some o) 1 0
+one_or_none true None moment channel = refl
+one_or_none true (Some f) moment channel = refl
+one_or_none false o moment channel = refl
 
 pub queues_filled : AreQueuesFilled
-queues_filled p plan q number w channel seen =
-    one_or_none (is_for_queue plan q w channel) (data_frame_seen p w channel seen) number channel
+queues_filled p plan q moment w channel seen =
+    one_or_none (is_for_queue plan q w channel) (data_frame_seen p w channel seen) moment channel
 
 -- ---- commits
 

@@ -31,7 +31,8 @@ use Rattle.fr_interface.specs.declared.errors.HostError.TheVariants as host
 use Rattle.fr_interface.specs.declared.errors.SlotError.{SlotError}
 use Rattle.fr_interface.specs.declared.errors.SlotError.TheVariants as slot
 use Rattle.fr_interface.specs.ErrorNames.{host_error_name, slot_error_name}
-use Rattle.fr_interface.specs.State.{State}
+use Rattle.fr_interface.specs.State.{State, oldest_of, received_by}
+use Rattle.fr_journal.specs.declared.entry.Arrival.{Arrival}
 use Rattle.fr_journal.specs.declared.entry.Origin.{Origin}
 use Rattle.fr_lines.specs.declared.versions.Version.{Version}
 use Rattle.fr_lines.specs.declared.versions.Version.TheVariants.{Three}
@@ -47,7 +48,9 @@ use Rattle.fr_session.specs.Queries.{last_origin, origin_text, sent_line, corrup
 use Rattle.fr_session.specs.Queries.{IsRecordOf, phase_word, at_words, cycle_at, moment_words, status_text}
 use Rattle.fr_session.specs.Reading.{asked_in}
 use Rattle.fr_session.specs.Replies.{refusal_words, bad_line_words, bad_fault_words, done_words, frame_words}
-use Rattle.fr_session.specs.Replies.{frame_reply, window_words, withdrawn_words, reply_words, answer_text}
+use Rattle.fr_session.specs.Latest.{is_fresh, place_of}
+use Rattle.fr_session.specs.Replies.{age_word, answer_text, frame_reply, receipt_text, received_words, reply_words}
+use Rattle.fr_session.specs.Replies.{window_words, withdrawn_words}
 use Rattle.fr_session.specs.Sessions.{Terms, SessionState, DoesRequest, DoesIf}
 use Rattle.fr_session.specs.RecordWords.{kind_word, fate_word}
 use Rattle.fr_slots.specs.Admission.{letter_of}
@@ -212,6 +215,40 @@ frame_line (Some f) =
     one_line (frame_words f)
     (refl, (number_line f.cycle, (number_line f.id, (indicators_line f, (bytes_line f.payload, tt))))) refl
 
+letter_line : (c : Channel) → IsLine (letter_of c)
+letter_line channel.A = refl
+letter_line channel.B = refl
+
+age_line : (fresh : Bool) → IsLine (age_word fresh)
+age_line true = refl
+age_line false = refl
+
+received_line : (fresh : Bool) (arrival : Option Arrival) → IsOneLine (line_text (received_words fresh arrival))
+received_line fresh None = frame_line None
+received_line fresh (Some a) =
+    let f = a.frame in
+    one_line (received_words fresh (Some a)) (
+      refl,
+      (
+        number_line f.cycle,
+        (
+          number_line f.id,
+          (
+            indicators_line f,
+            (
+              bytes_line f.payload,
+              (letter_line a.origin.channel, (number_line a.cycle, (age_line fresh, tt))),
+            ),
+          ),
+        ),
+      ),
+    ) refl
+
+receipt_line : (fresh : Bool) (arrival : Option Arrival) (answer : Answer)
+    → IsOneLine (receipt_text fresh arrival answer)
+receipt_line fresh arrival (Ok reply) = received_line fresh arrival
+receipt_line fresh arrival (Err e) = refusal_line e
+
 answer_line : (answer : Answer) → IsOneLine (answer_text answer)
 answer_line (Ok (reply.Committed receipt)) =
     one_line (reply_words (reply.Committed receipt)) (refl, (number_line receipt.entry, tt)) refl
@@ -257,10 +294,6 @@ at_line : (p : Parameters) (phase : Phase) (begun windows : ℕ) (opened : Optio
     → IsOneLine (line_text (at_words p phase begun windows opened))
 at_line p phase begun windows None = moment_line begun 0 windows
 at_line p phase begun windows (Some w) = moment_line (cycle_at phase begun w) (start_of p w) windows
-
-letter_line : (c : Channel) → IsLine (letter_of c)
-letter_line channel.A = refl
-letter_line channel.B = refl
 
 status_one_line : (c : Channel) (s : State) → IsOneLine (status_text c s)
 status_one_line c s =
@@ -454,10 +487,16 @@ record_of (Some r) reply is = block_reply (sealed_text r) reply (sealed_ends r) 
 request_line : (terms : Terms) (old : SessionState) (asked : Request) (text : List ℕ) (new : SessionState)
     → DoesRequest terms old asked text new → IsReplyTo (Some asked) text
 request_line terms old (request.Event event) text new does = subst IsOneLine (sym does.2) (answer_line does.0)
+request_line terms old (request.Receive node task buffer) text new does =
+    let arrival = received_by (interface_at old.world node) buffer in
+    subst IsOneLine (sym does.2)
+    (receipt_line (is_fresh old.noted.latest (place_of node buffer) arrival) arrival does.0)
+request_line terms old (request.Next node task) text new does =
+    subst IsOneLine (sym does.2) (receipt_line true (oldest_of (interface_at old.world node)) does.0)
 request_line terms old (request.Fault line) text new does =
-    kept_line does.0.0 old.faults new.faults (line ∷ []) text does.0.2
+    kept_line does.0.0 old.noted.faults new.noted.faults (line ∷ []) text does.0.2
 request_line terms old (request.Faults a b) text new does =
-    kept_line does.0.0 old.faults new.faults (a ∷ b ∷ []) text does.0.2
+    kept_line does.0.0 old.noted.faults new.noted.faults (a ∷ b ∷ []) text does.0.2
 request_line terms old request.Forget text new does = same_line done_words text does.0 (refl, tt) refl
 request_line terms old request.Window text new does =
     subst IsOneLine (sym does.2) (moved_line does.0 new.world.bus)

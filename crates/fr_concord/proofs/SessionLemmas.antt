@@ -8,9 +8,12 @@ use Rattle.fr_bus.specs.States.{BusState}
 use Rattle.fr_core.specs.declared.error.StepError.{StepError}
 use Rattle.fr_core.specs.declared.error.StepError.TheVariants.{Bus}
 use Rattle.fr_core.specs.declared.event.Event.{Event}
+use Rattle.fr_core.specs.declared.event.Event.TheVariants.{Read, Pop}
 use Rattle.fr_core.specs.Runs.{Answer}
 use Rattle.fr_core.specs.Steps.{Steps}
 use Rattle.fr_core.specs.Worlds.{WorldState, has_node, interface_at}
+use Rattle.fr_interface.specs.State.{oldest_of, received_by}
+use Rattle.fr_journal.specs.declared.entry.Arrival.{Arrival}
 use Rattle.fr_lines.specs.declared.versions.Version.TheVariants.{Three}
 use Rattle.fr_playing.specs.Moving.{MovesOn, RunsCycles, window_events}
 use Rattle.fr_runs.specs.declared.fault_line.FaultLine.{FaultLine}
@@ -22,8 +25,10 @@ use Rattle.fr_session.specs.Keeping.{AreFaultsAfter, KeepsIf}
 use Rattle.fr_session.specs.Queries.{now_text, moved_text, memory_text, IsBlock, IsBlockIf}
 use Rattle.fr_session.specs.Queries.{IsRecordOf, sealed_text}
 use Rattle.fr_session.specs.Reading.{asked_in}
-use Rattle.fr_session.specs.Replies.{answer_text}
-use Rattle.fr_session.specs.Sessions.{SessionState, state_of, DoesRequest, DoesIf, terms_of}
+use Rattle.fr_session.specs.declared.noted.Noted.{Noted}
+use Rattle.fr_session.specs.Latest.{is_fresh, place_of}
+use Rattle.fr_session.specs.Replies.{answer_text, receipt_text}
+use Rattle.fr_session.specs.Sessions.{SessionState, after_receipt, state_of, DoesRequest, DoesIf, terms_of}
 use Rattle.fr_trace.specs.ReportText.{report_text}
 use Rattle.fr_trace.specs.TraceText.{trace_text}
 use Rattle.fr_concord.specs.Determined.{refusal_text, HasMemory, IsUnhindered, IsPastOffers, HasShortCycles}
@@ -36,9 +41,12 @@ use Rattle.fr_concord.proofs.StepLemmas.{one_step, seals_last, window_last}
 abbrev AreSame : (a b : List ℕ) (x y : SessionState) → Type 0
 AreSame a b x y = (a ≡ b) × (x ≡ y)
 
-by_parts : (x y : SessionState) → x.world ≡ y.world → x.faults ≡ y.faults → x ≡ y
-by_parts x y world faults =
-    ap (λ (w : WorldState). state_of w x.faults) world ∙ ap (λ (l : List FaultLine). state_of y.world l) faults
+by_parts : (x y : SessionState) → x.world ≡ y.world → x.noted ≡ y.noted → x ≡ y
+by_parts x y world noted =
+    ap (λ (w : WorldState). state_of w x.noted) world ∙ ap (λ (n : Noted). state_of y.world n) noted
+
+noted_same : (x y : Noted) → x.faults ≡ y.faults → x.latest ≡ y.latest → x ≡ y
+noted_same x y faults latest = λ i. record { faults = faults i; latest = latest i }
 
 -- ---- events
 
@@ -52,6 +60,21 @@ event_same old event a b x y first second memory memory' =
           elim starved [
             | inl s ↦ absurd (memory (ap answer_text s.told))
             | inr s ↦ absurd (memory' (ap answer_text s.told))
+          ]
+    ]
+
+-- the frame that is looked at before the step is the same
+receipt_same : (old : WorldState) (event : Event) (a b : Answer) (x y : WorldState) (fresh : Bool)
+    (arrival : Option Arrival) → Steps old event a x → Steps old event b y
+    → receipt_text fresh arrival a ≢ refusal_text (Bus Memory)
+    → receipt_text fresh arrival b ≢ refusal_text (Bus Memory) → (a ≡ b) × (x ≡ y)
+receipt_same old event a b x y fresh arrival first second memory memory' =
+    elim (one_step old event a b x y first second) [
+      | inl same ↦ same
+      | inr starved ↦
+          elim starved [
+            | inl s ↦ absurd (memory (ap (receipt_text fresh arrival) s.told))
+            | inr s ↦ absurd (memory' (ap (receipt_text fresh arrival) s.told))
           ]
     ]
 
@@ -143,32 +166,54 @@ module _ (d : Description) (cycles : ℕ) where
       let same = event_same old.world event answer answer' x.world y.world step step'
       (λ e. memory.of_bus (is ∙ e)) (λ e. memory'.of_bus (is' ∙ e)) in
       (is ∙ ap answer_text same.0 ∙ sym is', by_parts x y same.1 (kept ∙ sym kept'))
+  request_same old (request.Receive node task buffer) a b x y first second memory memory' free free' =
+      let (answer, step, is, kept) = first in
+      let (answer', step', is', kept') = second in
+      let arrival = received_by (interface_at old.world node) buffer in
+      let place = place_of node buffer in
+      let text = receipt_text (is_fresh old.noted.latest place arrival) arrival in
+      let same = receipt_same old.world (Read node task buffer) answer answer' x.world y.world
+      (is_fresh old.noted.latest place arrival) arrival step step' (λ e. memory.of_bus (is ∙ e))
+      (λ e. memory'.of_bus (is' ∙ e)) in (
+        is ∙ ap text same.0 ∙ sym is',
+        by_parts x y same.1 (kept ∙ ap (after_receipt old.noted place arrival) same.0 ∙ sym kept'),
+      )
+  request_same old (request.Next node task) a b x y first second memory memory' free free' =
+      let (answer, step, is, kept) = first in
+      let (answer', step', is', kept') = second in
+      let arrival = oldest_of (interface_at old.world node) in
+      let same = receipt_same old.world (Pop node task) answer answer' x.world y.world true arrival step step'
+      (λ e. memory.of_bus (is ∙ e)) (λ e. memory'.of_bus (is' ∙ e)) in
+      (is ∙ ap (receipt_text true arrival) same.0 ∙ sym is', by_parts x y same.1 (kept ∙ sym kept'))
   request_same old (request.Fault line) a b x y first second memory memory' free free' =
-      let (keeps, world) = first in
-      let (keeps', world') = second in
-      let truth = one_truth (IsFaultAfter d cycles old.faults line) keeps.0 keeps'.0 keeps.1 keeps'.1 in
-      let same = fault_same keeps.0 keeps'.0 old.faults x.faults y.faults (line ∷ []) a b truth keeps.2 keeps'.2
+      let (keeps, world, latest) = first in
+      let (keeps', world', latest') = second in
+      let truth = one_truth (IsFaultAfter d cycles old.noted.faults line) keeps.0 keeps'.0 keeps.1 keeps'.1 in
+      let same = fault_same keeps.0 keeps'.0 old.noted.faults x.noted.faults y.noted.faults
+      (line ∷ []) a b truth keeps.2 keeps'.2
       memory.of_session memory'.of_session in
-      (same.0, by_parts x y (world ∙ sym world') same.1)
+      (same.0, by_parts x y (world ∙ sym world') (noted_same x.noted y.noted same.1 (latest ∙ sym latest')))
   request_same old (request.Faults one other) a b x y first second memory memory' free free' =
-      let (keeps, world) = first in
-      let (keeps', world') = second in
-      let truth = one_truth (AreFaultsAfter d cycles old.faults one other) keeps.0 keeps'.0 keeps.1 keeps'.1 in
-      let same = fault_same keeps.0 keeps'.0 old.faults x.faults y.faults (one ∷ other ∷ []) a b truth keeps.2 keeps'.2
+      let (keeps, world, latest) = first in
+      let (keeps', world', latest') = second in
+      let truth = one_truth (AreFaultsAfter d cycles old.noted.faults one other) keeps.0 keeps'.0 keeps.1 keeps'.1 in
+      let same = fault_same keeps.0 keeps'.0 old.noted.faults x.noted.faults y.noted.faults
+      (one ∷ other ∷ []) a b truth keeps.2 keeps'.2
       memory.of_session memory'.of_session in
-      (same.0, by_parts x y (world ∙ sym world') same.1)
+      (same.0, by_parts x y (world ∙ sym world') (noted_same x.noted y.noted same.1 (latest ∙ sym latest')))
   request_same old request.Forget a b x y first second memory memory' free free' =
       (first.0 ∙ sym second.0, first.1 ∙ sym second.1)
   request_same old request.Window a b x y first second memory memory' free free' =
       let (hinders, moves, is, kept) = first in
       let (hinders', moves', is', kept') = second in
-      let same = window_same old.faults (window_events (length d.plans)) (window_last (length d.plans)) old.world
+      let same = window_same old.noted.faults (window_events (length d.plans)) (window_last (length d.plans)) old.world
       x.world y.world hinders hinders' a b moves moves' is is' free free' in
       (same.0, by_parts x y same.1 (kept ∙ sym kept'))
   request_same old (request.Run count) a b x y first second memory memory' free free' =
       let (hinders, moves, is, kept) = first in
       let (hinders', moves', is', kept') = second in
-      let same = run_same old.faults (window_events (length d.plans)) (window_last (length d.plans)) count old.world
+      let same = run_same old.noted.faults (window_events (length d.plans))
+      (window_last (length d.plans)) count old.world
       x.world y.world hinders hinders' a b moves moves' is is' free.0 free'.0 free.1 in
       (same.0, by_parts x y same.1 (kept ∙ sym kept'))
   request_same old request.Now a b x y first second memory memory' free free' =

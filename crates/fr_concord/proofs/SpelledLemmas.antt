@@ -33,7 +33,7 @@ use Rattle.fr_session.specs.Lines.{longest_line}
 use Rattle.fr_session.specs.Reading.{host_request, node_in, step_of, step_request, babble_in, mute_in, corrupt_in}
 use Rattle.fr_session.specs.Reading.{fault_of, fault_request, run_in, record_in, report_in, status_in, trace_in}
 use Rattle.fr_session.specs.Reading.{origin_in, query_request, other_request, event_request, request_in}
-use Rattle.fr_session.specs.Reading.{request_or_faults, with_faults}
+use Rattle.fr_session.specs.Reading.{next_in, receive_in, request_or_faults, with_faults}
 use Rattle.fr_slots.specs.declared.channel.Channel.TheVariants as channel
 use Rattle.fr_slots.specs.declared.channel.Channels.TheVariants as channels
 use Rattle.fr_text.proofs.HexTextLemmas.{bytes_again, length-hex_text}
@@ -126,8 +126,17 @@ both_again a b fits =
 
 request_again : (r : Request) → IsSpelledRequest r
     → request_or_faults (request_in (request_words r)) (spelled r) ≡ Some r
-unfolding request_in other_request query_request run_in record_in report_in status_in trace_in origin_in
+unfolding request_in other_request query_request run_in receive_in next_in record_in report_in status_in trace_in
+    origin_in
 request_again (request.Event e) fits = rw (event_again e fits) refl
+request_again (request.Receive n t b) fits =
+    rw (
+      number_again 16 n fits.0 (omega arith),
+      number_again 8 t fits.1 (omega arith),
+      number_again 64 b fits.2 (omega arith),
+    ) refl
+request_again (request.Next n t) fits =
+    rw (number_again 16 n fits.0 (omega arith), number_again 8 t fits.1 (omega arith)) refl
 request_again (request.Fault line) fits =
     rw (fault_no_event (cycles_word line.cycles) (place_word line.place) line.fault)
     (ap with_faults (said_same [] line fits))
@@ -313,6 +322,14 @@ event_so event.Advance fits = alone_so (codes "advance") (refl, tt) (omega arith
 
 request_so : (r : Request) → IsSpelledRequest r → IsLineOf (request_words r)
 request_so (request.Event e) fits = event_so e fits
+request_so (request.Receive n t b) fits =
+    places_so (codes "receive") n t b (refl, tt) (omega arith) fits.0 fits.1 fits.2
+request_so (request.Next n t) fits =
+    let first = node_word n fits.0 in
+    let second = task_word t fits.1 in
+    let all = length-line_of-le (request_words (request.Next n t)) in
+    line_so (codes "next") (decimal n ∷ decimal t ∷ []) (refl, (first.plain, (second.plain, tt)))
+    (omega (arith, first.short, second.short))
 request_so (request.Fault line) fits = fault_so line fits
 request_so (request.Faults a b) fits = both_so a b fits
 request_so request.Forget fits = alone_so (codes "forget") (refl, tt) (omega arith)

@@ -5,7 +5,8 @@ use Rattle.std.specs.Prelude.{Some, slice_get}
 use Rattle.fr_bus.specs.declared.error.Phase.TheVariants.{Collect, Sealed}
 use Rattle.fr_bus.specs.Record.{Recorded}
 use Rattle.fr_bus.specs.Windows.{cycles_begun}
-use Rattle.fr_core.specs.Accounts.{recorded_cycle, run_cycle}
+use Rattle.fr_core.specs.Accounts.{recorded_cycle}
+use Rattle.fr_journal.specs.Cycles.{run_cycle}
 use Rattle.fr_core.specs.declared.script.Line.{Line}
 use Rattle.fr_core.specs.Scripts.{Scripted}
 use Rattle.fr_core.specs.Settling.{windows_fetched, windows_of}
@@ -26,7 +27,7 @@ use Rattle.fr_runs.specs.Faulted.{cycle_at}
 use Rattle.fr_runs.specs.Stepping.{is_fetch, task_of, is_by, lines_given, IsInStep}
 use Rattle.fr_schedule.specs.Descriptions.{Description}
 use Rattle.fr_session.specs.Queries.{cycle_at as cycle_of_time}
-use Rattle.fr_showing.specs.Fates.{cycles_of}
+use Rattle.fr_journal.specs.Cycles.{cycles_of}
 use Rattle.fr_slots.specs.Windows.{Opportunity}
 
 -- ---- a window of the record

@@ -51,12 +51,14 @@ HasShortCycles faults due old = (n : ℕ) (mid new : WorldState) → PassesCycle
 abbrev pub MovesFreely : Terms → SessionState → SessionState → Option Request → List ℕ → Type 0
 MovesFreely terms old new None reply = Unit {0}
 MovesFreely terms old new (Some (request.Event event)) reply = Unit {0}
+MovesFreely terms old new (Some (request.Receive node task buffer)) reply = Unit {0}
+MovesFreely terms old new (Some (request.Next node task)) reply = Unit {0}
 MovesFreely terms old new (Some (request.Fault line)) reply = Unit {0}
 MovesFreely terms old new (Some (request.Faults a b)) reply = Unit {0}
 MovesFreely terms old new (Some request.Forget) reply = Unit {0}
 MovesFreely terms old new (Some request.Window) reply = IsUnhindered reply ⊎ IsPastOffers new.world.bus
 MovesFreely terms old new (Some (request.Run cycles)) reply =
-    IsUnhindered reply × HasShortCycles old.faults terms.due old.world
+    IsUnhindered reply × HasShortCycles old.noted.faults terms.due old.world
 MovesFreely terms old new (Some request.Now) reply = Unit {0}
 MovesFreely terms old new (Some request.At) reply = Unit {0}
 MovesFreely terms old new (Some (request.Report node)) reply = Unit {0}

@@ -8,6 +8,7 @@ use Rattle.fr_capture.specs.Takers.{takers_of}
 use Rattle.fr_capture.specs.Taking.{buffer_takes, queue_takes}
 use Rattle.fr_journal.specs.Arrivals.{queue_arrival_on}
 use Rattle.fr_journal.specs.declared.entry.Arrival.{Arrival}
+use Rattle.fr_journal.specs.declared.entry.Moment.{Moment}
 use Rattle.fr_journal.specs.declared.entry.Entry.TheVariants.{Observe}
 use Rattle.fr_journal.specs.Forms.{Entry}
 use Rattle.fr_journal.specs.Held.{arrival_at, held}
@@ -41,8 +42,8 @@ AreBuffersStored = (p : Parameters) (b : Buffer) (before : List Entry) (w : Oppo
 
 -- a table names the receive FIFO exactly if the observation on the channel brings it a frame
 abbrev pub AreQueuesFilled : Type 0
-AreQueuesFilled = (p : Parameters) (plan : Plan) (q : Queue) (number : ℕ) (w : Opportunity) (channel : Channel)
-    (seen : Seen) → length (queue_arrival_on p plan q number w channel seen)
+AreQueuesFilled = (p : Parameters) (plan : Plan) (q : Queue) (moment : Moment) (w : Opportunity) (channel : Channel)
+    (seen : Seen) → length (queue_arrival_on p plan q moment w channel seen)
     ≡ (if queue_takes p plan w channel seen (Some q) then 1 else 0)
 
 -- ---- commits

@@ -39,6 +39,8 @@ pub record IsBlockReply (reply : List ℕ) : Type 0 where
 abbrev pub IsReplyTo : Option Request → List ℕ → Type 0
 IsReplyTo None reply = IsOneLine reply
 IsReplyTo (Some (request.Event event)) reply = IsOneLine reply
+IsReplyTo (Some (request.Receive node task buffer)) reply = IsOneLine reply
+IsReplyTo (Some (request.Next node task)) reply = IsOneLine reply
 IsReplyTo (Some (request.Fault line)) reply = IsOneLine reply
 IsReplyTo (Some (request.Faults a b)) reply = IsOneLine reply
 IsReplyTo (Some request.Forget) reply = IsOneLine reply

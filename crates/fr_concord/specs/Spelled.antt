@@ -55,6 +55,9 @@ event_words event.Advance = codes "advance" ∷ []
 
 abbrev pub request_words : Request → List (List ℕ)
 request_words (request.Event asked) = event_words asked
+request_words (request.Receive node task buffer) =
+    codes "receive" ∷ decimal node ∷ decimal task ∷ decimal buffer ∷ []
+request_words (request.Next node task) = codes "next" ∷ decimal node ∷ decimal task ∷ []
 request_words (request.Fault line) = fault_line_words line
 request_words (request.Faults a b) = both_line_words a
 request_words request.Forget = codes "forget" ∷ []
@@ -105,6 +108,9 @@ IsSpelledEvent event.Advance = Unit {0}
 
 abbrev pub IsSpelledRequest : Request → Type 0
 IsSpelledRequest (request.Event asked) = IsSpelledEvent asked
+IsSpelledRequest (request.Receive node task buffer) =
+    IsSpelledNode node × IsSpelledTask task × IsSpelledBuffer buffer
+IsSpelledRequest (request.Next node task) = IsSpelledNode node × IsSpelledTask task
 IsSpelledRequest (request.Fault line) = IsSaidFaultLine line
 IsSpelledRequest (request.Faults a b) = AreSaidFaultLines a b
 IsSpelledRequest request.Forget = Unit {0}

@@ -10,18 +10,18 @@ use Rattle.std.specs.List.{flat_map}
 use Rattle.std.specs.Io.KnownBytes.{Appends, Consumes, Keeps, WriteAppends}
 use Rattle.std.specs.Prelude.{IfErr, IsErr}
 use Rattle.fr_core.specs.Worlds.{WorldState}
-use Rattle.fr_runs.specs.declared.fault_line.FaultLine.{FaultLine}
 use Rattle.fr_schedule.specs.Descriptions.{Description}
 use Rattle.fr_session.proofs.LineLemmas.{front_asks}
 use Rattle.fr_session.proofs.SessionLemmas.{SoFarBy, appends_kept, appends_more, are_lines_more, feeds_more}
 use Rattle.fr_session.specs.Cuts.{EndsEarly, EndsWorld, FailsNext, Hands, IsFront, Sends}
 use Rattle.fr_session.specs.declared.error.SessionError.{SessionError}
 use Rattle.fr_session.specs.declared.error.SessionError.TheVariants.{Read, Write, Memory}
+use Rattle.fr_session.specs.declared.noted.Noted.{Noted}
 use Rattle.fr_session.specs.Lines.{Comes, ComesFront, IsLine, with_feed}
 use Rattle.fr_session.specs.Replies.{greeting}
 use Rattle.fr_session.specs.Reading.{asked_in}
 use Rattle.fr_session.specs.Sessions.{Does, DoesIf, IsOf, Serves, SessionState, Terms, opening, state_of, terms_of}
-use Rattle.fr_session.specs.Sessions.{terms_with}
+use Rattle.fr_session.specs.Sessions.{nothing_noted, terms_with}
 
 -- ---- texts that are handed on
 
@@ -238,22 +238,23 @@ failed_front terms text left before after number start old new comes answered =
       told.2,
     )
 
--- a session that began with no fault line, by the terms of its world, and ended with an error
+-- a session that began with nothing noted, by the terms of its world, and ended with an error
 pub ended_so : {A : Type 0} (r : Result A SessionError) (given : Terms) (text left before after : Option (List ℕ))
-    (old new : WorldState) (d : Description) (cycles : ℕ) (first kept : List FaultLine) → IsOf d cycles old
-    → given ≡ terms_of d cycles → first ≡ []
+    (old new : WorldState) (d : Description) (cycles : ℕ) (first noted : Noted) → IsOf d cycles old
+    → given ≡ terms_of d cycles → first ≡ nothing_noted
     → IfErr r (λ error. EndsEarly (Does given) (Serves given) error text left before after (state_of old first)
-    (state_of new kept))
+    (state_of new noted))
     → IfErr r (λ error. EndsWorld error text left before after old new)
-ended_so (Ok x) given text left before after old new d cycles first kept is_of same none ends = tt
-ended_so (Err error) given text left before after old new d cycles first kept is_of same none ends = (
-  kept,
-  subst (λ (t : Terms). EndsEarly (Does t) (Serves t) error text left before after (opening old) (state_of new kept))
+ended_so (Ok x) given text left before after old new d cycles first noted is_of same none ends = tt
+ended_so (Err error) given text left before after old new d cycles first noted is_of same none ends = (
+  noted,
+  subst (λ (t : Terms). EndsEarly (Does t) (Serves t) error text left before after (opening old) (state_of new noted))
       (same ∙ ap₂ terms_of (sym is_of.0) (sym is_of.1))
-      (subst (λ (f : List FaultLine). EndsEarly (Does given) (Serves given) error text left before after
-      (state_of old f) (state_of new kept)) none ends),
+      (subst (λ (f : Noted). EndsEarly (Does given) (Serves given) error text left before after
+      (state_of old f) (state_of new noted)) none ends),
 )
 
 -- a session that began with no memory for itself
 pub memory_ends : (text before : Option (List ℕ)) (w : WorldState) → EndsWorld Memory text text before before w w
-memory_ends text before w = ([], ends_memory (Does (terms_with w)) (Serves (terms_with w)) text before (opening w))
+memory_ends text before w =
+    (nothing_noted, ends_memory (Does (terms_with w)) (Serves (terms_with w)) text before (opening w))

@@ -1,6 +1,6 @@
 -- The fault lines that are kept suit the cluster, the run and one another.
 use Rattle.std.proofs.Common.{ℕ, zero, suc, true, false, List, [], ◌∷◌, ◌++◌, take, slice_get, inl, inr, refl, sym}
-use Rattle.std.proofs.Common.{append_assoc, subst, ◌∙◌, ◌≡◌}
+use Rattle.std.proofs.Common.{append_assoc, subst}
 use Rattle.std.specs.Prelude.{Bool, IfSome, IsTrue}
 use Rattle.fr_runs.specs.declared.fault_line.FaultLine.{FaultLine}
 use Rattle.fr_runs.specs.Refusing.{EachFaultSuits}

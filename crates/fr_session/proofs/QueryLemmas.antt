@@ -1,10 +1,12 @@
 -- Blocks, as they are written.
 use Rattle.std.proofs.Common.{◌≡◌, ◌<◌, ℕ, true, List, length, Option, Result, refl, sym, subst, ◌∙◌, get_or}
-use Rattle.std.proofs.Common.{inl, inr}
+use Rattle.std.proofs.Common.{inl, inr, ap, None, [], arith}
+use Rattle.std.proofs.lemmas.Option.{slice_get_past}
+use Rattle.std.specs.Option.{option_and_then}
 use Rattle.std.proofs.lemmas.Bool.{lt-ltb}
 use Rattle.std.proofs.lemmas.List.{get_or_default}
 use Rattle.fr_core.specs.Worlds.{WorldState, has_node, interface_at, no_interface}
-use Rattle.fr_interface.specs.State.{State}
+use Rattle.fr_interface.specs.State.{State, oldest_of, received_by, received_in}
 use Rattle.fr_session.specs.Queries.{block_text, memory_text, IsBlock, IsBlockIf, IsBlockOf, Replies, node_text}
 use Rattle.fr_journal.specs.Counts.{counters_of, counts_of}
 use Rattle.fr_session.specs.Queries.{counters_on}
@@ -61,3 +63,10 @@ line_told contents old new result text w n s within is told =
     let has : has_node w n ≡ true = lt-ltb n (length w.interfaces) within in
     let at : s ≡ interface_at w n = is ∙ get_or_default w.interfaces n s no_interface within in
     rw has (subst (λ (t : State). Writes contents old new result (text t)) at told)
+
+-- an interface without buffers and receive FIFO has no frame
+pub none_held : (buffer : ℕ) → received_by no_interface buffer ≡ None
+none_held buffer = ap (λ o. option_and_then (received_in no_interface) o) (slice_get_past [] buffer (omega arith))
+
+pub none_oldest : oldest_of no_interface ≡ None
+none_oldest = refl

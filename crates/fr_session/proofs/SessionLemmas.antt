@@ -6,13 +6,13 @@ use Rattle.std.proofs.lemmas.List.{append-nil}
 use Rattle.std.specs.List.{flat_map}
 use Rattle.std.specs.Io.KnownBytes.{Appends, Keeps}
 use Rattle.fr_core.specs.Worlds.{WorldState}
-use Rattle.fr_runs.specs.declared.fault_line.FaultLine.{FaultLine}
 use Rattle.fr_schedule.specs.Descriptions.{Description}
+use Rattle.fr_session.specs.declared.noted.Noted.{Noted}
 use Rattle.fr_session.specs.Lines.{AreLines, ComesFront, IsLine, with_feed}
 use Rattle.fr_session.specs.Reading.{asked_in}
 use Rattle.fr_session.specs.Replies.{greeting}
 use Rattle.fr_session.specs.Sessions.{AnswersNext, Does, DoesIf, IsOf, Served, ServedWorld, Serves, SessionState, Terms}
-use Rattle.fr_session.specs.Sessions.{opening, state_of, terms_of}
+use Rattle.fr_session.specs.Sessions.{nothing_noted, opening, state_of, terms_of}
 use Rattle.fr_session.proofs.LineLemmas.{front_asks}
 
 serves_none : (terms : Terms) (w : SessionState) (number : ℕ) → Serves terms w number [] [] w
@@ -140,16 +140,16 @@ answered_front terms text left before after number front old new comes answered 
       tells,
     )
 
--- a session that began with no fault line, by the terms of its world
+-- a session that began with nothing noted, by the terms of its world
 pub opened_so : {A E : Type 0} (r : Result A E) (given : Terms) (text before after : Option (List ℕ))
-    (old new : WorldState) (d : Description) (cycles : ℕ) (first kept : List FaultLine) → IsOf d cycles old
-    → given ≡ terms_of d cycles → first ≡ [] → OnOk r (Served given text before after (state_of old first)
-    (state_of new kept))
+    (old new : WorldState) (d : Description) (cycles : ℕ) (first noted : Noted) → IsOf d cycles old
+    → given ≡ terms_of d cycles → first ≡ nothing_noted → OnOk r (Served given text before after (state_of old first)
+    (state_of new noted))
     → OnOk r (ServedWorld text before after old new)
-opened_so (Err e) given text before after old new d cycles first kept is_of same none served = tt
-opened_so (Ok x) given text before after old new d cycles first kept is_of same none served = (
-  kept,
-  subst (λ (t : Terms). Served t text before after (opening old) (state_of new kept))
+opened_so (Err e) given text before after old new d cycles first noted is_of same none served = tt
+opened_so (Ok x) given text before after old new d cycles first noted is_of same none served = (
+  noted,
+  subst (λ (t : Terms). Served t text before after (opening old) (state_of new noted))
       (same ∙ ap₂ terms_of (sym is_of.0) (sym is_of.1))
-      (subst (λ (f : List FaultLine). Served given text before after (state_of old f) (state_of new kept)) none served),
+      (subst (λ (f : Noted). Served given text before after (state_of old f) (state_of new noted)) none served),
 )

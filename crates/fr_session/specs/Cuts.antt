@@ -4,7 +4,7 @@ use Rattle.std.specs.Prelude.{Result, Ok, Err}
 use Rattle.std.specs.List.{flat_map}
 use Rattle.std.specs.Io.KnownBytes.{Appends, Keeps}
 use Rattle.fr_core.specs.Worlds.{WorldState}
-use Rattle.fr_runs.specs.declared.fault_line.FaultLine.{FaultLine}
+use Rattle.fr_session.specs.declared.noted.Noted.{Noted}
 use Rattle.fr_session.specs.declared.error.SessionError.{SessionError}
 use Rattle.fr_session.specs.declared.error.SessionError.TheVariants.{Read, Write, Memory}
 use Rattle.fr_session.specs.Lines.{AreLines, Comes, IsLine, TakesPart, with_feed}
@@ -76,9 +76,9 @@ module _ (DoesLine : SessionState → ℕ → List ℕ → List ℕ → SessionS
       × DoesLine old number line reply new × IsFront front reply × Appends before after front
   FailsNext Memory text left before after number old new = ⊥
 
--- a session from an opening world to another world, with any fault lines kept there
+-- a session from an opening world to another world, with anything noted there
 abbrev pub EndsWorld : SessionError → Option (List ℕ) → Option (List ℕ) → Option (List ℕ) → Option (List ℕ)
     → WorldState → WorldState → Type 0
 EndsWorld error text left before after old new =
-    (kept : List FaultLine) × EndsEarly (Does (terms_with old)) (Serves (terms_with old)) error text left before after
-    (opening old) (state_of new kept)
+    (noted : Noted) × EndsEarly (Does (terms_with old)) (Serves (terms_with old)) error text left before after
+    (opening old) (state_of new noted)

@@ -4,6 +4,7 @@ pub mod Replies
 pub mod RecordWords
 pub mod Queries
 pub mod Keeping
+pub mod Latest
 pub mod Sessions
 pub mod Cuts
 pub mod TermsFields

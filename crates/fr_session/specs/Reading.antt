@@ -86,6 +86,21 @@ fault_request kind words = do
 
 -- ---- conveniences and queries
 
+unfoldable pub receive_in : List (List ℕ) → Option Request
+receive_in (node ∷ task ∷ buffer ∷ []) = do
+  n ← number_in 16 node
+  t ← number_in 8 task
+  b ← number_in 64 buffer
+  Some (request.Receive n t b)
+receive_in words = None
+
+unfoldable pub next_in : List (List ℕ) → Option Request
+next_in (node ∷ task ∷ []) = do
+  n ← number_in 16 node
+  t ← number_in 8 task
+  Some (request.Next n t)
+next_in words = None
+
 unfoldable pub run_in : List (List ℕ) → Option Request
 run_in (cycles ∷ []) = do
   n ← number_in 1025 cycles
@@ -143,6 +158,8 @@ other_request kind words =
     else if bytes_eq kind (codes "cycle") then alone words (request.Run 1)
     else if bytes_eq kind (codes "forget") then alone words request.Forget
     else if bytes_eq kind (codes "run") then run_in words
+    else if bytes_eq kind (codes "receive") then receive_in words
+    else if bytes_eq kind (codes "next") then next_in words
     else query_request kind words
 
 -- ---- a line, by its first word

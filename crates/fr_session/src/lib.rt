@@ -17,7 +17,7 @@
 //!
 //! - `Lines`, `Reading`, `Replies`, `RecordWords`, `Queries`: the lines of a text and of a reader; the request of a
 //!   line; replies; the words of a record; the answers to queries.
-//! - `Keeping`: kept fault lines.
+//! - `Keeping`: kept fault lines. `Latest`: the last frames that `receive` returned.
 //! - `Marks`: marks of the windows that fault lines name, by which a line is compared with all others at once.
 //! - `Sessions`, `Laws`: a session; laws of all sessions.
 //! - `Cuts`: sessions that a failing reader or writer ends.
@@ -36,7 +36,9 @@
 //!    request is read as the fault lines of one line of version 3 (`fr_scenario::fault_lines`).
 //! 4. An event is one `World::step`. A fault line is checked against the kept ones (`suits_after` of `fr_runs`) and
 //!    kept (`keeping`). Two lines are checked before either is kept. A query writes what the world lends (`queries`).
-//! 5. `window` is the injections of the kept lines (`fr_playing::striking`), then a prepared list of events
+//! 5. `receive` and `next` look at the frame that is due, and then make the step of `read` or `pop` (`receiving`).
+//!    `latest` has the entry of the last frame of each buffer.
+//! 6. `window` is the injections of the kept lines (`fr_playing::striking`), then a prepared list of events
 //!    (`fr_playing::moving`), and an advance. The requests `cycle` and `run` are windows.
 //!
 //! The time of a request doesn't grow with the session, with two exceptions. The requests `trace` and `report` grow
@@ -46,12 +48,15 @@
 pub mod error;
 pub mod keeping;
 pub mod kept;
+pub mod latest;
 pub mod laws;
 pub mod lines;
 mod marks;
+pub mod noted;
 pub mod prepared;
 pub mod queries;
 pub mod reading;
+pub mod receiving;
 pub mod replies;
 pub mod request;
 pub mod session;

@@ -2,7 +2,7 @@
 ghost use Rattle.std.specs.Prelude.{◌≡◌};
 ghost use Rattle.fr_session.specs.Reading.{babble_in, mute_in, corrupt_in, node_in, alone, run_in, record_in};
 ghost use Rattle.fr_session.specs.Reading.{report_in, status_in, trace_in, origin_in, query_request};
-ghost use Rattle.fr_session.specs.Reading.{host_request, step_of, step_request};
+ghost use Rattle.fr_session.specs.Reading.{host_request, next_in, receive_in, step_of, step_request};
 ghost use Rattle.fr_session.specs.Reading.{fault_of, fault_request, event_request, begins_event, is_fault_word};
 ghost use Rattle.fr_session.specs.Reading.{is_step_word, is_host_word, other_request, request_in};
 ghost use Rattle.fr_session.specs.Reading.{request_or_faults, asked_in, with_faults};
@@ -14,7 +14,7 @@ use crate::request::Request;
 use fr_bus::fault::Fault;
 use fr_core::event::Event;
 use fr_frame::frame::FRAME_BYTES;
-use fr_lines::parts::{channel_of, node_of, task_of};
+use fr_lines::parts::{buffer_of, channel_of, node_of, task_of};
 use fr_scenario::calls::call_of;
 use fr_scenario::fault_lines::{LineFaults, faults_of};
 use fr_slots::numbers::NodeId;
@@ -187,6 +187,29 @@ fn event_request(kind: &[u8], words: &mut Words<'_>) -> Option<Event>
     host_request(kind, words)
 }
 
+/// Returns the receipt of a frame of a receive buffer that the words ask for.
+#[tactic(auto, unfolding(crate::specs::Reading::receive_in))]
+fn receive_of(words: &mut Words<'_>) -> Option<Request>
+    ensures { result ≡ receive_in words.old }
+{
+    let (node, task, buffer) = words.three()?;
+    let node = node_of(node)?;
+    let task = task_of(task)?;
+    let buffer = buffer_of(buffer)?;
+    Some(Request::Receive { node, task, buffer })
+}
+
+/// Returns the receipt of the next frame of a receive FIFO that the words ask for.
+#[tactic(auto, unfolding(crate::specs::Reading::next_in))]
+fn next_of(words: &mut Words<'_>) -> Option<Request>
+    ensures { result ≡ next_in words.old }
+{
+    let (node, task) = words.two()?;
+    let node = node_of(node)?;
+    let task = task_of(task)?;
+    Some(Request::Next { node, task })
+}
+
 /// Returns the number of cycles that the words spell, up to 1024.
 #[tactic(auto, unfolding(crate::specs::Reading::run_in))]
 fn run_of(words: &mut Words<'_>) -> Option<Request>
@@ -306,6 +329,12 @@ fn other_request(kind: &[u8], words: &mut Words<'_>) -> Option<Request>
     }
     if kind == b"run".as_slice() {
         return run_of(words);
+    }
+    if kind == b"receive".as_slice() {
+        return receive_of(words);
+    }
+    if kind == b"next".as_slice() {
+        return next_of(words);
     }
     query_request(kind, words)
 }

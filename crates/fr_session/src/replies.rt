@@ -1,15 +1,16 @@
 //! Replies, written with their line feeds.
-ghost use Rattle.std.specs.Prelude.{◌≡◌};
+ghost use Rattle.std.specs.Prelude.{◌≡◌, Some};
 ghost use Rattle.fr_text.specs.Writing.{Writes};
 ghost use Rattle.fr_lines.specs.Spelling.{line_text};
 ghost use Rattle.fr_session.specs.Replies.{frame_words, frame_reply, window_words, refusal_words};
 ghost use Rattle.fr_session.specs.Replies.{withdrawn_words, reply_words, answer_text, bad_line_words, greeting};
-ghost use Rattle.fr_session.specs.Replies.{done_words, bad_fault_words};
+ghost use Rattle.fr_session.specs.Replies.{age_word, bad_fault_words, coming_text, done_words, received_words};
 
 use fr_core::error::StepError;
 use fr_core::event::Reply;
 use fr_frame::frame::Frame;
 use fr_frame::lent::LentFrame;
+use fr_journal::entry::Arrival;
 use fr_lines::frames::write_indicators;
 use fr_lines::writing::write_slot;
 use fr_slots::window::Window;
@@ -56,6 +57,52 @@ fn write_frame_reply<W: Write>(writer: &mut W, frame: &Option<Frame>) -> io::Res
 {
     match frame {
         Some(frame) => write_frame(writer, frame),
+        None => writeln!(writer, "frame -"),
+    }
+}
+
+/// Returns the word for the age of a frame.
+fn age_word(fresh: bool) -> &'static str
+    ensures { result.now ≡ age_word fresh }
+{
+    if fresh { "new" } else { "old" }
+}
+
+/// Writes the end of the reply of a frame: the channel on which it came, the cycle of the run, and whether it is new.
+fn write_coming<W: Write>(writer: &mut W, arrival: &Arrival, fresh: bool) -> io::Result<()>
+    ensures { Writes W.contents writer.old writer.new result (coming_text fresh arrival.now) }
+{
+    let age = age_word(fresh);
+    writeln!(
+        writer,
+        " {} {} {age}",
+        arrival.origin.channel, arrival.cycle
+    )
+}
+
+/// Writes the reply of a frame with the channel on which it came, the cycle of the run, and whether it is new.
+fn write_arrival<W: Write>(writer: &mut W, arrival: &Arrival, fresh: bool) -> io::Result<()>
+    ensures { Writes W.contents writer.old writer.new result
+        (line_text (received_words fresh (Some arrival.now))) }
+{
+    let frame = &arrival.frame;
+    write!(writer, "frame {} {} ", frame.cycle.number(), frame.id)?;
+    write_indicators(writer, &lent(frame))?;
+    writer.write_all(b" ")?;
+    write_hex(writer, frame.payload.as_slice())?;
+    write_coming(writer, arrival, fresh)
+}
+
+/// Writes the reply of a frame that was received, or of none.
+pub fn write_received<W: Write>(
+    writer: &mut W,
+    arrival: &Option<Arrival>,
+    fresh: bool,
+) -> io::Result<()>
+    ensures { Writes W.contents writer.old writer.new result (line_text (received_words fresh arrival.now)) }
+{
+    match arrival {
+        Some(arrival) => write_arrival(writer, arrival, fresh),
         None => writeln!(writer, "frame -"),
     }
 }

@@ -10,14 +10,15 @@ ghost use Rattle.fr_session.specs.TermsFields.{terms_in};
 
 use crate::error::SessionError;
 use crate::keeping::{keep_both, keep_line};
-use crate::kept::KeptLines;
 use crate::lines::{Line, next_line};
+use crate::noted::Noted;
 use crate::prepared::{BlockWriter, Prepared};
 use crate::queries::{
     write_at, write_moved, write_node_origin, write_node_report, write_node_status,
     write_node_trace, write_now, write_recorded,
 };
 use crate::reading::request_of;
+use crate::receiving::{receive, take_next};
 use crate::replies::{write_answer, write_bad_line, write_done, write_greeting};
 use crate::request::Request;
 use fr_core::event::Event;
@@ -39,12 +40,15 @@ pub struct Terms<'a> {
     pub cluster: &'a Cluster,
     /// The number of cycles of the run.
     pub cycles: u16,
+    /// The number of sealed windows for which a session without history keeps the lines of the record. A session with
+    /// history keeps all.
+    pub keep: usize,
 }
 
-/// The state that a session keeps from line to line: the fault lines, and room for a line and for its reply.
+/// The state that a session keeps from line to line: what it notes, and room for a line and for its reply.
 #[derive(Drop)]
 struct Session {
-    faults: KeptLines,
+    noted: Noted,
     line: Line,
     reply: Prepared,
 }
@@ -52,31 +56,39 @@ struct Session {
 /// Executes the request, and writes the reply.
 fn do_request<W: BlockWriter>(
     terms: &Terms<'_>,
-    faults: &mut KeptLines,
+    noted: &mut Noted,
     world: &mut World,
     request: Request,
     writer: &mut W,
 ) -> io::Result<()>
     ensures { Replies W.contents writer.old writer.new result (λ reply. DoesRequest (terms_in terms.now)
-        (state_of world.old faults.old) request reply (state_of world.new faults.new)) }
+        (state_of world.old noted.old) request reply (state_of world.new noted.new)) }
 {
     match request {
         Request::Event(event) => {
             let answer = world.step(&event);
             write_answer(writer, &answer)
         }
-        Request::Fault(line) => keep_line(terms.cluster, terms.cycles, faults, line, writer),
-        Request::Faults { a, b } => { keep_both(terms.cluster, terms.cycles, faults, a, b, writer) }
+        Request::Receive { node, task, buffer } => {
+            receive(world, noted, node, task, buffer, writer)
+        }
+        Request::Next { node, task } => take_next(world, noted, node, task, writer),
+        Request::Fault(line) => {
+            keep_line(terms.cluster, terms.cycles, &mut noted.faults, line, writer)
+        }
+        Request::Faults { a, b } => {
+            keep_both(terms.cluster, terms.cycles, &mut noted.faults, a, b, writer)
+        }
         Request::Forget => {
-            faults.clear();
+            noted.faults.clear();
             write_done(writer)
         }
         Request::Window => {
-            let hindered = finish_window(world, faults.as_slice(), terms.events);
+            let hindered = finish_window(world, noted.faults.as_slice(), terms.events);
             write_moved(writer, world.bus(), hindered)
         }
         Request::Run(cycles) => {
-            let hindered = finish_cycles(world, faults.as_slice(), terms.events, cycles);
+            let hindered = finish_cycles(world, noted.faults.as_slice(), terms.events, cycles);
             write_moved(writer, world.bus(), hindered)
         }
         Request::Now => write_now(writer, world.bus()),
@@ -92,18 +104,18 @@ fn do_request<W: BlockWriter>(
 /// Executes the request of the line of this number, and writes the reply.
 fn answer_line<W: BlockWriter>(
     terms: &Terms<'_>,
-    faults: &mut KeptLines,
+    noted: &mut Noted,
     world: &mut World,
     line: &[u8],
     number: u64,
     writer: &mut W,
 ) -> io::Result<()>
     ensures { Replies W.contents writer.old writer.new result (λ reply. DoesIf (terms_in terms.now)
-        (state_of world.old faults.old) number (asked_in line.now) reply
-        (state_of world.new faults.new)) }
+        (state_of world.old noted.old) number (asked_in line.now) reply
+        (state_of world.new noted.new)) }
 {
     match request_of(terms.alloc, line) {
-        Some(request) => do_request(terms, faults, world, request, writer),
+        Some(request) => do_request(terms, noted, world, request, writer),
         None => write_bad_line(writer, number),
     }
 }
@@ -134,19 +146,12 @@ impl Session {
         writer: &mut W,
     ) -> io::Result<()>
         ensures { Sends W.contents writer.old writer.new result (λ reply. DoesIf (terms_in terms.now)
-            (state_of world.old self.old.faults) number (asked_in self.old.line.items) reply
-            (state_of world.new self.new.faults)) }
+            (state_of world.old self.old.noted) number (asked_in self.old.line.items) reply
+            (state_of world.new self.new.noted)) }
     {
         self.reply.clear(terms.alloc);
         let line = self.line.as_slice();
-        answer_line(
-            terms,
-            &mut self.faults,
-            world,
-            line,
-            number,
-            &mut self.reply,
-        )?;
+        answer_line(terms, &mut self.noted, world, line, number, &mut self.reply)?;
         self.reply.send(terms.alloc, writer)
     }
 
@@ -161,10 +166,10 @@ impl Session {
     ) -> Result<bool, SessionError>
         ensures answers { IfOk result (λ more. AnswersNext (terms_in terms.now) more (R.remaining reader.old)
             (R.remaining reader.new) (W.contents writer.old) (W.contents writer.new) number
-            (state_of world.old self.old.faults) (state_of world.new self.new.faults)) }
+            (state_of world.old self.old.noted) (state_of world.new self.new.noted)) }
         ensures early { IfErr result (λ error. FailsNext (Does (terms_in terms.now)) (Serves (terms_in terms.now))
             error (R.remaining reader.old) (R.remaining reader.new) (W.contents writer.old) (W.contents writer.new)
-            number (state_of world.old self.old.faults) (state_of world.new self.new.faults)) }
+            number (state_of world.old self.old.noted) (state_of world.new self.new.noted)) }
     {
         match next_line(reader, &mut self.line) {
             Ok(true) => {}
@@ -186,12 +191,12 @@ impl Session {
         writer: &mut W,
     ) -> Result<(), SessionError>
         ensures served { OnOk result (Served (terms_in terms.now) (R.remaining reader.old) (W.contents writer.old)
-            (W.contents writer.new) (state_of world.old self.old.faults)
-            (state_of world.new self.new.faults)) }
+            (W.contents writer.new) (state_of world.old self.old.noted)
+            (state_of world.new self.new.noted)) }
         ensures headline { Headline world.new }
         ensures early { IfErr result (λ error. EndsEarly (Does (terms_in terms.now)) (Serves (terms_in terms.now))
             error (R.remaining reader.old) (R.remaining reader.new) (W.contents writer.old) (W.contents writer.new)
-            (state_of world.old self.old.faults) (state_of world.new self.new.faults)) }
+            (state_of world.old self.old.noted) (state_of world.new self.new.noted)) }
         ensures stream { IfErr result IsOfStream }
     {
         // For the prover: the clause of this call.
@@ -227,6 +232,10 @@ impl Session {
 /// answered with `refused BadFault N`, N the number of those. A line for both channels is that of A and then that of B,
 /// of which both are kept or neither is. The cluster must be the world's, and the number of cycles that of the opening
 /// of the world.
+///
+/// `receive` makes the step of `read`, and `next` that of `pop`. Their replies also have the channel on which the frame
+/// came, the cycle of the run, and `new` or `old`. A frame of a buffer is old if the last `receive` of this buffer of
+/// the node returned it, whatever the task. A frame of the receive FIFO is always new.
 ///
 /// Ends early with `Memory` if an allocation for the session itself fails, before anything is read or written. Ends
 /// early with `Read` if the reader fails, and with `Write` if the writer does, which may have taken a part of a reply.
@@ -264,14 +273,20 @@ pub fn serve<R: BufRead, W: Write>(
         events: events.as_slice(),
         cluster,
         cycles,
+        keep: 0,
     };
     let Ok(reply) = Prepared::new(alloc) else {
         // For the prover: the clause of this call.
         world.known();
         return Err(SessionError::Memory);
     };
+    let Ok(noted) = Noted::new(alloc) else {
+        // For the prover: the clause of this call.
+        world.known();
+        return Err(SessionError::Memory);
+    };
     let mut session = Session {
-        faults: KeptLines::new(alloc),
+        noted,
         line: Line::new(),
         reply,
     };

@@ -5,10 +5,9 @@ ghost use Rattle.fr_session.specs.Queries.{at_words, cycle_at, moment_words};
 ghost use Rattle.fr_text.specs.Writing.{Writes};
 
 use fr_bus::error::Phase;
-use fr_bus::windows::opens_cycle;
 use fr_capture::moment::start_of_window;
 use fr_slots::params::Params;
-use fr_slots::window::Window;
+use fr_slots::window::{Window, opens_cycle};
 use std::io;
 use std::io::Write;
 

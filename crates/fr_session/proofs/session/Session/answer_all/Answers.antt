@@ -13,7 +13,7 @@ loop-number-init g c =
     search rules in
     so_far_none (terms_in c.args.terms.now) (g.R.Read.remaining c.args.reader.now)
     (g.W.Write.contents c.args.writer.now) (g.W.Write.contents c.greet.new.writer)
-    (state_of c.args.world.now c.args.self.now.faults) told
+    (state_of c.args.world.now c.args.self.now.noted) told
 
 pub loop-number-preserved : goal.loop-number-preserved
 loop-number-preserved g c =
@@ -21,8 +21,8 @@ loop-number-preserved g c =
     (g.R.Read.remaining c.answer_next-answered.new.reader)
     (g.W.Write.contents c.loop-number.writer) (g.W.Write.contents c.answer_next-answered.new.writer)
     c.loop-number.number
-    (state_of c.loop-number.world c.loop-number.self.faults)
-    (state_of c.answer_next-answered.new.world c.answer_next-answered.new.self.faults))
+    (state_of c.loop-number.world c.loop-number.self.noted)
+    (state_of c.answer_next-answered.new.world c.answer_next-answered.new.self.noted))
     c.in-Ok-true.field-0-test c.in-Ok-true.ensures.answers in
     so_far_more _ _ _ _ _ _ _ _ _ _ _ c.loop-number.invariant next
 
@@ -33,8 +33,8 @@ returns-in-Err-clause-early g c =
     (g.R.Read.remaining c.loop-number.reader) (g.R.Read.remaining c.answer_next-answered.new.reader)
     (g.W.Write.contents c.args.writer.now) (g.W.Write.contents c.loop-number.writer)
     (g.W.Write.contents c.answer_next-answered.new.writer) c.loop-number.number
-    (state_of c.args.world.now c.args.self.now.faults) (state_of c.loop-number.world c.loop-number.self.faults)
-    (state_of c.answer_next-answered.new.world c.answer_next-answered.new.self.faults) c.loop-number.invariant
+    (state_of c.args.world.now c.args.self.now.noted) (state_of c.loop-number.world c.loop-number.self.noted)
+    (state_of c.answer_next-answered.new.world c.answer_next-answered.new.self.noted) c.loop-number.invariant
     c.in-Err.ensures.early
 
 pub returns-clause-early : goal.returns-clause-early
@@ -42,5 +42,5 @@ returns-clause-early g c =
     let t = terms_in c.args.terms.now in
     ends_full (Does t) (Serves t) (g.R.Read.remaining c.args.reader.now) (g.R.Read.remaining c.loop-number.reader)
     (g.W.Write.contents c.args.writer.now) (g.W.Write.contents c.loop-number.writer) c.loop-number.number
-    (state_of c.args.world.now c.args.self.now.faults) (state_of c.loop-number.world c.loop-number.self.faults)
+    (state_of c.args.world.now c.args.self.now.noted) (state_of c.loop-number.world c.loop-number.self.noted)
     c.loop-number.invariant

@@ -7,4 +7,4 @@ abbrev pub invariant-loop-number : goal.invariant-loop-number
 invariant-loop-number g l =
     SoFar (terms_in l.terms) (g.R.Read.remaining l.fn.reader) (g.R.Read.remaining l.reader)
     (g.W.Write.contents l.fn.writer)
-    (g.W.Write.contents l.writer) l.number (state_of l.fn.world l.fn.self.faults) (state_of l.world l.self.faults)
+    (g.W.Write.contents l.writer) l.number (state_of l.fn.world l.fn.self.noted) (state_of l.world l.self.noted)

@@ -12,8 +12,8 @@ returns-in-Ok-clause-answers g c =
     (g.R.Read.remaining c.next_line.new.reader) c.next_line.new.line.items) c.in-Ok-true.field-0-test
     c.in-Ok-true.ensures.comes in
     answered_front (terms_in c.args.terms.now) _ _ _ _ c.args.number c.next_line.new.line.items
-    (state_of c.args.world.now c.args.self.now.faults)
-    (state_of c.answer.new.world c.answer.new.self.faults) comes c.in-Ok.ensures
+    (state_of c.args.world.now c.args.self.now.noted)
+    (state_of c.answer.new.world c.answer.new.self.noted) comes c.in-Ok.ensures
 
 pub returns-in-Err-answer-clause-early : goal.returns-in-Err-answer-clause-early
 returns-in-Err-answer-clause-early g c =
@@ -21,5 +21,5 @@ returns-in-Err-answer-clause-early g c =
     (g.R.Read.remaining c.next_line.new.reader) c.next_line.new.line.items) c.in-Ok-true.field-0-test
     c.in-Ok-true.ensures.comes in
     failed_front (terms_in c.args.terms.now) _ _ _ _ c.args.number c.next_line.new.line.items
-    (state_of c.args.world.now c.args.self.now.faults)
-    (state_of c.answer.new.world c.answer.new.self.faults) comes c.in-Err-answer.ensures
+    (state_of c.args.world.now c.args.self.now.noted)
+    (state_of c.answer.new.world c.answer.new.self.noted) comes c.in-Err-answer.ensures
