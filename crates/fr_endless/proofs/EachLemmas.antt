@@ -71,6 +71,7 @@ pub each_all : (old new : TapsState) (texts : ℕ → List ℕ) (count : ℕ) �
     → AddsEach old new (below count texts) → AddsEach old new texts
 each_all old new texts count all adds = record {
   params_are = adds.params_are;
+  kept_is = adds.kept_is;
   stays = adds.stays;
   to_record = adds.to_record;
   to_capture = adds.to_capture;

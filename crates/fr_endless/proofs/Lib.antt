@@ -2,9 +2,11 @@ pub mod AlikeLemmas
 pub mod CycleLemmas
 pub mod MovingLemmas
 pub mod ReportLemmas
+mod KeptLemmas
 mod NumberLemmas
 mod OutcomeLemmas
-pub mod ReplyLemmas
+pub mod ReceivingLemmas
+mod ReplyLemmas
 pub mod SessionLemmas
 pub mod OpeningLemmas
 pub mod TapLemmas

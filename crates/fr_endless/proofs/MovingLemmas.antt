@@ -1,20 +1,35 @@
 -- Each world with its history moves as the kept data do.
-use Rattle.std.proofs.Common.{◌≡◌, ℕ, ◌+◌, ◌<◌, ◌≤◌, Bool, true, false, cond, List, [], ◌∷◌, ◌++◌, length, take, get_or}
-use Rattle.std.proofs.Common.{Option, Some, None, Result, refl, sym, ap, subst, ◌∙◌, inl, inr}
+use Rattle.std.proofs.Common.{◌≡◌, ℕ, ◌+◌, ◌-◌, ◌<◌, ◌≤◌, Bool, true}
+use Rattle.std.proofs.Common.{false, cond, List, [], ◌∷◌, ◌++◌, length, take, get_or}
+use Rattle.std.proofs.Common.{Option, Some, None, Result, Ok, Err, refl, sym, ap}
+use Rattle.std.proofs.Common.{ap₂, subst, ◌∙◌, inl, inr, zero, suc, drop, arith}
+use Rattle.std.proofs.Common.{append-nil, append_assoc}
 use Rattle.std.proofs.lemmas.List.{take_all, take_more}
 use Rattle.std.specs.List.{flat_map}
 use Rattle.fr_bus.specs.Standing.{bare}
 use Rattle.fr_bus.specs.States.{collecting_of}
 use Rattle.fr_core.specs.declared.error.StepError.{StepError}
 use Rattle.fr_core.specs.declared.event.Event.{Event}
-use Rattle.fr_core.specs.declared.event.Event.TheVariants.{Inject, Advance}
+use Rattle.fr_core.specs.declared.event.Event.TheVariants.{Observe, Inject, Advance}
+use Rattle.fr_core.specs.declared.error.StepError.TheVariants.{UnknownNode, WrongTurn}
+use Rattle.fr_core.specs.Carried.{Carried, Idle, Knows, Offers, Waits, Took}
+use Rattle.fr_endless.specs.Fronts.{AreLate, HasNothing, IsLate}
+use Rattle.fr_interface.specs.Standing.{Standing}
+use Rattle.fr_live.proofs.LeadLemmas.{index_any}
+use Rattle.fr_live.proofs.RefusalLemmas.{observe_refuses}
+use Rattle.fr_live.specs.LiveSteps.{observe_in_turn}
+use Rattle.fr_live.specs.LiveWorlds.{LiveState, IsWorldHistory, carried_at}
+use Rattle.std.proofs.lemmas.Bool.{lt-ltb}
+use Rattle.std.specs.Prelude.{nat_lt}
+use Rattle.fr_core.specs.declared.event.Reply.{Reply}
 use Rattle.fr_core.specs.declared.event.Reply.TheVariants.{Done}
 use Rattle.fr_core.specs.Runs.{Answer, StepsAll}
-use Rattle.fr_core.specs.Steps.{Applies, Steps, answered, step_reply}
+use Rattle.fr_core.specs.Steps.{Applies, Steps, answered, step_done, step_refusal, step_reply}
+use Rattle.fr_live.specs.LiveSteps.{Accepts}
 use Rattle.fr_core.specs.Worlds.{WorldState}
 use Rattle.fr_endless.proofs.AlikeLemmas.{opened_same, begun_same, collecting_is}
 use Rattle.fr_endless.specs.Alike.{run_cycle_by}
-use Rattle.fr_endless.specs.Taps.{ToldAlike, ToldState}
+use Rattle.fr_endless.specs.Taps.{TapsState, ToldAlike, ToldState, with_taps}
 use Rattle.fr_playing.proofs.MovingLemmas.{does_none, does_more, found_so, strikes_none, strikes_some, within_none}
 use Rattle.fr_playing.proofs.MovingLemmas.{within_more}
 use Rattle.fr_playing.proofs.MovingLemmas.{passes_none, passes_more}
@@ -121,6 +136,124 @@ did_more l mid new events i event found after outcome lt event_is found_is so_fa
           (subst (λ (f : Option StepError). DoesAll w (take i events ++ event ∷ []) f second.0) (sym after_is) did),
       second.2,
     )
+
+-- ---- events that aren't due
+
+in_turn : (l : LiveState) (n : ℕ) (k : Carried) → HasNothing k → observe_in_turn l n k ≡ Some WrongTurn
+in_turn l n Idle none = refl
+in_turn l n (Knows window) none = refl
+in_turn l n (Offers window offer) none = refl
+in_turn l n (Waits window) none = refl
+in_turn l n (Took window a b) none = absurd none
+
+-- the observe of a node that has nothing to observe
+pub late_one : (l : LiveState) (n place : ℕ) (interfaces : List Standing) (controllers : List Carried) (k : Carried)
+    → interfaces ≡ l.interfaces → controllers ≡ l.carried → place ≡ n → place < length interfaces
+    → place < length controllers → k ≡ get_or controllers place k → HasNothing k → (w : WorldState)
+    → IsWorldHistory l w → IsLate w (Observe n)
+late_one l n place interfaces controllers k all_is every_is place_is within known taken none w is =
+    let here : nat_lt n (length l.interfaces) ≡ true =
+    lt-ltb n (length l.interfaces) (subst (λ (m : ℕ). m < length l.interfaces) place_is
+    (subst (λ (hs : List Standing). place < length hs) all_is within)) in
+    let carried : k ≡ carried_at l n =
+    taken ∙ index_any controllers place k Idle known
+    ∙ ap₂ (λ (ks : List Carried) (m : ℕ). get_or ks m Idle) every_is place_is in
+    let refused : step_refusal w (Observe n) ≡ Some WrongTurn =
+    sym (observe_refuses w l is.leads n)
+    ∙ ap (λ (b : Bool). cond b (observe_in_turn l n (carried_at l n)) (Some UnknownNode)) here
+    ∙ ap (observe_in_turn l n) (sym carried) ∙ in_turn l n k none in
+    (refused, refl)
+
+late_more : (w : WorldState) (es : List Event) (e : Event) → AreLate w es → IsLate w e → AreLate w (es ++ e ∷ [])
+late_more w [] e all one = (one, tt)
+late_more w (x ∷ xs) e all one = (all.0, late_more w xs e all.1 one)
+
+pub late_next : (w : WorldState) (events : List Event) (i : ℕ) (event : Event) → i < length events
+    → event ≡ get_or events i event → AreLate w (take i events) → IsLate w event → AreLate w (take (i + 1) events)
+late_next w events i event lt event_is all one =
+    let more : take (i + 1) events ≡ take i events ++ event ∷ [] =
+    take_more events i event lt ∙ ap (λ (e : Event). take i events ++ e ∷ []) (sym event_is) in
+    subst (AreLate w) (sym more) (late_more w (take i events) event all one)
+
+late_does : (w : WorldState) (es : List Event) → AreLate w es → DoesAll w es None w
+unfolding StepsAll
+late_does w [] all = ([], refl, refl)
+late_does w (e ∷ es) all =
+    let (answers, steps, found) = late_does w es all.1 in
+    (Err WrongTurn ∷ answers, (w, all.0, steps), found)
+
+-- they change nothing
+pub did_late : (l : ToldState) (events : List Event) (n : ℕ)
+    → ((w : WorldState) → IsWorldHistory l.live w → AreLate w (take n events))
+    → ToldAlike l (λ w v. DoesAll w (take n events) None v) l
+did_late l events n late s w is = (w, late_does w (take n events) (late w is.leads), is)
+
+-- accepted events are no refusal
+found_kept : (found : Option StepError) (reply : Reply) → first_refusal found (Ok reply) ≡ found
+found_kept None reply = refl
+found_kept (Some e) reply = refl
+
+does_accepted : (old : WorldState) (es events : List Event) (found : Option StepError) (between new : WorldState)
+    → DoesAll old events found between → Accepts between es new → DoesAll old (events ++ es) found new
+unfolding Accepts
+does_accepted old [] events found between new so_far same =
+    subst (λ (es : List Event). DoesAll old es found new) (sym (append-nil events))
+    (subst (λ (x : WorldState). DoesAll old events found x) (sym same) so_far)
+does_accepted old (e ∷ es) events found between new so_far accepts =
+    let reply = step_reply between e in
+    let one : DoesAll old (events ++ e ∷ []) found (step_done between e) =
+    subst (λ (f : Option StepError). DoesAll old (events ++ e ∷ []) f (step_done between e)) (found_kept found reply)
+    (does_more old events found between e (Ok reply) (step_done between e) so_far (accepts.0, refl, refl)) in
+    subst (λ (l : List Event). DoesAll old l found new) (append_assoc events (e ∷ []) es)
+    (does_accepted old es (events ++ e ∷ []) found (step_done between e) new one accepts.1)
+
+take_nil : {X : Type 0} (n : ℕ) (xs : List X) → xs ≡ [] → take n xs ≡ []
+take_nil zero xs none = refl
+take_nil (suc n) [] none = refl
+take_nil (suc n) (x ∷ xs) none = absurd (let no : ⊥ = cc none in no)
+
+pub take_split : {X : Type 0} (i n : ℕ) (xs : List X) → take (i + n) xs ≡ take i xs ++ take n (drop i xs)
+take_split zero n xs = let same : 0 + n ≡ n = omega arith in ap (λ (k : ℕ). take k xs) same
+take_split (suc i) n [] = take_nil (suc i + n) [] refl ∙ sym (take_nil n [] refl)
+take_split (suc i) n (x ∷ xs) =
+    let next : suc i + n ≡ suc (i + n) = omega arith in
+    ap (λ (k : ℕ). take k (x ∷ xs)) next ∙ ap (λ (l : List _). x ∷ l) (take_split i n xs)
+
+-- all that remains
+pub rest_all : {X : Type 0} (i : ℕ) (xs : List X) → take (length xs - i) (drop i xs) ≡ drop i xs
+rest_all zero xs = take_all (length xs - 0) xs (omega arith)
+rest_all (suc i) [] = take_nil (0 - suc i) [] refl
+rest_all (suc i) (x ∷ xs) =
+    let same : suc (length xs) - suc i ≡ length xs - i = omega arith in
+    ap (λ (n : ℕ). take n (drop i xs)) same ∙ rest_all i xs
+
+-- the first of the remaining events are accepted
+pub did_passed : (l mid new : ToldState) (events rest : List Event) (i n : ℕ) (found : Option StepError)
+    → rest ≡ drop i events → ToldAlike l (λ w v. DoesAll w (take i events) found v) mid
+    → ToldAlike mid (λ w v. Accepts w (take n rest) v) new
+    → ToldAlike l (λ w v. DoesAll w (take (i + n) events) found v) new
+did_passed l mid new events rest i n found rest_is so_far accepts s w is =
+    let first = so_far s w is in
+    let second = accepts s first.0 first.2 in
+    let did : DoesAll w (take i events ++ take n rest) found second.0 =
+    does_accepted w (take n rest) (take i events) found first.0 second.0 first.1 second.1 in (
+      second.0,
+      subst (λ (es : List Event). DoesAll w es found second.0)
+          (ap (λ (r : List Event). take i events ++ take n r) rest_is ∙ sym (take_split i n events)) did,
+      second.2,
+    )
+
+-- the same by other names
+pub turn_as : (l : ToldState) (events : List Event) (p q : ℕ) (f h : Option StepError) (a b : LiveState)
+    (t u : TapsState) → q ≡ p → h ≡ f → b ≡ a → u ≡ t
+    → ToldAlike l (λ w v. DoesAll w (take p events) f v) (with_taps a t)
+    → ToldAlike l (λ w v. DoesAll w (take q events) h v) (with_taps b u)
+turn_as l events p q f h a b t u place_is found_is world_is taps_is told =
+    subst (λ (n : ℕ). ToldAlike l (λ w v. DoesAll w (take n events) h v) (with_taps b u)) (sym place_is)
+    (subst (λ (o : Option StepError). ToldAlike l (λ w v. DoesAll w (take p events) o v) (with_taps b u)) (sym found_is)
+    (subst (λ (x : LiveState). ToldAlike l (λ w v. DoesAll w (take p events) f v) (with_taps x u)) (sym world_is)
+    (subst (λ (x : TapsState). ToldAlike l (λ w v. DoesAll w (take p events) f v) (with_taps a x)) (sym taps_is)
+    told)))
 
 pub did_all : (l new : ToldState) (events : List Event) (i : ℕ) (found : Option StepError) → length events ≤ i
     → ToldAlike l (λ w v. DoesAll w (take i events) found v) new → ToldAlike l (λ w v. DoesAll w events found v) new

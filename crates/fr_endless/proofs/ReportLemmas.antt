@@ -1,13 +1,14 @@
 -- The report by the kept data of a node is that of each world with its history.
 use Rattle.std.proofs.Common.{◌≡◌, ℕ, zero, suc, ◌<◌, ◌≤◌, Bool, true, false, List, [], ◌∷◌, length, cond, get_or, map}
-use Rattle.std.proofs.Common.{Some, None, refl, sym, ap, subst, ◌∙◌, arith}
+use Rattle.std.proofs.Common.{Some, None, Ok, refl, sym, ap, subst, ◌∙◌, arith}
 use Rattle.std.proofs.lemmas.Bool.{lt-ltb, le-ltb}
 use Rattle.std.specs.Prelude.{slice_get, slice_index_or}
 use Rattle.fr_bus.specs.Standing.{roomless, no_room}
 use Rattle.fr_core.proofs.ClusterLemmas.{steps_cluster}
 use Rattle.fr_core.specs.declared.event.Event.{Event}
 use Rattle.fr_core.specs.Runs.{Answer, StepsAll}
-use Rattle.fr_core.specs.Steps.{Steps}
+use Rattle.fr_core.specs.Steps.{Steps, step_done, step_reply}
+use Rattle.fr_live.specs.LiveSteps.{Accepts}
 use Rattle.fr_core.specs.declared.error.StepError.TheVariants.{UnknownNode}
 use Rattle.fr_core.specs.Worlds.{WorldState, has_node, interface_at, no_interface, without_entries, new_interface}
 use Rattle.fr_endless.specs.Alike.{buffers_in, buffers_each}
@@ -32,7 +33,7 @@ use Rattle.fr_trace.specs.ReportText.{counts_in, report_text}
 
 -- ---- the interfaces of a world
 
-history_got : (hs : List Standing) (ss : List State) (n : ℕ) (h : Standing) → AreHistories hs ss → n < length hs
+pub history_got : (hs : List Standing) (ss : List State) (n : ℕ) (h : Standing) → AreHistories hs ss → n < length hs
     → h ≡ get_or hs n h → IsHistory h (slice_index_or ss n no_interface)
 history_got [] ss n h are lt at = absurd (let none_is : ⊥ = omega (arith, lt) in none_is)
 history_got (g ∷ hs) [] n h are lt at = absurd are
@@ -152,3 +153,12 @@ unfolding StepsAll
 step_buffers old event answer new step =
     sym (ap (λ (d : Description). buffers_in d.plans)
     (steps_cluster old (event ∷ []) (answer ∷ []) new (new, step, refl)))
+
+-- accepted events change none
+pub accepts_buffers : (events : List Event) (old new : WorldState) → Accepts old events new
+    → buffers_in old.bus.cluster.plans ≡ buffers_in new.bus.cluster.plans
+unfolding Accepts
+accepts_buffers [] old new same = ap (λ (w : WorldState). buffers_in w.bus.cluster.plans) (sym same)
+accepts_buffers (e ∷ es) old new accepts =
+    step_buffers old e (Ok (step_reply old e)) (step_done old e) (accepts.0, refl, refl)
+    ∙ accepts_buffers es (step_done old e) new accepts.1

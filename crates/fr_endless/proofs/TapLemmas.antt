@@ -29,9 +29,9 @@ use Rattle.fr_core.specs.Steps.{taken}
 use Rattle.fr_core.specs.Worlds.{WorldState, carried_at}
 use Rattle.fr_bus.specs.States.{collecting_of}
 use Rattle.fr_endless.proofs.AlikeLemmas.{begun_same, last_same}
-use Rattle.fr_endless.specs.Taps.{Adds, AddsAt, AddsBoth, AddsEach, AddsFront, AddsLast, AddsMore, HasBeyond, IsTold}
+use Rattle.fr_endless.specs.Taps.{Adds, AddsAt, AddsBoth, AddsEach, AddsFront, AddsMore, HasBeyond, IsTold}
 use Rattle.fr_endless.specs.Taps.{Start, TapsState, at_node, body_at, capture_last, first_failed, is_seal, no_lines}
-use Rattle.fr_endless.specs.Taps.{record_last, record_of, start_of, traced_in}
+use Rattle.fr_endless.specs.Taps.{WritesLast, record_last, record_of, start_of, traced_in}
 use Rattle.fr_endless.specs.declared.taps.Tap.{Tap}
 use Rattle.fr_bus.specs.declared.fault.Fault.{Fault}
 use Rattle.fr_bus.specs.declared.fault.Fault.TheVariants.{Babble, Mute, Corrupt}
@@ -147,10 +147,11 @@ traces_kept old new same n =
 
 -- no file has failed
 pub both_added : (old new : TapsState) (recorded captured : List ℕ) → old.failed ≡ None → new.params ≡ old.params
-    → new.traced ≡ old.traced → AddsFront new.failed old.recorded new.recorded recorded
+    → new.kept ≡ old.kept → new.traced ≡ old.traced → AddsFront new.failed old.recorded new.recorded recorded
     → AddsFront new.failed old.captured new.captured captured → AddsBoth old new recorded captured
-both_added old new recorded captured none params traces first second = record {
+both_added old new recorded captured none params kept traces first second = record {
   params_are = params;
+  kept_is = kept;
   stays = λ later. none;
   to_record = subst (λ (f : Option Tap). AddsMore f new.failed old.recorded new.recorded recorded) (sym none) first;
   to_capture = subst (λ (f : Option Tap). AddsMore f new.failed old.captured new.captured captured) (sym none) second;
@@ -162,6 +163,7 @@ pub added_stopped : (taps : TapsState) (tap : Tap) (recorded captured : List ℕ
     → taps.failed ≡ Some tap → Adds taps taps recorded captured traced
 added_stopped taps tap recorded captured traced some = record {
   params_are = refl;
+  kept_is = refl;
   stays = λ none. none;
   to_record = subst (λ (f : Option Tap). AddsMore f taps.failed taps.recorded taps.recorded recorded) (sym some)
       (Appends-nil taps.recorded);
@@ -177,6 +179,7 @@ pub added_then : (old mid new : TapsState) (one two : ℕ → List ℕ) → Adds
     → AddsEach old new (λ n. one n ++ two n)
 added_then old mid new one two first second = record {
   params_are = second.params_are ∙ first.params_are;
+  kept_is = second.kept_is ∙ first.kept_is;
   stays = λ none. first.stays (second.stays none);
   to_record = more_then old.failed mid.failed new.failed [] [] old.recorded mid.recorded new.recorded first.to_record
       second.to_record first.stays second.stays;
@@ -192,6 +195,7 @@ pub added_as : (old new : TapsState) (one two : ℕ → List ℕ) → ((n : ℕ)
     → AddsEach old new two
 added_as old new one two same adds = record {
   params_are = adds.params_are;
+  kept_is = adds.kept_is;
   stays = adds.stays;
   to_record = adds.to_record;
   to_capture = adds.to_capture;
@@ -211,6 +215,7 @@ no_text m n = by (eqb n m)
 pub added_none : (taps : TapsState) → AddsEach taps taps (λ n. [])
 added_none taps = record {
   params_are = refl;
+  kept_is = refl;
   stays = λ none. none;
   to_record = more_none taps.failed taps.failed taps.recorded;
   to_capture = more_none taps.failed taps.failed taps.captured;
@@ -225,13 +230,15 @@ none_by (Some tap) b is so_is =
     let no : is_some (Some tap) ≡ false = is ∙ ap not so_is in absurd (let none : ⊥ = cc no in none)
 
 module _ {F : Type 0} (contents : F → Option (List ℕ)) where
-  abbrev pub files_of : Parameters → Option Tap → Option F → Option F → List F → TapsState
-  files_of p failed recorded captured traces = record {
+  abbrev pub files_of : List (Option (List ℕ)) → Parameters → Option Tap → Option F → Option F → List (Option F)
+      → TapsState
+  files_of lines p failed recorded captured traces = record {
     params = p;
     failed = failed;
     recorded = option_and_then contents recorded;
     captured = option_and_then contents captured;
-    traced = map contents traces;
+    traced = map (option_and_then contents) traces;
+    kept = lines;
   }
 
   -- a text was handed to a file that is there
@@ -243,47 +250,55 @@ module _ {F : Type 0} (contents : F → Option (List ℕ)) where
       (subst (AddsFront failed (contents writer) (contents new)) same adds)
 
   -- the header was written
-  pub header_added : (old : TapsState) (p : Parameters) (failed result : Option Tap)
-      (recorded captured after : Option F) (traces : List F)
-      (b : Bool) → files_of p failed recorded captured traces ≡ old → is_some failed ≡ not b → b ≡ true
+  pub header_added : (lines : List (Option (List ℕ))) (old : TapsState) (p : Parameters) (failed result : Option Tap)
+      (recorded captured after : Option F) (traces : List (Option F))
+      (b : Bool) → files_of lines p failed recorded captured traces ≡ old → is_some failed ≡ not b → b ≡ true
       → AddsFront result (option_and_then contents captured) (option_and_then contents after) file_header
-      → AddsBoth old (files_of p result recorded after traces) [] file_header
-  header_added old p failed result recorded captured after traces b is none so_is adds =
-      subst (λ (t : TapsState). AddsBoth t (files_of p result recorded after traces) [] file_header) is
-      (both_added (files_of p failed recorded captured traces) (files_of p result recorded after traces) [] file_header
-      (none_by failed b none so_is) refl refl (front_none result (option_and_then contents recorded)) adds)
+      → AddsBoth old (files_of lines p result recorded after traces) [] file_header
+  header_added lines old p failed result recorded captured after traces b is none so_is adds =
+      subst (λ (t : TapsState). AddsBoth t (files_of lines p result recorded after traces) [] file_header) is
+      (both_added (files_of lines p failed recorded captured traces)
+      (files_of lines p result recorded after traces) [] file_header
+      (none_by failed b none so_is) refl refl refl (front_none result (option_and_then contents recorded)) adds)
 
   -- both files were flushed
-  pub flushed_added : (old : TapsState) (p : Parameters) (failed a b result : Option Tap)
-      (recorded captured recorded' captured' : Option F) (traces : List F)
-      (t : Bool) → files_of p failed recorded captured traces ≡ old → is_some failed ≡ not t → t ≡ true
+  pub flushed_added : (lines : List (Option (List ℕ))) (old : TapsState) (p : Parameters)
+      (failed a b result : Option Tap)
+      (recorded captured recorded' captured' : Option F) (traces : List (Option F))
+      (t : Bool) → files_of lines p failed recorded captured traces ≡ old → is_some failed ≡ not t → t ≡ true
       → result ≡ first_failed a b
       → AddsFront a (option_and_then contents recorded) (option_and_then contents recorded') []
       → AddsFront b (option_and_then contents captured) (option_and_then contents captured') []
-      → AddsBoth old (files_of p result recorded' captured' traces) [] []
-  flushed_added old p failed a b result recorded captured recorded' captured' traces t is none so_is result_is first
+      → AddsBoth old (files_of lines p result recorded' captured' traces) [] []
+  flushed_added lines old p failed a b result recorded captured recorded' captured' traces t is none so_is result_is
+      first
       second =
-      let start = files_of p failed recorded captured traces in
-      let end = files_of p result recorded' captured' traces in
+      let start = files_of lines p failed recorded captured traces in
+      let end = files_of lines p result recorded' captured' traces in
       subst (λ (x : TapsState). AddsBoth x end [] []) is
-      (both_added start end [] [] (none_by failed t none so_is) refl refl
+      (both_added start end [] [] (none_by failed t none so_is) refl refl refl
       (front_later a result start.recorded end.recorded [] first (λ no. first_none a b (sym result_is ∙ no)))
       (front_later b result start.captured end.captured [] second (λ no. second_none a b (sym result_is ∙ no))))
 
   -- a text was written to a trace
-  pub trace_added : (old : TapsState) (p : Parameters) (failed result : Option Tap) (recorded captured : Option F)
-      (traces after : List F) (b : Bool) (given place : ℕ) (text : List ℕ)
-      → files_of p failed recorded captured traces ≡ old → is_some failed ≡ not b → b ≡ true → given ≡ place
-      → AddsAt result (map contents traces) (map contents after) given text
-      → AddsEach old (files_of p result recorded captured after) (at_node place text)
-  trace_added old p failed result recorded captured traces after b given place text is none so_is same given_adds =
-      let adds : AddsAt result (map contents traces) (map contents after) place text =
-      subst (λ (n : ℕ). AddsAt result (map contents traces) (map contents after) n text) same given_adds in
-      let start = files_of p failed recorded captured traces in
-      let end = files_of p result recorded captured after in
+  pub trace_added : (lines : List (Option (List ℕ))) (old : TapsState) (p : Parameters) (failed result : Option Tap)
+      (recorded captured : Option F)
+      (traces after : List (Option F)) (b : Bool) (given place : ℕ) (text : List ℕ)
+      → files_of lines p failed recorded captured traces ≡ old → is_some failed ≡ not b → b ≡ true → given ≡ place
+      → AddsAt result (map (option_and_then contents) traces) (map (option_and_then contents) after) given text
+      → AddsEach old (files_of lines p result recorded captured after) (at_node place text)
+  trace_added lines old p failed result recorded captured traces after b given place text is none so_is same
+      given_adds =
+      let adds : AddsAt result (map (option_and_then contents) traces)
+      (map (option_and_then contents) after) place text =
+      subst (λ (n : ℕ). AddsAt result (map (option_and_then contents) traces)
+      (map (option_and_then contents) after) n text) same given_adds in
+      let start = files_of lines p failed recorded captured traces in
+      let end = files_of lines p result recorded captured after in
       let free : start.failed ≡ None = none_by failed b none so_is in
       let by : AddsEach start end (at_node place text) = record {
         params_are = refl;
+        kept_is = refl;
         stays = λ later. free;
         to_record = subst (λ (f : Option Tap). AddsMore f result start.recorded start.recorded []) (sym free)
             (front_none result start.recorded);
@@ -366,19 +381,23 @@ module _ {F : Type 0} (contents : F → Option (List ℕ)) where
   )
 
   -- a window was written
-  pub window_added : (old : TapsState) (p : Parameters) (failed a b result : Option Tap)
-      (recorded captured recorded' captured' : Option F) (traces : List F) (scenario : Contents) (cycle begun : ℕ)
+  pub window_added : (lines : List (Option (List ℕ))) (old : TapsState) (p : Parameters)
+      (failed a b result : Option Tap)
+      (recorded captured recorded' captured' : Option F) (traces : List (Option F)) (scenario : Contents)
+      (cycle begun : ℕ)
       (r : Recorded)
-      (last : Option Recorded) (t : Bool) → files_of p failed recorded captured traces ≡ old → is_some failed ≡ not t
+      (last : Option Recorded) (t : Bool) → files_of lines p failed recorded captured traces ≡ old → is_some failed
+      ≡ not t
       → t ≡ true → scenario ≡ no_lines → cycle ≡ begun - 1 → Some r ≡ last → result ≡ first_failed a b
       → AddsFront a (option_and_then contents recorded) (option_and_then contents recorded')
       (window_text scenario p cycle r)
       → AddsFront b (option_and_then contents captured) (option_and_then contents captured') (window_records p cycle r)
-      → AddsLast old begun last (files_of p result recorded' captured' traces)
-  window_added old p failed a b result recorded captured recorded' captured' traces scenario cycle begun r last t is
+      → WritesLast old begun last (files_of lines p result recorded' captured' traces)
+  window_added lines old p failed a b result recorded captured recorded' captured' traces scenario cycle begun r last
+      t is
       none so_is no_scenario cycle_is last_is result_is first second =
-      let start = files_of p failed recorded captured traces in
-      let end = files_of p result recorded' captured' traces in
+      let start = files_of lines p failed recorded captured traces in
+      let end = files_of lines p result recorded' captured' traces in
       let lines : window_text scenario p cycle r ≡ record_last p begun (Some r) =
       ap₂ (λ (s : Contents) (n : ℕ). window_text s p n r) no_scenario cycle_is in
       let frames : window_records p cycle r ≡ capture_last p begun (Some r) =
@@ -389,10 +408,10 @@ module _ {F : Type 0} (contents : F → Option (List ℕ)) where
       let to_capture : AddsFront result start.captured end.captured (capture_last p begun (Some r)) =
       front_later b result start.captured end.captured (capture_last p begun (Some r))
       (subst (AddsFront b start.captured end.captured) frames second) (λ no. second_none a b (sym result_is ∙ no)) in
-      subst (λ (o : Option Recorded). AddsLast old begun o end) last_is
-      (subst (λ (x : TapsState). AddsLast x begun (Some r) end) is
+      subst (λ (o : Option Recorded). WritesLast old begun o end) last_is
+      (subst (λ (x : TapsState). WritesLast x begun (Some r) end) is
       (both_added start end (record_last p begun (Some r)) (capture_last p begun (Some r))
-      (none_by failed t none so_is) refl refl to_record to_capture))
+      (none_by failed t none so_is) refl refl refl to_record to_capture))
 
 -- ---- the scenario of a record
 

@@ -1,5 +1,6 @@
 -- Each event adds its entry to the journal of its node, and the line of that to the trace.
-use Rattle.std.proofs.Common.{◌≡◌, ◌≢◌, ◌<◌, ◌≤◌, ℕ, Bool, true, false, ◌&&◌, cond, List, [], ◌∷◌, ◌++◌}
+use Rattle.std.proofs.Common.{◌≡◌, ◌≢◌, ◌<◌, ◌≤◌, ℕ, zero, suc, take}
+use Rattle.std.proofs.Common.{Bool, true, false, cond, List, [], ◌∷◌, ◌++◌}
 use Rattle.std.proofs.Common.{length, Option, Some, None, Result, Ok, Err, refl, sym, ap, ap₂, subst, ◌∙◌, append_assoc}
 use Rattle.std.proofs.Common.{append-nil, arith, get_or, eqb, inl, inr, ◌⊎◌}
 use Rattle.std.specs.Prelude.{is_ok}
@@ -27,10 +28,16 @@ use Rattle.fr_core.specs.Worlds.{WorldState, carried_at, has_node, interface_at,
 use Rattle.fr_endless.proofs.TapLemmas.{added_as, added_none, capture_grows, done_keeps, record_grows, seals_window}
 use Rattle.fr_endless.proofs.TapLemmas.{more_none, more_unknown, no_text, told_flushed, told_more}
 use Rattle.fr_endless.specs.Alike.{Alike}
-use Rattle.fr_endless.specs.Taps.{AddsBoth, AddsEach, AddsLast, AddsMore, IsTold, TapsState, ToldAlike}
+use Rattle.fr_endless.specs.declared.front.Front.{Front}
+use Rattle.fr_endless.specs.declared.front.Front.TheVariants as front
+use Rattle.fr_endless.specs.Fronts.{IsUntraced, events_of}
+use Rattle.fr_endless.specs.Taps.{AddsBoth, AddsEach, AddsLast, AddsMore, IsLine, IsTold, Start, TapsState, ToldAlike}
+use Rattle.fr_endless.proofs.KeptLemmas.{as_many_places, holds_as, holds_sealed}
+use Rattle.fr_endless.specs.Kept.{HoldsLast}
+use Rattle.fr_endless.specs.Taps.{IsToldHistory, ToldBy, with_kept}
 use Rattle.fr_endless.specs.Taps.{ToldState}
 use Rattle.fr_endless.specs.Taps.{at_node, body_at, capture_last, is_seal, record_last, record_of, traced_in, with_taps}
-use Rattle.fr_endless.specs.Tracing.{IsPlain, adds_entry, entry_by, fetched_entry, has_traces, line_in, node_of}
+use Rattle.fr_endless.specs.Tracing.{IsPlain, adds_entry, entry_by, fetched_entry, line_in, node_of}
 use Rattle.fr_endless.specs.Tracing.{call_in, entry_told, observed_entry}
 use Rattle.fr_endless.specs.declared.tracing.HostCall.{HostCall}
 use Rattle.fr_interface.specs.Calls.{call_answer}
@@ -42,7 +49,7 @@ use Rattle.fr_interface.specs.State.{State, fetch_entry, pop_entry, read_entry, 
 use Rattle.fr_journal.specs.declared.entry.Entry.TheVariants as entries
 use Rattle.fr_journal.specs.Forms.{Entry}
 use Rattle.fr_live.proofs.LeadLemmas.{as_many, carried_same, history_lent, index_any}
-use Rattle.fr_live.specs.LiveSteps.{AppliesAlike, StepsAlike, without_value}
+use Rattle.fr_live.specs.LiveSteps.{Accepts, AcceptsAlike, AppliesAlike, StepsAlike, without_value}
 use Rattle.fr_live.specs.LiveWorlds.{LiveState, IsWorldHistory}
 use Rattle.fr_showing.specs.Listening.{all_records}
 use Rattle.fr_slots.specs.Parameters.{Parameters}
@@ -178,30 +185,35 @@ none_adds taps w event none =
     (λ n. sym (ap (λ (e : Option Entry). at_node (node_of event) (line_in e) n) (no_entry w event none)
     ∙ no_text (node_of event) n)) (added_none taps)
 
-untraced_adds : (taps : TapsState) (texts : ℕ → List ℕ) → taps.traced ≡ [] → AddsEach taps taps texts
-untraced_adds taps texts none = record {
+untraced_adds : (taps : TapsState) (node : ℕ) (text : List ℕ) → traced_in taps.traced node ≡ None
+    → AddsEach taps taps (at_node node text)
+untraced_adds taps node text none = record {
   params_are = refl;
+  kept_is = refl;
   stays = λ no. no;
   to_record = more_none taps.failed taps.failed taps.recorded;
   to_capture = more_none taps.failed taps.failed taps.captured;
-  to_traces = λ n.
-      let past : traced_in taps.traced n ≡ None = ap (λ (l : List (Option (List ℕ))). traced_in l n) none in
-      subst (λ (x : Option (List ℕ)). AddsMore taps.failed taps.failed x x (texts n)) (sym past)
-      (more_unknown taps.failed taps.failed None (texts n));
+  to_traces = λ n. by n (eqb_tells n node);
 }
+  where
+    by : (n : ℕ) → ((eqb n node ≡ true) × (n ≡ node)) ⊎ ((eqb n node ≡ false) × (n ≢ node))
+        → AddsMore taps.failed taps.failed (traced_in taps.traced n) (traced_in taps.traced n) (at_node node text n)
+    by n (inl (test, same)) =
+        let past : traced_in taps.traced n ≡ None = ap (traced_in taps.traced) same ∙ none in
+        subst (λ (x : Option (List ℕ)). AddsMore taps.failed taps.failed x x (at_node node text n)) (sym past)
+        (more_unknown taps.failed taps.failed None (at_node node text n))
+    by n (inr (test, other)) =
+        subst (AddsMore taps.failed taps.failed (traced_in taps.traced n) (traced_in taps.traced n))
+        (sym (ap (λ (b : Bool). cond b text []) test)) (more_none taps.failed taps.failed (traced_in taps.traced n))
 
 plain_adds : (taps : TapsState) (event : Event) → IsPlain taps.traced event → (w : WorldState)
     → AddsEach taps taps (at_node (node_of event) (line_in (entry_by w event)))
-plain_adds taps event plain w = by taps.traced refl (adds_entry event) refl
+plain_adds taps event plain w = by (adds_entry event) refl
   where
-    by : (traced : List (Option (List ℕ))) → taps.traced ≡ traced → (b : Bool) → adds_entry event ≡ b
+    by : (b : Bool) → adds_entry event ≡ b
         → AddsEach taps taps (at_node (node_of event) (line_in (entry_by w event)))
-    by [] is b entry = untraced_adds taps _ is
-    by (x ∷ xs) is false entry = none_adds taps w event entry
-    by (x ∷ xs) is true entry =
-        let enters : has_traces taps.traced && adds_entry event ≡ true =
-        ap₂ (λ (l : List (Option (List ℕ))) (b : Bool). has_traces l && b) is entry in
-        absurd (let no : ⊥ = cc (sym enters ∙ plain) in no)
+    by true enters = untraced_adds taps (node_of event) (line_in (entry_by w event)) (plain enters)
+    by false none = none_adds taps w event none
 
 -- ---- events by the kept data
 
@@ -225,6 +237,8 @@ adding_told l m old new event R other steps adds given s w is =
             (ap (record_of s.params) kept ∙ sym (append-nil (record_of s.params w.bus.sealed)))
             (ap (all_records s.params) kept ∙ sym (append-nil (all_records s.params w.bus.sealed)))
             (λ n. ap (λ (u : WorldState). body_at u n) step.2 ∙ done_grows w event step.0 n) is.is_told;
+        holds = holds_as old.kept new.kept w.bus.sealed v.bus.sealed (adds w is.leads step.0).kept_is kept is.holds;
+        keep_is = ap (λ (k : List (Option (List ℕ))). length k) (adds w is.leads step.0).kept_is ∙ is.keep_is;
       },
     )
 
@@ -233,7 +247,16 @@ refused_told : (l m : LiveState) (taps : TapsState) (R : WorldState → WorldSta
     → ((w v : WorldState) → R w v → v ≡ w) → Alike l R m → ToldAlike (with_taps l taps) R (with_taps m taps)
 refused_told l m taps R same given s w is =
     let (v, one, leads) = given w is.leads in
-    (v, one, record { leads = leads; is_told = subst (IsTold s taps) (sym (same w v one)) is.is_told })
+    let stays = sym (same w v one) in (
+      v,
+      one,
+      record {
+        leads = leads;
+        is_told = subst (IsTold s taps) stays is.is_told;
+        holds = subst (λ (u : WorldState). HoldsLast taps.kept u.bus.sealed) stays is.holds;
+        keep_is = is.keep_is;
+      },
+    )
 
 -- an event that is no seal and adds no line
 pub step_kept : (l m : LiveState) (taps : TapsState) (event : Event) (answer : Answer) → is_seal event ≡ false
@@ -268,6 +291,16 @@ apply_refused l m taps event (Ok done) refused steps = absurd (let none : ⊥ = 
 apply_refused l m taps event (Err e) refused steps =
     refused_told l m taps (λ w v. Applies w event (Err e) v) (λ w v step. step.1) steps
 
+-- other lines are kept
+told_with : (s : Start) (taps : TapsState) (kept : List (Option (List ℕ))) (w : WorldState) → IsTold s taps w
+    → IsTold s (with_kept taps kept) w
+told_with s taps kept w is = record {
+  params_are = is.params_are;
+  recorded_are = is.recorded_are;
+  captured_are = is.captured_are;
+  traces_are = is.traces_are;
+}
+
 -- a seal, after which the last window is added
 sealed_told : (l m : LiveState) (old new : TapsState) (reply : Reply) → StepsAlike l Seal (Ok reply) m
     → AddsLast old m.bus.bus.course.begun m.bus.last new
@@ -275,21 +308,26 @@ sealed_told : (l m : LiveState) (old new : TapsState) (reply : Reply) → StepsA
 sealed_told l m old new reply steps adds s w is =
     let (v, step, leads) = steps w is.leads in
     let (made, grows) = seals_window l w v reply is.leads step in
+    let (kept, keeps, writes) = adds in
     let begun = m.bus.bus.course.begun in
     let same = is.is_told.params_are in (
       v,
       step,
       record {
         leads = leads;
-        is_told = told_more s old new w v (record_last old.params begun m.bus.last)
-            (capture_last old.params begun m.bus.last) (λ n. []) adds
+        is_told = told_more s (with_kept old kept) new w v (record_last old.params begun m.bus.last)
+            (capture_last old.params begun m.bus.last) (λ n. []) writes
             (record_grows s.params m w v made grows leads
             ∙ ap (λ (p : Parameters). record_of s.params w.bus.sealed ++ record_last p begun m.bus.last) (sym same))
             (capture_grows s.params m w v made grows leads
             ∙ ap (λ (p : Parameters). all_records s.params w.bus.sealed ++ capture_last p begun m.bus.last) (sym same))
             (λ n. ap (λ (u : WorldState). body_at u n) step.2 ∙ done_grows w Seal step.0 n
             ∙ ap (λ (t : List ℕ). body_at w n ++ t) (no_text 0 n))
-            is.is_told;
+            (told_with s old kept w is.is_told);
+        holds = subst (λ (k : List (Option (List ℕ))). HoldsLast k v.bus.sealed) (sym writes.kept_is)
+            (holds_sealed m w v made old.kept kept grows leads is.holds keeps);
+        keep_is = ap (λ (k : List (Option (List ℕ))). length k) writes.kept_is
+            ∙ as_many_places m.bus.last old.kept kept keeps ∙ is.keep_is;
       },
     )
 
@@ -333,12 +371,30 @@ added_by old new b h is adds = subst (λ (x : LiveStanding). AddsLast old x.bus.
 
 -- ---- a flush
 
+end_flushed : (s : Start) (m : LiveState) (mid new : TapsState) (v : WorldState) → AddsBoth mid new [] []
+    → IsToldHistory s (with_taps m mid) v → IsToldHistory s (with_taps m new) v
+end_flushed s m mid new v adds end =
+    let same = adds.kept_is in record {
+      leads = end.leads;
+      is_told = told_flushed s mid new v adds end.is_told;
+      holds = subst (λ (k : List (Option (List ℕ))). HoldsLast k v.bus.sealed) (sym same) end.holds;
+      keep_is = ap (λ (k : List (Option (List ℕ))). length k) same ∙ end.keep_is;
+    }
+
 -- the files are flushed afterwards
 pub told_then_flushed : (old : ToldState) (m : LiveState) (mid new : TapsState) (R : WorldState → WorldState → Type 0)
     → ToldAlike old R (with_taps m mid) → AddsBoth mid new [] [] → ToldAlike old R (with_taps m new)
 told_then_flushed old m mid new R given adds s w is =
     let (v, one, end) = given s w is in
-    (v, one, record { leads = end.leads; is_told = told_flushed s mid new v adds end.is_told })
+    (v, one, end_flushed s m mid new v adds end)
+
+-- the same, if the lines of so many windows are kept
+pub flushed_by : (keep : ℕ) (old : ToldState) (m : LiveState) (mid new : TapsState)
+    (R : WorldState → WorldState → Type 0) → ToldBy keep old R (with_taps m mid) → AddsBoth mid new [] []
+    → ToldBy keep old R (with_taps m new)
+flushed_by keep old m mid new R given adds s w is k =
+    let (v, one, end) = given s w is k in
+    (v, one, end_flushed s m mid new v adds end)
 
 -- ---- an event that adds a line
 
@@ -371,20 +427,55 @@ entry_there w (Inject fault) enters free = absurd (let no : ⊥ = cc enters in n
 entry_there w Seal enters free = absurd (let no : ⊥ = cc enters in no)
 entry_there w Advance enters free = absurd (let no : ⊥ = cc enters in no)
 
--- the entry was had before the event
-pub slot_told : (l m : LiveState) (old new : TapsState) (event : Event) (answer : Answer) (node : ℕ)
-    (entry : Option Entry) → is_ok answer ≡ true → adds_entry event ≡ true → StepsAlike l event answer m
-    → node ≡ node_of event
-    → ((w : WorldState) → IsWorldHistory l w → has_node w (node_of event) ≡ true → entry ≡ entry_by w event)
-    → AddsEach old new (at_node node (line_in entry))
-    → ToldAlike (with_taps l old) (λ w v. Steps w event answer v) (with_taps m new)
-slot_told l m old new event (Err e) node entry ok enters steps node_is entry_is adds = absurd (let no : ⊥ = cc ok in no)
-slot_told l m old new event (Ok reply) node entry ok enters steps node_is entry_is adds =
-    adding_told l m old new event (λ w v. Steps w event (Ok reply) v) (entry_unsealed event enters)
-    (λ w v step. (reply, step))
-    (λ w is free. added_as old new (at_node node (line_in entry)) (at_node (node_of event) (line_in (entry_by w event)))
-    (λ n. ap₂ (λ (k : ℕ) (e : Option Entry). at_node k (line_in e) n) node_is
-    (entry_is w is (entry_there w event enters free))) adds) steps
+-- the line was written before the event
+pub slot_lined : (l m : LiveState) (old new : TapsState) (event : Event) (outcome : Result (Unit {0}) StepError)
+    (node : ℕ) (line : Option (List ℕ)) → is_ok outcome ≡ true → adds_entry event ≡ true
+    → AppliesAlike l event outcome m → node ≡ node_of event
+    → ((w : WorldState) → IsWorldHistory l w → has_node w (node_of event) ≡ true
+    → IsLine line (line_in (entry_by w event)))
+    → ((text : List ℕ) → IsLine line text → AddsEach old new (at_node node text))
+    → ToldAlike (with_taps l old) (λ w v. Applies w event outcome v) (with_taps m new)
+slot_lined l m old new event (Err e) node line ok enters applies node_is line_is adds =
+    absurd (let no : ⊥ = cc ok in no)
+slot_lined l m old new event (Ok done) node line ok enters applies node_is line_is adds =
+    adding_told l m old new event (λ w v. Applies w event (Ok done) v) (entry_unsealed event enters)
+    (λ w v step. (step_reply w event, step))
+    (λ w is free. added_as old new (at_node node (line_in (entry_by w event)))
+    (at_node (node_of event) (line_in (entry_by w event)))
+    (λ n. ap (λ (k : ℕ). at_node k (line_in (entry_by w event)) n) node_is)
+    (adds (line_in (entry_by w event)) (line_is w is (entry_there w event enters free)))) applies
+
+slot_done : (w : WorldState) (event : Event) → adds_entry event ≡ true → call_in event ≡ None
+    → Done ≡ step_reply w event
+slot_done w (Commit m task buffer payload) enters slot = absurd (let no : ⊥ = cc slot in no)
+slot_done w (Withdraw m task buffer) enters slot = absurd (let no : ⊥ = cc slot in no)
+slot_done w (Read m task buffer) enters slot = absurd (let no : ⊥ = cc slot in no)
+slot_done w (Pop m task) enters slot = absurd (let no : ⊥ = cc slot in no)
+slot_done w (Look m) enters slot = absurd (let no : ⊥ = cc enters in no)
+slot_done w (Fetch m) enters slot = refl
+slot_done w (Put m) enters slot = refl
+slot_done w (Take m) enters slot = refl
+slot_done w (Observe m) enters slot = refl
+slot_done w (Inject fault) enters slot = refl
+slot_done w Seal enters slot = refl
+slot_done w Advance enters slot = refl
+
+-- with its reply
+pub slot_accepted : (old new : ToldState) (event : Event) (outcome : Result (Unit {0}) StepError) (done : Unit {0})
+    → adds_entry event ≡ true → call_in event ≡ None → outcome ≡ Ok done
+    → ToldAlike old (λ w v. Applies w event outcome v) new → ToldAlike old (λ w v. Steps w event (Ok Done) v) new
+slot_accepted old new event outcome done enters slot is told s w at =
+    let (v, applies, end) = told s w at in
+    let step : Applies w event (Ok done) v =
+    subst (λ (o : Result (Unit {0}) StepError). Applies w event o v) is applies in
+    (v, (step.0, slot_done w event enters slot, step.2), end)
+
+pub slot_refused : (old new : ToldState) (event : Event) (outcome : Result (Unit {0}) StepError) (e : StepError)
+    → outcome ≡ Err e → ToldAlike old (λ w v. Applies w event outcome v) new
+    → ToldAlike old (λ w v. Steps w event (Err e) v) new
+slot_refused old new event outcome e is told s w at =
+    let (v, applies, end) = told s w at in
+    (v, subst (λ (o : Result (Unit {0}) StepError). Applies w event o v) is applies, end)
 
 -- ---- a call of a host
 
@@ -475,11 +566,11 @@ applied_told old new event answer outcome is told =
 
 -- by the data of the node's interface and of its controller
 pub fetch_at : (l : LiveState) (n place : ℕ) (interfaces : List Standing) (controllers : List Carried) (h : Standing)
-    (k : Carried) (entry : Option Entry) → interfaces ≡ l.interfaces → controllers ≡ l.carried → place ≡ n
+    (k : Carried) (P : Option Entry → Type 0) → interfaces ≡ l.interfaces → controllers ≡ l.carried → place ≡ n
     → place < length interfaces → place < length controllers → h ≡ get_or interfaces place h
-    → k ≡ get_or controllers place k → ((s : State) → IsHistory h s → entry ≡ fetched_entry s k) → (w : WorldState)
-    → IsWorldHistory l w → entry ≡ fetched_entry (interface_at w n) (carried_at w n)
-fetch_at l n place interfaces controllers h k entry all_is every_is place_is within known lent taken had w is =
+    → k ≡ get_or controllers place k → ((s : State) → IsHistory h s → P (fetched_entry s k)) → (w : WorldState)
+    → IsWorldHistory l w → P (fetched_entry (interface_at w n) (carried_at w n))
+fetch_at l n place interfaces controllers h k P all_is every_is place_is within known lent taken had w is =
     let here : n < length l.interfaces = subst (λ (m : ℕ). m < length l.interfaces) place_is
     (subst (λ (hs : List Standing). place < length hs) all_is within) in
     let lent_here : h ≡ get_or l.interfaces n h = lent
@@ -487,8 +578,8 @@ fetch_at l n place interfaces controllers h k entry all_is every_is place_is wit
     let carried : k ≡ carried_at w n =
     taken ∙ index_any controllers place k Idle known
     ∙ ap₂ (λ (ks : List Carried) (m : ℕ). get_or ks m Idle) every_is place_is ∙ carried_same w l is.leads n in
-    had (interface_at w n) (history_lent w l is.leads n h lent_here here)
-    ∙ ap (fetched_entry (interface_at w n)) carried
+    subst P (ap (fetched_entry (interface_at w n)) carried)
+    (had (interface_at w n) (history_lent w l is.leads n h lent_here here))
 
 -- a node that isn't there
 pub fetch_past : (l : LiveState) (n place : ℕ) (interfaces : List Standing) → interfaces ≡ l.interfaces → place ≡ n
@@ -510,3 +601,84 @@ fetch_idle l n place controllers every_is place_is past w is =
     ∙ sym (ap₂ (λ (ks : List Carried) (m : ℕ). get_or ks m Idle) every_is place_is)
     ∙ get_or_past controllers place Idle past in
     sym (ap (fetched_entry (interface_at w n)) carried)
+
+-- ---- accepted events that add no line
+
+told_kept : (s : Start) (taps : TapsState) (w : WorldState) (event : Event) → is_seal event ≡ false
+    → IsPlain taps.traced event → step_refusal w event ≡ None → IsTold s taps w → IsTold s taps (step_done w event)
+told_kept s taps w event other plain free told =
+    let kept : (step_done w event).bus.sealed ≡ w.bus.sealed = done_keeps w event other in
+    told_more s taps taps w (step_done w event) [] [] (at_node (node_of event) (line_in (entry_by w event)))
+    (plain_adds taps event plain w)
+    (ap (record_of s.params) kept ∙ sym (append-nil (record_of s.params w.bus.sealed)))
+    (ap (all_records s.params) kept ∙ sym (append-nil (all_records s.params w.bus.sealed)))
+    (done_grows w event free) told
+
+-- no event is a seal, and none adds a line
+abbrev pub AreKept : List (Option (List ℕ)) → List Event → Type 0
+AreKept traced [] = Unit {0}
+AreKept traced (e ∷ es) = (is_seal e ≡ false) × IsPlain traced e × AreKept traced es
+
+take_kept : (n : ℕ) (traced : List (Option (List ℕ))) (es : List Event) → AreKept traced es
+    → AreKept traced (take n es)
+take_kept zero traced es all = tt
+take_kept (suc n) traced [] all = tt
+take_kept (suc n) traced (e ∷ es) all = (all.0, all.1, take_kept n traced es all.2)
+
+told_all : (s : Start) (taps : TapsState) (es : List Event) (w v : WorldState) → AreKept taps.traced es
+    → Accepts w es v → IsTold s taps w → IsTold s taps v
+unfolding Accepts
+told_all s taps [] w v all same told = subst (IsTold s taps) (sym same) told
+told_all s taps (e ∷ es) w v all accepts told =
+    told_all s taps es (step_done w e) v all.2 accepts.1 (told_kept s taps w e all.0 all.1 accepts.0 told)
+
+sealed_all : (traced : List (Option (List ℕ))) (es : List Event) (w v : WorldState) → AreKept traced es
+    → Accepts w es v → v.bus.sealed ≡ w.bus.sealed
+unfolding Accepts
+sealed_all traced [] w v all same = ap (λ (u : WorldState). u.bus.sealed) same
+sealed_all traced (e ∷ es) w v all accepts =
+    sealed_all traced es (step_done w e) v all.2 accepts.1 ∙ done_keeps w e all.0
+
+front_kept : (traced : List (Option (List ℕ))) (f : Front) → IsUntraced traced f → AreKept traced (events_of f)
+front_kept traced (front.Offer n) none =
+    (refl, (λ enters. none), (refl, (λ enters. none), (refl, (λ enters. none), tt)))
+front_kept traced (front.See n) none = (refl, (λ enters. none), (refl, (λ enters. none), tt))
+front_kept traced front.Other none = tt
+
+-- the first events of a list
+pub take_front : {X : Type 0} (n : ℕ) (xs ys : List X) → n ≤ length xs → take n (xs ++ ys) ≡ take n xs
+take_front zero xs ys few = refl
+take_front (suc n) [] ys few = absurd (let no : ⊥ = omega (arith, few) in no)
+take_front (suc n) (x ∷ xs) ys few = ap (λ (l : List _). x ∷ l) (take_front n xs ys (omega (arith, few)))
+
+-- the events of a node that isn't traced
+pub front_told : (l m : LiveState) (taps : TapsState) (f : Front) (n : ℕ) (events rest : List Event)
+    → IsUntraced taps.traced f → n ≤ length (events_of f) → events ≡ events_of f ++ rest
+    → AcceptsAlike l (take n (events_of f)) m
+    → ToldAlike (with_taps l taps) (λ w v. Accepts w (take n events) v) (with_taps m taps)
+front_told l m taps f n events rest none few is accepts s w at =
+    let (v, one, leads) = accepts w at.leads in
+    let same : take n (events_of f) ≡ take n events =
+    sym (ap (take n) is ∙ take_front n (events_of f) rest few) in (
+      v,
+      subst (λ (es : List Event). Accepts w es v) same one,
+      record {
+        leads = leads;
+        is_told = told_all s taps (take n (events_of f)) w v
+            (take_kept n taps.traced (events_of f) (front_kept taps.traced f none)) one at.is_told;
+        holds = holds_as taps.kept taps.kept w.bus.sealed v.bus.sealed refl
+            (sealed_all taps.traced (take n (events_of f)) w v
+            (take_kept n taps.traced (events_of f) (front_kept taps.traced f none)) one) at.holds;
+        keep_is = at.keep_is;
+      },
+    )
+
+pub accepts_none : (l : LiveState) → AcceptsAlike l [] l
+unfolding Accepts
+accepts_none l w is = (w, refl, is)
+
+-- no event
+pub front_none : (l : LiveState) (taps : TapsState) (events : List Event)
+    → ToldAlike (with_taps l taps) (λ w v. Accepts w (take 0 events) v) (with_taps l taps)
+unfolding Accepts
+front_none l taps events s w at = (w, refl, at)

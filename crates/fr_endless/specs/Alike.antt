@@ -1,6 +1,6 @@
 -- What happens to each world with its whole history, when only the data that a world keeps are there (project-defined).
 use Rattle.std.specs.Prelude.{ℕ, ◌-◌, List, length, map, if◌then◌else◌}
-use Rattle.fr_bus.specs.Windows.{opens_cycle}
+use Rattle.fr_slots.specs.Windows.{opens_cycle}
 use Rattle.fr_core.specs.Worlds.{WorldState}
 use Rattle.fr_interface.specs.State.{State}
 use Rattle.fr_live.specs.LiveWorlds.{LiveState, IsWorldHistory}

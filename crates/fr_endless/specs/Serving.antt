@@ -1,36 +1,45 @@
 -- The effect of an endless session on the lines that it reads (project-defined).
 use Rattle.std.specs.Prelude.{⊤, ◌≡◌, ◌⊎◌, ℕ, ◌+◌, Bool, true, false, List, [], ◌∷◌, ◌++◌, length, Option, Some, None}
-use Rattle.std.specs.Prelude.{Result, Ok, Err}
+use Rattle.std.specs.Prelude.{Result, Ok, Err, min, slice_get}
 use Rattle.std.specs.Io.KnownBytes.{Appends, Keeps}
 use Rattle.std.specs.List.{flat_map}
 use Rattle.fr_bus.specs.Standing.{roomless}
-use Rattle.fr_bus.specs.States.{last_recorded}
-use Rattle.fr_endless.specs.Answers.{if_numbered, no_history_text}
+use Rattle.fr_endless.specs.Answers.{no_history_text}
 use Rattle.fr_endless.specs.declared.error.EndlessError.{EndlessError}
 use Rattle.fr_endless.specs.declared.error.EndlessError.TheVariants as failure
 use Rattle.fr_endless.specs.declared.taps.Tap.{Tap}
-use Rattle.fr_endless.specs.Taps.{TapsState, Tells, TellsWhole, ToldAlike, ToldState}
+use Rattle.fr_endless.specs.Kept.{IsKeptRecord, is_kept}
+use Rattle.fr_endless.specs.Taps.{TapsState, Tells, TellsWhole, ToldAlike, ToldBy, ToldState}
 use Rattle.fr_core.specs.Worlds.{WorldState}
 use Rattle.fr_lines.specs.Spelling.{line_text}
 use Rattle.fr_live.specs.LiveWorlds.{LiveState, ForEachWorld}
-use Rattle.fr_runs.specs.declared.fault_line.FaultLine.{FaultLine}
 use Rattle.fr_schedule.specs.Descriptions.{Description}
 use Rattle.fr_session.specs.declared.error.SessionError.TheVariants.{Read, Write, Memory}
+use Rattle.fr_session.specs.declared.noted.Noted.{Noted}
 use Rattle.fr_session.specs.declared.request.Request.{Request}
 use Rattle.fr_session.specs.declared.request.Request.TheVariants as request
 use Rattle.fr_session.specs.Cuts.{EndsEarly, IsFront}
 use Rattle.fr_session.specs.Lines.{AreLines, IsCut, Comes, TakesPart, with_feed}
-use Rattle.fr_session.specs.Queries.{IsRecordOf}
 use Rattle.fr_session.specs.Reading.{asked_in}
 use Rattle.fr_session.specs.Replies.{bad_line_words, greeting}
-use Rattle.fr_session.specs.Sessions.{Terms, SessionState, state_of, opening, DoesRequest}
+use Rattle.fr_session.specs.Sessions.{DoesRequest, Receives, SessionState, TakesNext, Terms, opening}
+use Rattle.fr_session.specs.Sessions.{state_of, terms_of}
+
+-- ---- the terms
+
+-- A fault line names cycles 0 to 1023 at most. The lines of the record are kept for so many windows.
+abbrev pub endless_terms : Description → ℕ → ℕ → Terms
+endless_terms d cycles keep = record (terms_of d (min cycles 1024)) { keep = keep }
 
 -- ---- one line
 
 -- Every request does what it does in a session with history, and gets the same reply, with three exceptions. A trace
--- and an origin aren't known. A window of the record is known only if it is the last one.
+-- and an origin aren't known. A window of the record is known only if it is one of the last ones.
 abbrev pub DoesEndless : Terms → SessionState → Request → List ℕ → SessionState → Type 0
 DoesEndless terms old (request.Event event) reply new = DoesRequest terms old (request.Event event) reply new
+DoesEndless terms old (request.Receive node task buffer) reply new =
+    DoesRequest terms old (request.Receive node task buffer) reply new
+DoesEndless terms old (request.Next node task) reply new = DoesRequest terms old (request.Next node task) reply new
 DoesEndless terms old (request.Fault line) reply new = DoesRequest terms old (request.Fault line) reply new
 DoesEndless terms old (request.Faults a b) reply new = DoesRequest terms old (request.Faults a b) reply new
 DoesEndless terms old request.Forget reply new = DoesRequest terms old request.Forget reply new
@@ -44,7 +53,8 @@ DoesEndless terms old (request.Status node channel) reply new =
 DoesEndless terms old (request.Trace node) reply new = (new ≡ old) × (reply ≡ no_history_text)
 DoesEndless terms old (request.Origin node) reply new = (new ≡ old) × (reply ≡ no_history_text)
 DoesEndless terms old (request.Record window) reply new =
-    (new ≡ old) × IsRecordOf (if_numbered window (last_recorded old.world.bus)) reply
+    let sealed = old.world.bus.sealed in
+    (new ≡ old) × IsKeptRecord (is_kept terms.keep (length sealed) window) (slice_get sealed window) reply
 
 -- a line that is no request changes nothing
 abbrev pub DoesEndlessIf : Terms → SessionState → ℕ → Option Request → List ℕ → SessionState → Type 0
@@ -71,11 +81,11 @@ Served terms (Some text) before after old new =
     (lines : List (List ℕ)) × (rest : List ℕ) × (replies : List ℕ) × IsCut text lines rest
     × Serves terms old 1 lines replies new × Appends before after (greeting ++ replies)
 
--- from an opening world to another world, with any fault lines kept there
+-- from an opening world to another world, with anything noted there
 abbrev pub ServedEndless : Terms → Option (List ℕ) → Option (List ℕ) → Option (List ℕ) → WorldState → WorldState
     → Type 0
 ServedEndless terms text before after old new =
-    (kept : List FaultLine) × Served terms text before after (opening old) (state_of new kept)
+    (kept : Noted) × Served terms text before after (opening old) (state_of new kept)
 
 -- ---- by the kept data
 
@@ -85,18 +95,27 @@ abbrev pub IsOf : Description → ℕ → LiveState → Type 0
 IsOf d cycles l = ForEachWorld l (λ w. (roomless w.bus.cluster ≡ roomless d) × (w.bus.cycles ≡ cycles))
 
 -- The request of each world that leads to the data gets this reply, and the files get the windows that it seals.
-abbrev pub DoesAlike : Terms → ToldState → List FaultLine → Request → List ℕ → ToldState → List FaultLine → Type 0
+abbrev pub DoesAlike : Terms → ToldState → Noted → Request → List ℕ → ToldState → Noted → Type 0
 DoesAlike terms old kept asked reply new keeps =
-    ToldAlike old (λ w v. DoesEndless terms (state_of w kept) asked reply (state_of v keeps)) new
+    ToldBy terms.keep old (λ w v. DoesEndless terms (state_of w kept) asked reply (state_of v keeps)) new
 
-abbrev pub DoesAlikeIf : Terms → ToldState → List FaultLine → ℕ → Option Request → List ℕ → ToldState
-    → List FaultLine → Type 0
+-- the same of the frame that a buffer holds, and of the next frame of a receive FIFO
+abbrev pub ReceivesAlike : ToldState → Noted → ℕ → ℕ → ℕ → List ℕ → ToldState → Noted → Type 0
+ReceivesAlike old noted node task buffer reply new notes =
+    ToldAlike old (λ w v. Receives (state_of w noted) node task buffer reply (state_of v notes)) new
+
+abbrev pub TakesNextAlike : ToldState → Noted → ℕ → ℕ → List ℕ → ToldState → Noted → Type 0
+TakesNextAlike old noted node task reply new notes =
+    ToldAlike old (λ w v. TakesNext (state_of w noted) node task reply (state_of v notes)) new
+
+abbrev pub DoesAlikeIf : Terms → ToldState → Noted → ℕ → Option Request → List ℕ → ToldState
+    → Noted → Type 0
 DoesAlikeIf terms old kept number asked reply new keeps =
-    ToldAlike old (λ w v. DoesEndlessIf terms (state_of w kept) number asked reply (state_of v keeps)) new
+    ToldBy terms.keep old (λ w v. DoesEndlessIf terms (state_of w kept) number asked reply (state_of v keeps)) new
 
 -- the next line, if a whole one comes, is taken and answered before any byte after it is taken
 abbrev pub AnswersNextAlike : Terms → Bool → Option (List ℕ) → Option (List ℕ) → Option (List ℕ) → Option (List ℕ) → ℕ
-    → ToldState → List FaultLine → ToldState → List FaultLine → Type 0
+    → ToldState → Noted → ToldState → Noted → Type 0
 AnswersNextAlike terms true text left before after number old kept new keeps =
     (line : List ℕ) × (reply : List ℕ) × Comes true text left line
     × DoesAlikeIf terms old kept number (asked_in line) reply new keeps × Appends before after reply
@@ -105,7 +124,7 @@ AnswersNextAlike terms false text left before after number old kept new keeps =
 
 -- The next line isn't answered whole. If a file fails, the line is executed, and nothing of its reply is written.
 abbrev pub FailsNextAlike : Terms → EndlessError → Option (List ℕ) → Option (List ℕ) → Option (List ℕ)
-    → Option (List ℕ) → ℕ → ToldState → List FaultLine → ToldState → List FaultLine → Type 0
+    → Option (List ℕ) → ℕ → ToldState → Noted → ToldState → Noted → Type 0
 FailsNextAlike terms (failure.Session Read) text left before after number old kept new keeps =
     TakesPart text left × Keeps before after × (new ≡ old) × (keeps ≡ kept)
 FailsNextAlike terms (failure.Session Write) text left before after number old kept new keeps =
@@ -155,11 +174,11 @@ abbrev pub EndsAnswered : Terms → EndlessError → Option (List ℕ) → Optio
 EndsAnswered terms (failure.Session error) text before after old new = ⊥
 EndsAnswered terms (failure.Tap tap) text before after old new = Served terms text before after old new
 
--- a session from an opening world to another world, with any fault lines kept there, that ends with the error
+-- a session from an opening world to another world, with anything noted there, that ends with the error
 abbrev pub EndsEndless : Terms → EndlessError → Option (List ℕ) → Option (List ℕ) → Option (List ℕ)
     → Option (List ℕ) → WorldState → WorldState → Type 0
 EndsEndless terms error text left before after old new =
-    (kept : List FaultLine) × (EndsBefore terms error text left before after (opening old) (state_of new kept)
+    (kept : Noted) × (EndsBefore terms error text left before after (opening old) (state_of new kept)
     ⊎ EndsAnswered terms error text before after (opening old) (state_of new kept))
 
 -- the file that failed: none if the session ended with its input or by a stream

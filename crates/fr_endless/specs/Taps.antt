@@ -1,7 +1,7 @@
 -- The files to which a session writes the windows that it seals and the traces of the nodes, and what they have of them
 -- (project-defined).
 use Rattle.std.specs.Prelude.{◌≡◌, ℕ, ◌-◌, ◌==◌, Bool, true, false, List, [], ◌++◌, Option, Some, None}
-use Rattle.std.specs.Prelude.{if◌then◌else◌, slice_get, slice_index_or}
+use Rattle.std.specs.Prelude.{if◌then◌else◌, length, slice_get, slice_index_or}
 use Rattle.std.specs.Io.KnownBytes.{Appends}
 use Rattle.fr_auditing.specs.LongText.{long_begin_text, long_body_text}
 use Rattle.fr_bus.specs.Record.{Recorded}
@@ -11,6 +11,7 @@ use Rattle.fr_core.specs.declared.event.Event.TheVariants.{Commit, Withdraw, Rea
 use Rattle.fr_core.specs.declared.event.Event.TheVariants.{Observe, Inject, Seal, Advance}
 use Rattle.fr_core.specs.Worlds.{WorldState, interface_at}
 use Rattle.fr_endless.specs.declared.taps.Tap.{Tap}
+use Rattle.fr_endless.specs.Kept.{HoldsLast, KeepsLast}
 use Rattle.fr_lines.specs.Spelling.{end_line, line_feed}
 use Rattle.fr_live.specs.LiveWorlds.{Entries, LiveState, IsWorldHistory}
 use Rattle.fr_schedule.specs.Descriptions.{Description}
@@ -79,6 +80,19 @@ pub record TapsState : Type 0 where
   pub captured : Option (List ℕ)
   -- the same of the traces, in the order of the nodes
   pub traced : List (Option (List ℕ))
+  -- the lines of the record for the windows that were sealed last, each at the place of its number
+  pub kept : List (Option (List ℕ))
+
+-- the same files, with other lines
+abbrev pub with_kept : TapsState → List (Option (List ℕ)) → TapsState
+with_kept taps kept = record {
+  params = taps.params;
+  failed = taps.failed;
+  recorded = taps.recorded;
+  captured = taps.captured;
+  traced = taps.traced;
+  kept = kept;
+}
 
 -- the bytes that were written to the trace of a node, if there is one and they are known
 abbrev pub traced_in : List (Option (List ℕ)) → ℕ → Option (List ℕ)
@@ -105,6 +119,7 @@ AddsMore (Some tap) failed before after text = Appends before after []
 -- these texts are added to the record, to the capture and to the trace of each node; a failure stays
 pub record Adds (old new : TapsState) (recorded captured : List ℕ) (traced : ℕ → List ℕ) : Type 0 where
   pub params_are : new.params ≡ old.params
+  pub kept_is : new.kept ≡ old.kept
   pub stays : new.failed ≡ None → old.failed ≡ None
   pub to_record : AddsMore old.failed new.failed old.recorded new.recorded recorded
   pub to_capture : AddsMore old.failed new.failed old.captured new.captured captured
@@ -123,14 +138,30 @@ abbrev pub AddsAt : Option Tap → List (Option (List ℕ)) → List (Option (Li
 AddsAt failed before after node text =
     (n : ℕ) → AddsFront failed (traced_in before n) (traced_in after n) (at_node node text n)
 
+-- the gathered line is this text, if there is a line
+abbrev pub IsLine : Option (List ℕ) → List ℕ → Type 0
+IsLine None text = Unit {0}
+IsLine (Some line) text = line ≡ text
+
 -- both files get what they have of the window that was sealed last
+abbrev pub WritesLast : TapsState → ℕ → Option Recorded → TapsState → Type 0
+WritesLast old begun last new =
+    AddsBoth old new (record_last old.params begun last) (capture_last old.params begun last)
+
+-- the lines of this window are kept
+abbrev pub KeepsWindow : TapsState → Option Recorded → TapsState → Type 0
+KeepsWindow old last new =
+    (kept : List (Option (List ℕ))) × KeepsLast old.kept last kept × (new ≡ with_kept old kept)
+
+-- so are they, and then both files get what they have of the window
 abbrev pub AddsLast : TapsState → ℕ → Option Recorded → TapsState → Type 0
-AddsLast old begun last new = AddsBoth old new (record_last old.params begun last) (capture_last old.params begun last)
+AddsLast old begun last new =
+    (kept : List (Option (List ℕ))) × KeepsLast old.kept last kept × WritesLast (with_kept old kept) begun last new
 
 -- ---- what the files have of a way from a world to another
 
--- The start of a way: the parameters, the bytes of each file, and the texts of the windows that were sealed by then and
--- of the traces.
+-- The start of a way: the parameters, the bytes of each file, the texts of the windows that were sealed by then and of
+-- the traces, and the number of windows whose lines are kept.
 pub record Start : Type 0 where
   pub params : Parameters
   pub recorded : Option (List ℕ)
@@ -139,6 +170,8 @@ pub record Start : Type 0 where
   pub record_before : List ℕ
   pub capture_before : List ℕ
   pub trace_before : ℕ → List ℕ
+  -- the number of windows whose lines are kept
+  pub keep : ℕ
 
 abbrev pub start_of : TapsState → WorldState → Start
 start_of taps w = record {
@@ -149,6 +182,7 @@ start_of taps w = record {
   record_before = record_of taps.params w.bus.sealed;
   capture_before = all_records taps.params w.bus.sealed;
   trace_before = λ n. body_at w n;
+  keep = length taps.kept;
 }
 
 -- With this opening, the file has what a text has beyond an earlier one. If a file has failed, it has a front of that.
@@ -212,14 +246,22 @@ is_seal Advance = false
 abbrev pub with_taps : LiveState → TapsState → ToldState
 with_taps live taps = record { live = live; taps = taps }
 
--- a world that leads to the data, of which the files were told since the start
+-- a world that leads to the data, of which the files were told since the start, and whose last windows' lines are kept
 pub record IsToldHistory (s : Start) (t : ToldState) (w : WorldState) : Type 0 where
   pub leads : IsWorldHistory t.live w
   pub is_told : IsTold s t.taps w
+  pub holds : HoldsLast t.taps.kept w.bus.sealed
+  pub keep_is : length t.taps.kept ≡ s.keep
 
 -- Each world that leads to the data before a call is in this relation to one that leads to the data after it, and the
 -- files get what is sealed on the way.
 abbrev pub ToldAlike : ToldState → (WorldState → WorldState → Type 0) → ToldState → Type 0
 ToldAlike old Relates new =
     (s : Start) (w : WorldState) → IsToldHistory s old w
+    → (v : WorldState) × Relates w v × IsToldHistory s new v
+
+-- the same, if the lines of so many windows are kept
+abbrev pub ToldBy : ℕ → ToldState → (WorldState → WorldState → Type 0) → ToldState → Type 0
+ToldBy keep old Relates new =
+    (s : Start) (w : WorldState) → IsToldHistory s old w → s.keep ≡ keep
     → (v : WorldState) × Relates w v × IsToldHistory s new v

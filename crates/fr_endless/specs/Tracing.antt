@@ -1,5 +1,5 @@
 -- The entry that an accepted event adds to the journal of its node (project-defined).
-use Rattle.std.specs.Prelude.{◌≡◌, ◌&&◌, ℕ, Bool, true, false, List, [], ◌∷◌, Option, Some, None, option_map}
+use Rattle.std.specs.Prelude.{◌≡◌, ℕ, Bool, true, false, List, [], Option, Some, None, option_map}
 use Rattle.fr_core.specs.Carried.{Carried, Idle, Knows, Offers, Waits, Took}
 use Rattle.fr_core.specs.declared.event.Event.{Event}
 use Rattle.fr_core.specs.declared.event.Event.TheVariants.{Commit, Withdraw, Read, Pop, Look, Fetch, Put, Take}
@@ -15,6 +15,7 @@ use Rattle.fr_journal.specs.declared.entry.Entry.TheVariants as entries
 use Rattle.fr_journal.specs.declared.entry.Origin.{Origin}
 use Rattle.fr_journal.specs.Forms.{Entry}
 use Rattle.fr_journal.specs.Held.{origin_of}
+use Rattle.fr_endless.specs.Taps.{traced_in}
 use Rattle.fr_trace.specs.TraceText.{entry_line}
 
 -- ---- the entry of an event
@@ -111,11 +112,6 @@ entry_told task call.Pop given = entries.Pop task (origin_in given)
 
 -- ---- the traces
 
--- whether there are traces
-abbrev pub has_traces : List (Option (List ℕ)) → Bool
-has_traces [] = false
-has_traces (bytes ∷ more) = true
-
 -- whether the event adds an entry to a journal, if it is accepted
 abbrev pub adds_entry : Event → Bool
 adds_entry (Commit n task buffer payload) = true
@@ -131,10 +127,6 @@ adds_entry (Inject fault) = false
 adds_entry Seal = false
 adds_entry Advance = false
 
--- whether the event, if it is accepted, adds a line to a trace
-abbrev pub is_traced_by : List (Option (List ℕ)) → Event → Bool
-is_traced_by traced event = has_traces traced && adds_entry event
-
--- it adds none: there are no traces, or it adds no entry
+-- if it adds an entry, the bytes of its node's trace aren't known: there is no such trace
 abbrev pub IsPlain : List (Option (List ℕ)) → Event → Type 0
-IsPlain traced event = is_traced_by traced event ≡ false
+IsPlain traced event = adds_entry event ≡ true → traced_in traced (node_of event) ≡ None

@@ -3,11 +3,11 @@
 //!
 //! ```text
 //! let mut world = EndlessWorld::new(alloc, &cluster, greatest_cycles(&cluster), &Room::greatest())?;
-//! let mut taps = Taps::new(alloc, cluster.params(), Some(record_file), None, Vec::new(alloc))?;
+//! let mut taps = Taps::new(alloc, cluster.params(), Some(record_file), None, Vec::new(alloc), 0)?;
 //! serve_endless(alloc, &cluster, cycles, &mut world, &mut taps, &mut reader, &mut writer)?;
 //! // run 1024              open 7168 0 0 1 1
 //! // record 7167           lines 1 ..
-//! // record 0              refused NoWindow
+//! // record 0              refused NotKept
 //! // trace 0               refused NoHistory
 //! ```
 //!
@@ -17,6 +17,8 @@
 //!
 //! - `Alike`: what happens to each world with its history, when only its kept data are there.
 //! - `Answers`: the replies that a session with history gives in another way, and a node in an outcome.
+//! - `Kept`: the lines of the record that a session keeps for the windows that were sealed last.
+//! - `Fronts`: the events of a node that one call of a world executes.
 //! - `Serving`: an endless session.
 //! - `Taps`: the files to which a session writes the windows that it seals and the entries of its nodes, and what they
 //!   have of them.
@@ -26,10 +28,13 @@
 //!
 //! A *tap* is a file to which a session writes as it goes: each window that it seals, as `fr_view record` or
 //! `fr_view bus` has it, or each entry of a node, as a trace has it. `step_told` and `apply_told` (`telling`) execute
-//! an event, and after a seal add the last window to the record and the capture. If there are traces, `step_traced`
-//! (`tracing`) executes an event that adds an entry. It makes the entry of a call from the answer, and that of a
-//! controller from what it carries before the event. If a file fails, the request is executed to its end, and the
-//! session ends in place of the reply.
+//! an event, and after a seal add the last window to the record and the capture. If the node is traced, `step_traced`
+//! (`tracing`) executes an event that adds an entry. It makes the entry of a call from the answer, and the line of a
+//! controller's entry from what it carries before the event. If a file fails, the request is executed to its end, and
+//! the session ends in place of the reply. The events of a node that isn't traced are executed by one call (`front`).
+//!
+//! The lines of the last windows are kept in the order of their numbers, each at the place of its number (`keeping`).
+//! `receive` and `next` look at the frame that is due, and then make the step of `read` or `pop` (`receiving`).
 //!
 //! An `EndlessWorld` is a `LiveWorld` (`fr_live`) with the number of buffers of each node, which a report needs. The
 //! requests are those of `fr_session`, read and written by its functions, and kept fault lines are its `KeptLines`.
@@ -38,9 +43,12 @@
 #![tactic(auto)]
 
 pub mod error;
+pub mod front;
+mod keeping;
 mod moving;
 pub mod outcome;
 mod queries;
+mod receiving;
 pub mod session;
 pub mod striking;
 pub mod taps;

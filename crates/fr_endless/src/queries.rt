@@ -3,9 +3,9 @@ ghost use Rattle.std.specs.Prelude.{◌≡◌, option_map, slice_get};
 ghost use Rattle.fr_auditing.specs.KeptReport.{kept_report};
 ghost use Rattle.fr_bus.specs.Standing.{bare};
 ghost use Rattle.fr_endless.specs.Alike.{Alike};
-ghost use Rattle.fr_endless.specs.Answers.{kept_status, kept_time, if_numbered, no_history_text};
+ghost use Rattle.fr_endless.specs.Answers.{kept_status, kept_time, no_history_text};
 ghost use Rattle.fr_endless.specs.Answers.{windows_by, IsReportOf, IsStatusOf};
-ghost use Rattle.fr_session.specs.Queries.{now_text, moved_text, IsBlock, IsRecordOf, Replies};
+ghost use Rattle.fr_session.specs.Queries.{now_text, moved_text, IsBlock, Replies};
 ghost use Rattle.fr_text.specs.Writing.{Writes};
 
 use crate::world::EndlessWorld;
@@ -16,7 +16,7 @@ use fr_bus::outcome::Sealed;
 use fr_core::error::StepError;
 use fr_interface::state::InterfaceState;
 use fr_session::prepared::BlockWriter;
-use fr_session::queries::{write_block, write_memory, write_sealed_block, write_unknown};
+use fr_session::queries::{write_block, write_memory, write_unknown};
 use fr_session::replies::{write_refusal, write_window};
 use fr_session::status::{counts_on, write_status};
 use fr_session::time::write_time;
@@ -156,22 +156,5 @@ pub(crate) fn write_node_status<W: Write>(
         write_kept_status(writer, &interfaces[place], channel)
     } else {
         write_unknown(writer)
-    }
-}
-
-/// Writes the window that was sealed last, if it has this number.
-pub(crate) fn write_last<W: BlockWriter>(
-    alloc: Global,
-    writer: &mut W,
-    bus: &LiveBus,
-    number: u32,
-) -> io::Result<()>
-    ensures { Replies W.contents writer.old writer.new result (IsRecordOf (if_numbered number bus.now.last)) }
-{
-    match bus.last() {
-        Some(sealed) if sealed.window.number == number => {
-            write_sealed_block(alloc, writer, sealed)
-        }
-        _ => writeln!(writer, "refused NoWindow"),
     }
 }

@@ -1,22 +1,22 @@
 //! An endless session: requests in, and a reply to each before the next is read.
-ghost use Rattle.std.specs.Prelude.{◌≡◌, IfErr, OnOk, min};
+ghost use Rattle.std.specs.Prelude.{◌≡◌, IfErr, OnOk, length};
 ghost use Rattle.fr_core.specs.Headline.{Headline};
 ghost use Rattle.fr_endless.specs.Alike.{Alike};
 ghost use Rattle.fr_endless.specs.Serving.{DoesAlike, DoesAlikeIf, EndsEndless, FailedBy, IsOf, IsUntouched};
-ghost use Rattle.fr_endless.specs.Serving.{ServedEndless, TellsUnless};
+ghost use Rattle.fr_endless.specs.Serving.{ServedEndless, TellsUnless, endless_terms};
 ghost use Rattle.fr_endless.specs.Taps.{TellsWhole, with_taps};
 ghost use Rattle.fr_live.specs.LiveWorlds.{ForEachWorld};
 ghost use Rattle.fr_session.specs.Queries.{Replies};
 ghost use Rattle.fr_session.specs.Reading.{asked_in};
-ghost use Rattle.fr_session.specs.Sessions.{terms_of};
 ghost use Rattle.fr_session.specs.TermsFields.{terms_in};
 
 use crate::error::EndlessError;
+use crate::keeping::write_record;
 use crate::moving::{finish_cycles, finish_window};
 use crate::queries::{
-    write_at, write_last, write_moved, write_no_history, write_node_report, write_node_status,
-    write_now,
+    write_at, write_moved, write_no_history, write_node_report, write_node_status, write_now,
 };
+use crate::receiving::{receive, take_next};
 use crate::taps::Taps;
 use crate::telling::step_told;
 use crate::world::EndlessWorld;
@@ -24,8 +24,8 @@ use fr_playing::moving::window_events;
 use fr_schedule::cluster::Cluster;
 use fr_session::error::SessionError;
 use fr_session::keeping::{keep_both, keep_line};
-use fr_session::kept::KeptLines;
 use fr_session::lines::{Line, next_line};
+use fr_session::noted::Noted;
 use fr_session::prepared::{BlockWriter, Prepared};
 use fr_session::reading::request_of;
 use fr_session::replies::{write_answer, write_bad_line, write_done};
@@ -38,10 +38,10 @@ use std::io::{BufRead, Write};
 /// The cycles that a fault line can name are 0 to 1023.
 const NAMED_CYCLES: u32 = 1_024;
 
-/// The state that a session keeps from line to line: the fault lines, and room for a line and for its reply.
+/// The state that a session keeps from line to line: what it notes, and room for a line and for its reply.
 #[derive(Drop)]
 struct EndlessSession {
-    faults: KeptLines,
+    noted: Noted,
     line: Line,
     reply: Prepared,
 }
@@ -49,32 +49,46 @@ struct EndlessSession {
 /// Executes the request, and writes the reply.
 fn do_request<F: Write + Drop, W: BlockWriter>(
     terms: &Terms<'_>,
-    faults: &mut KeptLines,
+    noted: &mut Noted,
     world: &mut EndlessWorld,
     taps: &mut Taps<F>,
     request: Request,
     writer: &mut W,
 ) -> io::Result<()>
     ensures { Replies W.contents writer.old writer.new result (λ reply. DoesAlike (terms_in terms.now)
-        (with_taps world.old taps.old) faults.old request reply (with_taps world.new taps.new) faults.new) }
+        (with_taps world.old taps.old) noted.old request reply (with_taps world.new taps.new) noted.new) }
 {
     match request {
         Request::Event(event) => {
             let answer = step_told(world, taps, &event);
             write_answer(writer, &answer)
         }
-        Request::Fault(line) => keep_line(terms.cluster, terms.cycles, faults, line, writer),
-        Request::Faults { a, b } => { keep_both(terms.cluster, terms.cycles, faults, a, b, writer) }
+        Request::Receive { node, task, buffer } => {
+            receive(world, taps, noted, node, task, buffer, writer)
+        }
+        Request::Next { node, task } => take_next(world, taps, noted, node, task, writer),
+        Request::Fault(line) => {
+            keep_line(terms.cluster, terms.cycles, &mut noted.faults, line, writer)
+        }
+        Request::Faults { a, b } => {
+            keep_both(terms.cluster, terms.cycles, &mut noted.faults, a, b, writer)
+        }
         Request::Forget => {
-            faults.clear();
+            noted.faults.clear();
             write_done(writer)
         }
         Request::Window => {
-            let hindered = finish_window(world, taps, faults.as_slice(), terms.events);
+            let hindered = finish_window(world, taps, noted.faults.as_slice(), terms.events);
             write_moved(writer, world.bus(), hindered)
         }
         Request::Run(cycles) => {
-            let hindered = finish_cycles(world, taps, faults.as_slice(), terms.events, cycles);
+            let hindered = finish_cycles(
+                world,
+                taps,
+                noted.faults.as_slice(),
+                terms.events,
+                cycles,
+            );
             write_moved(writer, world.bus(), hindered)
         }
         Request::Now => write_now(writer, world.bus()),
@@ -83,14 +97,16 @@ fn do_request<F: Write + Drop, W: BlockWriter>(
         Request::Status(node, channel) => write_node_status(writer, world, node, channel),
         Request::Trace(_) => write_no_history(writer),
         Request::Origin(_) => write_no_history(writer),
-        Request::Record(window) => write_last(terms.alloc, writer, world.bus(), window),
+        Request::Record(window) => {
+            write_record(terms.alloc, writer, world.bus(), taps.kept(), window)
+        }
     }
 }
 
 /// Executes the request of the line of this number, and writes the reply.
 fn answer_line<F: Write + Drop, W: BlockWriter>(
     terms: &Terms<'_>,
-    faults: &mut KeptLines,
+    noted: &mut Noted,
     world: &mut EndlessWorld,
     taps: &mut Taps<F>,
     line: &[u8],
@@ -98,11 +114,11 @@ fn answer_line<F: Write + Drop, W: BlockWriter>(
     writer: &mut W,
 ) -> io::Result<()>
     ensures { Replies W.contents writer.old writer.new result (λ reply. DoesAlikeIf (terms_in terms.now)
-        (with_taps world.old taps.old) faults.old number (asked_in line.now) reply (with_taps world.new taps.new)
-        faults.new) }
+        (with_taps world.old taps.old) noted.old number (asked_in line.now) reply (with_taps world.new taps.new)
+        noted.new) }
 {
     match request_of(terms.alloc, line) {
-        Some(request) => do_request(terms, faults, world, taps, request, writer),
+        Some(request) => do_request(terms, noted, world, taps, request, writer),
         None => write_bad_line(writer, number),
     }
 }
@@ -112,7 +128,7 @@ impl EndlessSession {
     ghost use Rattle.fr_core.specs.Headline.{Headline};
     ghost use Rattle.fr_endless.specs.Serving.{AnswersNextAlike, DoesAlikeIf, EndsBefore, FailedBy, FailsNextAlike};
     ghost use Rattle.fr_endless.specs.Serving.{IsAfterMemory, IsOfLine, KeepsUnlessSent, Served};
-    ghost use Rattle.fr_endless.specs.Taps.{ToldAlike, with_taps};
+    ghost use Rattle.fr_endless.specs.Taps.{ToldBy, with_taps};
     ghost use Rattle.fr_live.specs.LiveWorlds.{ForEachWorld};
     ghost use Rattle.fr_session.specs.Cuts.{Sends};
     ghost use Rattle.fr_session.specs.Reading.{asked_in};
@@ -129,8 +145,8 @@ impl EndlessSession {
         writer: &mut W,
     ) -> Result<(), EndlessError>
         ensures sends { Sends W.contents writer.old writer.new result (λ reply. DoesAlikeIf (terms_in terms.now)
-            (with_taps world.old taps.old) self.old.faults number (asked_in self.old.line.items) reply
-            (with_taps world.new taps.new) self.new.faults) }
+            (with_taps world.old taps.old) self.old.noted number (asked_in self.old.line.items) reply
+            (with_taps world.new taps.new) self.new.noted) }
         ensures unsent { KeepsUnlessSent result (W.contents writer.old) (W.contents writer.new) }
         ensures failed { FailedBy result taps.old.failed taps.new.failed }
         ensures line { IfErr result IsOfLine }
@@ -139,7 +155,7 @@ impl EndlessSession {
         let line = self.line.as_slice();
         let answered = answer_line(
             terms,
-            &mut self.faults,
+            &mut self.noted,
             world,
             taps,
             line,
@@ -173,10 +189,10 @@ impl EndlessSession {
         requires { taps.old.failed ≡ None }
         ensures answers { IfOk result (λ more. AnswersNextAlike (terms_in terms.now) more (R.remaining reader.old)
             (R.remaining reader.new) (W.contents writer.old) (W.contents writer.new) number
-            (with_taps world.old taps.old) self.old.faults (with_taps world.new taps.new) self.new.faults) }
+            (with_taps world.old taps.old) self.old.noted (with_taps world.new taps.new) self.new.noted) }
         ensures early { IfErr result (λ error. FailsNextAlike (terms_in terms.now) error (R.remaining reader.old)
             (R.remaining reader.new) (W.contents writer.old) (W.contents writer.new) number
-            (with_taps world.old taps.old) self.old.faults (with_taps world.new taps.new) self.new.faults) }
+            (with_taps world.old taps.old) self.old.noted (with_taps world.new taps.new) self.new.noted) }
         ensures failed { FailedBy result taps.old.failed taps.new.failed }
     {
         match next_line(reader, &mut self.line) {
@@ -200,13 +216,13 @@ impl EndlessSession {
         writer: &mut W,
     ) -> Result<(), EndlessError>
         requires { taps.old.failed ≡ None }
-        ensures served { OnOk result (ToldAlike (with_taps world.old taps.old) (λ w v. Served (terms_in terms.now)
-            (R.remaining reader.old) (W.contents writer.old) (W.contents writer.new) (state_of w self.old.faults)
-            (state_of v self.new.faults)) (with_taps world.new taps.new)) }
+        ensures served { OnOk result (ToldBy terms.now.keep (with_taps world.old taps.old) (λ w v. Served
+            (terms_in terms.now) (R.remaining reader.old) (W.contents writer.old) (W.contents writer.new)
+            (state_of w self.old.noted) (state_of v self.new.noted)) (with_taps world.new taps.new)) }
         ensures headline { ForEachWorld world.new Headline }
-        ensures early { IfErr result (λ error. ToldAlike (with_taps world.old taps.old) (λ w v. EndsBefore
+        ensures early { IfErr result (λ error. ToldBy terms.now.keep (with_taps world.old taps.old) (λ w v. EndsBefore
             (terms_in terms.now) error (R.remaining reader.old) (R.remaining reader.new) (W.contents writer.old)
-            (W.contents writer.new) (state_of w self.old.faults) (state_of v self.new.faults))
+            (W.contents writer.new) (state_of w self.old.noted) (state_of v self.new.noted))
             (with_taps world.new taps.new)) }
         ensures failed { FailedBy result taps.old.failed taps.new.failed }
         ensures stream { IfErr result IsAfterMemory }
@@ -237,8 +253,8 @@ impl EndlessSession {
 /// cycles that of the opening of the world.
 ///
 /// Every reply is that of the session with history, with these exceptions. `trace` and `origin` are answered with
-/// `refused NoHistory`. `record` answers for the window that was sealed last alone, and is otherwise refused with
-/// `NoWindow`.
+/// `refused NoHistory`. `record` answers for the window that was sealed last, and for as many of the last windows as
+/// the files have places. A sealed window before these is answered with `refused NotKept`.
 ///
 /// A fault line names cycles 0 to 1023 of the run, or each cycle. It must suit a run of so many cycles, at most 1,024.
 /// A line that names each cycle takes effect in all of the run.
@@ -262,16 +278,16 @@ pub fn serve_endless<F: Write + Drop, R: BufRead, W: Write>(
     requires { IsOf cluster.now cycles world.old }
     // Each world with its history that leads to the data is served so, and then leads to the data after the session.
     // The files get the windows that it seals, the traces the entries of its journals and their last line.
-    ensures served { OnOk result (Alike world.old (λ w v. ServedEndless (terms_of cluster.now (min cycles 1024))
-        (R.remaining reader.old) (W.contents writer.old) (W.contents writer.new) w v
+    ensures served { OnOk result (Alike world.old (λ w v. ServedEndless (endless_terms cluster.now cycles
+        (length taps.old.kept)) (R.remaining reader.old) (W.contents writer.old) (W.contents writer.new) w v
         × TellsWhole taps.old taps.new w v) world.new) }
     // A failed allocation ends the session only before its first line.
     ensures memory { IsUntouched result (R.remaining reader.old) (R.remaining reader.new) (W.contents writer.old)
         (W.contents writer.new) (with_taps world.old taps.old) (with_taps world.new taps.new) }
     // If a stream or a file fails, the replies to the lines that were taken are written, but the last one perhaps not,
     // or in part.
-    ensures early { IfErr result (λ error. Alike world.old (λ w v. EndsEndless (terms_of cluster.now
-        (min cycles 1024)) error (R.remaining reader.old) (R.remaining reader.new) (W.contents writer.old)
+    ensures early { IfErr result (λ error. Alike world.old (λ w v. EndsEndless (endless_terms cluster.now
+        cycles (length taps.old.kept)) error (R.remaining reader.old) (R.remaining reader.new) (W.contents writer.old)
         (W.contents writer.new) w v × TellsUnless error taps.old taps.new w v) world.new) }
     // Unless a file failed, the files have all of the windows.
     ensures failed { FailedBy result taps.old.failed taps.new.failed }
@@ -287,12 +303,19 @@ pub fn serve_endless<F: Write + Drop, R: BufRead, W: Write>(
         events: events.as_slice(),
         cluster,
         cycles: cycles.min(NAMED_CYCLES) as u16,
+        keep: taps.kept().len(),
     };
     let Ok(reply) = Prepared::new(alloc) else {
         // For the prover: the clause of this call.
         world.known();
         return Err(EndlessError::Session(SessionError::Memory));
     };
+    let Ok(noted) = Noted::new(alloc) else {
+        // For the prover: the clause of this call.
+        world.known();
+        return Err(EndlessError::Session(SessionError::Memory));
+    };
+    taps.forget();
     taps.begin();
     if let Some(tap) = taps.failed() {
         // For the prover: the clause of this call.
@@ -300,7 +323,7 @@ pub fn serve_endless<F: Write + Drop, R: BufRead, W: Write>(
         return Err(EndlessError::Tap(tap));
     }
     let mut session = EndlessSession {
-        faults: KeptLines::new(alloc),
+        noted,
         line: Line::new(),
         reply,
     };

@@ -11,11 +11,10 @@ use crate::taps::Taps;
 use crate::telling::apply_told;
 use crate::world::EndlessWorld;
 use fr_bus::live::LiveBus;
-use fr_bus::windows::opens_cycle;
 use fr_core::event::Event;
 use fr_runs::cycles::RunCycles;
 use fr_runs::fault_line::FaultLine;
-use fr_slots::window::Window;
+use fr_slots::window::{Window, opens_cycle};
 use std::io::Write;
 
 /// Returns whether the fault occurs in this window of this cycle of the run, whose number may have more than 16 bits

@@ -1,17 +1,17 @@
 //! The files to which a session writes the windows that it seals, and the traces of its nodes.
-ghost use Rattle.std.specs.Prelude.{◌≡◌, [], OnOk, map, option_and_then};
+ghost use Rattle.std.specs.Prelude.{◌≡◌, ◌<◌, ◌^◌, ℕ, [], List, OnOk, map, option_and_then, option_map};
 ghost use Rattle.fr_capture.specs.Pcap.{file_header};
+ghost use Rattle.fr_bus.specs.Courses.{opportunities};
 ghost use Rattle.fr_endless.specs.Taps.{AddsAt, AddsFront, first_failed, head_of};
 ghost use Rattle.fr_showing.specs.Listening.{window_records};
 ghost use Rattle.fr_showing.specs.RecordText.{window_text};
-ghost use Rattle.fr_trace.specs.TraceText.{entry_line};
+ghost use Rattle.fr_endless.specs.Taps.{IsLine};
 
+use crate::keeping::{KeptText, forget_all, keep_last, new_texts};
 use fr_auditing::head;
 use fr_bus::live::LiveBus;
 use fr_bus::outcome::Sealed;
 use fr_capture::pcap::write_file_header;
-use fr_journal::entry::Entry;
-use fr_lines::writing::write_entry;
 use fr_live::room::Room;
 use fr_scenario::scenario::Scenario;
 use fr_schedule::cluster::Cluster;
@@ -53,9 +53,12 @@ pub struct Taps<F: Write + Drop> {
     failed: Option<Tap>,
     recorded: Option<F>,
     captured: Option<F>,
-    /// The traces, in the order of the nodes.
-    traces: Vec<F>,
-    /// The text of one window or of one entry, kept so that its room is allocated once.
+    /// The traces, in the order of the nodes. A node that isn't traced has none.
+    traces: Vec<Option<F>>,
+    /// The lines of the record for the windows that were sealed last.
+    kept: Vec<KeptText>,
+    alloc: Global,
+    /// The text of one window, kept so that its room is allocated once.
     text: Vec<u8>,
 }
 
@@ -70,10 +73,19 @@ impl<F: Write + Drop> Model for Taps<F> {
       failed = t.failed;
       recorded = option_and_then F.contents t.recorded;
       captured = option_and_then F.contents t.captured;
-      traced = map F.contents t.traces.items;
+      traced = map (option_and_then F.contents) t.traces.items;
+      kept = t.kept.items;
     } };
 
     ghost invariant = { λ t. t.scenario ≡ no_lines };
+}
+
+/// Returns the number of static slots and minislots of a cycle, which is the most windows that a cycle has.
+fn opportunities(params: &Params) -> usize
+    ensures value { result ≡ opportunities params.now }
+    ensures few { result < 2 ^ 17 }
+{
+    usize::from(params.static_slots) + usize::from(params.minislots)
 }
 
 /// Returns the first of both files that failed.
@@ -203,59 +215,54 @@ fn trace_at(place: usize) -> Tap {
     Tap::Trace(NodeId::from_number(place.min(LAST_NODE) as u8))
 }
 
-/// Hands the text to the trace at this place, if there is one. Returns the trace if that fails.
-fn hand_trace<F: Write>(traces: &mut Vec<F>, place: usize, text: &[u8]) -> Option<Tap>
-    ensures { AddsAt result (map F.contents traces.old.items) (map F.contents traces.new.items) place text.now }
+/// Hands the text to the file, if there is one. Returns this file if that fails.
+fn hand_file<F: Write>(file: &mut Option<F>, text: &[u8], tap: Tap) -> Option<Tap>
+    ensures { AddsFront result (option_and_then F.contents file.old) (option_and_then F.contents file.new) text.now }
 {
-    if place < traces.len() {
-        hand_text(&mut traces[place], text, trace_at(place))
-    } else {
-        None
+    match file {
+        Some(writer) => hand_text(writer, text, tap),
+        None => None,
     }
 }
 
-/// Flushes the file of this tap. Returns the tap if that fails.
-fn flush_one<F: Write>(writer: &mut F, tap: Tap) -> Option<Tap>
-    ensures { AddsFront result (F.contents writer.old) (F.contents writer.new) [] }
+/// Hands the text to the trace at this place, if there is one. Returns the trace if that fails.
+fn hand_trace<F: Write>(traces: &mut Vec<Option<F>>, place: usize, text: &[u8]) -> Option<Tap>
+    ensures { AddsAt result (map (option_and_then F.contents) traces.old.items)
+        (map (option_and_then F.contents) traces.new.items) place text.now }
 {
-    match writer.flush() {
-        Ok(()) => None,
-        Err(_) => Some(tap),
+    if place < traces.len() {
+        hand_file(&mut traces[place], text, trace_at(place))
+    } else {
+        None
     }
 }
 
 /// Flushes the trace at this place, if there is one. Returns the trace if that fails.
-fn flush_trace<F: Write>(traces: &mut Vec<F>, place: usize) -> Option<Tap>
-    ensures { AddsAt result (map F.contents traces.old.items) (map F.contents traces.new.items) place [] }
+fn flush_trace<F: Write>(traces: &mut Vec<Option<F>>, place: usize) -> Option<Tap>
+    ensures { AddsAt result (map (option_and_then F.contents) traces.old.items)
+        (map (option_and_then F.contents) traces.new.items) place [] }
 {
     if place < traces.len() {
-        flush_one(&mut traces[place], trace_at(place))
+        flush_file(&mut traces[place], trace_at(place))
     } else {
         None
     }
 }
 
-/// Gathers the line of the entry. Fails if an allocation does.
-fn gather_entry(text: &mut Vec<u8>, entry: &Entry) -> io::Result<()>
-    ensures { OnOk result (text.new.items ≡ entry_line entry.now) }
-{
-    text.clear();
-    write_entry(text, entry)
-}
-
-/// Writes the line of the entry to the trace at this place, if there is one. Returns the trace if that fails.
-fn hand_entry<F: Write>(
-    traces: &mut Vec<F>,
-    text: &mut Vec<u8>,
+/// Writes the line, if it was gathered, to the trace at this place, if there is one. Returns the trace if that fails,
+/// or without a line.
+fn hand_line<F: Write>(
+    traces: &mut Vec<Option<F>>,
     place: usize,
-    entry: &Entry,
+    line: &Option<Vec<u8>>,
 ) -> Option<Tap>
-    ensures { AddsAt result (map F.contents traces.old.items) (map F.contents traces.new.items) place
-        (entry_line entry.now) }
+    ensures { (text : List ℕ) → IsLine (option_map (λ l. l.items) line.now) text → AddsAt result
+        (map (option_and_then F.contents) traces.old.items) (map (option_and_then F.contents) traces.new.items) place
+        text }
 {
-    match gather_entry(text, entry) {
-        Ok(()) => hand_trace(traces, place, text.as_slice()),
-        Err(_) => Some(trace_at(place)),
+    match line {
+        Some(text) => hand_trace(traces, place, text.as_slice()),
+        None => Some(trace_at(place)),
     }
 }
 
@@ -269,14 +276,15 @@ fn gather_head(text: &mut Vec<u8>, params: &Params, plan: &NodePlan, room: &Room
 
 /// Writes the lines before the entries to the trace at this place, if there is one. Returns the trace if that fails.
 fn hand_head<F: Write>(
-    traces: &mut Vec<F>,
+    traces: &mut Vec<Option<F>>,
     text: &mut Vec<u8>,
     place: usize,
     params: &Params,
     plan: &NodePlan,
     room: &Room,
 ) -> Option<Tap>
-    ensures { AddsAt result (map F.contents traces.old.items) (map F.contents traces.new.items) place
+    ensures { AddsAt result (map (option_and_then F.contents) traces.old.items)
+        (map (option_and_then F.contents) traces.new.items) place
         (head_of params.now room.now plan.now) }
 {
     match gather_head(text, params, plan, room) {
@@ -286,14 +294,17 @@ fn hand_head<F: Write>(
 }
 
 impl<F: Write + Drop> Taps<F> {
-    ghost use Rattle.std.specs.Prelude.{◌≡◌, [], None, length, map, option_and_then, IfOk};
+    ghost use Rattle.std.specs.Prelude.{◌≡◌, ◌*◌, ℕ, [], List, None, false, length, map, option_and_then, replicate};
+    ghost use Rattle.std.specs.Prelude.{IfOk, option_map};
     ghost use Rattle.fr_capture.specs.Pcap.{file_header};
-    ghost use Rattle.fr_endless.specs.Taps.{AddsBoth, AddsEach, AddsLast, at_node, head_at, head_of, last_line};
-    ghost use Rattle.fr_endless.specs.Tracing.{has_traces};
-    ghost use Rattle.fr_trace.specs.TraceText.{entry_line};
+    ghost use Rattle.fr_bus.specs.Courses.{opportunities};
+    ghost use Rattle.fr_endless.specs.Kept.{forgotten};
+    ghost use Rattle.fr_endless.specs.Taps.{AddsBoth, AddsEach, AddsLast, KeepsWindow, WritesLast, at_node, head_at};
+    ghost use Rattle.fr_endless.specs.Taps.{IsLine, head_of, last_line, traced_in, with_kept};
 
     /// Returns the files of a session with a cluster of these parameters (project-defined). The traces are in the order
-    /// of the nodes, or there is none.
+    /// of the nodes. A node that isn't traced has no file there, or no place in the list. There are places for the
+    /// lines of the windows of so many cycles.
     ///
     /// Fails if an allocation does.
     pub fn new(
@@ -301,16 +312,19 @@ impl<F: Write + Drop> Taps<F> {
         params: &Params,
         recorded: Option<F>,
         captured: Option<F>,
-        traces: Vec<F>,
+        traces: Vec<Option<F>>,
+        keep: u8,
     ) -> Result<Taps<F>, AllocError>
         ensures { IfOk result (λ taps. taps ≡ record {
           params = params.now;
           failed = None;
           recorded = option_and_then F.contents recorded;
           captured = option_and_then F.contents captured;
-          traced = map F.contents traces.items;
+          traced = map (option_and_then F.contents) traces.items;
+          kept = replicate (keep * opportunities params.now) None;
         }) }
     {
+        let kept = new_texts(alloc, usize::from(keep) * opportunities(params))?;
         match Scenario::from_text(alloc, NO_LINES) {
             Ok(scenario) => Ok(Taps {
                 scenario,
@@ -319,6 +333,8 @@ impl<F: Write + Drop> Taps<F> {
                 recorded,
                 captured,
                 traces,
+                kept,
+                alloc,
                 text: Vec::new(alloc),
             }),
             Err(_) => Err(AllocError),
@@ -332,11 +348,17 @@ impl<F: Write + Drop> Taps<F> {
         self.failed
     }
 
-    /// Returns whether there are traces.
-    pub(crate) fn is_traced(&self) -> bool
-        ensures { result ≡ has_traces self.now.traced }
+    /// Returns whether there is a trace of the node.
+    pub(crate) fn is_traced(&self, node: NodeId) -> bool
+        ensures { result ≡ false → traced_in self.now.traced node ≡ None }
     {
-        !self.traces.is_empty()
+        let place = usize::from(node.number());
+        place < self.traces.len() && self.traces[place].is_some()
+    }
+
+    /// Returns the handle for the lines of traces.
+    pub(crate) fn alloc(&self) -> Global {
+        self.alloc
     }
 
     /// Returns the number of traces.
@@ -371,13 +393,14 @@ impl<F: Write + Drop> Taps<F> {
         self.flush_traces();
     }
 
-    /// Writes the line of the node's entry to its trace.
-    pub(crate) fn add_entry(&mut self, node: NodeId, entry: &Entry)
-        ensures { AddsEach self.old self.new (at_node node (entry_line entry.now)) }
+    /// Writes the line of the node's entry to its trace. Without a line the trace fails.
+    pub(crate) fn add_line(&mut self, node: NodeId, line: &Option<Vec<u8>>)
+        ensures { (text : List ℕ) → IsLine (option_map (λ l. l.items) line.now) text
+            → AddsEach self.old self.new (at_node node text) }
     {
         if self.failed.is_none() {
             let place = usize::from(node.number());
-            self.failed = hand_entry(&mut self.traces, &mut self.text, place, entry);
+            self.failed = hand_line(&mut self.traces, place, line);
         }
     }
 
@@ -420,6 +443,20 @@ impl<F: Write + Drop> Taps<F> {
         self.flush_traces();
     }
 
+    /// Returns the lines of the record for the windows that were sealed last, each at the place of its number.
+    pub(crate) fn kept(&self) -> &[KeptText]
+        ensures { result.now ≡ self.now.kept }
+    {
+        self.kept.as_slice()
+    }
+
+    /// Forgets the lines of windows that were sealed before.
+    pub(crate) fn forget(&mut self)
+        ensures { self.new ≡ with_kept self.old (forgotten self.old.kept) }
+    {
+        forget_all(&mut self.kept);
+    }
+
     /// Writes what the files have before the first window: the header of the capture.
     pub(crate) fn begin(&mut self)
         ensures { AddsBoth self.old self.new [] file_header }
@@ -429,9 +466,24 @@ impl<F: Write + Drop> Taps<F> {
         }
     }
 
-    /// Writes the window that was sealed last to the record and the capture.
+    /// Keeps the lines of the window that was sealed last.
+    fn keep_last(&mut self, bus: &LiveBus)
+        ensures { KeepsWindow self.old bus.now.last self.new }
+    {
+        keep_last(&mut self.kept, bus);
+    }
+
+    /// Keeps the lines of the window that was sealed last, and writes the window to the record and the capture.
     pub(crate) fn add_last(&mut self, bus: &LiveBus)
         ensures { AddsLast self.old bus.now.bus.course.begun bus.now.last self.new }
+    {
+        self.keep_last(bus);
+        self.write_last(bus);
+    }
+
+    /// Writes the window that was sealed last to the record and the capture.
+    fn write_last(&mut self, bus: &LiveBus)
+        ensures { WritesLast self.old bus.now.bus.course.begun bus.now.last self.new }
     {
         let Some(sealed) = bus.last() else {
             return;

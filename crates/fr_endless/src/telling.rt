@@ -1,13 +1,13 @@
 //! Events in a world without history, with what they add written to the files of the session: a seal the window, and an
 //! event of a node the entry of its journal.
-ghost use Rattle.std.specs.Prelude.{◌≡◌, true};
+ghost use Rattle.std.specs.Prelude.{◌≡◌, false, true};
 ghost use Rattle.fr_core.specs.Steps.{Applies, Steps};
 ghost use Rattle.fr_endless.specs.Taps.{ToldAlike, is_seal, with_taps};
-ghost use Rattle.fr_endless.specs.Tracing.{adds_entry, is_traced_by, IsPlain};
+ghost use Rattle.fr_endless.specs.Tracing.{adds_entry, IsPlain};
 ghost use Rattle.fr_live.specs.LiveSteps.{without_value};
 
 use crate::taps::Taps;
-use crate::tracing::{adds_entry, step_traced};
+use crate::tracing::{adds_entry, apply_slot, is_call, node_of, step_traced};
 use crate::world::EndlessWorld;
 use fr_core::error::StepError;
 use fr_core::event::{Event, Reply};
@@ -20,11 +20,12 @@ fn is_seal(event: &Event) -> bool
     matches!(event, Event::Seal)
 }
 
-/// Returns whether the event, if it is accepted, adds a line to a trace.
+/// Returns whether the event, if it is accepted, adds a line to a trace that is written.
 fn is_traced<F: Write + Drop>(taps: &Taps<F>, event: &Event) -> bool
-    ensures { result ≡ is_traced_by taps.now.traced event.now }
+    ensures adds { result ≡ true → adds_entry event.now ≡ true }
+    ensures plain { result ≡ false → IsPlain taps.now.traced event.now }
 {
-    taps.is_traced() && adds_entry(event)
+    adds_entry(event) && taps.is_traced(node_of(event))
 }
 
 /// Executes one event that adds no line to a trace, as `EndlessWorld::step` does, and writes the window that it sealed.
@@ -102,7 +103,11 @@ fn apply_traced<F: Write + Drop>(
     ensures { ToldAlike (with_taps world.old taps.old) (λ w v. Applies w event.now result v)
         (with_taps world.new taps.new) }
 {
-    without_reply(step_traced(world, taps, event))
+    if is_call(event) {
+        without_reply(step_traced(world, taps, event))
+    } else {
+        apply_slot(world, taps, event)
+    }
 }
 
 /// Executes one event without its answer, as `EndlessWorld::apply` does, and writes what it added to the files. Fails

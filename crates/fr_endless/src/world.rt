@@ -3,6 +3,7 @@ ghost use Rattle.std.specs.Prelude.{◌≡◌, ◌≤◌, ℕ, true, IfOk};
 ghost use Rattle.fr_bus.specs.Live.{cycles_suit};
 ghost use Rattle.fr_endless.specs.Alike.{buffers_in};
 
+use crate::front::{Front, front_of};
 use fr_bus::error::BusError;
 use fr_bus::live::{LIVE_CYCLES, LiveBus};
 use fr_core::controller::Controller;
@@ -62,13 +63,15 @@ fn buffers_of(alloc: Global, plans: &[NodePlan]) -> Result<Vec<u8>, AllocError>
 }
 
 impl EndlessWorld {
-    ghost use Rattle.std.specs.Prelude.{◌≡◌, IfOk};
+    ghost use Rattle.std.specs.Prelude.{◌≡◌, ◌≤◌, IfOk, length, take};
     ghost use Rattle.fr_core.specs.Headline.{Headline};
     ghost use Rattle.fr_core.specs.Steps.{event_of};
     ghost use Rattle.fr_core.specs.Worlds.{interface_at};
     ghost use Rattle.fr_endless.specs.Alike.{buffers_each};
     ghost use Rattle.fr_interface.specs.Calls.{call_answer};
-    ghost use Rattle.fr_live.specs.LiveSteps.{AppliesAlike, StepsAlike, with_answer};
+    ghost use Rattle.fr_endless.specs.Fronts.{events_of};
+    ghost use Rattle.fr_live.specs.LiveSteps.{AcceptsAlike, AppliesAlike, StepsAlike, offer_events, see_events};
+    ghost use Rattle.fr_live.specs.LiveSteps.{with_answer};
     ghost use Rattle.fr_live.specs.LiveWorlds.{OpensLiveWorld, ForEachWorld};
 
     /// Returns the opening world of a cluster, as `LiveWorld::new` does. Fails as that does.
@@ -102,6 +105,45 @@ impl EndlessWorld {
         ensures { AppliesAlike self.old event.now result self.new }
     {
         self.world.apply(event)
+    }
+
+    /// Executes the look, the fetch and the put of the node, as `LiveWorld::offer` does.
+    fn offer(&mut self, node: NodeId) -> usize
+        ensures few { result ≤ 3 }
+        ensures accepts { AcceptsAlike self.old (take result (offer_events node)) self.new }
+    {
+        self.world.offer(node)
+    }
+
+    /// Executes the take and the observe of the node, as `LiveWorld::see` does.
+    fn see(&mut self, node: NodeId) -> usize
+        ensures few { result ≤ 2 }
+        ensures accepts { AcceptsAlike self.old (take result (see_events node)) self.new }
+    {
+        self.world.see(node)
+    }
+
+    /// Executes these events, up to the first one that is refused, without their answers. Returns how many were
+    /// accepted.
+    pub fn pass(&mut self, front: &Front) -> usize
+        ensures few { result ≤ length (events_of front.now) }
+        ensures accepts { AcceptsAlike self.old (take result (events_of front.now)) self.new }
+    {
+        match front {
+            Front::Offer(node) => self.offer(*node),
+            Front::See(node) => self.see(*node),
+            Front::Other => 0,
+        }
+    }
+
+    /// Executes the events of a node that stand first in the list, if one call executes them, up to the first one that
+    /// is refused. Returns how many were accepted.
+    pub fn pass_front(&mut self, events: &[Event]) -> usize
+        ensures few { result ≤ length events.now }
+        ensures accepts { AcceptsAlike self.old (take result events.now) self.new }
+    {
+        let front = front_of(events);
+        self.pass(&front)
     }
 
     /// Makes a call of a task as `LiveWorld::call` does, and fails as that does.

@@ -14,7 +14,7 @@ use Rattle.fr_endless.proofs.TapLemmas.{front_longer, front_more}
 use Rattle.fr_endless.specs.declared.error.EndlessError.{EndlessError}
 use Rattle.fr_endless.specs.declared.error.EndlessError.TheVariants as ending
 use Rattle.fr_endless.specs.declared.taps.Tap.{Tap}
-use Rattle.fr_endless.specs.Serving.{EndsEndless, FailedBy, ServedEndless, TellsUnless}
+use Rattle.fr_endless.specs.Serving.{EndsEndless, FailedBy, ServedEndless, TellsUnless, endless_terms}
 use Rattle.fr_endless.specs.Taps.{AddsEach, AddsFront, AddsMore, TapsState, Tells, TellsWhole, body_at, head_at}
 use Rattle.fr_endless.specs.Taps.{head_with, last_line, record_of, traced_in}
 use Rattle.fr_live.specs.LiveWorlds.{Entries, LiveState, OpensLiveWorld}
@@ -30,7 +30,7 @@ use Rattle.fr_slots.specs.History.{each_after}
 use Rattle.fr_slots.specs.Parameters.{Parameters}
 use Rattle.fr_slots.specs.Plans.{Plan, with_limits}
 use Rattle.fr_world.specs.declared.failure.WorldFailure.TheVariants as failure
-use Rattle.fr_world.specs.Serving.{HasAll, HasBegun, HasBegunUnless, HasWindows, IsFullNode, ServesLive, endless_terms}
+use Rattle.fr_world.specs.Serving.{HasAll, HasBegun, HasBegunUnless, HasWindows, IsFullNode, ServesLive}
 use Rattle.fr_world.specs.Serving.{endless_world, failure_of, greatest_room, node_named}
 
 -- ---- the room of journals
@@ -203,23 +203,41 @@ module _ (d : Description) (cycles : ℕ) (text left before after : Option (List
 
   pub live_served : (l m : LiveState) → AddsEach old mid (head_at d greatest_room) → mid.failed ≡ None
       → OpensLiveWorld d cycles greatest_room (Ok l)
-      → Alike l (λ w v. ServedEndless (endless_terms d cycles) text before after w v × TellsWhole mid new w v) m
+      → Alike l (λ w v. ServedEndless (endless_terms d cycles (length mid.kept)) text before after w v
+      × TellsWhole mid new w v) m
       → new.failed ≡ None → ServesLive d cycles text left before after old new (Ok tt)
   live_served l m heads free opens served whole =
-      let got = served (endless_world d cycles) opens.1 in
-      (opens.0, got.0, got.1.0, all_of d cycles old mid new heads free got.0 got.1.1, whole)
+      let got = served (endless_world d cycles) opens.1 in (
+        opens.0,
+        got.0,
+        subst (λ (k : List (Option (List ℕ))). ServedEndless (endless_terms d cycles (length k)) text before after
+            (endless_world d cycles) got.0) heads.kept_is got.1.0,
+        all_of d cycles old mid new heads free got.0 got.1.1,
+        whole,
+      )
 
   pub live_ended : (l m : LiveState) (error : EndlessError) → AddsEach old mid (head_at d greatest_room)
       → mid.failed ≡ None → OpensLiveWorld d cycles greatest_room (Ok l)
-      → Alike l (λ w v. EndsEndless (endless_terms d cycles) error text left before after w v
+      → Alike l (λ w v. EndsEndless (endless_terms d cycles (length mid.kept)) error text left before after w v
       × TellsUnless error mid new w v) m → FailedBy {A = Unit {0}} (Err error) mid.failed new.failed
       → ServesLive d cycles text left before after old new (Err (failure_of error))
   live_ended l m (ending.Session error) heads free opens gives failed =
-      let got = gives (endless_world d cycles) opens.1 in
-      (opens.0, got.0, got.1.0, begun_unless d cycles old mid new heads free got.0 error got.1.1 failed)
+      let got = gives (endless_world d cycles) opens.1 in (
+        opens.0,
+        got.0,
+        subst (λ (k : List (Option (List ℕ))). EndsEndless (endless_terms d cycles (length k))
+            (ending.Session error) text left before after (endless_world d cycles) got.0) heads.kept_is got.1.0,
+        begun_unless d cycles old mid new heads free got.0 error got.1.1 failed,
+      )
   live_ended l m (ending.Tap tap) heads free opens gives failed =
-      let got = gives (endless_world d cycles) opens.1 in
-      (opens.0, got.0, got.1.0, all_of d cycles old mid new heads free got.0 got.1.1, failed)
+      let got = gives (endless_world d cycles) opens.1 in (
+        opens.0,
+        got.0,
+        subst (λ (k : List (Option (List ℕ))). EndsEndless (endless_terms d cycles (length k)) (ending.Tap tap) text
+            left before after (endless_world d cycles) got.0) heads.kept_is got.1.0,
+        all_of d cycles old mid new heads free got.0 got.1.1,
+        failed,
+      )
 
 -- the first lines of a trace can't be written
 pub live_unopened : (d : Description) (cycles : ℕ) (text before : Option (List ℕ)) (old mid : TapsState)
@@ -229,7 +247,7 @@ pub live_unopened : (d : Description) (cycles : ℕ) (text before : Option (List
 live_unopened d cycles text before old mid l tap heads some opens = (
   opens.0,
   endless_world d cycles,
-  ends_unopened (endless_terms d cycles) tap text before (endless_world d cycles),
+  ends_unopened (endless_terms d cycles (length old.kept)) tap text before (endless_world d cycles),
   unopened_of d cycles old mid mid heads tap some,
   some,
 )

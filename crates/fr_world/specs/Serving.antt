@@ -1,5 +1,5 @@
 -- The session of a run, with the world that it opens (project-defined).
-use Rattle.std.specs.Prelude.{◌≡◌, ℕ, ◌≤◌, ◌<◌, List, [], true, length, Option, Some, None, Result, Ok, Err, min}
+use Rattle.std.specs.Prelude.{◌≡◌, ℕ, ◌≤◌, ◌<◌, List, [], true, length, Option, Some, None, Result, Ok, Err}
 use Rattle.std.specs.Io.KnownBytes.{Keeps}
 use Rattle.fr_auditing.specs.LongText.{long_body_text, long_text}
 use Rattle.fr_bus.specs.Live.{cycles_suit}
@@ -10,7 +10,7 @@ use Rattle.fr_core.specs.Settling.{IsFirst}
 use Rattle.fr_core.specs.Worlds.{OpensWorld, WorldState, interface_at, opening_world}
 use Rattle.fr_endless.specs.declared.error.EndlessError.{EndlessError}
 use Rattle.fr_endless.specs.declared.error.EndlessError.TheVariants as ending
-use Rattle.fr_endless.specs.Serving.{EndsEndless, ServedEndless}
+use Rattle.fr_endless.specs.Serving.{EndsEndless, ServedEndless, endless_terms}
 use Rattle.fr_endless.specs.Taps.{AddsEach, AddsFront, TapsState, head_at, record_of, traced_in}
 use Rattle.fr_live.specs.LiveWorlds.{Entries, OpensLiveWorld, with_room}
 use Rattle.fr_runs.specs.declared.check.RunRefusal.{RunRefusal}
@@ -20,7 +20,7 @@ use Rattle.fr_schedule.specs.Descriptions.{Description}
 use Rattle.fr_session.specs.Cuts.{EndsWorld}
 use Rattle.fr_session.specs.declared.error.SessionError.{SessionError}
 use Rattle.fr_session.specs.declared.error.SessionError.TheVariants.{Read, Write, Memory}
-use Rattle.fr_session.specs.Sessions.{ServedWorld, Terms, terms_of}
+use Rattle.fr_session.specs.Sessions.{ServedWorld}
 use Rattle.fr_showing.specs.Listening.{capture_of}
 use Rattle.fr_slots.specs.Numbers.{last_host_limit, last_slot_limit}
 use Rattle.fr_world.specs.declared.failure.WorldFailure.{WorldFailure}
@@ -70,10 +70,6 @@ greatest_room = record { host = last_host_limit; slot = last_slot_limit }
 abbrev pub endless_world : Description → ℕ → WorldState
 endless_world d cycles = opening_world (with_room greatest_room d) cycles
 
--- a fault line names cycles 0 to 1023 at most
-abbrev pub endless_terms : Description → ℕ → Terms
-endless_terms d cycles = terms_of d (min cycles 1024)
-
 -- the end of a session as that of the program
 abbrev pub failure_of : EndlessError → WorldFailure
 failure_of (ending.Session error) = failure.Session error
@@ -112,15 +108,17 @@ abbrev pub ServesLive : Description → ℕ → Option (List ℕ) → Option (Li
     → TapsState → TapsState → Result (Unit {0}) WorldFailure → Type 0
 ServesLive d cycles text left before after old new (Ok done) =
     (cycles_suit d.params cycles ≡ true) × (v : WorldState)
-    × ServedEndless (endless_terms d cycles) text before after (endless_world d cycles) v
+    × ServedEndless (endless_terms d cycles (length old.kept)) text before after (endless_world d cycles) v
     × HasAll d old new v × (new.failed ≡ None)
 ServesLive d cycles text left before after old new (Err (failure.Session error)) =
     (cycles_suit d.params cycles ≡ true) × (v : WorldState)
-    × EndsEndless (endless_terms d cycles) (ending.Session error) text left before after (endless_world d cycles) v
+    × EndsEndless (endless_terms d cycles (length old.kept)) (ending.Session error) text left before after
+    (endless_world d cycles) v
     × HasBegunUnless d error old new v
 ServesLive d cycles text left before after old new (Err (failure.Tap tap)) =
     (cycles_suit d.params cycles ≡ true) × (v : WorldState)
-    × EndsEndless (endless_terms d cycles) (ending.Tap tap) text left before after (endless_world d cycles) v
+    × EndsEndless (endless_terms d cycles (length old.kept)) (ending.Tap tap) text left before after
+    (endless_world d cycles) v
     × HasAll d old new v × (new.failed ≡ Some tap)
 ServesLive d cycles text left before after old new (Err (failure.World error)) =
     OpensLiveWorld d cycles greatest_room (Err error) × Keeps text left × Keeps before after × (new ≡ old)

@@ -5,6 +5,7 @@
 //! ```text
 //! fr_world cluster.toml --cycles 4
 //! fr_world cluster.toml --endless
+//! fr_world cluster.toml --endless --keep 8
 //! fr_world cluster.toml --endless --record lines --capture bus.pcap --trace folder
 //! ```
 //!
@@ -21,8 +22,9 @@
 //! # Inner workings
 //!
 //! `main` reads the words, makes the cluster, opens the files for the record, the capture and the traces, and allocates
-//! the buffers for reading and writing. `serve_run` (`serving`) opens the world. Then `serve` (`fr_session`) answers
-//! until the reader ends, or without history `serve_endless` (`fr_endless`).
+//! the buffers for reading and writing, and with `--keep` the places for the lines of the last windows. `serve_run`
+//! (`serving`) opens the world. Then `serve` (`fr_session`) answers until the reader ends, or without history
+//! `serve_endless` (`fr_endless`).
 #![tactic(auto)]
 
 mod failure;
@@ -31,7 +33,7 @@ mod serving;
 use failure::WorldFailure;
 use fr_cli::waiting::{WaitingReader, WaitingWriter};
 use fr_cli::words::{texts_of, words_given};
-use fr_cli::world::{WorldCommand, command_of};
+use fr_cli::world::{WorldCommand, WorldFiles, command_of};
 use fr_endless::taps::{Tap, Taps};
 use fr_files::cluster_file::cluster_of;
 use fr_files::named::file_named;
@@ -93,24 +95,44 @@ fn trace_of<R: Files + AllocGlobal>(
     file_of(rt, Some(name.as_str()), Tap::Trace(node))
 }
 
-/// Opens the file of each node's trace in the order of the nodes, if there is a folder for them.
+/// Returns whether the trace of the node of this number is asked for.
+fn is_chosen(nodes: &Option<[bool; 16]>, number: u8) -> bool {
+    match nodes {
+        Some(nodes) => nodes.get(usize::from(number)) == Some(&true),
+        None => true,
+    }
+}
+
+/// Fails with `Tap` if the trace of a node is asked for that the cluster doesn't have.
+fn check_nodes(cluster: &Cluster, nodes: &Option<[bool; 16]>) -> Result<(), WorldFailure> {
+    for number in cluster.nodes()..16 {
+        match NodeId::new(number) {
+            Some(node) if nodes.is_some() && is_chosen(nodes, number) => {
+                return Err(WorldFailure::Tap(Tap::Trace(node)));
+            }
+            _ => {}
+        }
+    }
+    Ok(())
+}
+
+/// Opens the files of the nodes' traces that are asked for, in the order of the nodes, if there is a folder for them.
 fn traces_of<R: Files + AllocGlobal>(
     rt: &R,
     cluster: &Cluster,
-    folder: Option<&str>,
-) -> Result<Vec<BufWriter<R::File>>, WorldFailure> {
+    files: &WorldFiles<'_>,
+) -> Result<Vec<Option<BufWriter<R::File>>>, WorldFailure> {
     let mut traces = Vec::new(rt.alloc());
-    let Some(folder) = folder else {
+    let Some(folder) = files.trace else {
         return Ok(traces);
     };
     for number in 0..cluster.nodes() {
-        let Some(node) = NodeId::new(number) else {
-            continue;
+        let file = match NodeId::new(number) {
+            Some(node) if is_chosen(&files.trace_nodes, number) => trace_of(rt, folder, node)?,
+            _ => None,
         };
-        if let Some(file) = trace_of(rt, folder, node)? {
-            if traces.push(file).is_err() {
-                return Err(WorldFailure::Memory);
-            }
+        if traces.push(file).is_err() {
+            return Err(WorldFailure::Memory);
         }
     }
     Ok(traces)
@@ -122,10 +144,19 @@ fn taps_of<R: Files + AllocGlobal>(
     cluster: &Cluster,
     command: WorldCommand<'_>,
 ) -> Result<Taps<BufWriter<R::File>>, WorldFailure> {
+    check_nodes(cluster, &command.files.trace_nodes)?;
     let recorded = file_of(rt, command.files.record, Tap::Record)?;
     let captured = file_of(rt, command.files.capture, Tap::Capture)?;
-    let traces = traces_of(rt, cluster, command.files.trace)?;
-    match Taps::new(rt.alloc(), cluster.params(), recorded, captured, traces) {
+    let traces = traces_of(rt, cluster, &command.files)?;
+    let keep = command.keep.unwrap_or(0);
+    match Taps::new(
+        rt.alloc(),
+        cluster.params(),
+        recorded,
+        captured,
+        traces,
+        keep,
+    ) {
         Ok(taps) => Ok(taps),
         Err(_) => Err(WorldFailure::Memory),
     }

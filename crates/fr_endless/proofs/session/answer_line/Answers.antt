@@ -8,16 +8,16 @@ pub returns-in-Some : goal.returns-in-Some
 returns-in-Some g c =
     asked_if g.W.Write.contents c.args.writer.now c.do_request.new.writer c.do_request.result
     (terms_in c.args.terms.now) (with_taps c.args.world.now c.args.taps.now)
-    (with_taps c.do_request.new.world c.do_request.new.taps) c.args.faults.now c.do_request.new.faults
+    (with_taps c.do_request.new.world c.do_request.new.taps) c.args.noted.now c.do_request.new.noted
     c.args.number _ _ (sym c.request_of.ensures ∙ c.in-Some.is) c.do_request.ensures
 
 pub returns-in-None : goal.returns-in-None
 returns-in-None g c =
     asked_if g.W.Write.contents c.args.writer.now c.write_bad_line.new.writer c.write_bad_line.result
     (terms_in c.args.terms.now) (with_taps c.args.world.now c.args.taps.now)
-    (with_taps c.args.world.now c.args.taps.now) c.args.faults.now c.args.faults.now
+    (with_taps c.args.world.now c.args.taps.now) c.args.noted.now c.args.noted.now
     c.args.number _ _ (sym c.request_of.ensures ∙ c.in-None.is)
     (replied g.W.Write.contents c.args.writer.now c.write_bad_line.new.writer c.write_bad_line.result _ _
-    (bad_line_so (terms_in c.args.terms.now) (with_taps c.args.world.now c.args.taps.now) c.args.faults.now
+    (bad_line_so (terms_in c.args.terms.now) (with_taps c.args.world.now c.args.taps.now) c.args.noted.now
     c.args.number)
     c.write_bad_line.ensures)

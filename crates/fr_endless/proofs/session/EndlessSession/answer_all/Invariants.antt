@@ -8,5 +8,5 @@ abbrev pub invariant-loop-number : goal.invariant-loop-number
 invariant-loop-number g l =
     SoFarAlike (terms_in l.terms) (g.R.Read.remaining l.fn.reader) (g.R.Read.remaining l.reader)
     (g.W.Write.contents l.fn.writer) (g.W.Write.contents l.writer) l.number (with_taps l.fn.world l.fn.taps)
-    l.fn.self.faults (with_taps l.world l.taps) l.self.faults
+    l.fn.self.noted (with_taps l.world l.taps) l.self.noted
     × (l.taps.failed ≡ None)

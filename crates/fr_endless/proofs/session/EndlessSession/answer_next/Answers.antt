@@ -11,8 +11,8 @@ returns-in-Ok-clause-answers g c =
     (g.R.Read.remaining c.next_line.new.reader) c.next_line.new.line.items) c.in-Ok-true.field-0-test
     c.in-Ok-true.ensures.comes in
     answered_front (terms_in c.args.terms.now) _ _ _ _ c.args.number c.next_line.new.line.items
-    (with_taps c.args.world.now c.args.taps.now) c.args.self.now.faults (with_taps c.answer.new.world c.answer.new.taps)
-    c.answer.new.self.faults comes c.in-Ok.ensures.sends
+    (with_taps c.args.world.now c.args.taps.now) c.args.self.now.noted (with_taps c.answer.new.world c.answer.new.taps)
+    c.answer.new.self.noted comes c.in-Ok.ensures.sends
 
 pub returns-in-Err-answer-clause-early : goal.returns-in-Err-answer-clause-early
 returns-in-Err-answer-clause-early g c =
@@ -20,6 +20,6 @@ returns-in-Err-answer-clause-early g c =
     (g.R.Read.remaining c.next_line.new.reader) c.next_line.new.line.items) c.in-Ok-true.field-0-test
     c.in-Ok-true.ensures.comes in
     failed_line_alike (terms_in c.args.terms.now) c.in-Err-answer.error _ _ _ _ c.args.number
-    c.next_line.new.line.items (with_taps c.args.world.now c.args.taps.now) c.args.self.now.faults
-    (with_taps c.answer.new.world c.answer.new.taps) c.answer.new.self.faults comes c.in-Err-answer.ensures.line
+    c.next_line.new.line.items (with_taps c.args.world.now c.args.taps.now) c.args.self.now.noted
+    (with_taps c.answer.new.world c.answer.new.taps) c.answer.new.self.noted comes c.in-Err-answer.ensures.line
     c.in-Err-answer.ensures.sends c.in-Err-answer.ensures.unsent

@@ -1,9 +1,0 @@
-use Rattle.std.proofs.Common.{ℕ, List, ◌∙◌, map, subst}
-use Rattle.fr_endless.specs.Taps.{AddsAt}
-use Rattle.fr_endless.proofs.taps.hand_entry.Goals as goal
-
-pub returns-in-Ok : goal.returns-in-Ok
-returns-in-Ok g c =
-    subst (λ (l : List ℕ). AddsAt c.hand_trace.result (map g.F.Write.contents c.args.traces.now.items)
-    (map g.F.Write.contents c.hand_trace.new.traces.items) c.args.place l) (c.as_slice.ensures.value ∙ c.in-Ok.ensures)
-    c.hand_trace.ensures
