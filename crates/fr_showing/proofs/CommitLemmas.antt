@@ -14,7 +14,7 @@ use Rattle.fr_showing.specs.CommitText.{commit_by, commit_line, commits_in, entr
 use Rattle.fr_showing.specs.declared.ends.End.{End}
 use Rattle.fr_showing.specs.declared.ends.End.TheVariants.{Alone, Turned, Overrun, Collided, Muted, Blocked}
 use Rattle.fr_capture.specs.declared.takers.Taker.{Taker}
-use Rattle.fr_showing.specs.Fates.{cycles_of}
+use Rattle.fr_journal.specs.Cycles.{cycles_of}
 use Rattle.fr_slots.specs.History.{each_after}
 
 module _ (w : WorldState) (node : ℕ) where

@@ -6,7 +6,7 @@ use Rattle.std.specs.List.{flat_map, list_any}
 use Rattle.std.specs.Option.{option_or}
 use Rattle.std.proofs.lemmas.Grind.{flat_map-append}
 use Rattle.std.proofs.lemmas.List.Sums.{sum_by-append, count_by-le-length}
-use Rattle.fr_core.specs.Accounts.{begins_cycle_at, run_cycle}
+use Rattle.fr_journal.specs.Cycles.{begins_cycle_at, run_cycle}
 use Rattle.fr_core.specs.Worlds.{WorldState}
 use Rattle.fr_interface.specs.State.{State, IsLegalInterface}
 use Rattle.fr_journal.proofs.FateStepLemmas.{fate_by}
@@ -22,7 +22,8 @@ use Rattle.fr_showing.specs.CommitSteps.{entry_text, handed_text}
 use Rattle.fr_showing.specs.CommitText.{commit_by, line_in, sending_text, Committed}
 use Rattle.fr_showing.specs.declared.fates.Became.{Became}
 use Rattle.fr_showing.specs.declared.fates.Became.TheVariants.{Sent, Withdrawn, Overwritten, Pending}
-use Rattle.fr_showing.specs.Fates.{became_in, cycles_of, first_after, overwritten_by, sending_if, sendings_by, told_by}
+use Rattle.fr_showing.specs.Fates.{became_in, first_after, overwritten_by, sending_if, sendings_by, told_by}
+use Rattle.fr_journal.specs.Cycles.{cycles_of}
 use Rattle.fr_showing.specs.Fates.{withdrawn_by}
 use Rattle.fr_showing.specs.FateSteps.{became_with, is_pending}
 use Rattle.fr_slots.specs.declared.channel.Channel.TheVariants.{A, B}

@@ -1,5 +1,5 @@
 -- The lines of the scripts of a run, each with its answer (project-defined).
-use Rattle.std.specs.Prelude.{ℕ, List, [], ◌∷◌, codes, slice_get, Option, Some, None, option_map}
+use Rattle.std.specs.Prelude.{ℕ, List, [], ◌∷◌, ◌++◌, codes, slice_get, take, Option, Some, None, option_map}
 use Rattle.std.specs.Fmt.{decimal}
 use Rattle.std.specs.Option.{option_and_then}
 use Rattle.fr_core.specs.declared.event.Reply.{Reply}
@@ -11,12 +11,13 @@ use Rattle.fr_interface.specs.declared.call.Answer.{Answer}
 use Rattle.fr_interface.specs.declared.call.Answer.TheVariants as answer
 use Rattle.fr_interface.specs.declared.call.Call.{Call}
 use Rattle.fr_interface.specs.State.{State}
+use Rattle.fr_journal.specs.Cycles.{run_cycle}
 use Rattle.fr_journal.specs.declared.entry.Arrival.{Arrival}
 use Rattle.fr_journal.specs.Forms.{Entry}
 use Rattle.fr_journal.specs.declared.entry.Entry.TheVariants as entry
 use Rattle.fr_journal.specs.declared.entry.Origin.{Origin}
-use Rattle.fr_lines.specs.Parts.{absent}
-use Rattle.fr_lines.specs.Spelling.{line_text}
+use Rattle.fr_lines.specs.Parts.{absent, optional_number}
+use Rattle.fr_lines.specs.Spelling.{line_feed}
 use Rattle.fr_playing.specs.Calls.{Asked, asked_of}
 use Rattle.fr_playing.specs.declared.call.ExecutedCall.{ExecutedCall}
 use Rattle.fr_scenario.specs.Spelling.{kind_word, call_words}
@@ -44,6 +45,16 @@ abbrev pub channel_in : Option State → ℕ → Option Channel
 channel_in None number = None
 channel_in (Some s) number = channel_at (slice_get s.entries number)
 
+-- the cycle of the run in which the frame of an entry of this journal came
+abbrev pub came_at : List Entry → Option Entry → Option ℕ
+came_at entries e =
+    option_map (λ (origin : Origin). run_cycle (take origin.entry entries)) (option_and_then origin_of e)
+
+-- the same of the entry of this number
+abbrev pub came_in : Option State → ℕ → Option ℕ
+came_in None number = None
+came_in (Some s) number = came_at s.entries (slice_get s.entries number)
+
 -- ---- words
 
 -- the call in the words of a scenario, without its places
@@ -70,10 +81,13 @@ answer_words channel Done = absent ∷ []
 -- ---- a line
 
 -- the node, the task, the cycle of the run, the call, and this reply with the channel of its frame
-abbrev pub reply_line : Option Channel → Asked → Reply → List ℕ
-reply_line channel asked reply =
-    line_text (decimal asked.node ∷ decimal asked.task ∷ decimal asked.cycle ∷ line_of (told_words asked.call)
+abbrev pub reply_text : Option Channel → Asked → Reply → List ℕ
+reply_text channel asked reply =
+    line_of (decimal asked.node ∷ decimal asked.task ∷ decimal asked.cycle ∷ line_of (told_words asked.call)
     ∷ codes "=" ∷ line_of (answer_words channel reply) ∷ [])
+
+abbrev pub reply_line : Option Channel → Asked → Reply → List ℕ
+reply_line channel asked reply = reply_text channel asked reply ++ line_feed
 
 -- the same of an executed call
 abbrev pub answer_line : WorldState → ExecutedCall → List ℕ
@@ -90,3 +104,33 @@ channel_answered (answer.Frame arrival) = option_map (λ (a : Arrival). a.origin
 
 abbrev pub answered_line : Asked → Answer → List ℕ
 answered_line asked answer = reply_line (channel_answered answer) asked (reply_of answer)
+
+-- ---- a line with the cycle of the run in which the frame came
+
+-- the cycle of a frame, after a space
+abbrev pub came_text : Option ℕ → Reply → List ℕ
+came_text came (Committed receipt) = []
+came_text came (Withdrawn of) = []
+came_text came (Frame None) = []
+came_text came (Frame (Some f)) = 32 ∷ optional_number came
+came_text came (Window window) = []
+came_text came Done = []
+
+-- the words of the line of the reply, and the cycle of the run in which its frame came
+abbrev pub came_line : Option ℕ → Option Channel → Asked → Reply → List ℕ
+came_line came channel asked reply = reply_text channel asked reply ++ came_text came reply ++ line_feed
+
+-- the same of an executed call, by the origin of its frame
+abbrev pub origin_line : WorldState → ExecutedCall → List ℕ
+origin_line w call =
+    came_line (came_in (slice_get w.interfaces call.node) call.entry)
+    (channel_in (slice_get w.interfaces call.node) call.entry) (asked_of call) call.reply
+
+-- by the answer of an interface
+abbrev pub came_answered : Answer → Option ℕ
+came_answered (answer.Committed receipt) = None
+came_answered (answer.Withdrawn of) = None
+came_answered (answer.Frame arrival) = option_map (λ (a : Arrival). a.cycle) arrival
+
+abbrev pub origin_answered : Asked → Answer → List ℕ
+origin_answered asked answer = came_line (came_answered answer) (channel_answered answer) asked (reply_of answer)

@@ -15,7 +15,8 @@ use Rattle.fr_showing.specs.declared.ends.End.TheVariants.{Alone, Turned}
 use Rattle.fr_showing.specs.declared.fates.Sending.{Sending}
 use Rattle.fr_capture.specs.declared.takers.Taker.{Taker}
 use Rattle.fr_showing.specs.Ends.{ended_word, offer_end}
-use Rattle.fr_showing.specs.Fates.{became, cycles_of, sendings}
+use Rattle.fr_showing.specs.Fates.{became, sendings}
+use Rattle.fr_journal.specs.Cycles.{cycles_of}
 use Rattle.fr_capture.specs.Takers.{takers_word}
 use Rattle.fr_schedule.specs.Descriptions.{Description}
 use Rattle.fr_showing.specs.Takers.{takers_by_plans, takers_in}

@@ -1,9 +1,9 @@
 -- The fate of a commit, with the entry of its journal and the cycle of the run that decided it, and the windows in
 -- which it was sent (project-defined).
-use Rattle.std.specs.Prelude.{ℕ, ◌+◌, List, [], ◌∷◌, ◌++◌, length, take, drop, count_by, Option, Some, None, unwrap_or}
+use Rattle.std.specs.Prelude.{ℕ, ◌+◌, List, [], ◌∷◌, ◌++◌, length, take, drop, Option, Some, None, unwrap_or}
 use Rattle.std.specs.Prelude.{if◌then◌else◌}
 use Rattle.std.specs.Option.{option_or}
-use Rattle.fr_core.specs.Accounts.{begins_cycle_at, run_cycle}
+use Rattle.fr_journal.specs.Cycles.{cycles_of, run_cycle}
 use Rattle.fr_journal.specs.Forms.{Entry}
 use Rattle.fr_journal.specs.declared.entry.Entry.TheVariants.{Commit, Withdraw, Read, Pop, Fetch, Observe}
 use Rattle.fr_journal.specs.declared.entry.Offered.{Offered}
@@ -17,11 +17,6 @@ use Rattle.fr_slots.specs.declared.channel.Channel.{Channel}
 use Rattle.fr_slots.specs.declared.channel.Channel.TheVariants.{A, B}
 use Rattle.fr_slots.specs.History.{each_after}
 use Rattle.fr_slots.specs.Windows.{Opportunity}
-
--- The number of cycles of the run that the node has begun. A call of a task then belongs to the cycle of that number,
--- before its windows, like a line of a scenario.
-abbrev pub cycles_of : List Entry → ℕ
-cycles_of entries = count_by begins_cycle_at entries
 
 -- ---- the fate
 

@@ -9,6 +9,7 @@ pub mod Fates
 pub mod Idle
 pub mod Listening
 pub mod Origins
+pub mod Reasons
 pub mod RecordText
 pub mod Shows
 pub mod Spans

@@ -5,6 +5,7 @@ ghost use Rattle.fr_text.specs.Spaces.{line_of};
 ghost use Rattle.fr_text.specs.Writing.{Writes};
 ghost use Rattle.fr_showing.specs.AnswerText.{told_words, answer_words, channel_word, answer_line, origin_of};
 ghost use Rattle.fr_showing.specs.AnswerText.{answered_line, channel_answered, channel_in, frame_words, reply_line};
+ghost use Rattle.fr_showing.specs.AnswerText.{came_answered, came_line, came_text, origin_answered, reply_text};
 ghost use Rattle.fr_showing.specs.AnswerSteps.{asked_by};
 
 use fr_core::event::Reply;
@@ -101,6 +102,22 @@ struct TaskCall<'a> {
     call: &'a Call,
 }
 
+/// Writes a call, with this reply and the channel of its frame, without a line feed.
+fn write_reply_text<W: Write>(
+    writer: &mut W,
+    made: &TaskCall<'_>,
+    channel: Option<Channel>,
+    reply: &Reply,
+) -> io::Result<()>
+    ensures { Writes W.contents writer.old writer.new result (reply_text channel (asked_by made.now) reply.now) }
+{
+    let (node, task) = (made.node.number(), made.task.number());
+    write!(writer, "{node} {task} {} ", made.cycle)?;
+    write_host_call(writer, made.call)?;
+    write!(writer, " = ")?;
+    write_answer(writer, channel, reply)
+}
+
 /// Writes the line of a call, with this reply and the channel of its frame.
 fn write_reply<W: Write>(
     writer: &mut W,
@@ -110,11 +127,34 @@ fn write_reply<W: Write>(
 ) -> io::Result<()>
     ensures { Writes W.contents writer.old writer.new result (reply_line channel (asked_by made.now) reply.now) }
 {
-    let (node, task) = (made.node.number(), made.task.number());
-    write!(writer, "{node} {task} {} ", made.cycle)?;
-    write_host_call(writer, made.call)?;
-    write!(writer, " = ")?;
-    write_answer(writer, channel, reply)?;
+    write_reply_text(writer, made, channel, reply)?;
+    writeln!(writer)
+}
+
+/// Writes a space and the cycle of the run in which the frame of a reply came, or nothing without a frame.
+fn write_came<W: Write>(writer: &mut W, came: Option<u32>, reply: &Reply) -> io::Result<()>
+    ensures { Writes W.contents writer.old writer.new result (came_text came reply.now) }
+{
+    match (reply, came) {
+        (Reply::Frame(Some(_)), Some(cycle)) => write!(writer, " {cycle}"),
+        (Reply::Frame(Some(_)), None) => write!(writer, " -"),
+        _ => Ok(()),
+    }
+}
+
+/// Writes the line of a call, with this reply, and the channel of its frame and the cycle in which it came.
+fn write_came_line<W: Write>(
+    writer: &mut W,
+    made: &TaskCall<'_>,
+    came: Option<u32>,
+    channel: Option<Channel>,
+    reply: &Reply,
+) -> io::Result<()>
+    ensures { Writes W.contents writer.old writer.new result
+        (came_line came channel (asked_by made.now) reply.now) }
+{
+    write_reply_text(writer, made, channel, reply)?;
+    write_came(writer, came, reply)?;
     writeln!(writer)
 }
 
@@ -142,6 +182,16 @@ fn channel_answered(answer: &Answer) -> Option<Channel>
     }
 }
 
+/// Returns the cycle of the run in which the frame in an answer came.
+fn came_answered(answer: &Answer) -> Option<u32>
+    ensures { result ≡ came_answered answer.now }
+{
+    match answer {
+        Answer::Frame(Some(arrival)) => Some(arrival.cycle),
+        _ => None,
+    }
+}
+
 /// Writes the line of a task's call, as `write_answers` does, with the answer of the node's interface
 /// (project-defined).
 ///
@@ -164,6 +214,30 @@ pub fn write_answered<W: Write>(
     };
     let channel = channel_answered(&answer);
     write_reply(writer, &made, channel, &Reply::from(answer))
+}
+
+/// Writes the same line, and after the words of a frame the cycle of the run in which it came, counted from 0
+/// (project-defined).
+///
+/// Fails if the writer fails. Then a part of the line may have gone out.
+pub fn write_origin<W: Write>(
+    writer: &mut W,
+    node: NodeId,
+    task: TaskId,
+    line: &Line,
+    answer: Answer,
+) -> io::Result<()>
+    ensures { Writes W.contents writer.old writer.new result
+        (origin_answered (record { node = node; task = task; cycle = line.now.cycle; call = line.now.action }) answer) }
+{
+    let made = TaskCall {
+        node,
+        task,
+        cycle: line.cycle,
+        call: &line.action,
+    };
+    let (came, channel) = (came_answered(&answer), channel_answered(&answer));
+    write_came_line(writer, &made, came, channel, &Reply::from(answer))
 }
 
 /// Writes a line for each of the calls, in their order (project-defined).

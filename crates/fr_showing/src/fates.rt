@@ -1,17 +1,17 @@
 //! The fate of a commit, and the windows in which it was sent.
 ghost use Rattle.std.specs.Prelude.{◌≡◌, ◌<◌, ◌+◌, ◌^◌, true, if◌then◌else◌, take, slice_get, IsSomeAnd};
-ghost use Rattle.fr_core.specs.Accounts.{begins_cycle_at};
+ghost use Rattle.fr_journal.specs.Cycles.{begins_cycle_at};
 ghost use Rattle.fr_journal.specs.Fate.{is_commit_on, is_data_of};
 ghost use Rattle.fr_journal.specs.Lent.{whole};
-ghost use Rattle.fr_showing.specs.Fates.{became, cycles_of};
+ghost use Rattle.fr_showing.specs.Fates.{became};
+ghost use Rattle.fr_journal.specs.Cycles.{cycles_of};
 ghost use Rattle.fr_showing.specs.FateSteps.{became_with, is_pending};
 
-use fr_bus::windows::opens_cycle;
 use fr_interface::interface::Interface;
 use fr_journal::entry::Offered;
 use fr_journal::lent::LentEntry;
 use fr_slots::channel::Channel;
-use fr_slots::window::Window;
+use fr_slots::window::{Window, opens_cycle};
 
 /// The fate of a commit, with the cycle of the run and the number of the entry that decided it.
 #[derive(Clone, Copy)]

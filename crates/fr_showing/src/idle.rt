@@ -16,7 +16,7 @@ use fr_slots::params::Params;
 use std::alloc::{AllocError, Global};
 
 /// Returns whether the transmission passed alone, with one of its bits flipped.
-fn is_turned_end(end: End) -> bool
+pub(crate) fn is_turned_end(end: End) -> bool
     ensures { result ≡ is_turned_end end }
 {
     end == End::Turned

@@ -45,6 +45,7 @@ pub mod idle;
 pub mod listener;
 mod origins;
 mod parts;
+pub mod reasons;
 pub mod record;
 pub mod sending;
 pub mod show;

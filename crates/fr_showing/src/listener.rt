@@ -6,12 +6,11 @@ ghost use Rattle.fr_text.specs.Writing.{Writes};
 
 use fr_bus::bus::Bus;
 use fr_bus::outcome::Sealed;
-use fr_bus::windows::opens_cycle;
 use fr_capture::moment::start_of_window;
 use fr_capture::pcap::{write_file_header, write_record};
 use fr_slots::channel::Channel;
 use fr_slots::params::Params;
-use fr_slots::window::Window;
+use fr_slots::window::{Window, opens_cycle};
 use fr_status::seen::Seen;
 use std::io;
 use std::io::Write;

@@ -24,8 +24,10 @@ use Rattle.fr_playing.proofs.StrikingLemmas.{flat-more}
 use Rattle.fr_playing.specs.Calls.{Asked, asked_in_line, asked_of, entries_in, AddsCalls, DoesCall, DoesCalls}
 use Rattle.fr_playing.specs.declared.call.ExecutedCall.{ExecutedCall}
 use Rattle.fr_scenario.specs.Contents.{Contents}
-use Rattle.fr_showing.specs.AnswerText.{answer_line, channel_answered, reply_line}
+use Rattle.fr_showing.specs.AnswerText.{answer_line, came_answered, came_in, came_line, channel_answered, channel_in}
+use Rattle.fr_showing.specs.AnswerText.{origin_line, reply_line}
 use Rattle.fr_showing.specs.Listening.{capture_of}
+use Rattle.fr_showing.specs.Reasons.{reasons_text}
 use Rattle.fr_showing.specs.RecordText.{record_text}
 use Rattle.fr_showing.specs.Spans.{spans_text}
 use Rattle.fr_slots.specs.declared.channel.Channel.{Channel}
@@ -33,12 +35,13 @@ use Rattle.fr_schedule.specs.Descriptions.{Description}
 use Rattle.fr_streaming.proofs.KeptLemmas.{channel_kept, channel_told, kept_same}
 use Rattle.fr_streaming.proofs.LedLemmas.{made_executed}
 use Rattle.fr_streaming.proofs.LogCallLemmas.{call_logs}
+use Rattle.fr_streaming.proofs.OriginLemmas.{came_kept, came_told}
 use Rattle.fr_streaming.proofs.TellLemmas.{breaks_after, goes_none, goes_then}
 use Rattle.fr_streaming.specs.CommitLog.{AddsToLog}
 use Rattle.fr_streaming.specs.declared.log.CallPlace.{CallPlace}
 use Rattle.fr_streaming.specs.declared.telling.Streamed.{Streamed}
 use Rattle.fr_streaming.specs.declared.telling.Streamed.TheVariants.{Outcome, Answers, Commits, Record, Windows}
-use Rattle.fr_streaming.specs.declared.telling.Streamed.TheVariants.{Heard}
+use Rattle.fr_streaming.specs.declared.telling.Streamed.TheVariants.{Reasons, Origins, Heard}
 use Rattle.fr_streaming.specs.LogSteps.{call_text, place_in, IsBetween}
 use Rattle.fr_streaming.specs.Streams.{asked, told_call, Breaks, Goes, MakesCalls, TellsBetween}
 
@@ -88,6 +91,20 @@ call_told Record s d l w made v place answer history world does place_is is repl
 call_told Windows s d l w made v place answer history world does place_is is reply_is =
     ap (λ (b : BusState). spans_text d.params b.sealed) (bus_kept w made v does)
     ∙ sym (append-nil (spans_text d.params w.bus.sealed))
+call_told Reasons s d l w made v place answer history world does place_is is reply_is =
+    ap (λ (b : BusState). reasons_text s d b.sealed) (bus_kept w made v does)
+    ∙ sym (append-nil (reasons_text s d w.bus.sealed))
+call_told Origins s d l w made v place answer history world does place_is is reply_is =
+    let channel : channel_answered answer ≡ channel_in (slice_get v.interfaces made.node) made.entry =
+    ap channel_answered is ∙ channel_told (interface_at w made.node) made.task made.call
+    ∙ sym (channel_kept w made v v does (kept_same v.interfaces)) in
+    let came : came_answered answer ≡ came_in (slice_get v.interfaces made.node) made.entry =
+    ap came_answered is ∙ came_told (interface_at w made.node) made.task made.call
+    ∙ sym (came_kept w made v v does (kept_same v.interfaces)) in
+    ap (λ (reply : Reply). came_line (came_answered answer) (channel_answered answer) (asked_of made) reply)
+    (sym reply_is)
+    ∙ ap₂ (λ (c : Option ℕ) (channel : Option Channel). came_line c channel (asked_of made) made.reply) came channel
+    ∙ sym (append-nil (origin_line v made))
 call_told Heard s d l w made v place answer history world does place_is is reply_is =
     ap (λ (b : BusState). capture_of d.params b.sealed) (bus_kept w made v does)
     ∙ sym (append-nil (capture_of d.params w.bus.sealed))

@@ -8,7 +8,7 @@ use Rattle.std.specs.List.{flat_map}
 use Rattle.std.proofs.lemmas.Bool.{ne_eqb, eqb-true}
 use Rattle.std.proofs.lemmas.Grind.{flat_map-append}
 use Rattle.fr_core.proofs.ReadyLemmas.{pending-new, pending-same}
-use Rattle.fr_core.specs.Accounts.{run_cycle}
+use Rattle.fr_journal.specs.Cycles.{run_cycle}
 use Rattle.fr_core.specs.Worlds.{WorldState}
 use Rattle.fr_interface.specs.State.{State, IsLegalInterface}
 use Rattle.fr_journal.proofs.HeldCommitLemmas.{pending_is}
@@ -24,7 +24,8 @@ use Rattle.fr_showing.specs.CommitText.{entries_at, Committed}
 use Rattle.fr_showing.specs.declared.fates.Became.{Became}
 use Rattle.fr_showing.specs.declared.fates.Became.TheVariants.{Sent, Withdrawn, Overwritten, Pending}
 use Rattle.fr_showing.specs.declared.fates.Sending.{Sending}
-use Rattle.fr_showing.specs.Fates.{became, became_in, cycles_of, sending_if, sendings, sendings_by}
+use Rattle.fr_showing.specs.Fates.{became, became_in, sending_if, sendings, sendings_by}
+use Rattle.fr_journal.specs.Cycles.{cycles_of}
 use Rattle.fr_showing.specs.FateSteps.{became_with, is_pending}
 use Rattle.fr_slots.specs.declared.channel.Channel.{Channel}
 use Rattle.fr_slots.specs.declared.channel.Channel.TheVariants.{A, B}

@@ -112,7 +112,7 @@ done_keeps w (Inject fault) = kept_same w.interfaces
 done_keeps w Seal = kept_same w.interfaces
 done_keeps w Advance = kept_same w.interfaces
 
-step_keeps : (w : WorldState) (event : Event) (reply : Reply) (v : WorldState) → Steps w event (Ok reply) v
+pub step_keeps : (w : WorldState) (event : Event) (reply : Reply) (v : WorldState) → Steps w event (Ok reply) v
     → IsKept w.interfaces v.interfaces
 step_keeps w event reply v step =
     subst (λ (u : WorldState). IsKept w.interfaces u.interfaces) (sym step.2) (done_keeps w event)

@@ -1,5 +1,6 @@
 pub mod AlikeLemmas
 pub mod KeptLemmas
+pub mod OriginLemmas
 pub mod LedLemmas
 pub mod JournalLemmas
 pub mod LogLemmas

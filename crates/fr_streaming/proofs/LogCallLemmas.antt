@@ -11,7 +11,7 @@ use Rattle.std.proofs.lemmas.List.Elements.{All-push}
 use Rattle.fr_bus.specs.Record.{Recorded}
 use Rattle.fr_bus.specs.Windows.{cycles_begun}
 use Rattle.fr_core.proofs.TimingLemmas.{count_more}
-use Rattle.fr_core.specs.Accounts.{begins_cycle_at}
+use Rattle.fr_journal.specs.Cycles.{begins_cycle_at}
 use Rattle.fr_core.specs.Agreement.{IsWorld}
 use Rattle.fr_core.specs.declared.error.StepError.TheVariants.{Host, UnknownNode}
 use Rattle.fr_core.specs.Steps.{event_of, step_refusal, with_interface}
@@ -34,7 +34,7 @@ use Rattle.fr_live.specs.LiveWorlds.{LiveState, IsWorldHistory, standing_at}
 use Rattle.fr_playing.proofs.EntryLemmas.{host_entry}
 use Rattle.fr_schedule.specs.Descriptions.{Description}
 use Rattle.fr_showing.specs.CommitText.{entries_at}
-use Rattle.fr_showing.specs.Fates.{cycles_of}
+use Rattle.fr_journal.specs.Cycles.{cycles_of}
 use Rattle.fr_slots.proofs.HistoryLemmas.{each_after-snoc}
 use Rattle.fr_slots.specs.declared.plan.Buffer.{Buffer}
 use Rattle.fr_slots.specs.History.{each_after}

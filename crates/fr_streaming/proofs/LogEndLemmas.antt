@@ -13,7 +13,7 @@ use Rattle.fr_interface.specs.State.{State}
 use Rattle.fr_live.specs.LiveWorlds.{LiveState, AreHistories, IsWorldHistory, with_room}
 use Rattle.fr_schedule.specs.Descriptions.{Description}
 use Rattle.fr_showing.specs.CommitText.{entries_at}
-use Rattle.fr_showing.specs.Fates.{cycles_of}
+use Rattle.fr_journal.specs.Cycles.{cycles_of}
 use Rattle.fr_slots.specs.declared.plan.Buffer.{Buffer}
 use Rattle.fr_slots.specs.History.{each_after}
 use Rattle.fr_slots.specs.Parameters.{Parameters}

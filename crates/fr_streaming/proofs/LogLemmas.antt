@@ -28,7 +28,7 @@ use Rattle.fr_showing.specs.declared.ends.End.{End}
 use Rattle.fr_showing.specs.declared.fates.Sending.{Sending}
 use Rattle.fr_showing.specs.Ends.{ended_word, offer_end}
 use Rattle.fr_showing.specs.Takers.{takers_at, takers_by_plans, takers_from, takers_in}
-use Rattle.fr_core.specs.Accounts.{run_cycle}
+use Rattle.fr_journal.specs.Cycles.{run_cycle}
 use Rattle.fr_slots.proofs.PlaceLemmas.{get-append}
 use Rattle.fr_slots.specs.Admission.{letter_of}
 use Rattle.fr_slots.specs.declared.channel.Channel.{Channel}

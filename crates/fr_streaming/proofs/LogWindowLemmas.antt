@@ -11,10 +11,11 @@ use Rattle.std.proofs.lemmas.List.{length-append, length-map}
 use Rattle.std.proofs.lemmas.List.Elements.{All-push}
 use Rattle.std.proofs.lemmas.Option.{slice_get-get_or}
 use Rattle.fr_bus.specs.Record.{Recorded}
-use Rattle.fr_bus.specs.Windows.{begins_cycle, cycles_begun, opens_cycle}
+use Rattle.fr_bus.specs.Windows.{begins_cycle, cycles_begun}
+use Rattle.fr_slots.specs.Windows.{opens_cycle}
 use Rattle.fr_core.proofs.ClusterLemmas.{steps_cluster}
 use Rattle.fr_core.proofs.TimingLemmas.{count_more}
-use Rattle.fr_core.specs.Accounts.{begins_cycle_at, run_cycle}
+use Rattle.fr_journal.specs.Cycles.{begins_cycle_at, run_cycle}
 use Rattle.fr_core.specs.declared.event.Event.{Event}
 use Rattle.fr_core.specs.Runs.{StepsAll}
 use Rattle.fr_core.specs.Steps.{step_done, step_refusal, step_reply}
@@ -42,7 +43,7 @@ use Rattle.fr_runs.specs.declared.fault_line.FaultLine.{FaultLine}
 use Rattle.fr_schedule.specs.Descriptions.{Description}
 use Rattle.fr_showing.specs.CommitText.{entries_at, recorded_of, words_by}
 use Rattle.fr_showing.specs.declared.fates.Sending.{Sending}
-use Rattle.fr_showing.specs.Fates.{cycles_of}
+use Rattle.fr_journal.specs.Cycles.{cycles_of}
 use Rattle.fr_slots.proofs.HistoryLemmas.{each_after-snoc}
 use Rattle.fr_slots.proofs.PlaceLemmas.{get-after, map-get}
 use Rattle.fr_slots.specs.declared.channel.Channel.{Channel}

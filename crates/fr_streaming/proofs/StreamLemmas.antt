@@ -234,7 +234,7 @@ module _ (d : Description) (s : Contents) (cycles : ℕ) (streamed : Streamed) w
         begun ++ text,
         rest ++ closing,
         executes,
-        subst (IsTold streamed s d.params v calls)
+        subst (IsTold streamed s d v calls)
             (ap (λ (t : List ℕ). t ++ closing) (sym (append_assoc begun text rest))
             ∙ append_assoc (begun ++ text) rest closing)
             (told_after s d streamed cycles calls v (text ++ rest) opens.1.world_is tells),
@@ -252,7 +252,7 @@ module _ (d : Description) (s : Contents) (cycles : ℕ) (streamed : Streamed) w
         front,
         rest ++ closing,
         executes_none start,
-        subst (IsTold streamed s d.params start [])
+        subst (IsTold streamed s d start [])
             (ap (λ (t : List ℕ). t ++ closing) (append-nil (told_opening streamed) ∙ is)
             ∙ append_assoc front rest closing)
             (told_after s d streamed cycles [] start [] opens.1.world_is (tells_none s d streamed start)),
@@ -274,7 +274,7 @@ module _ (d : Description) (s : Contents) (cycles : ℕ) (streamed : Streamed) w
         (begun ++ text) ++ front,
         rest,
         leads (opening d cycles) calls v one,
-        subst (IsTold streamed s d.params v calls)
+        subst (IsTold streamed s d v calls)
             (ap (λ (t : List ℕ). (begun ++ text) ++ t) (sym closing_is)
             ∙ sym (append_assoc (begun ++ text) front rest))
             (told_after s d streamed cycles calls v text opens.1.world_is tells),

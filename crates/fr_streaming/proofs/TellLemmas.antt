@@ -28,11 +28,12 @@ use Rattle.fr_playing.specs.Playing.{PlaysCycle, PlaysCycles}
 use Rattle.fr_playing.specs.Windows.{PlaysWindow, PlaysWithin, PlaysWindows}
 use Rattle.fr_runs.specs.declared.fault_line.FaultLine.{FaultLine}
 use Rattle.fr_scenario.specs.Contents.{Contents}
-use Rattle.fr_showing.specs.AnswerText.{answer_line}
+use Rattle.fr_showing.specs.AnswerText.{answer_line, origin_line}
 use Rattle.fr_showing.specs.Listening.{capture_of, window_records}
 use Rattle.fr_showing.specs.EachWindow.{each_window, said_after}
 use Rattle.fr_showing.specs.Spans.{span_line, spans_text}
 use Rattle.fr_outcome.specs.OutcomeText.{outcome_text}
+use Rattle.fr_showing.specs.Reasons.{reasons_in, reasons_text}
 use Rattle.fr_showing.specs.RecordText.{record_text, window_text}
 use Rattle.fr_slots.proofs.HistoryLemmas.{each_after-snoc}
 use Rattle.fr_slots.proofs.PlaceLemmas.{get-after}
@@ -40,6 +41,7 @@ use Rattle.fr_slots.specs.History.{each_after}
 use Rattle.fr_schedule.specs.Descriptions.{Description}
 use Rattle.fr_streaming.proofs.AlikeLemmas.{ok_as}
 use Rattle.fr_streaming.proofs.KeptLemmas.{executes_keeps, lines_kept}
+use Rattle.fr_streaming.proofs.OriginLemmas.{origins_kept}
 use Rattle.fr_streaming.proofs.LogEndLemmas.{log_is, opening_between}
 use Rattle.fr_streaming.proofs.LogLemmas.{adds_none, adds_then}
 use Rattle.fr_streaming.proofs.LogWindowLemmas.{window_last}
@@ -47,7 +49,7 @@ use Rattle.fr_streaming.proofs.LedLemmas.{err_as, executes_none, executes_then, 
 use Rattle.fr_streaming.proofs.LedLemmas.{windows_executed, within_executed, cycle_executed, cycles_executed}
 use Rattle.fr_streaming.specs.declared.telling.Streamed.{Streamed}
 use Rattle.fr_streaming.specs.declared.telling.Streamed.TheVariants.{Outcome, Answers, Commits, Record, Windows}
-use Rattle.fr_streaming.specs.declared.telling.Streamed.TheVariants.{Heard}
+use Rattle.fr_streaming.specs.declared.telling.Streamed.TheVariants.{Reasons, Origins, Heard}
 use Rattle.fr_streaming.specs.CommitLog.{AddsToLog}
 use Rattle.fr_streaming.specs.LogSteps.{IsBetween}
 use Rattle.fr_streaming.specs.Runs.{opening}
@@ -80,7 +82,7 @@ module _ (s : Contents) (d : Description) where
   -- what the view has of a way from the start is the view without its opening and its closing
   pub told_after : (streamed : Streamed) (cycles : ℕ) (calls : List ExecutedCall) (v : WorldState) (text : List ℕ)
       → IsWorld (opening d cycles) → TellsBetween streamed s d (opening d cycles) calls v text
-      → IsTold streamed s d.params v calls (told_opening streamed ++ text ++ told_closing streamed v)
+      → IsTold streamed s d v calls (told_opening streamed ++ text ++ told_closing streamed v)
   unfolding each_after
   told_after Outcome cycles calls v text world tells =
       ap (λ (t : List ℕ). t ++ outcome_text v.interfaces (length v.bus.sealed)) tells
@@ -90,6 +92,8 @@ module _ (s : Contents) (d : Description) where
       (text, log_is d cycles v text adds, refl)
   told_after Record cycles calls v text world tells = append-nil text ∙ sym tells
   told_after Windows cycles calls v text world tells = append-nil text ∙ sym tells
+  told_after Reasons cycles calls v text world tells = append-nil text ∙ sym tells
+  told_after Origins cycles calls v text world tells = append-nil text ∙ tells
   told_after Heard cycles calls v text world tells =
       ap (λ (t : List ℕ). file_header ++ t) (append-nil text)
       ∙ ap (λ (t : List ℕ). t ++ text) (sym (append-nil file_header)) ∙ sym tells
@@ -119,6 +123,13 @@ module _ (s : Contents) (d : Description) where
       ∙ ap (λ (k : ℕ). spans_text d.params w.bus.sealed ++ span_line d.params (k - 1) made) begun
       ∙ ap (λ (o : Option Recorded). spans_text d.params w.bus.sealed
       ++ told_last Windows s d n.bus.bus.course.begun o []) (sym last)
+  window_told Reasons cycle nodes faults l n w v nodes_is plays from is =
+      let (made, grows, last, begun) = sealed_more cycle nodes faults n w v plays is in
+      ap (reasons_text s d) grows ∙ each_after-snoc (said_after (reasons_in s d)) w.bus.sealed made
+      ∙ ap (λ (k : ℕ). reasons_text s d w.bus.sealed ++ reasons_in s d (k - 1) made) begun
+      ∙ ap (λ (o : Option Recorded). reasons_text s d w.bus.sealed
+      ++ told_last Reasons s d n.bus.bus.course.begun o []) (sym last)
+  window_told Origins cycle nodes faults l n w v nodes_is plays from is = refl
   window_told Heard cycle nodes faults l n w v nodes_is plays from is =
       let (made, grows, last, begun) = sealed_more cycle nodes faults n w v plays is in
       ap (capture_of d.params) grows
@@ -137,6 +148,8 @@ module _ (s : Contents) (d : Description) where
   tells_none Commits w = λ between. (between, adds_none w)
   tells_none Record w = sym (append-nil (record_text s d.params w.bus.sealed))
   tells_none Windows w = sym (append-nil (spans_text d.params w.bus.sealed))
+  tells_none Reasons w = sym (append-nil (reasons_text s d w.bus.sealed))
+  tells_none Origins w = refl
   tells_none Heard w = sym (append-nil (capture_of d.params w.bus.sealed))
 
   pub tells_then : (streamed : Streamed) (w u v : WorldState) (xs ys : List ExecutedCall) (a b : List ℕ)
@@ -155,6 +168,12 @@ module _ (s : Contents) (d : Description) where
       two ∙ ap (λ (t : List ℕ). t ++ b) one ∙ append_assoc (record_text s d.params w.bus.sealed) a b
   tells_then Windows w u v xs ys a b first second one two =
       two ∙ ap (λ (t : List ℕ). t ++ b) one ∙ append_assoc (spans_text d.params w.bus.sealed) a b
+  tells_then Reasons w u v xs ys a b first second one two =
+      two ∙ ap (λ (t : List ℕ). t ++ b) one ∙ append_assoc (reasons_text s d w.bus.sealed) a b
+  tells_then Origins w u v xs ys a b first second one two =
+      ap₂ (λ (x y : List ℕ). x ++ y)
+      (one ∙ origins_kept w xs u v first (executes_keeps u ys v second)) two
+      ∙ sym (flat_map-append (origin_line v) xs ys)
   tells_then Heard w u v xs ys a b first second one two =
       two ∙ ap (λ (t : List ℕ). t ++ b) one ∙ append_assoc (capture_of d.params w.bus.sealed) a b
 

@@ -4,7 +4,7 @@ use Rattle.std.specs.Prelude.{◌≡◌, ℕ, ◌+◌, ◌==◌, true, List, [],
 use Rattle.std.specs.Prelude.{Option}
 use Rattle.std.specs.Prelude.{Some, None, if◌then◌else◌, IsSomeAnd}
 use Rattle.std.specs.List.{flat_map}
-use Rattle.fr_core.specs.Accounts.{run_cycle}
+use Rattle.fr_journal.specs.Cycles.{run_cycle}
 use Rattle.fr_core.specs.Worlds.{WorldState}
 use Rattle.fr_interface.specs.State.{State, IsLegalInterface}
 use Rattle.fr_journal.specs.declared.entry.Entry.TheVariants.{Commit, Withdraw, Read, Pop, Fetch, Observe}
@@ -16,7 +16,8 @@ use Rattle.fr_showing.specs.CommitText.{entries_at, recorded_of, Committed}
 use Rattle.fr_showing.specs.declared.fates.Became.{Became}
 use Rattle.fr_showing.specs.declared.fates.Became.TheVariants as became
 use Rattle.fr_showing.specs.declared.fates.Sending.{Sending}
-use Rattle.fr_showing.specs.Fates.{became, cycles_of, sendings}
+use Rattle.fr_showing.specs.Fates.{became, sendings}
+use Rattle.fr_journal.specs.Cycles.{cycles_of}
 use Rattle.fr_slots.specs.declared.channel.Channel.TheVariants.{A, B}
 use Rattle.fr_slots.specs.History.{each_after}
 use Rattle.fr_streaming.specs.CommitLog.{commit_after, commit_text, ended_text, if_sealed, node_lines, sending}

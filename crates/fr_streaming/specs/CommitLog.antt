@@ -3,7 +3,7 @@ use Rattle.std.specs.Prelude.{◌≡◌, ℕ, ◌==◌, List, [], ◌∷◌, ◌
 use Rattle.std.specs.Fmt.{decimal}
 use Rattle.std.specs.List.{flat_map, range_with_len}
 use Rattle.fr_bus.specs.Record.{Recorded}
-use Rattle.fr_core.specs.Accounts.{run_cycle}
+use Rattle.fr_journal.specs.Cycles.{run_cycle}
 use Rattle.fr_core.specs.Worlds.{WorldState, interface_at}
 use Rattle.fr_interface.specs.State.{State}
 use Rattle.fr_journal.specs.declared.entry.Entry.TheVariants.{Commit, Withdraw, Read, Pop, Fetch, Observe}
@@ -14,7 +14,7 @@ use Rattle.fr_journal.specs.Forms.{Entry}
 use Rattle.fr_lines.specs.Spelling.{line_text}
 use Rattle.fr_showing.specs.CommitText.{entries_at, made_text, recorded_of, sending_words, Committed}
 use Rattle.fr_showing.specs.declared.fates.Sending.{Sending}
-use Rattle.fr_showing.specs.Fates.{cycles_of}
+use Rattle.fr_journal.specs.Cycles.{cycles_of}
 use Rattle.fr_slots.specs.declared.channel.Channel.{Channel}
 use Rattle.fr_slots.specs.declared.channel.Channel.TheVariants.{A, B}
 use Rattle.fr_slots.specs.History.{each_after}
@@ -103,7 +103,7 @@ line_if node l = if l.node == node then l.line ∷ [] else []
 abbrev pub lines_at : ℕ → List NodeLine → List (List ℕ)
 lines_at node lines = flat_map (line_if node) lines
 
--- The text has the lines of each node's journal, in its order. Those of different nodes are in the order of the run.
+-- The text has the lines of each node's journal, in its order. Those of different nodes may come in any order.
 pub record IsLog (w : WorldState) (text : List ℕ) : Type 0 where
   pub lines : List NodeLine
   pub text_is : text ≡ text_of lines

@@ -22,7 +22,7 @@ use Rattle.fr_lines.specs.Spelling.{line_text}
 use Rattle.fr_live.specs.LiveWorlds.{Entries, LiveState, standing_at, with_room}
 use Rattle.fr_schedule.specs.Descriptions.{Description}
 use Rattle.fr_showing.specs.CommitText.{entries_at, words_by, Committed}
-use Rattle.fr_showing.specs.Fates.{cycles_of}
+use Rattle.fr_journal.specs.Cycles.{cycles_of}
 use Rattle.fr_slots.specs.declared.channel.Channel.{Channel}
 use Rattle.fr_slots.specs.declared.channel.Channel.TheVariants.{A, B}
 use Rattle.fr_slots.specs.Windows.{Opportunity}

@@ -120,7 +120,7 @@ pub record IsStreamed (d : Description) (s : Contents) (cycles : ℕ) (w : World
 abbrev pub AddsStream : Description → ℕ → Streamed → Contents → Option (List ℕ) → Option (List ℕ) → Type 0
 AddsStream d cycles streamed s before after =
     (w : WorldState) × (calls : List ExecutedCall) × IsStreamed d s cycles w calls
-    × ((text : List ℕ) × IsTold streamed s d.params w calls text × Appends before after text)
+    × ((text : List ℕ) × IsTold streamed s d w calls text × Appends before after text)
 
 -- the lines of the scenario that name cycles, but none that it is read for, and those of the expectations that are left
 pub record AreNotes (s : Contents) (notes : StreamNotes) : Type 0 where
@@ -167,7 +167,7 @@ TellsRun d s cycles (Err e) = ⊥
 abbrev pub Cuts : Description → Contents → ℕ → Streamed → Option (List ℕ) → Option (List ℕ) → Type 0
 Cuts d s cycles streamed before after =
     (w : WorldState) × (calls : List ExecutedCall) × (front : List ℕ) × (rest : List ℕ)
-    × Executes (opening d cycles) calls w × IsTold streamed s d.params w calls (front ++ rest)
+    × Executes (opening d cycles) calls w × IsTold streamed s d w calls (front ++ rest)
     × Appends before after front
 
 abbrev pub CutsRun : Description → Contents → ℕ → Streamed → Option (List ℕ) → Option (List ℕ) → PlayError → Type 0

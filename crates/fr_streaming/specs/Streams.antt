@@ -18,30 +18,32 @@ use Rattle.fr_playing.specs.Calls.{Asked, asked_of, DoesCall, DoesCalls}
 use Rattle.fr_playing.specs.declared.call.ExecutedCall.{ExecutedCall}
 use Rattle.fr_playing.specs.Striking.{Passes}
 use Rattle.fr_scenario.specs.Contents.{Contents}
-use Rattle.fr_showing.specs.AnswerText.{answer_line, answered_line}
+use Rattle.fr_showing.specs.AnswerText.{answer_line, answered_line, origin_answered, origin_line}
 use Rattle.fr_showing.specs.Listening.{capture_of, window_records}
+use Rattle.fr_showing.specs.Reasons.{reasons_in, reasons_text}
 use Rattle.fr_showing.specs.RecordText.{record_text, window_text}
 use Rattle.fr_showing.specs.Spans.{span_line, spans_text}
 use Rattle.fr_schedule.specs.Descriptions.{Description}
-use Rattle.fr_slots.specs.Parameters.{Parameters}
 use Rattle.fr_streaming.specs.CommitLog.{left_pending, AddsToLog, IsWholeLog}
 use Rattle.fr_streaming.specs.declared.log.CallPlace.{CallPlace}
 use Rattle.fr_streaming.specs.declared.log.NodeOffers.{NodeOffers}
 use Rattle.fr_streaming.specs.declared.telling.Streamed.{Streamed}
 use Rattle.fr_streaming.specs.declared.telling.Streamed.TheVariants.{Outcome, Answers, Commits, Record, Windows}
-use Rattle.fr_streaming.specs.declared.telling.Streamed.TheVariants.{Heard}
+use Rattle.fr_streaming.specs.declared.telling.Streamed.TheVariants.{Reasons, Origins, Heard}
 use Rattle.fr_streaming.specs.LogSteps.{call_text, offers_in, sent_from, IsBetween}
 
 -- ---- the text as the run goes
 
 -- the text is the view of a run that led to this world with these calls of tasks
-abbrev pub IsTold : Streamed → Contents → Parameters → WorldState → List ExecutedCall → List ℕ → Type 0
-IsTold Outcome s p w calls text = text ≡ outcome_text w.interfaces (length w.bus.sealed)
-IsTold Answers s p w calls text = text ≡ flat_map (answer_line w) calls
-IsTold Commits s p w calls text = IsWholeLog w text
-IsTold Record s p w calls text = text ≡ record_text s p w.bus.sealed
-IsTold Windows s p w calls text = text ≡ spans_text p w.bus.sealed
-IsTold Heard s p w calls text = text ≡ capture_of p w.bus.sealed
+abbrev pub IsTold : Streamed → Contents → Description → WorldState → List ExecutedCall → List ℕ → Type 0
+IsTold Outcome s d w calls text = text ≡ outcome_text w.interfaces (length w.bus.sealed)
+IsTold Answers s d w calls text = text ≡ flat_map (answer_line w) calls
+IsTold Commits s d w calls text = IsWholeLog w text
+IsTold Record s d w calls text = text ≡ record_text s d.params w.bus.sealed
+IsTold Windows s d w calls text = text ≡ spans_text d.params w.bus.sealed
+IsTold Reasons s d w calls text = text ≡ reasons_text s d w.bus.sealed
+IsTold Origins s d w calls text = text ≡ flat_map (origin_line w) calls
+IsTold Heard s d w calls text = text ≡ capture_of d.params w.bus.sealed
 
 -- what the view has before the first window
 abbrev pub told_opening : Streamed → List ℕ
@@ -50,6 +52,8 @@ told_opening Answers = []
 told_opening Commits = []
 told_opening Record = []
 told_opening Windows = []
+told_opening Reasons = []
+told_opening Origins = []
 told_opening Heard = file_header
 
 -- what the view has of a call at this place with this answer of its interface
@@ -59,6 +63,8 @@ told_call Answers asked place answer = answered_line asked answer
 told_call Commits asked place answer = call_text asked.node asked.task place answer asked.call
 told_call Record asked place answer = []
 told_call Windows asked place answer = []
+told_call Reasons asked place answer = []
+told_call Origins asked place answer = origin_answered asked answer
 told_call Heard asked place answer = []
 
 -- the commits that the nodes offer in the open window, as far as the view has any
@@ -68,6 +74,8 @@ offers_for Answers l = []
 offers_for Commits l = offers_in l.bus.bus.opened l.interfaces
 offers_for Record l = []
 offers_for Windows l = []
+offers_for Reasons l = []
+offers_for Origins l = []
 offers_for Heard l = []
 
 -- what the view has of the window that was sealed last, when so many cycles have begun, of these offers
@@ -80,6 +88,9 @@ told_last Record s d begun None offers = []
 told_last Record s d begun (Some r) offers = window_text s d.params (begun - 1) r
 told_last Windows s d begun None offers = []
 told_last Windows s d begun (Some r) offers = span_line d.params (begun - 1) r
+told_last Reasons s d begun None offers = []
+told_last Reasons s d begun (Some r) offers = reasons_in s d (begun - 1) r
+told_last Origins s d begun last offers = []
 told_last Heard s d begun None offers = []
 told_last Heard s d begun (Some r) offers = window_records d.params (begun - 1) r
 
@@ -90,6 +101,8 @@ told_closing Answers w = []
 told_closing Commits w = left_pending w
 told_closing Record w = []
 told_closing Windows w = []
+told_closing Reasons w = []
+told_closing Origins w = []
 told_closing Heard w = []
 
 -- ---- calls of tasks among events
@@ -132,6 +145,9 @@ TellsBetween Record s d old calls new text =
     record_text s d.params new.bus.sealed ≡ record_text s d.params old.bus.sealed ++ text
 TellsBetween Windows s d old calls new text =
     spans_text d.params new.bus.sealed ≡ spans_text d.params old.bus.sealed ++ text
+TellsBetween Reasons s d old calls new text =
+    reasons_text s d new.bus.sealed ≡ reasons_text s d old.bus.sealed ++ text
+TellsBetween Origins s d old calls new text = text ≡ flat_map (origin_line new) calls
 TellsBetween Heard s d old calls new text =
     capture_of d.params new.bus.sealed ≡ capture_of d.params old.bus.sealed ++ text
 

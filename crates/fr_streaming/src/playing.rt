@@ -26,8 +26,17 @@ pub(crate) fn pass(world: &mut EndlessWorld, event: &Event) -> Result<(), Hindra
 fn pass_all(world: &mut EndlessWorld, events: &[Event]) -> Result<(), Hindrance>
     ensures { OnOk result (Alike world.old (λ w v. Passes w events.now v) world.new) }
 {
-    for event in events {
-        pass(world, event)?;
+    let mut place = 0;
+    for turn in 0..events.len() {
+        if place >= events.len() {
+            return Ok(());
+        }
+        let passed = world.pass_front(&events[place..]);
+        place += passed;
+        if passed == 0 {
+            pass(world, &events[place])?;
+            place += 1;
+        }
     }
     Ok(())
 }

@@ -20,8 +20,8 @@ use fr_files::output::write_text;
 use fr_interface::call::Answer;
 use fr_scenario::scenario::Scenario;
 use fr_schedule::cluster::Cluster;
-use fr_showing::answers::write_answered;
-use fr_showing::{listener, record, spans};
+use fr_showing::answers::{write_answered, write_origin};
+use fr_showing::{listener, reasons, record, spans};
 use fr_slots::numbers::{NodeId, TaskId};
 use std::alloc::Global;
 use std::io;
@@ -40,6 +40,10 @@ pub enum Streamed {
     Record,
     /// A line for each window, with its first macrotick and the length of each channel's slot.
     Windows,
+    /// The facts for which commits weren't sent or weren't received.
+    Reasons,
+    /// The answers, with the cycle of the run in which each frame came.
+    Origins,
     /// A capture of the frames at a passive listener on the bus.
     Heard,
 }
@@ -109,6 +113,7 @@ fn write_made<W: Write>(
     match streamed {
         Streamed::Answers => write_answered(writer, node, task, line, answer),
         Streamed::Commits => write_call(writer, node, task, &line.action, place, &answer),
+        Streamed::Origins => write_origin(writer, node, task, line, answer),
         _ => Ok(()),
     }
 }
@@ -160,10 +165,13 @@ fn write_last<W: Write>(
     };
     let (params, cycle) = (cluster.params(), bus.cycles_begun().saturating_sub(1));
     match streamed {
-        Streamed::Outcome | Streamed::Answers => Ok(()),
+        Streamed::Outcome | Streamed::Answers | Streamed::Origins => Ok(()),
         Streamed::Commits => write_sent(writer, cluster, sealed, cycle, offers),
         Streamed::Record => record::write_window(writer, scenario, params, cycle as usize, sealed),
         Streamed::Windows => spans::write_window(writer, params, cycle, sealed),
+        Streamed::Reasons => {
+            reasons::write_window(writer, scenario, cluster, cycle as usize, sealed)
+        }
         Streamed::Heard => listener::write_window(writer, params, cycle, sealed),
     }
 }

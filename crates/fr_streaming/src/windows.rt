@@ -11,8 +11,8 @@ use crate::hindrance::Hindrance;
 use crate::playing::play_window;
 use crate::telling::{Run, last_in, offers_for, write_out};
 use fr_bus::live::LiveBus;
-use fr_bus::windows::opens_cycle;
 use fr_endless::world::EndlessWorld;
+use fr_slots::window::opens_cycle;
 use std::io::Write;
 
 /// The greatest number of windows of a cycle: one for each of 1,023 static slots and 8,000 minislots.

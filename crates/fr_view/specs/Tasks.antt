@@ -25,13 +25,15 @@ abbrev pub drawn : Channel → Option ℕ → ℕ → ℕ → Shown
 drawn channel node from from_window =
     shown.Matrix (record { channel = channel; node = node; from = from; from_window = from_window })
 
--- none if a node is named that no cluster can have
+-- none if a node is named that no cluster can have, and for a view that is written as the run goes
 abbrev pub shown_of : Asked → Option Shown
 shown_of asked.Outcome = Some shown.Outcome
 shown_of asked.Answers = Some shown.Answers
 shown_of asked.Commits = Some shown.Commits
 shown_of asked.Record = Some shown.Record
 shown_of asked.Windows = Some shown.Windows
+shown_of asked.Reasons = None
+shown_of asked.Origins = None
 shown_of asked.Heard = Some shown.Heard
 shown_of (asked.Trace node) = option_map shown.Trace (number_within 0 last_node node)
 shown_of (asked.Matrix channel None from from_window) = Some (drawn channel None from from_window)
@@ -45,6 +47,8 @@ streamed_of asked_stream.Answers = streamed.Answers
 streamed_of asked_stream.Commits = streamed.Commits
 streamed_of asked_stream.Record = streamed.Record
 streamed_of asked_stream.Windows = streamed.Windows
+streamed_of asked_stream.Reasons = streamed.Reasons
+streamed_of asked_stream.Origins = streamed.Origins
 streamed_of asked_stream.Heard = streamed.Heard
 
 -- ---- all commands
@@ -59,6 +63,10 @@ task_of (order.Links file) = Some (task.Links file)
 task_of (order.Capture until_fault own) = Some (task.Seen (Capture own) until_fault)
 task_of (order.Frames until_fault all) = Some (task.Seen (Table all) until_fault)
 task_of order.Why = Some task.Why
+task_of (order.Show asked.Reasons cluster scenario cycles) =
+    Some (task.Stream streamed.Reasons cluster scenario cycles)
+task_of (order.Show asked.Origins cluster scenario cycles) =
+    Some (task.Stream streamed.Origins cluster scenario cycles)
 task_of (order.Show asked cluster scenario cycles) =
     option_map (λ s. task.Run s cluster scenario cycles) (shown_of asked)
 task_of (order.Stream asked cluster scenario cycles) =

@@ -17,6 +17,8 @@
 //! fr_view commits cluster.toml scenario --cycles 8   the fate of each commit
 //! fr_view record cluster.toml scenario --cycles 8    the transmissions on the bus, window by window
 //! fr_view windows cluster.toml scenario --cycles 8   when each window begins, and how long its slots last
+//! fr_view reasons cluster.toml scenario --cycles 8   why commits weren't sent or received
+//! fr_view origins cluster.toml scenario --cycles 8   the answers, with the cycle in which each frame came
 //! fr_view bus cluster.toml scenario --cycles 8       the frames at a listener on the bus, as a capture
 //! fr_view matrix cluster.toml scenario --cycles 8    the transmissions on the bus, as a picture
 //! fr_view trace 0 cluster.toml scenario --cycles 8   the trace of a node after the run
@@ -86,6 +88,10 @@ fr_view record FILE SCENARIO --cycles N [--endless]
     a line for each transmission and each bit to be turned, window by window
 fr_view windows FILE SCENARIO --cycles N [--endless]
     a line for each window: when it begins, and how long the slot of each channel lasts
+fr_view reasons FILE SCENARIO --cycles N [--endless]
+    why commits weren't sent or received: when dynamic slots open, and what faults do
+fr_view origins FILE SCENARIO --cycles N [--endless]
+    the same as answers, with the cycle in which each frame came
 fr_view bus FILE SCENARIO --cycles N [--endless] > CAPTURE
     what a listener on the bus hears, as a capture that Wireshark opens
     --endless, of all these: a run of up to 4,000,000 cycles, written as it goes

@@ -86,6 +86,8 @@ fn shown_of(asked: Asked) -> Option<Shown>
         Asked::Commits => Some(Shown::Commits),
         Asked::Record => Some(Shown::Record),
         Asked::Windows => Some(Shown::Windows),
+        // These are written as the run goes.
+        Asked::Reasons | Asked::Origins => None,
         Asked::Heard => Some(Shown::Heard),
         Asked::Trace(node) => Some(Shown::Trace(NodeId::new(node)?)),
         Asked::Matrix {
@@ -123,6 +125,8 @@ fn streamed_of(asked: StreamAsked) -> Streamed
         StreamAsked::Commits => Streamed::Commits,
         StreamAsked::Record => Streamed::Record,
         StreamAsked::Windows => Streamed::Windows,
+        StreamAsked::Reasons => Streamed::Reasons,
+        StreamAsked::Origins => Streamed::Origins,
         StreamAsked::Heard => Streamed::Heard,
     }
 }
@@ -155,6 +159,28 @@ pub fn task_of(order: ViewOrder<'_>) -> Option<Task<'_>>
             until_fault,
         }),
         ViewOrder::Why => Some(Task::Why),
+        ViewOrder::Show {
+            asked: Asked::Reasons,
+            cluster,
+            scenario,
+            cycles,
+        } => Some(Task::Stream {
+            streamed: Streamed::Reasons,
+            cluster,
+            scenario,
+            cycles: u32::from(cycles),
+        }),
+        ViewOrder::Show {
+            asked: Asked::Origins,
+            cluster,
+            scenario,
+            cycles,
+        } => Some(Task::Stream {
+            streamed: Streamed::Origins,
+            cluster,
+            scenario,
+            cycles: u32::from(cycles),
+        }),
         ViewOrder::Show {
             asked,
             cluster,

@@ -1,7 +1,7 @@
 use Rattle.std.proofs.Common.{◌≡◌, ◌∙◌, ℕ, ◌+◌, ◌≤◌, cond, List, length, take, Some, refl, sym, ap, subst, arith}
 use Rattle.std.specs.Prelude.{slice_get}
 use Rattle.std.specs.Io.KnownBytes.{Appends}
-use Rattle.fr_core.specs.Accounts.{begins_cycle_at}
+use Rattle.fr_journal.specs.Cycles.{begins_cycle_at}
 use Rattle.fr_journal.specs.Lent.{whole}
 use Rattle.fr_showing.proofs.FateLemmas.{cycles_more, entry_is, lent_there}
 use Rattle.fr_showing.proofs.GoingLemmas.{ends_behind, goes_on, here, starts}

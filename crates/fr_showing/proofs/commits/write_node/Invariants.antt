@@ -2,7 +2,7 @@ use Rattle.std.proofs.Common.{◌≡◌, take}
 use Rattle.fr_showing.proofs.GoingLemmas.{IsWritten}
 use Rattle.fr_showing.specs.CommitSteps.{node_text}
 use Rattle.fr_showing.specs.CommitText.{commit_by, line_in}
-use Rattle.fr_showing.specs.Fates.{cycles_of}
+use Rattle.fr_journal.specs.Cycles.{cycles_of}
 use Rattle.fr_showing.proofs.commits.write_node.Given as goal
 
 -- the lines that are left are still to be written

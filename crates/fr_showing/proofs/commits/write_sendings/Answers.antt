@@ -3,13 +3,14 @@ use Rattle.std.proofs.Common.{refl, sym, ap, subst, arith}
 use Rattle.std.specs.Prelude.{slice_get}
 use Rattle.std.specs.Io.KnownBytes.{Appends}
 use Rattle.std.specs.List.{flat_map}
-use Rattle.fr_core.specs.Accounts.{begins_cycle_at, run_cycle}
+use Rattle.fr_journal.specs.Cycles.{begins_cycle_at, run_cycle}
 use Rattle.fr_journal.specs.Lent.{whole}
 use Rattle.fr_showing.proofs.FateLemmas.{commit_within, cycles_more, cycles_with, handed_is, lent_none, lent_there}
 use Rattle.fr_showing.proofs.FateLemmas.{unsent_here}
 use Rattle.fr_showing.proofs.GoingLemmas.{ends, ends_behind, goes_on, here, starts}
 use Rattle.fr_showing.specs.CommitText.{sending_text, sendings_text}
-use Rattle.fr_showing.specs.Fates.{cycles_of, sendings_by}
+use Rattle.fr_showing.specs.Fates.{sendings_by}
+use Rattle.fr_journal.specs.Cycles.{cycles_of}
 use Rattle.fr_showing.proofs.commits.write_sendings.Goals as goal
 
 pub overflow_step-number : goal.overflow_step-number

@@ -1,7 +1,8 @@
 use Rattle.std.proofs.Common.{◌≡◌, take}
 use Rattle.fr_showing.proofs.GoingLemmas.{IsWritten}
 use Rattle.fr_showing.specs.CommitText.{sending_text, sendings_text}
-use Rattle.fr_showing.specs.Fates.{cycles_of, sendings_by}
+use Rattle.fr_showing.specs.Fates.{sendings_by}
+use Rattle.fr_journal.specs.Cycles.{cycles_of}
 use Rattle.fr_showing.proofs.commits.write_sendings.Given as goal
 
 -- the sendings that are left are still to be written

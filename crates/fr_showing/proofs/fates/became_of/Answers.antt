@@ -1,6 +1,6 @@
 use Rattle.std.proofs.Common.{◌≡◌, ◌∙◌, ℕ, ◌+◌, ◌<◌, true, false, cond, length, Some, refl, sym, ap, arith}
 use Rattle.std.specs.Prelude.{slice_get}
-use Rattle.fr_core.specs.Accounts.{begins_cycle_at}
+use Rattle.fr_journal.specs.Cycles.{begins_cycle_at}
 use Rattle.fr_journal.specs.Lent.{whole}
 use Rattle.fr_showing.proofs.FateLemmas.{commit_within, cycles_more, cycles_with, decided, lent_none, lent_there}
 use Rattle.fr_showing.proofs.FateLemmas.{same_then}

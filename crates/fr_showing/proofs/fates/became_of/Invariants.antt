@@ -1,5 +1,6 @@
 use Rattle.std.proofs.Common.{◌≡◌, take, drop}
-use Rattle.fr_showing.specs.Fates.{became, became_in, cycles_of}
+use Rattle.fr_showing.specs.Fates.{became, became_in}
+use Rattle.fr_journal.specs.Cycles.{cycles_of}
 use Rattle.fr_showing.proofs.fates.became_of.Given as goal
 
 -- the entries that are left decide it

@@ -1,0 +1,246 @@
+//! The transmit buffers of the dynamic segment in a window.
+ghost use Rattle.std.specs.Prelude.{◌≡◌};
+ghost use Rattle.fr_files.specs.NodeTexts.{of_nodes};
+ghost use Rattle.fr_openings.specs.Openings.{both_text, channel_text, due_line, due_text, is_due, is_open, is_silent};
+ghost use Rattle.fr_openings.specs.Openings.{node_text, opening_line, opening_text, opening_word, openings_text};
+ghost use Rattle.fr_openings.specs.Openings.{place_text};
+ghost use Rattle.fr_text.specs.Writing.{Writes};
+
+use fr_schedule::cluster::Cluster;
+use fr_slots::channel::Channel;
+use fr_slots::numbers::Cycle;
+use fr_slots::params::Params;
+use fr_slots::plan::{Buffer, NodePlan};
+use fr_slots::window::{Window, opens_cycle};
+use std::io;
+use std::io::Write;
+
+/// A buffer of a node in a cycle of a run.
+#[derive(Clone, Copy)]
+struct BufferPlace {
+    /// The cycle of the run, counted from 0.
+    cycle: usize,
+    /// The number of the node.
+    node: usize,
+    /// The number of the buffer.
+    number: usize,
+}
+
+/// Returns whether this is a transmit buffer of the dynamic segment for the channel, which is due in the cycle.
+fn is_due(params: &Params, cycle: Cycle, channel: Channel, buffer: &Buffer) -> bool
+    ensures { result ≡ is_due params.now cycle channel buffer.now }
+{
+    buffer.transmits_dynamic(params)
+        && (buffer.filter.channels.includes(channel) && buffer.filter.cycles.admits(cycle))
+}
+
+/// Returns whether this is a transmit buffer of the dynamic segment, whose slot the channel opens in the window.
+fn is_open(params: &Params, window: &Window, channel: Channel, buffer: &Buffer) -> bool
+    ensures { result ≡ is_open params.now window.now channel buffer.now }
+{
+    buffer.transmits_dynamic(params) && buffer.filter.admits_window(window, channel)
+}
+
+/// Returns the word for a slot that opens at the minislot.
+fn opening_word(latest: u16, minislot: u16) -> &'static str
+    ensures { result.now ≡ opening_word latest minislot }
+{
+    if latest < minislot { "late" } else { "open" }
+}
+
+/// Writes the place of the buffer, its slot, the channel, and pLatestTx there.
+#[tactic(auto, unfolding(crate::specs::Openings::place_text))]
+fn write_place<W: Write>(
+    writer: &mut W,
+    place: BufferPlace,
+    buffer: &Buffer,
+    channel: Channel,
+    latest: u16,
+) -> io::Result<()>
+    ensures { Writes W.contents writer.old writer.new result (place_text place buffer.now channel latest) }
+{
+    write!(writer, "{} {} {} ", place.cycle, place.node, place.number)?;
+    write!(writer, "{} {channel} {latest}", buffer.filter.slot)
+}
+
+/// Writes the line of a buffer that is due.
+fn write_due_line<W: Write>(
+    writer: &mut W,
+    place: BufferPlace,
+    buffer: &Buffer,
+    channel: Channel,
+    latest: u16,
+) -> io::Result<()>
+    ensures { Writes W.contents writer.old writer.new result (due_line place buffer.now channel latest) }
+{
+    writer.write_all(b"due ")?;
+    write_place(writer, place, buffer, channel, latest)?;
+    writer.write_all(b"\n")
+}
+
+/// Writes the line of a buffer whose slot opens at the minislot.
+fn write_opening_line<W: Write>(
+    writer: &mut W,
+    place: BufferPlace,
+    buffer: &Buffer,
+    channel: Channel,
+    latest: u16,
+    minislot: u16,
+) -> io::Result<()>
+    ensures { Writes W.contents writer.old writer.new result
+        (opening_line place buffer.now channel latest minislot) }
+{
+    write!(writer, "{} ", opening_word(latest, minislot))?;
+    write_place(writer, place, buffer, channel, latest)?;
+    writeln!(writer, " {minislot}")
+}
+
+/// Writes the line of the buffer, if it is due in the cycle of the window.
+fn write_due<W: Write>(
+    writer: &mut W,
+    params: &Params,
+    window: &Window,
+    place: BufferPlace,
+    plan: &NodePlan,
+    buffer: &Buffer,
+    channel: Channel,
+) -> io::Result<()>
+    ensures { Writes W.contents writer.old writer.new result
+        (due_text params.now window.now place plan.now buffer.now channel) }
+{
+    if is_due(params, window.cycle, channel, buffer) {
+        write_due_line(writer, place, buffer, channel, plan.latest(channel))
+    } else {
+        Ok(())
+    }
+}
+
+/// Writes the line of the buffer, if the channel opens its slot in the window.
+fn write_opening<W: Write>(
+    writer: &mut W,
+    params: &Params,
+    window: &Window,
+    place: BufferPlace,
+    plan: &NodePlan,
+    buffer: &Buffer,
+    channel: Channel,
+) -> io::Result<()>
+    ensures { Writes W.contents writer.old writer.new result
+        (opening_text params.now window.now place plan.now buffer.now channel) }
+{
+    if is_open(params, window, channel, buffer) {
+        let latest = plan.latest(channel);
+        write_opening_line(writer, place, buffer, channel, latest, window.minislot)
+    } else {
+        Ok(())
+    }
+}
+
+/// Writes what the window has of the buffer on the channel.
+fn write_channel<W: Write>(
+    writer: &mut W,
+    params: &Params,
+    window: &Window,
+    place: BufferPlace,
+    plan: &NodePlan,
+    buffer: &Buffer,
+    channel: Channel,
+) -> io::Result<()>
+    ensures { Writes W.contents writer.old writer.new result
+        (channel_text params.now window.now place plan.now buffer.now channel) }
+{
+    if opens_cycle(window) {
+        write_due(writer, params, window, place, plan, buffer, channel)
+    } else {
+        write_opening(writer, params, window, place, plan, buffer, channel)
+    }
+}
+
+/// Writes what the window has of the buffer.
+fn write_buffer<W: Write>(
+    writer: &mut W,
+    params: &Params,
+    window: &Window,
+    place: BufferPlace,
+    plan: &NodePlan,
+    buffer: &Buffer,
+) -> io::Result<()>
+    ensures { Writes W.contents writer.old writer.new result
+        (both_text params.now window.now place plan.now buffer.now) }
+{
+    write_channel(writer, params, window, place, plan, buffer, Channel::A)?;
+    write_channel(writer, params, window, place, plan, buffer, Channel::B)
+}
+
+/// Writes what the window has of a node's buffers.
+fn write_node<W: Write>(
+    writer: &mut W,
+    params: &Params,
+    cycle: usize,
+    window: &Window,
+    node: usize,
+    plan: &NodePlan,
+) -> io::Result<()>
+    ensures { Writes W.contents writer.old writer.new result
+        (node_text params.now cycle window.now node plan.now) }
+{
+    for (number, buffer) in plan.buffers().iter().enumerate() {
+        let place = BufferPlace {
+            cycle,
+            node,
+            number,
+        };
+        write_buffer(writer, params, window, place, plan, buffer)?;
+    }
+    Ok(())
+}
+
+/// Writes what the window has of the buffers of all nodes.
+fn write_nodes<W: Write>(
+    writer: &mut W,
+    cluster: &Cluster,
+    cycle: usize,
+    window: &Window,
+) -> io::Result<()>
+    ensures { Writes W.contents writer.old writer.new result
+        (of_nodes (node_text cluster.now.params cycle window.now) 0 cluster.now.plans) }
+{
+    for (node, plan) in cluster.plans().iter().enumerate() {
+        write_node(writer, cluster.params(), cycle, window, node, plan)?;
+    }
+    Ok(())
+}
+
+/// Returns whether this is the window of a static slot that isn't the first of its cycle.
+fn is_silent(window: &Window) -> bool
+    ensures { result ≡ is_silent window.now }
+{
+    window.is_static() && !opens_cycle(window)
+}
+
+/// Writes what a window has of the transmit buffers of the dynamic segment (chapters 5 and 9; the lines are
+/// project-defined).
+///
+/// The first window of a cycle has a line for each such buffer that is due in the cycle: `due`, the cycle of the run,
+/// the node, the buffer, its slot, the channel, and the node's pLatestTx there in minislots. A window of the dynamic
+/// segment has a line for each of them whose slot opens there: `open`, or `late` if this is after pLatestTx, then the
+/// same words, and the minislot. The lines are in the order of the nodes and of their buffers, channel A before B.
+///
+/// `cycle` is the cycle of the run in which the window lies, counted from 0.
+///
+/// Fails if the writer fails, which may have written a part of the lines by then.
+pub fn write_openings<W: Write>(
+    writer: &mut W,
+    cluster: &Cluster,
+    cycle: usize,
+    window: &Window,
+) -> io::Result<()>
+    ensures { Writes W.contents writer.old writer.new result
+        (openings_text cluster.now cycle window.now) }
+{
+    if is_silent(window) {
+        Ok(())
+    } else {
+        write_nodes(writer, cluster, cycle, window)
+    }
+}
