@@ -1,8 +1,9 @@
 -- The lines of the frames in a recording: what each frame record has, and where in the cycle its slot is
 -- (project-defined; slots and minislots by chapter 5).
-use Rattle.std.specs.Prelude.{ℕ, ◌+◌, ◌-◌, ◌*◌, nat_le, ◌==◌, ◌&&◌, Bool, true, false, List, [], ◌∷◌, ◌++◌, codes}
-use Rattle.std.specs.Prelude.{Option, Some, None, Result, Ok, Err, if◌then◌else◌, length, ◌/◌}
+use Rattle.std.specs.Prelude.{ℕ, ◌+◌, ◌-◌, ◌*◌, ◌%◌, ◌^◌, min, nat_le, nat_lt, ◌==◌, ◌&&◌, Bool, true, false, List, []}
+use Rattle.std.specs.Prelude.{◌∷◌, ◌++◌, codes, Option, Some, None, Result, Ok, Err, if◌then◌else◌, length, ◌/◌}
 use Rattle.std.specs.Fmt.{decimal}
+use Rattle.std.specs.Option.{option_map, option_or}
 use Rattle.fr_frame.specs.Fields.{Fields}
 use Rattle.fr_judging.specs.Judging.{State, lane_on, is_lawless}
 use Rattle.fr_judging.specs.Lanes.{same_open}
@@ -24,6 +25,7 @@ use Rattle.fr_slots.specs.declared.channel.Channel.{Channel}
 use Rattle.fr_slots.specs.declared.channel.Channel.TheVariants.{A, B}
 use Rattle.fr_text.specs.Spelling.{hex_text}
 use Rattle.fr_monitoring.specs.LineText.{at_text, place_text, letters_text, optional_text}
+use Rattle.fr_monitoring.specs.declared.frames.CountedCycle.{CountedCycle}
 use Rattle.fr_monitoring.specs.declared.frames.Waiting.{Waiting}
 
 -- ---- a frame that waits
@@ -71,6 +73,48 @@ abbrev pub length_of : Parameters → Fields → ℕ
 length_of p f =
     if is_static_slot p f.id then p.static_mt else minislots_filled p (length f.payload / 2) * p.minislot_mt
 
+-- ---- the cycle with a count
+
+-- the open cycle of the channel
+abbrev pub open_on : Lane → Option CountedCycle
+open_on l = option_map (λ c. record { number = l.number; count = c }) l.current
+
+abbrev pub first_by : Option Held → Option CountedCycle
+first_by None = None
+first_by (Some h) = Some (record { number = 0; count = h.frame.cycle })
+
+-- the open cycle, or before the first one the cycle that the frame opens which waits for the next good one
+abbrev pub known_on : Lane → Option CountedCycle
+known_on l = option_or (open_on l) (first_by l.held)
+
+-- A number of cycles before this one. There may be fewer.
+abbrev pub before_text : ℕ → ℕ → List ℕ
+before_text n cycles = if nat_le cycles n then decimal (n - cycles) else 45 ∷ decimal (cycles - n)
+
+-- how many counts another is ahead, modulo 64, and 32 more
+abbrev pub steps_to : ℕ → ℕ → ℕ
+steps_to from to = (to + 96 - from) % 64
+
+abbrev pub stepped_text : ℕ → ℕ → List ℕ
+stepped_text n steps =
+    if nat_lt steps 32 then before_text n (32 - steps) else decimal (min (n + (steps - 32)) (2 ^ 128 - 1))
+
+-- The number of the nearest cycle with this count: one of the 32 before the known one, this one, or one of the 31 after
+-- it. The cycles before the first one have numbers below 0.
+abbrev pub nearest_text : Option CountedCycle → Option ℕ → List ℕ
+nearest_text None count = codes "-"
+nearest_text (Some c) None = codes "-"
+nearest_text (Some c) (Some count) = stepped_text c.number (steps_to c.count count)
+
+abbrev pub other_than : Channel → Channel
+other_than A = B
+other_than B = A
+
+-- the number that the nearest cycle with this count has on the other channel, if a cycle is open there
+unfoldable pub beside_text : State → Channel → ℕ → List ℕ
+beside_text s channel count =
+    codes " " ++ nearest_text (open_on (lane_on s (other_than channel))) (Some count)
+
 -- ---- the line of a frame
 
 -- the number of the open cycle on its channel, counted from 0
@@ -88,15 +132,20 @@ content_text f = codes " " ++ letters_text (letters_of f) ++ codes " " ++ hex_te
 unfoldable pub good_text : Parameters → Lane → Bool → Fields → List ℕ
 good_text p l waits f = slot_text p l waits f ++ content_text f
 
-abbrev pub nothing_text : List ℕ
-nothing_text = codes "- - - - -"
+-- a record without a frame of the cluster: the nearest cycle with the count that its header names
+unfoldable pub broken_text : Lane → Option ℕ → List ℕ
+broken_text l count = nearest_text (known_on l) count ++ codes " - - - - -"
+
+abbrev pub placed_text : State → Channel → Bool → Fields → List ℕ
+placed_text s channel waits f =
+    good_text s.rules.cluster.params (lane_on s channel) waits f ++ beside_text s channel f.cycle
 
 -- what a record spells on the channel, after the judgement of the record; a frame of no slot has no place
-unfoldable pub spelled_text : State → Channel → ℕ → Result Fields Finding → List ℕ
-spelled_text s channel number (Err finding) = nothing_text
-spelled_text s channel number (Ok f) =
-    if is_lawless s f.id then nothing_text
-    else good_text s.rules.cluster.params (lane_on s channel) (is_waiting (lane_on s channel) number) f
+unfoldable pub spelled_text : State → Channel → ℕ → Option ℕ → Result Fields Finding → List ℕ
+spelled_text s channel number count (Err finding) = broken_text (lane_on s channel) count
+spelled_text s channel number count (Ok f) =
+    if is_lawless s f.id then broken_text (lane_on s channel) count
+    else placed_text s channel (is_waiting (lane_on s channel) number) f
 
 -- the record, and the place that its header names
 unfoldable pub front_text : At → Place → List ℕ
@@ -105,7 +154,7 @@ front_text at place = codes "frame " ++ at_text (Some at) ++ codes " " ++ place_
 unfoldable pub frame_line : State → Channel → Record → List ℕ
 frame_line s channel r =
     front_text (record { number = s.records; time = r.time }) (place_in channel r.bytes)
-    ++ spelled_text s channel s.records (spelled channel r.original r.bytes) ++ 10 ∷ []
+    ++ spelled_text s channel s.records (place_in channel r.bytes).cycle (spelled channel r.original r.bytes) ++ 10 ∷ []
 
 -- ---- the cycle of a frame that waited
 
@@ -113,16 +162,18 @@ frame_line s channel r =
 abbrev pub opened_text : Waiting → Lane → List ℕ
 opened_text w l = if l.cycles == counted w.cycles 1 then decimal l.number else codes "-"
 
-unfoldable pub opens_line : Waiting → Lane → List ℕ
-opens_line w l = codes "opens " ++ decimal w.number ++ codes " " ++ opened_text w l ++ 10 ∷ []
+unfoldable pub opens_line : State → Channel → Waiting → List ℕ
+opens_line s channel w =
+    codes "opens " ++ decimal w.number ++ codes " " ++ opened_text w (lane_on s channel)
+    ++ beside_text s channel w.cycle ++ 10 ∷ []
 
 -- it waits no longer, and opened its cycle
 abbrev pub has_opened : Waiting → Lane → Bool
 has_opened w l = if is_waiting l w.number then false else same_open (Some w.cycle) l.current
 
-unfoldable pub opens_text : Option Waiting → Lane → List ℕ
-opens_text None l = []
-opens_text (Some w) l = if has_opened w l then opens_line w l else []
+unfoldable pub opens_text : State → Channel → Option Waiting → List ℕ
+opens_text s channel None = []
+opens_text s channel (Some w) = if has_opened w (lane_on s channel) then opens_line s channel w else []
 
 -- ---- a record
 
@@ -137,7 +188,7 @@ unfoldable pub frame_text : Option Waiting → State → Record → Kind → Lis
 frame_text w s r Foreign = []
 frame_text w s r (Symbol channel) = []
 frame_text w s r (Frame channel) =
-    if judges s.rules channel then opens_text w (lane_on s channel) ++ frame_line s channel r else []
+    if judges s.rules channel then opens_text s channel w ++ frame_line s channel r else []
 
 abbrev pub frames_text : State → State → Record → List ℕ
 frames_text before after r =
@@ -147,7 +198,7 @@ frames_text before after r =
 
 -- the frames that waited up to the end
 unfoldable pub last_text : Option Waiting → Option Waiting → State → List ℕ
-last_text a b s = opens_text a (lane_on s A) ++ opens_text b (lane_on s B)
+last_text a b s = opens_text s A a ++ opens_text s B b
 
 abbrev pub ends_text : State → State → List ℕ
 ends_text before after = last_text (waiting_on (lane_on before A)) (waiting_on (lane_on before B)) after

@@ -10,7 +10,9 @@ ghost use Rattle.fr_slots.specs.declared.channel.Channel.TheVariants.{A, B};
 ghost use Rattle.fr_monitoring.specs.FrameText.{waiting_on, waiting_at, is_waiting, minislot_of, minislot_start};
 ghost use Rattle.fr_monitoring.specs.FrameText.{begin_of, length_of, cycle_text, slot_text, content_text, good_text};
 ghost use Rattle.fr_monitoring.specs.FrameText.{spelled_text, front_text, frame_line, has_opened, opened_text};
-ghost use Rattle.fr_monitoring.specs.FrameText.{opens_line, opens_text, frame_text, last_text};
+ghost use Rattle.fr_monitoring.specs.FrameText.{opens_line, opens_text, frame_text, last_text, known_on, open_on};
+ghost use Rattle.fr_monitoring.specs.FrameText.{before_text, steps_to, stepped_text, nearest_text, other_than};
+ghost use Rattle.fr_monitoring.specs.FrameText.{beside_text, broken_text, placed_text};
 
 use crate::line::{letters_text, write_at, write_optional, write_place};
 use fr_frame::lent::LentFrame;
@@ -153,6 +155,113 @@ fn write_cycle<W: Write>(writer: &mut W, lane: &Lane, waits: bool) -> io::Result
     }
 }
 
+/// A cycle of this number and count, from which others are counted.
+#[derive(Clone, Copy)]
+struct CountedCycle {
+    number: u128,
+    count: Cycle,
+}
+
+/// Returns the open cycle of a channel.
+fn open_on(lane: &Lane) -> Option<CountedCycle>
+    ensures { result ≡ open_on lane.now }
+{
+    match lane.current {
+        Some(count) => Some(CountedCycle {
+            number: lane.number,
+            count,
+        }),
+        None => None,
+    }
+}
+
+/// Returns the open cycle of a channel, or before the first one that which the waiting frame opens.
+fn known_on(lane: &Lane) -> Option<CountedCycle>
+    ensures { result ≡ known_on lane.now }
+{
+    match (open_on(lane), &lane.held) {
+        (Some(open), _) => Some(open),
+        (None, Some(held)) => Some(CountedCycle {
+            number: 0,
+            count: held.frame.cycle,
+        }),
+        (None, None) => None,
+    }
+}
+
+/// Returns how many counts another is ahead, modulo 64, and 32 more.
+fn steps_to(from: Cycle, to: Cycle) -> u8
+    ensures value { result ≡ steps_to from to }
+    ensures fits { result < 64 }
+{
+    (to.number() + 96 - from.number()) % 64
+}
+
+/// Writes the number of a cycle so many cycles before another.
+fn write_before<W: Write>(writer: &mut W, number: u128, cycles: u8) -> io::Result<()>
+    ensures { Writes W.contents writer.old writer.new result (before_text number cycles) }
+{
+    let cycles = u128::from(cycles);
+    if cycles <= number {
+        write!(writer, "{}", number - cycles)
+    } else {
+        write!(writer, "-{}", cycles - number)
+    }
+}
+
+/// Writes the number of a cycle so many counts, without the 32, after another.
+fn write_stepped<W: Write>(writer: &mut W, number: u128, steps: u8) -> io::Result<()>
+    requires { steps < 64 }
+    ensures { Writes W.contents writer.old writer.new result (stepped_text number steps) }
+{
+    if steps < 32 {
+        write_before(writer, number, 32 - steps)
+    } else {
+        write!(writer, "{}", number.saturating_add(u128::from(steps - 32)))
+    }
+}
+
+/// Writes the number of the nearest cycle with a count, or a dash if it isn't known.
+fn write_nearest<W: Write>(
+    writer: &mut W,
+    known: Option<CountedCycle>,
+    count: Option<Cycle>,
+) -> io::Result<()>
+    ensures { Writes W.contents writer.old writer.new result (nearest_text known count) }
+{
+    match (known, count) {
+        (Some(known), Some(count)) => {
+            write_stepped(writer, known.number, steps_to(known.count, count))
+        }
+        _ => write!(writer, "-"),
+    }
+}
+
+/// Returns the other channel.
+fn other_than(channel: Channel) -> Channel
+    ensures { result ≡ other_than channel }
+{
+    match channel {
+        Channel::A => Channel::B,
+        Channel::B => Channel::A,
+    }
+}
+
+/// Writes a space, and the number that the nearest cycle with a count has on the other channel.
+#[tactic(auto, unfolding(crate::specs::FrameText::beside_text))]
+fn write_beside<W: Write>(
+    writer: &mut W,
+    judge: &Judge,
+    channel: Channel,
+    count: Cycle,
+) -> io::Result<()>
+    ensures { Writes W.contents writer.old writer.new result (beside_text judge.now channel count) }
+{
+    write!(writer, " ")?;
+    let other = open_on(judge.lane(other_than(channel)));
+    write_nearest(writer, other, Some(count))
+}
+
 /// Writes the cycle of a frame, and where its slot is.
 #[tactic(auto, unfolding(crate::specs::FrameText::slot_text))]
 fn write_slot<W: Write>(
@@ -216,25 +325,49 @@ fn is_lawless(judge: &Judge, id: u16) -> bool
     id == 0 || (id > params.static_slots && params.minislots == 0)
 }
 
+/// Writes the nearest cycle with the count that the header of a broken record names.
+#[tactic(auto, unfolding(crate::specs::FrameText::broken_text))]
+fn write_broken<W: Write>(writer: &mut W, lane: &Lane, count: Option<Cycle>) -> io::Result<()>
+    ensures { Writes W.contents writer.old writer.new result (broken_text lane.now count) }
+{
+    write_nearest(writer, known_on(lane), count)?;
+    write!(writer, " - - - - -")
+}
+
+/// Writes the place and the content of a good frame, and the cycle beside its own.
+fn write_placed<W: Write>(
+    writer: &mut W,
+    judge: &Judge,
+    channel: Channel,
+    waits: bool,
+    frame: &LentFrame<'_>,
+) -> io::Result<()>
+    ensures { Writes W.contents writer.old writer.new result (placed_text judge.now channel waits frame.now) }
+{
+    let params = judge.rules().cluster.params();
+    write_good(writer, params, judge.lane(channel), waits, frame)?;
+    write_beside(writer, judge, channel, frame.cycle)
+}
+
 /// Writes what a record spells on a channel.
 #[tactic(auto, unfolding(crate::specs::FrameText::spelled_text))]
 fn write_spelled<W: Write>(
     writer: &mut W,
     judge: &Judge,
     channel: Channel,
+    count: Option<Cycle>,
     original: u32,
     bytes: &[u8],
 ) -> io::Result<()>
     ensures { Writes W.contents writer.old writer.new result
-        (spelled_text judge.now channel judge.now.records (spelled channel original bytes.now)) }
+        (spelled_text judge.now channel judge.now.records count (spelled channel original bytes.now)) }
 {
     match spelled(channel, original, bytes) {
         Ok(frame) if !is_lawless(judge, frame.id) => {
-            let lane = judge.lane(channel);
-            let waits = is_waiting(lane, judge.records());
-            write_good(writer, judge.rules().cluster.params(), lane, waits, &frame)
+            let waits = is_waiting(judge.lane(channel), judge.records());
+            write_placed(writer, judge, channel, waits, &frame)
         }
-        _ => write!(writer, "- - - - -"),
+        _ => write_broken(writer, judge.lane(channel), count),
     }
 }
 
@@ -270,8 +403,9 @@ fn write_frame<W: Write>(
         number: judge.records(),
         time: head.time,
     };
-    write_front(writer, &at, &place_in(channel, bytes))?;
-    write_spelled(writer, judge, channel, head.original, bytes)?;
+    let place = place_in(channel, bytes);
+    write_front(writer, &at, &place)?;
+    write_spelled(writer, judge, channel, place.cycle, head.original, bytes)?;
     writeln!(writer)
 }
 
@@ -290,11 +424,17 @@ fn write_opened<W: Write>(writer: &mut W, waiting: &Waiting, lane: &Lane) -> io:
 
 /// Writes the line of a cycle that a frame opened.
 #[tactic(auto, unfolding(crate::specs::FrameText::opens_line))]
-fn write_opens<W: Write>(writer: &mut W, waiting: &Waiting, lane: &Lane) -> io::Result<()>
-    ensures { Writes W.contents writer.old writer.new result (opens_line waiting.now lane.now) }
+fn write_opens<W: Write>(
+    writer: &mut W,
+    judge: &Judge,
+    channel: Channel,
+    waiting: &Waiting,
+) -> io::Result<()>
+    ensures { Writes W.contents writer.old writer.new result (opens_line judge.now channel waiting.now) }
 {
     write!(writer, "opens {} ", waiting.number)?;
-    write_opened(writer, waiting, lane)?;
+    write_opened(writer, waiting, judge.lane(channel))?;
+    write_beside(writer, judge, channel, waiting.cycle)?;
     writeln!(writer)
 }
 
@@ -313,11 +453,18 @@ fn has_opened(waiting: &Waiting, lane: &Lane) -> bool
 
 /// Writes the line of a cycle, if the frame that waited has opened one.
 #[tactic(auto, unfolding(crate::specs::FrameText::opens_text))]
-fn write_opening<W: Write>(writer: &mut W, waiting: &Option<Waiting>, lane: &Lane) -> io::Result<()>
-    ensures { Writes W.contents writer.old writer.new result (opens_text waiting.now lane.now) }
+fn write_opening<W: Write>(
+    writer: &mut W,
+    judge: &Judge,
+    channel: Channel,
+    waiting: &Option<Waiting>,
+) -> io::Result<()>
+    ensures { Writes W.contents writer.old writer.new result (opens_text judge.now channel waiting.now) }
 {
     match waiting {
-        Some(waiting) if has_opened(waiting, lane) => write_opens(writer, waiting, lane),
+        Some(waiting) if has_opened(waiting, judge.lane(channel)) => {
+            write_opens(writer, judge, channel, waiting)
+        }
         _ => Ok(()),
     }
 }
@@ -343,7 +490,7 @@ pub(crate) fn write_frames<W: Write>(
 {
     match kind {
         Kind::Frame(channel) if judge.rules().judges(channel) => {
-            write_opening(writer, waiting, judge.lane(channel))?;
+            write_opening(writer, judge, channel, waiting)?;
             write_frame(writer, judge, channel, head, bytes)
         }
         _ => Ok(()),
@@ -360,6 +507,6 @@ pub(crate) fn write_last<W: Write>(
 ) -> io::Result<()>
     ensures { Writes W.contents writer.old writer.new result (last_text a.now b.now judge.now) }
 {
-    write_opening(writer, a, judge.lane(Channel::A))?;
-    write_opening(writer, b, judge.lane(Channel::B))
+    write_opening(writer, judge, Channel::A, a)?;
+    write_opening(writer, judge, Channel::B, b)
 }
