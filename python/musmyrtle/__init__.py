@@ -20,12 +20,12 @@ from musmyrtle.world.node import Buffer, Node
 from musmyrtle.world.refusals import (
     AlreadyPut, AlreadyTaken, BadCycles, BadFault, BadLine, BadName, BadWindow, BusMemory, BusRefused, BusUnknownNode,
     ClusterRefused, HostFull, HostRefused, Memory, NoHistory, NoQueue, NoRoom, NotAllPut, NotAllTaken, NotCollecting,
-    NotFetched, NotObserved, NotReceive, NotSealed, NotStarted, NotTransmit, NoWindow, Refused, SessionOver, SlotFull,
-    SlotRefused, TimedOut, TooManyFaults, UnknownBuffer, UnknownNode, UnknownTask, WindowOrder, WrongLength, WrongTurn,
-    WrongWindow,
+    NotFetched, NotKept, NotObserved, NotReceive, NotSealed, NotStarted, NotTransmit, NoWindow, Refused, SessionOver,
+    SlotFull, SlotRefused, TimedOut, TooManyFaults, UnknownBuffer, UnknownNode, UnknownTask, WindowOrder, WrongLength,
+    WrongTurn, WrongWindow,
 )
 from musmyrtle.world.replies import (
-    Channel, Counters, Frame, Moment, Queue, ReceiveBuffer, Record, Report, Sent, TransmitBuffer, Window,
+    Channel, Counters, Frame, Moment, Queue, ReceiveBuffer, Received, Record, Report, Sent, TransmitBuffer, Window,
 )
 from musmyrtle.world.waits import at_slot, every, on_frame
 from musmyrtle.world.world import World
@@ -34,8 +34,9 @@ __all__ = [
     "AlreadyPut", "AlreadyTaken", "Babble", "BadCycles", "BadFault", "BadLine", "BadName", "BadWindow", "Buffer",
     "BusMemory", "BusRefused", "BusUnknownNode", "Channel", "ClusterRefused", "Corrupt", "Counters", "Fault",
     "Frame", "HostFull", "HostRefused", "Memory", "Moment", "Mute", "Names", "Node", "NoHistory", "NoQueue",
-    "NoRoom", "NotAllPut", "NotAllTaken", "NotCollecting", "NotFetched", "NotObserved", "NotReceive", "NotSealed",
-    "NotStarted", "NotTransmit", "NoWindow", "Queue", "ReceiveBuffer", "Record", "Refused", "Report", "Scenario",
+    "NoRoom", "NotAllPut", "NotAllTaken", "NotCollecting", "NotFetched", "NotKept", "NotObserved", "NotReceive",
+    "NotSealed", "NotStarted", "NotTransmit", "NoWindow", "Queue", "ReceiveBuffer", "Received", "Record", "Refused",
+    "Report", "Scenario",
     "ScenarioText", "Sent", "SessionOver", "SlotFull", "SlotRefused", "TimedOut", "TooManyFaults", "TransmitBuffer",
     "UnknownBuffer", "UnknownName", "UnknownNode", "UnknownTask", "Window", "WindowOrder", "World", "WrongLength",
     "WrongTurn", "WrongWindow", "at_slot", "every", "on_frame",

@@ -5,7 +5,8 @@ from pathlib import Path
 from tempfile import TemporaryDirectory
 
 from musmyrtle import (
-    BadCycles, Moment, Mute, NoHistory, NotReceive, NoWindow, UnknownNode, World, at_slot, every, on_frame,
+    BadCycles, Moment, Mute, NoHistory, NoQueue, NotKept, NotReceive, NoWindow, UnknownNode, World, at_slot, every,
+    on_frame,
 )
 
 TOP = Path(__file__).resolve().parents[2]
@@ -48,6 +49,68 @@ class TestEndless(unittest.TestCase):
         self.assertIsNone(self.sender.pop())
         self.assertIsNone(self.world.node(2).read(1))
 
+    def test_a_received_frame_is_new_once(self):
+        for world in (self.world, self.enterContext(World(THREE_NODES, cycles=8))):
+            receiver, other = world.node(1), world.node(1).task(1)
+            self.assertIsNone(receiver.receive(1))
+            world.node(0).commit(0, words(1))
+            world.cycle()
+            first, again = receiver.receive(1), other.receive(1)
+            self.assertEqual((first.channel, first.cycle, first.new, again.new), ("A", 0, True, False))
+            self.assertEqual((first.frame, first.frame.payload), (receiver.read(1), words(1)))
+            self.assertEqual(world.receive(1, 0, 2).new, True)
+            world.node(0).commit(0, words(1))
+            world.cycle()
+            self.assertEqual((receiver.read(1).cycle, other.receive(1).new, receiver.receive(1).cycle), (1, True, 1))
+            with self.assertRaises(NotReceive):
+                world.node(0).receive(0)
+
+    def test_the_next_frame_of_a_fifo(self):
+        for world in (self.world, self.enterContext(World(THREE_NODES, cycles=4))):
+            for number in range(2):
+                world.node(2).commit(0, words(number))
+                world.cycle()
+            for number in range(2):
+                got = world.next(0, number)
+                self.assertEqual((got.frame.payload, got.frame.channel, got.cycle, got.new),
+                                 (words(number), got.channel, number, True))
+            self.assertIsNone(world.node(0).next())
+            with self.assertRaises(NoQueue):
+                world.next(1, 0)
+
+    def test_the_cycle_of_a_frame_goes_on_after_63(self):
+        self.world.run(1_000)
+        self.sender.commit(0, words(3))
+        self.world.cycle()
+        got = self.receiver.receive(1)
+        self.assertEqual((got.cycle, got.frame.cycle), (1_000, 1_000 % 64))
+
+    def test_the_windows_of_the_last_cycles_are_kept(self):
+        """A cycle has 7 windows: 5 static slots, and 2 of the 6 minislots open a slot if nothing is sent there."""
+        with World(THREE_NODES, keep=2) as kept, World(THREE_NODES, cycles=10) as whole:
+            for world in (kept, whole):
+                world.run(8)
+            last = kept.now().number - 1
+            for number in range(last - 13, last + 1):
+                self.assertEqual(kept.record(number), whole.record(number))
+            with self.assertRaises(NotKept):
+                kept.record(0)
+            with self.assertRaises(NoWindow):
+                kept.record(last + 1)
+
+    def test_the_traces_of_some_nodes(self):
+        with TemporaryDirectory() as folder:
+            with World(THREE_NODES, traces=folder, trace_nodes=(2, 0)) as world:
+                world.cycle()
+            self.assertEqual(sorted(file.name for file in Path(folder).iterdir()), ["0", "2"])
+
+    def test_what_cant_be_kept_or_traced(self):
+        for given in ({"keep": 0}, {"keep": 65}, {"keep": 2, "cycles": 4}, {"trace_nodes": (0,)},
+                      {"traces": "traces", "trace_nodes": ()}, {"traces": "traces", "trace_nodes": (16,)},
+                      {"traces": "traces", "trace_nodes": (1, 1)}):
+            with self.assertRaises(ValueError, msg=given):
+                World(THREE_NODES, **given)
+
     def test_what_asks_for_history_is_refused(self):
         self.world.run(2)
         for call in (self.receiver.trace, lambda: self.world.capture("unwritten"),
@@ -57,8 +120,9 @@ class TestEndless(unittest.TestCase):
         self.assertFalse(Path("unwritten").exists())
         last = self.world.now().number - 1
         self.assertEqual(self.world.record(last).window.number, last)
-        with self.assertRaises(NoWindow):
-            self.world.record(0)
+        for number, kind in ((0, NotKept), (last - 1, NotKept), (last + 1, NoWindow)):
+            with self.assertRaises(kind):
+                self.world.record(number)
 
     def test_its_cycles_can_be_given(self):
         with World(THREE_NODES, cycles=2_000, endless=True) as world:

@@ -1,7 +1,4 @@
-"""The page of an endless run has the facts of the page with history, as far as there are any.
-
-A program stands in for an `fr_view` that prints commits and answers of endless runs.
-"""
+"""The page of an endless run has the facts of the page with history, as far as there are any."""
 import importlib
 import os
 import sys
@@ -18,33 +15,8 @@ from tests.shows import NETWORK, SCENE, THREE
 
 TOP = Path(__file__).resolve().parents[2]
 RANDOM_RUNS = 6
-COMMON = ("windows", "record", "idle", "outcomes", "tables", "parts")
+COMMON = ("windows", "record", "idle", "outcomes", "tables", "parts", "commits", "answers", "sources")
 """The facts that both pages have."""
-STAND_IN = """#!{python}
-import random, subprocess, sys
-
-def log_of(line):
-    node, buffer, task, cycle, entry, data, _, fate, *rest = line.split()
-    yield f"commit {{node}} {{buffer}} {{task}} {{cycle}} {{entry}} {{data}}\\n"
-    for at in range(0, len(rest) or 1, 5):
-        yield " ".join([fate, node, entry, *rest[at:at + 5]]) + "\\n"
-
-words = sys.argv[1:]
-if words[0] in ("commits", "answers") and words[0] not in {known} and "--endless" in words:
-    sys.stderr.write("usage\\n")
-    sys.exit(2)
-if words[0] in ("commits", "answers") and "--endless" in words:
-    words.remove("--endless")
-    done = subprocess.run([{program!r}, *words], capture_output=True, text=True)
-    lines = [it for it in done.stdout.splitlines(True)]
-    if words[0] == "commits":
-        # In an endless run there is a line for each thing that happens, and those of different nodes are in any order.
-        lines = [log for it in sorted(lines, key=lambda it: random.Random(it[0]).random()) for log in log_of(it)]
-    sys.stderr.write(done.stderr)
-    sys.stdout.write("".join(lines))
-    sys.exit(done.returncode)
-sys.exit(subprocess.run([{program!r}, *words]).returncode)
-"""
 CUT_OFF = """#!{python}
 import os, signal, subprocess, sys
 words = sys.argv[1:]
@@ -55,34 +27,17 @@ sys.stdout.flush()
 os.kill(os.getpid(), signal.SIGKILL)
 """
 """A program that is killed in an endless run after so many bytes."""
-NEITHER, ANSWERS, BOTH = (), ("answers",), ("answers", "commits")
-"""The commands that a stand-in knows for endless runs."""
 
 
 @needs_node
 class Endless(Pages):
-    def viewed(self, known: tuple[str, ...]) -> "mock._patch_dict":
-        """Returns the environment in which `fr_view` knows these commands for endless runs."""
-        program = os.environ.get("MUSMYRTLE_VIEW") or usual_program("fr_view") or "fr_view"
-        file = self.written("fr_view", STAND_IN.format(python=sys.executable, program=program, known=known))
-        Path(file).chmod(0o755)
-        return mock.patch.dict(os.environ, MUSMYRTLE_VIEW=file)
-
     def compared(self, run: list[str]) -> None:
-        """Compares both pages of a run, the endless one with and without commits and answers."""
-        pages = [self.page(*run, name="history.html")]
-        for name, known in (("older.html", NEITHER), ("newer.html", BOTH)):
-            with self.viewed(known):
-                pages.append(self.page(*run, "--endless", name=name))
-        history, older, newer = self.facts(*pages)
+        """Compares both pages of a run."""
+        history, endless = self.facts(self.page(*run, name="history.html"),
+                                      self.page(*run, "--endless", name="endless.html"))
         for key in COMMON:
             with self.subTest(key):
-                self.assertEqual(older[key], history[key])
-                self.assertEqual(newer[key], history[key])
-        self.assertEqual((older["commits"], older["answers"], older["stored"]), ([], [], []))
-        for key in ("commits", "answers", "sources"):
-            with self.subTest(key):
-                self.assertEqual(newer[key], history[key])
+                self.assertEqual(endless[key], history[key])
 
     def test_the_run_of_two_nodes(self) -> None:
         self.compared(self.run_of())
@@ -108,44 +63,24 @@ class Endless(Pages):
                 compared += 1
         self.assertEqual(compared, RANDOM_RUNS)
 
-    def test_what_a_page_of_an_older_program_says(self) -> None:
-        with self.viewed(NEITHER):
-            page = self.page(*self.run_of(), "--endless")
-        first, node, buffer = self.walked(page, "click nodes brake", "click details position")
-        self.assertIn("This fr_view prints no commits and no answers of an endless run, so the page has none.",
-                      first["missing"])
-        self.assertIn("What each node received in each window isn't known", first["missing"])
-        self.assertIn("On A it counted", node["details"])
-        self.assertIn("It is for slot 1", buffer["details"])
-
     def test_commits_of_an_endless_run(self) -> None:
         """A commit leads to its receiver, and the receive buffer to the commits that it stored."""
-        with self.viewed(BOTH):
-            page = self.page(*self.run_of(), "--endless")
+        page = self.page(*self.run_of(), "--endless")
         first, _, commit, brake, buffer = self.walked(
             page, "click nodes pedal", "click details cycle 0", "click nodes brake", "click details position")
-        self.assertNotIn("prints no", first["missing"])
+        self.assertIn("What each node received in each window isn't known", first["missing"])
         self.assertIn("Result: received by brake (1) position (1).", commit["details"])
         self.assertIn("state (2)x2222slot 4 opened at minislot 5, latest is 3, in cycles 0-1", brake["details"])
         self.assertIn("Commits that it stored (1)sent incommit", buffer["details"])
         self.assertIn("pedal (0) position (0), cycle 0: x0001", buffer["details"])
 
-    def test_answers_without_commits(self) -> None:
-        """The calls that commit are then among the calls of a task, with their bytes."""
-        with self.viewed(ANSWERS):
-            page = self.page(*self.run_of(), "--endless")
-        first, pedal, brake = self.walked(page, "click nodes pedal", "click nodes brake")
-        self.assertIn("This fr_view prints no commits of an endless run, so the page has none.", first["missing"])
-        self.assertIn("Calls of its tasks (3)", pedal["details"])
-        self.assertIn("00commitposition (0)x0001 as entry", pedal["details"])
+    def test_calls_of_an_endless_run(self) -> None:
+        page = self.page(*self.run_of(), "--endless")
+        _, brake = self.walked(page, "click nodes brake")
         self.assertIn("10readposition (1)x0001 of cycle count 0, slot 1, channel A", brake["details"])
 
     def test_all_that_can_be_chosen(self) -> None:
-        pages = []
-        for known in (NEITHER, ANSWERS, BOTH):
-            with self.viewed(known):
-                pages.append(self.page(*self.run_of(), "--endless", name=f"{len(known)}.html"))
-        self.assertEqual(len(self.ran("explored.js", *pages).splitlines()), 3)
+        self.assertEqual(len(self.ran("explored.js", self.page(*self.run_of(), "--endless")).splitlines()), 1)
 
     def test_a_run_whose_history_has_no_room(self) -> None:
         """A cycle has two static slots and ten minislots, so 4,096 slot entries are 170 cycles."""

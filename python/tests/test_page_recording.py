@@ -238,23 +238,32 @@ class Frames(Recorded):
         records = [*static(0)[::2], (90, frame("A", 3, 0, LOG, True)), (130, frame("A", 4, 0, b"\1\2", True)),
                    *static(1)[::2]]
         self.assertEqual(self.printed_by(records, "--frames"), [
-            "frame 1 0.000000000 0 A 1 - 0 20 -ns- x0000", "opens 1 0",
-            "frame 2 0.000040000 0 A 2 0 20 20 -n-- x0000", f"frame 3 0.000090000 0 A 3 0 40 20 ---- x{LOG.hex()}",
-            "frame 4 0.000130000 0 A 4 0 60 5 ---- x0102", "frame 5 0.000200000 1 A 1 - 0 20 -ns- x0000", "opens 5 1",
-            "frame 6 0.000240000 1 A 2 1 20 20 -n-- x0000"])
+            "frame 1 0.000000000 0 A 1 - 0 20 -ns- x0000 -", "opens 1 0 -",
+            "frame 2 0.000040000 0 A 2 0 20 20 -n-- x0000 -",
+            f"frame 3 0.000090000 0 A 3 0 40 20 ---- x{LOG.hex()} -",
+            "frame 4 0.000130000 0 A 4 0 60 5 ---- x0102 -", "frame 5 0.000200000 1 A 1 - 0 20 -ns- x0000 -",
+            "opens 5 1 -", "frame 6 0.000240000 1 A 2 1 20 20 -n-- x0000 -"])
         self.assertEqual(self.printed_by(records), [])
 
     def test_a_frame_that_waits_at_the_end(self) -> None:
         """The first frame of cycle 1 is the last record: the end opens its cycle."""
         records = [*static(0)[::2], *static(1)[:1]]
         self.assertEqual(self.printed_by(records, "--frames")[-2:], [
-            "frame 3 0.000200000 1 A 1 - 0 20 -ns- x0000", "opens 3 1"])
+            "frame 3 0.000200000 1 A 1 - 0 20 -ns- x0000 -", "opens 3 1 -"])
 
     def test_frames_of_no_cycle(self) -> None:
         """A wrong cycle count opens nothing, a slot came before, and no slot has ID 0."""
         records = [*static(0)[::2], (60, frame("A", 3, 9, b"\1\2", True)), (90, frame("A", 4, 0, b"\1\2", True)),
                    (95, frame("A", 3, 0, b"\1\2", True)), (99, frame("A", 0, 0)), (99, b"\x01\x00\x20")]
         self.assertEqual(self.printed_by(records, "--frames")[3:], [
-            "frame 3 0.000060000 9 A 3 - 40 5 ---- x0102", "frame 4 0.000090000 0 A 4 0 45 5 ---- x0102",
-            "frame 5 0.000095000 0 A 3 0 - 5 ---- x0102", "frame 6 0.000099000 0 A 0 - - - - -",
-            "frame 7 0.000099000 - A - - - - - -"])
+            "frame 3 0.000060000 9 A 3 - 40 5 ---- x0102 -", "frame 4 0.000090000 0 A 4 0 45 5 ---- x0102 -",
+            "frame 5 0.000095000 0 A 3 0 - 5 ---- x0102 -", "frame 6 0.000099000 0 A 0 0 - - - - -",
+            "frame 7 0.000099000 - A - - - - - - -"])
+
+    def test_cycles_beside_each_other(self) -> None:
+        """Channel B begins with count 63, two cycles before channel A. The counts are modulo 64."""
+        records = [(200 * place, frame(channel, 1, count)) for place, (channel, count) in enumerate((
+            ("B", 63), ("B", 0), ("A", 1), ("B", 1), ("A", 2), ("B", 2)))]
+        found = [it.split(" ") for it in self.printed_by(records, "--frames")]
+        self.assertEqual([(it[1], it[2], it[3]) for it in found if it[0] == "opens"], [
+            ("1", "0", "-"), ("2", "1", "-"), ("3", "0", "2"), ("4", "2", "0"), ("5", "1", "3"), ("6", "3", "1")])

@@ -399,7 +399,7 @@ class TestRefusals(unittest.TestCase):
     def test_each_refusal_of_the_protocol_has_its_name(self):
         """The names are those of docs/WORLD.md, and for a controller's calls of docs/formats/views.md."""
         groups = {
-            "": "BadFault BadLine Memory NoWindow UnknownNode WrongTurn",
+            "": "BadFault BadLine Memory NoHistory NoWindow NotKept UnknownNode WrongTurn",
             "Host": "UnknownTask UnknownBuffer NotTransmit WrongLength HostFull NotReceive NoQueue",
             "Slot": "NotObserved BadWindow WindowOrder SlotFull NotFetched WrongWindow",
             "Bus": "UnknownNode NotCollecting TooManyFaults NotAllPut NotSealed NotAllTaken Memory",

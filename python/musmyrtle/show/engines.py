@@ -21,6 +21,8 @@ from musmyrtle.visible import cut, visible
 
 COMMAND = "musmyrtle"
 IDLE_FRONT, IDLE_BACK = "line ", " struck nothing"
+NOT_JUDGED = " is not judged in an endless run"
+"""The end of the message on an expectation in a view that is written as the run goes."""
 MOST_REASONS = 20
 
 
@@ -57,6 +59,8 @@ class Inputs:
         """The expectations of the scenario that the run missed."""
         self.passes_misses_on = True
         """False for a command that has a table of them, in which they aren't messages."""
+        self.is_endless = False
+        """True for a command whose run keeps no history. Otherwise its expectations are judged by another view."""
         self.awaited: frozenset[str] = frozenset()
         """The refusals for which the command has another way. They raise `Awaited`."""
 
@@ -94,10 +98,10 @@ class Inputs:
         """Returns what `fr_view` prints about the run."""
         return self.ask("fr_view", self.words_of_run(command, *words))
 
-    def words_of_run(self, command: str, *words: str, cycles: int | None = None) -> list[str]:
-        """Returns the words with which `fr_view` is asked about the run, or about one of so many CYCLES."""
+    def words_of_run(self, command: str, *words: str) -> list[str]:
+        """Returns the words with which `fr_view` is asked about the run."""
         files = self.task.file(self.task.cluster), self.task.file(self.task.scenario or "")
-        return [command, *words, "--cycles", str(self.task.cycles if cycles is None else cycles), "--", *files]
+        return [command, *words, "--cycles", str(self.task.cycles), "--", *files]
 
     def ask(self, name: str, words: list[str], data: bytes = b"") -> Printed:
         """Returns what a program prints. Raises `Stop` where it refuses the inputs, which are then explained, and where
@@ -135,11 +139,6 @@ class Inputs:
             told.seek(0)
             self.told(program, words_of_run, process.returncode, told.read())
 
-    def is_answering(self, command: str, *words: str) -> bool:
-        """Returns whether `fr_view` knows these words, by a run of one cycle."""
-        name = "fr_view"
-        return self.ran(self.program(name), name, self.words_of_run(command, *words, cycles=1))[0] != USAGE
-
     def no_start(self, program: str, name: str, error: OSError) -> Stop:
         """Returns the end of a command that can't run a program."""
         return Stop(USAGE, f"{program} can't be run: {error.strerror}. {name} is looked for in this order: "
@@ -161,6 +160,7 @@ class Inputs:
         idle = [it for it in lines if it.startswith(IDLE_FRONT) and it.endswith(IDLE_BACK)]
         for line in lines:
             is_known = line in idle or not self.passes_misses_on and miss_of(line)
+            is_known = is_known or not self.is_endless and line.endswith(NOT_JUDGED)
             if not is_known and line not in self.passed_on:
                 self.passed_on.add(line)
                 pass_on(line)

@@ -1,6 +1,4 @@
 """The facts of a run, as `fr_view` prints them: commits, answers, the record of the bus, and the outcome."""
-from collections import Counter
-from collections.abc import Iterable, Iterator
 from dataclasses import dataclass
 from functools import cache, cached_property
 
@@ -11,12 +9,15 @@ from musmyrtle.names import Names
 from musmyrtle.outcomes import BadOutcome, Outcome, read_outcome
 from musmyrtle.output import Stop
 from musmyrtle.scenario import Reading, Scenario
+from musmyrtle.show.causes import Causes
 from musmyrtle.show.engines import Inputs
 from musmyrtle.show.network import Network
 from musmyrtle.show.windows import Windows
 
 ARRIVED = "alone"
 """The end of a transmission that arrived as it was sent."""
+FRAME_WORDS = 5
+"""The words of a frame in an answer."""
 
 
 @dataclass(frozen=True, slots=True)
@@ -73,7 +74,8 @@ class Commit:
 
 @dataclass(frozen=True, slots=True)
 class Call:
-    """A call of a task with its answer: of a frame the cycle count, slot, channel and payload, or nothing."""
+    """A call of a task with its answer: of a frame the cycle count, slot, channel and payload, and the cycle of the
+    run in which it came, or nothing."""
 
     node: int
     task: int
@@ -84,6 +86,7 @@ class Call:
     slot: int | None
     channel: str | None
     data: str | None
+    came: int | None
 
 
 def number(word: str) -> int | None:
@@ -121,14 +124,15 @@ def commit_of(line: str) -> Commit:
 
 
 def call_of(line: str) -> Call:
-    """Returns the call of a line of `fr_view answers`."""
+    """Returns the call of a line of `fr_view origins`."""
     front, _, back = line.partition(" = ")
     node, task, cycle, kind, *rest = front.split(" ")
     buffer = int(rest[0]) if rest else None
     answer = back.split(" ")
-    if kind in ("read", "pop") and len(answer) == 4:
-        return Call(int(node), int(task), int(cycle), kind, buffer, int(answer[0]), int(answer[1]), *answer[2:])
-    return Call(int(node), int(task), int(cycle), kind, buffer, None, None, None, None)
+    if len(answer) == FRAME_WORDS:
+        count, slot, channel, data, came = answer
+        return Call(int(node), int(task), int(cycle), kind, buffer, int(count), int(slot), channel, data, number(came))
+    return Call(int(node), int(task), int(cycle), kind, buffer, None, None, None, None, None)
 
 
 class Facts:
@@ -161,7 +165,12 @@ class Facts:
     @cached_property
     def calls(self) -> list[Call]:
         """Returns the calls of all tasks."""
-        return [call_of(line) for line in self.inputs.of_run("answers").lines]
+        return [call_of(line) for line in self.inputs.of_run("origins").lines]
+
+    @cached_property
+    def causes(self) -> Causes:
+        """Returns the facts for which commits weren't sent or weren't received."""
+        return Causes(self.inputs.of_run("reasons").lines)
 
     @cached_property
     def ended(self) -> tuple[Outcome, tuple[int, ...]]:
@@ -169,23 +178,9 @@ class Facts:
         printed = self.inputs.of_run("outcome")
         try:
             outcome = read_outcome("".join(f"{it}\n" for it in printed.lines), self.network.cluster)
-            return outcome, tuple(self.without_effect(printed.idle))
+            return outcome, printed.idle
         except BadOutcome as error:
             raise Stop(USAGE, f"{self.inputs.program('fr_view')} prints no outcome: {error}") from None
-
-    def without_effect(self, lines: Iterable[int]) -> Iterator[int]:
-        """Yields each of the lines once, but for those of two channels that had an effect on one of them."""
-        counts = Counter(it.number for it in self.scenario.faults)
-        for number in dict.fromkeys(lines):
-            if counts[number] < 2 or number not in self.effective:
-                yield number
-
-    @cached_property
-    def effective(self) -> set[int]:
-        """Returns the lines of the scenario whose faults had an effect: a bit is flipped only in one transmission."""
-        flipped = {(it.window, it.channel) for it in self.record if it.end == "turned"}
-        return {it.line for it in self.record if it.line is not None
-                and (it.what != "corrupt" or (it.window, it.channel) in flipped)}
 
     @cached_property
     def scenario(self) -> Scenario:
@@ -223,11 +218,6 @@ class Facts:
         """Returns the words of each row of the table of frames of a node, with all observations."""
         data = "".join(f"{line}\n" for line in self.trace(node)).encode()
         return [line.split(" ") for line in self.inputs.ask("fr_view", ["frames", "--all"], data).lines[1:]]
-
-    @cached_property
-    def openings(self) -> dict[tuple[int, int, str], int]:
-        """Returns the minislot at which each dynamic slot opened, by cycle, slot and channel."""
-        return self.windows.openings()
 
     def fifo(self, node: int, capacity: int) -> Fifo:
         """Returns the frames of a node's receive FIFO by their fates. Raises `Stop` where they can't be read."""

@@ -1,9 +1,9 @@
 """The commits and the answers to calls for the page of a run."""
 from array import array
 
-from musmyrtle.show.facts import Facts, call_of, number
+from musmyrtle.show.facts import FRAME_WORDS, Facts, call_of, number
 from musmyrtle.show.page_columns import NOTHING, Columns, Contents, Words
-from musmyrtle.show.sources import Fitting, Sources
+from musmyrtle.show.sources import Sources
 from musmyrtle.show.reasons import why
 from musmyrtle.visible import visible
 
@@ -28,10 +28,10 @@ def add_commits(facts: Facts, columns: Columns) -> None:
 
 
 class Answers:
-    """The lines of `fr_view answers`, which are added one by one, with the commit whose frame a task read."""
+    """The lines of `fr_view origins`, which are added one by one, with the commit whose frame a task read."""
 
-    def __init__(self, facts: Facts, sources: Sources | Fitting) -> None:
-        self.sources = sources
+    def __init__(self, facts: Facts) -> None:
+        self.sources = Sources(facts.commits)
         self.places = {(it.node, it.entry): place for place, it in enumerate(facts.commits)}
         self.numbers = {"node": array("B"), "task": array("B"), "cycle": array("I"), "buffer": array("B"),
                         "entry": array("I"), "count": array("B"), "slot": array("H"), "commit": array("I")}
@@ -42,7 +42,7 @@ class Answers:
         """Adds a line."""
         front, _, back = line.partition(" = ")
         (node, task, cycle, kind, *rest), answer = front.split(" "), back.split(" ")
-        count, slot, channel, frame = answer if len(answer) == 4 else ["-", "-", "-", ""]
+        count, slot, channel, frame = answer[:4] if len(answer) == FRAME_WORDS else ["-", "-", "-", ""]
         source = self.sources.of(call_of(line))
         self.put("node", int(node))
         self.put("task", int(task))

@@ -9,7 +9,6 @@ from musmyrtle.show.page_calls import Answers, add_commits
 from musmyrtle.show.page_columns import Columns
 from musmyrtle.show.page_record import Record
 from musmyrtle.show.page_windows import add_windows
-from musmyrtle.show.sources import Sources
 from musmyrtle.show.summary import ERRORS
 from musmyrtle.show.windows import Windows
 from musmyrtle.version import version
@@ -29,14 +28,14 @@ def packed_run(facts: Facts) -> bytes:
         record.add(it)
     record.fill(columns)
     add_commits(facts, columns)
-    answers = Answers(facts, Sources(facts))
-    for line in facts.inputs.of_run("answers").lines:
+    answers = Answers(facts)
+    for line in facts.inputs.of_run("origins").lines:
         answers.add(line)
     answers.fill(columns)
     add_counted((), columns)
     add_seen(facts, windows, columns)
     ended = facts.inputs.of_run("outcome")
-    return columns.packed(header_of(facts, outcomes_of(ended.lines), list(facts.without_effect(ended.idle))))
+    return columns.packed(header_of(facts, outcomes_of(ended.lines), list(ended.idle)))
 
 
 # ---- what isn't in columns

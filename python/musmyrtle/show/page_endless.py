@@ -1,6 +1,6 @@
 """The data of the page of an endless run, whose outputs are read as they come, and of which no history is kept.
 
-`fr_view` prints the windows and the record, and the commits and answers where it can. `fr_world` does the run again,
+`fr_view` prints the windows, the record, the commits with the reasons, and the answers. `fr_world` does the run again,
 and has the counters after each cycle, and the reports.
 """
 from array import array
@@ -9,6 +9,7 @@ from dataclasses import dataclass, field
 from musmyrtle.findings import counted
 from musmyrtle.lint.command import USAGE
 from musmyrtle.output import Stop
+from musmyrtle.show.causes import Causes
 from musmyrtle.show.commit_log import commits_in
 from musmyrtle.show.engines import Inputs
 from musmyrtle.show.facts import Facts, transmission_of
@@ -17,7 +18,6 @@ from musmyrtle.show.page_columns import Columns
 from musmyrtle.show.page_data import add_counted, add_nothing_seen, header_of
 from musmyrtle.show.page_record import Record
 from musmyrtle.show.page_windows import add_windows
-from musmyrtle.show.sources import Fitting
 from musmyrtle.show.windows import CHANNELS, Windows
 from musmyrtle.world.refusals import Refused, SessionOver
 from musmyrtle.world.session import Session
@@ -27,36 +27,31 @@ ENDLESS = "--endless"
 MOST_WINDOWS, MOST_TIME = 4_000_000, 2**32 - 1
 """The most static slots and minislots of a run with a page, and its most macroticks."""
 NO_SEEN = ("This is the page of an endless run. What each node received in each window isn't known, but the overview "
-           "has the errors that nodes counted in each cycle. A read frame is shown with the latest commit "
-           "that fits, although it may be that of a babble.")
-NO_LINES = "This fr_view prints no {} of an endless run, so the page has none."
+           "has the errors that nodes counted in each cycle.")
 NOT_JUDGED = "The expectations of the scenario aren't judged in an endless run."
 
 
 def packed_endless(inputs: Inputs) -> bytes:
     """Returns the packed data of an endless run. Raises `Stop` where the run is refused, or too long for a page."""
     check_length(inputs)
+    inputs.is_endless = True
     facts, columns = Facts(inputs), Columns()
-    has = {it: inputs.is_answering(it, ENDLESS) for it in ("commits", "answers")}
-    absent = [it for it in has if not has[it]]
-    missing = [NO_SEEN, *([NO_LINES.format(" and no ".join(absent))] if absent else [])]
-    facts.commits = commits_in(inputs.lines_of_run("commits", ENDLESS)) if has["commits"] else []
+    facts.commits = commits_in(inputs.lines_of_run("commits", ENDLESS))
+    facts.causes = causes_of(facts)
     facts.windows = Windows(inputs.lines_of_run("windows", ENDLESS))
-    facts.openings = openings_of(facts)
     record, walk = record_of(facts), walked(facts)
     add_windows(facts.windows, columns)
     record.fill(columns)
     add_commits(facts, columns)
-    answers = Answers(facts, Fitting(facts.commits))
-    for line in inputs.lines_of_run("answers", ENDLESS) if has["answers"] else ():
+    answers = Answers(facts)
+    for line in inputs.lines_of_run("origins", ENDLESS):
         answers.add(line)
     answers.fill(columns)
     add_counted(walk.counted, columns)
     add_nothing_seen(columns)
-    if facts.scenario.expectations:
-        missing.append(NOT_JUDGED)
-    idle = dict.fromkeys(it.number for it in facts.scenario.faults if it.number not in record.effective)
-    return columns.packed(header_of(facts, walk.reports, list(idle), tuple(missing)))
+    missing = (NO_SEEN, NOT_JUDGED) if facts.scenario.expectations else (NO_SEEN,)
+    idle = dict.fromkeys(it.number for it in facts.scenario.faults if it.number not in facts.causes.lines)
+    return columns.packed(header_of(facts, walk.reports, list(idle), missing))
 
 
 def check_length(inputs: Inputs) -> None:
@@ -71,29 +66,17 @@ def check_length(inputs: Inputs) -> None:
 
 
 def record_of(facts: Facts) -> Record:
-    """Returns the record. The facts keep only the transmissions of commits that no node received."""
+    """Returns the record."""
     record = Record()
-    wanted = {(it.cycle, it.slot, it.channel) for commit in facts.commits if not commit.is_delivered
-              for it in commit.sent}
-    facts.by_place = {it: [] for it in wanted}
     for line in facts.inputs.lines_of_run("record", ENDLESS):
-        it = transmission_of(line)
-        record.add(it)
-        if it.slot is not None and (it.cycle, it.slot, it.channel) in wanted:
-            facts.by_place[it.cycle, it.slot, it.channel].append(it)
+        record.add(transmission_of(line))
     return record
 
 
-def openings_of(facts: Facts) -> dict[tuple[int, int, str], int]:
-    """Returns the minislots at which the dynamic slots of commits that weren't sent opened."""
-    nodes = facts.network.cluster.nodes
-    wanted: dict[str, set[int]] = {}
-    for commit in facts.commits:
-        if not commit.sent:
-            buffer = nodes[commit.node].buffers[commit.buffer]
-            for channel in buffer.channels:
-                wanted.setdefault(channel, set()).add(buffer.slot)
-    return facts.windows.openings(wanted)
+def causes_of(facts: Facts) -> Causes:
+    """Returns the facts for which commits weren't sent or weren't received, with the turns of unsent commits alone."""
+    wanted = {(it.node, it.buffer) for it in facts.commits if not it.sent}
+    return Causes(facts.inputs.lines_of_run("reasons", ENDLESS), wanted)
 
 
 # ---- the run once more, in a session

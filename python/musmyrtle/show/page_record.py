@@ -15,12 +15,9 @@ class Record:
         self.words = {key: Words() for key in WORDS}
         self.frames, self.bits, self.lines = array("H"), array("H"), array("H")
         self.data = Contents()
-        self.effective: set[int] = set()
-        """The lines of the scenario whose faults had an effect so far: a bit is flipped only in one transmission."""
-        self.flipped = {"A": -1, "B": -1}
 
     def add(self, it: Transmission) -> None:
-        """Adds a line. The lines of a window come together, and those of its bits last."""
+        """Adds a line."""
         self.windows.append(it.window)
         self.channels.add(it.channel)
         self.nodes.append(NOTHING["u8"] if it.node is None else it.node)
@@ -29,10 +26,6 @@ class Record:
         for column, value in ((self.frames, it.frame), (self.bits, it.bit), (self.lines, it.line)):
             column.append(NOTHING["u16"] if value is None else value)
         self.data.add(it.data)
-        if it.end == "turned":
-            self.flipped[it.channel] = it.window
-        if it.line is not None and (it.what != "corrupt" or self.flipped[it.channel] == it.window):
-            self.effective.add(it.line)
 
     def fill(self, columns: Columns) -> None:
         """Adds the columns of the record."""

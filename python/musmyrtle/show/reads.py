@@ -15,7 +15,7 @@ def reads(facts: Facts, selection: Selection) -> list[Section]:
     Nodes select the reading one, and cycles that of the call, or of the frame in a FIFO. With errors alone they have
     calls without a frame, and overwritten frames.
     """
-    sources = Sources(facts)
+    sources = Sources(facts.commits)
     calls = [(it, sources.of(it)) for it in facts.calls if it.kind in READING]
     rows = [row_of(facts, it, source) for it, source in calls if is_selected(it, selection)]
     held = [row for node in facts.network.cluster.nodes if node.queue and selection.has_node(node.number)

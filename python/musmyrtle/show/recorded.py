@@ -16,7 +16,8 @@ class Frame:
     """A record of a frame: its number and time, and the place that its header names.
 
     `cycle` is the number of its cycle on its channel, `begin` and `length` are those of its slot in macroticks. A
-    broken record has no flags and no data. `reasons` has its findings in words.
+    broken record has no flags and no data, and the nearest cycle with the count of its header. `reasons` has its
+    findings in words.
     """
 
     record: int
@@ -50,16 +51,14 @@ class Note:
 
 @dataclass(slots=True)
 class Lane:
-    """A channel: its open cycle and its count, and the latest number of each count.
+    """A channel: the number and the count of the cycle that it opened last, and the latest number of each count.
 
-    `base` is the number of its first cycle on the axis that both channels share. `pending` has the broken records
-    whose count is that of no open cycle yet.
+    `base` is the number of its first cycle on the axis that both channels share.
     """
 
     open: tuple[int, int] | None = None
     latest: dict[int, int] = field(default_factory=dict)
     base: int | None = None
-    pending: list[Frame] = field(default_factory=list)
 
 
 class Recorded:
@@ -78,53 +77,32 @@ class Recorded:
         if words[0] == FRAME:
             self.add_frame(words)
         elif words[0] == OPENS:
-            self.open(self.frames[int(words[1])], number(words[2]))
+            self.open(self.frames[int(words[1])], number(words[2]), number(words[3]))
         elif words[0] in (FINDING, BACK):
             self.add_note(words)
         elif words[0] == "records":
             self.records = int(words[1])
 
     def add_frame(self, words: list[str]) -> None:
-        """Adds the frame of a line."""
+        """Adds the frame of a line. A broken one is in the cycle that its header names."""
         place = Place.of(words)
         cycle, begin, length = map(number, words[6:9])
         frame = Frame(place.record or 0, place.seconds, place.cycle, place.channel, place.slot, cycle, begin, length,
                       text(words[9]), text(words[10]))
         self.frames[frame.record] = frame
-        lane = self.lanes[frame.channel]
-        if frame.data is None:
-            if lane.open is not None and lane.open[1] == frame.count:
-                frame.cycle = lane.open[0]
-            elif frame.count is not None:
-                lane.pending.append(frame)
-        elif cycle is not None:
-            self.open(frame, cycle)
+        if frame.data is not None:
+            self.open(frame, cycle, number(words[11]))
 
-    def open(self, frame: Frame, cycle: int | None) -> None:
-        """Puts a frame into a cycle, which is open then, and the broken records with its count before it."""
+    def open(self, frame: Frame, cycle: int | None, beside: int | None) -> None:
+        """Puts a good frame into a cycle, beside which the other channel has the cycle BESIDE."""
         frame.cycle = cycle
         if cycle is None or frame.count is None:
             return
-        lane = self.lanes[frame.channel]
-        if lane.open != (cycle, frame.count):
-            lane.open = cycle, frame.count
-            lane.latest[frame.count] = cycle
-            self.align(frame.channel, lane)
-        for it in lane.pending:
-            it.cycle = cycle if it.count == frame.count else None
-        lane.pending.clear()
-
-    def align(self, channel: str, lane: Lane) -> None:
-        """Puts the first cycle of a channel beside the nearest cycle of the other channel with its count."""
-        other = self.lanes["B" if channel == "A" else "A"]
-        if lane.base is not None or lane.open is None:
-            return
-        (cycle, count), half = lane.open, CYCLE_COUNTS // 2
-        if other.base is None or other.open is None:
-            lane.base = -cycle
-        else:
-            ahead = (count - other.open[1] + half) % CYCLE_COUNTS - half
-            lane.base = other.base + other.open[0] + ahead - cycle
+        lane, other = self.lanes[frame.channel], self.lanes["B" if frame.channel == "A" else "A"]
+        lane.open = cycle, frame.count
+        lane.latest[frame.count] = cycle
+        if lane.base is None:
+            lane.base = (0 if other.base is None or beside is None else other.base + beside) - cycle
 
     def add_note(self, words: list[str]) -> None:
         """Adds a finding, or the return of a slot."""

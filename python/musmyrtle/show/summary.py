@@ -3,7 +3,7 @@ from collections import Counter
 from collections.abc import Iterator
 
 from musmyrtle.lint.lint import read_bytes
-from musmyrtle.show.facts import Facts, Transmission
+from musmyrtle.show.facts import Facts
 from musmyrtle.show.reasons import why
 from musmyrtle.show.tables import Column, Numbers, Row, Section
 from musmyrtle.visible import cut
@@ -110,22 +110,13 @@ def error_rows(facts: Facts, node: int, channel: str, counters: Counters) -> Ite
         if count:
             seen = [(cycles[int(words[0])], int(words[2])) for words in facts.frames(node)
                     if words[3] == channel and words[4] in states and words[2] != "-"]
-            lines = {line for cycle, slot in seen for line in causes(facts.by_place.get((cycle, slot, channel), []))}
+            lines = {it.line for cycle, slot in seen for it in facts.causes.of((cycle, slot, channel))}
             slots = Counter(slot for _, slot in seen)
             yield Row({
                 "node": facts.network.node(node), "channel": channel, "error": error, "count": count,
                 "slots": Numbers(tuple(sorted(slots))), "cycles": Numbers(tuple(sorted({it for it, _ in seen}))),
                 "lines": Numbers(tuple(sorted(lines))),
             }, True)
-
-
-def causes(lines: list[Transmission]) -> Iterator[int]:
-    """Yields the lines of the scenario that had an effect in a window on a channel: babbles that passed, losses, and a
-    flipped bit."""
-    is_flipped = any(it.end == "turned" for it in lines)
-    for it in lines:
-        if it.line is not None and it.passed != "blocked" and (it.what != "corrupt" or is_flipped):
-            yield it.line
 
 
 def idle(facts: Facts) -> Section:

@@ -33,17 +33,6 @@ class Windows:
         """Returns the macrotick of the run at which a cycle of the run begins."""
         return self.begins[self.starts[cycle]]
 
-    def openings(self, wanted: dict[str, set[int]] | None = None) -> dict[tuple[int, int, str], int]:
-        """Returns the minislot at which each dynamic slot opened, or only the wanted ones of each channel, by cycle,
-        slot and channel."""
-        found: dict[tuple[int, int, str], int] = {}
-        for channel, slots in self.slots.items():
-            its = None if wanted is None else wanted.get(channel, set())
-            for window, minislot in enumerate(self.minislots if its != set() else ()):
-                if minislot and slots[window] and (its is None or slots[window] in its):
-                    found[self.cycles[window], slots[window], channel] = minislot
-        return found
-
 
 def number_of(word: str) -> int:
     """Returns the number of a word, or 0 for `-`."""

@@ -1,13 +1,13 @@
 """The numbers and payloads that a request can name. Values out of range are refused before anything is sent."""
 import operator
-from collections.abc import Callable
+from collections.abc import Callable, Iterable
 from typing import SupportsIndex
 
 from musmyrtle.findings import counted
 from musmyrtle.scenario_words import GREATEST, MOST_BYTES
 from musmyrtle.world.replies import Channel, channel_of
 
-MOST_CYCLES, MOST_ENDLESS = 1024, 4_000_000
+MOST_CYCLES, MOST_ENDLESS, MOST_KEPT = 1024, 4_000_000, 64
 MOST_SLOT = 1023
 MOST_WINDOW = 2**32 - 1
 MOST_NODE, MOST_TASK, MOST_BUFFER, MOST_BIT = (GREATEST[name] for name in ("NODE", "TASK", "BUFFER", "BIT"))
@@ -65,6 +65,19 @@ def endless_cycles(value: SupportsIndex) -> int:
 def some_cycles(value: SupportsIndex, most: int = MOST_CYCLES) -> int:
     """Returns a number of cycles to do, 0 to MOST. Raises `ValueError` and `TypeError`."""
     return within("the number of cycles", value, 0, most)
+
+
+def kept_cycles(value: SupportsIndex) -> int:
+    """Returns a number of cycles whose windows are kept, 1 to 64. Raises `ValueError` and `TypeError`."""
+    return within("the number of kept cycles", value, 1, MOST_KEPT)
+
+
+def traced_nodes(values: Iterable[SupportsIndex]) -> tuple[int, ...]:
+    """Returns the nodes whose traces are written. Raises `ValueError` for none, for a double one and out of 0 to 15."""
+    nodes = tuple(map(node_number, values))
+    if not nodes or len(set(nodes)) < len(nodes):
+        raise ValueError(f"the nodes to trace are {nodes}, and have to be one or more, each once")
+    return nodes
 
 
 def waited_cycles(value: SupportsIndex) -> int:

@@ -4,8 +4,8 @@ from typing import TYPE_CHECKING
 from musmyrtle.world.bounds import buffer_number, channel_name, node_number, payload_hex, task_number
 from musmyrtle.world.refusals import UnknownNode, refusal
 from musmyrtle.world.replies import (
-    Channel, Counters, Frame, ReceiveBuffer, Report, Window, frame_of, number_or_none, origin_channel, report_of,
-    window_of,
+    Channel, Counters, Frame, ReceiveBuffer, Received, Report, Window, frame_of, number_or_none, origin_channel,
+    received_of, report_of, window_of,
 )
 
 if TYPE_CHECKING:
@@ -76,6 +76,21 @@ class Node:
         line = f"pop {self.number} {self._task}"
         return self._frame(line) if self.world.has_history else frame_of(self.world.ask(line).split(" ")[1:], None)
 
+    def receive(self, buffer: int) -> Received | None:
+        """Returns the frame that a receive buffer, 0 to 63, holds, with its channel, cycle and age, or None.
+
+        It is a read of the buffer. Raises `UnknownTask`, `UnknownBuffer`, `NotReceive` and `HostFull`.
+        """
+        line = f"receive {self.number} {self._task} {buffer_number(buffer)}"
+        return received_of(self._ask(line).split(" "))
+
+    def next(self) -> Received | None:
+        """Takes the oldest frame out of the receive FIFO and returns it with its channel and cycle, or None.
+
+        It is a pop. Raises `UnknownTask`, `NoQueue` and `HostFull`.
+        """
+        return received_of(self._ask(f"next {self.number} {self._task}").split(" "))
+
     def look(self) -> Window:
         """Has the controller ask the bus for the open window, and returns that. Raises `WrongTurn` and `BusRefused`."""
         return window_of(self._ask(f"look {self.number}").split(" "))
@@ -144,3 +159,7 @@ class Buffer:
     def read(self) -> Frame | None:
         """Returns the frame that the receive buffer holds, or None."""
         return self.node.read(self.number)
+
+    def receive(self) -> Received | None:
+        """Returns the frame that the receive buffer holds, with its channel, cycle and age, or None."""
+        return self.node.receive(self.number)

@@ -94,6 +94,10 @@ class NoWindow(Refused):
     """No window of this number is sealed."""
 
 
+class NotKept(Refused):
+    """The window is sealed, but a world without history doesn't keep it any more."""
+
+
 class NoHistory(Refused):
     """The world keeps no history, which the request asks for."""
 
@@ -225,7 +229,7 @@ class BusMemory(BusRefused, Memory):
 
 
 _GROUPS: dict[str, tuple[type[Refused], ...]] = {
-    "": (BadLine, BadFault, NoWindow, NoHistory, Memory, UnknownNode, WrongTurn),
+    "": (BadLine, BadFault, NoWindow, NotKept, NoHistory, Memory, UnknownNode, WrongTurn),
     "Host": (UnknownTask, UnknownBuffer, NotTransmit, NotReceive, WrongLength, HostFull, NoQueue),
     "Slot": (NotObserved, BadWindow, WindowOrder, SlotFull, NotFetched, WrongWindow),
     "Bus": (NotCollecting, TooManyFaults, NotAllPut, NotSealed, NotAllTaken, AlreadyPut, AlreadyTaken),

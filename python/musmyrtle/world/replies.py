@@ -24,6 +24,20 @@ class Frame:
 
 
 @dataclass(frozen=True, slots=True)
+class Received:
+    """A frame that a task received: the channel, the cycle of the run in which it came, from 0, and whether it is new.
+
+    A frame of a receive buffer is new unless the `receive` of this buffer before, by any task of the node, returned it
+    too. A frame of the receive FIFO is always new.
+    """
+
+    frame: Frame
+    channel: Channel
+    cycle: int
+    new: bool
+
+
+@dataclass(frozen=True, slots=True)
 class Window:
     """A transmission opportunity, the same for all nodes: a static slot, or a minislot at which a channel opens a slot.
 
@@ -158,11 +172,23 @@ def bytes_of(word: str) -> bytes:
 
 def frame_of(words: list[str], channel: Channel | None) -> Frame | None:
     """Returns the frame of the words after `frame`, received on this channel, or None for `-`."""
-    if words == ["-"]:
-        return None
+    return None if words == ["-"] else known_frame(words, channel)
+
+
+def known_frame(words: list[str], channel: Channel | None) -> Frame:
+    """Returns the frame of four words, received on this channel."""
     cycle, slot, flags, payload = words
     preamble, null, sync, startup = (mark != "-" for mark in flags)
     return Frame(bytes_of(payload), int(slot), int(cycle), preamble, null, sync, startup, channel)
+
+
+def received_of(words: list[str]) -> Received | None:
+    """Returns the frame of the words after `frame` in the reply to `receive` or `next`, or None for `-`."""
+    if words == ["-"]:
+        return None
+    *frame_words, channel_word, cycle, age = words
+    channel = channel_of(channel_word)
+    return Received(known_frame(frame_words, channel), channel, int(cycle), age == "new")
 
 
 def origin_channel(reply: str) -> Channel | None:

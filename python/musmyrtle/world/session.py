@@ -22,16 +22,25 @@ FileName = str | os.PathLike[str]
 
 @dataclass(frozen=True)
 class Outputs:
-    """The files to which a world without history writes: its record, a capture, and the folder of its traces."""
+    """The files to which a world without history writes: its record, a capture, and the folder of its traces.
+
+    `trace_nodes` are the nodes whose traces are written, or None for all. `keep` is the number of cycles whose windows
+    the world keeps, or None.
+    """
 
     record: FileName | None = None
     capture: FileName | None = None
     traces: FileName | None = None
+    trace_nodes: tuple[int, ...] | None = None
+    keep: int | None = None
 
     def words(self) -> list[str]:
         """Returns the options of the program."""
-        named = (("record", self.record), ("capture", self.capture), ("trace", self.traces))
-        return [f"--{option}={os.fspath(name)}" for option, name in named if name is not None]
+        files = (("record", self.record), ("capture", self.capture), ("trace", self.traces))
+        named = [f"--{option}={os.fspath(name)}" for option, name in files if name is not None]
+        nodes = None if self.trace_nodes is None else ",".join(map(str, self.trace_nodes))
+        numbers = (("trace-nodes", nodes), ("keep", self.keep))
+        return named + [f"--{option}={value}" for option, value in numbers if value is not None]
 
     def refused(self, said: str) -> str | None:
         """Returns the file of a refusal that the program prints, or None for another one."""

@@ -13,14 +13,14 @@ from musmyrtle.cluster_file import Clock, clock_of, payload_length
 from musmyrtle.names import Names, UnknownName
 from musmyrtle.texts import FILE_LIMIT
 from musmyrtle.world.bounds import (
-    MOST_CYCLES, MOST_ENDLESS, endless_cycles, run_cycles, some_cycles, window_number,
+    MOST_CYCLES, MOST_ENDLESS, endless_cycles, kept_cycles, run_cycles, some_cycles, traced_nodes, window_number,
 )
 from musmyrtle.world.capture import captured, listener, only_bytes
 from musmyrtle.world.faults import Fault, fault_line
 from musmyrtle.world.node import Buffer, Node
 from musmyrtle.world.playing import Host, Play
 from musmyrtle.world.refusals import BadCycles, BadName, TooManyFaults, UnknownNode, WrongLength, refusal
-from musmyrtle.world.replies import Channel, Counters, Moment, Record, Window, record_of, window_of
+from musmyrtle.world.replies import Channel, Counters, Moment, Received, Record, Window, record_of, window_of
 from musmyrtle.world.session import CLOSE_SECONDS, FileName, Outputs, Session
 from musmyrtle.world.stepping import requests_of
 from musmyrtle.world.world_program import usual_world
@@ -47,20 +47,22 @@ class World:
     """
 
     def __init__(self, cluster: FileName, cycles: int | None = None, *, endless: bool = False,
-                 record: FileName | None = None, capture: FileName | None = None, traces: FileName | None = None,
+                 keep: int | None = None, record: FileName | None = None, capture: FileName | None = None,
+                 traces: FileName | None = None, trace_nodes: Iterable[int] | None = None,
                  program: FileName | None = None, timeout: float | None = None) -> None:
         """Opens the world of a cluster file for a run of so many cycles, 1 to 1024.
 
         Without CYCLES, or if ENDLESS is true, the world keeps no history. Then the cycles are 1 to 4000000, and the
         most that the cluster allows unless they are given. `trace`, `capture` and `page` raise `NoHistory`, and
-        `record` has the window that was sealed last alone.
+        `record` has the windows of the last KEEP cycles, 1 to 64, or the window that was sealed last alone.
 
         RECORD and CAPTURE are the files to which a world without history writes the record of the bus and a capture of
         it, each window once it is sealed. TRACES is a folder that exists: the file `N` in it gets the trace of node N,
-        which `fr_bench audit` reads once the world is closed, or as it comes if the file is a named pipe. All these
-        files are emptied first, and each call that returns has its windows and entries there. Raises `ValueError` for a
-        world that keeps its history, and `SessionOver` where a file can't be opened; if one can't be written, the call
-        with the window or the entry raises it.
+        which `fr_bench audit` reads once the world is closed, or as it comes if the file is a named pipe. TRACE_NODES
+        are the nodes whose traces are written, otherwise all. All these files are emptied first, and each call that
+        returns has its windows and entries there. Raises `ValueError` for a world that keeps its history, for nodes
+        without TRACES, and for numbers out of range. Raises `SessionOver` where a file can't be opened. If one can't be
+        written, the call with the window or the entry raises it.
 
         PROGRAM is the `fr_world` to run, which `usual_world` finds otherwise. TIMEOUT is the time limit in seconds of
         each request and of the opening, or None. Raises `BadCycles` for another number of cycles, `NoRoom` where a
@@ -68,10 +70,13 @@ class World:
         a key `name` of the cluster file isn't a string, and `TimedOut`.
         """
         self._is_endless = endless or cycles is None
-        outputs = Outputs(record, capture, traces)
+        if trace_nodes is not None and traces is None:
+            raise ValueError("nodes to trace are named without a folder for their traces: give `traces` too")
+        outputs = Outputs(record, capture, traces, None if trace_nodes is None else traced_nodes(trace_nodes),
+                          None if keep is None else kept_cycles(keep))
         if not self._is_endless and outputs.words():
-            raise ValueError(
-                "a world that keeps its history writes no file as it goes: use `capture`, `record` and `trace`")
+            raise ValueError("a world that keeps its history keeps all windows, and writes no file as it goes: use "
+                             "`capture`, `record` and `trace`")
         try:
             if cycles is not None:
                 cycles = endless_cycles(cycles) if self._is_endless else run_cycles(cycles)
@@ -220,6 +225,14 @@ class World:
         """Returns the status counters of a node, 0 to 15, on a channel. Raises `UnknownNode`, and `ValueError`."""
         return self.node(node).status(channel)
 
+    def receive(self, node: int, task: int, buffer: int) -> Received | None:
+        """Returns the frame that a receive buffer holds, as `node(node).task(task).receive(buffer)` does."""
+        return self.node(node).task(task).receive(buffer)
+
+    def next(self, node: int, task: int) -> Received | None:
+        """Takes the oldest frame out of a receive FIFO, as `node(node).task(task).next()` does."""
+        return self.node(node).task(task).next()
+
     def inject(self, fault: Fault) -> None:
         """Brings the fault into the open window.
 
@@ -239,7 +252,8 @@ class World:
     def record(self, number: int) -> Record:
         """Returns the sealed window of this number, counted from 0: its transmissions and their fates.
 
-        Raises `NoWindow` where no such window is sealed, `Memory`, and `ValueError` out of 0 to 4294967295.
+        Raises `NoWindow` where no such window is sealed, `NotKept` where a world without history doesn't keep it any
+        more, `Memory`, and `ValueError` out of 0 to 4294967295.
         """
         return record_of(self.block(f"record {window_number(number)}"))
 
