@@ -44,7 +44,8 @@ find_command() {
     fr_view-latency) places=FILE options='--slot --channel' ;;
     fr_view-capture) flags='--own --until-fault' input=TRACE ;;
     fr_view-frames) flags='--all --until-fault' input=TRACE ;;
-    fr_view-outcome | fr_view-answers | fr_view-commits | fr_view-record | fr_view-windows | fr_view-bus)
+    fr_view-outcome | fr_view-answers | fr_view-commits | fr_view-record | fr_view-windows | fr_view-reasons | \
+        fr_view-origins | fr_view-bus)
         places='FILE SCENARIO' options=--cycles flags=--endless ;;
     fr_view-matrix) places='FILE SCENARIO' options='--cycles --channel --node --from --from-window' ;;
     fr_view-trace) places='NODE FILE SCENARIO' options=--cycles ;;
@@ -63,6 +64,12 @@ is_in_range() {
     --from-window) least=0 most=4095 ;;
     --findings) least=0 most=4294967295 ;;
     --macrotick) least=1 most=4294967295 ;;
+    --keep) least=1 most=64 ;;
+    --trace-nodes)
+        range='different numbers from 0 to 15 with commas between them'
+        is_list "$2"
+        return
+        ;;
     --channel)
         range='A or B'
         [ "$2" = A ] || [ "$2" = B ]
@@ -81,6 +88,23 @@ is_in_range() {
     [ "$2" -ge "$least" ] && [ "$2" -le "$most" ]
 }
 
+# Succeeds if $1 is a list of different nodes.
+is_list() {
+    left=$1,
+    nodes=,
+    while [ -n "$left" ]; do
+        case ${left%%,*} in
+        [0-9] | 1[0-5]) ;;
+        *) return 1 ;;
+        esac
+        case $nodes in
+        *",${left%%,*},"*) return 1 ;;
+        esac
+        nodes=$nodes${left%%,*},
+        left=${left#*,}
+    done
+}
+
 # Sets `slip` to the first fault of the words, or to nothing. For a misspelt word it also sets `misspelt`, and `known`
 # to the words to choose from. For right words it sets `file` and `scenario` to the files that they name.
 read_words() {
@@ -93,7 +117,7 @@ read_words() {
         ! find_command "${1-}" || command=$1
     elif [ "$name" = fr_world ]; then
         places=FILE
-        options='--cycles --record --capture --trace'
+        options='--cycles --keep --record --capture --trace --trace-nodes'
         flags=--endless
         input=requests
         read_arguments "$@"
@@ -149,6 +173,14 @@ read_arguments() {
     [ -n "$slip" ] || find_missing
 }
 
+# Returns whether the option $1 takes a name, and the word $2 looks like an option. A name `-x` is `--record=-x`.
+is_no_name() {
+    case "$1 $2" in
+    '--record -'?* | '--capture -'?* | '--trace -'?*) return 0 ;;
+    *) return 1 ;;
+    esac
+}
+
 # Reads the option $1, and the word $2 if it is its value. Sets `taken` to the number of words read.
 read_option() {
     taken=1
@@ -179,7 +211,7 @@ read_option() {
     esac
     if [ "$1" != "$option" ]; then
         value=${1#*=}
-    elif [ $# -eq 1 ] || [ "$2" != "${2#--}" ]; then
+    elif [ $# -eq 1 ] || [ "$2" != "${2#--}" ] || is_no_name "$option" "$2"; then
         slip=${slip:-"$option has no value"}
         return
     else
@@ -243,14 +275,18 @@ find_missing() {
     fi
 }
 
-# Finds a file or a folder for a run with history.
+# Finds an option that a run with history doesn't have, and nodes without a folder for their traces.
 find_stray() {
-    for option in --record --capture --trace; do
+    for option in --keep --record --capture --trace --trace-nodes; do
         case "$given" in
         *' --endless '*) ;;
         *" $option "*) slip="$option needs --endless" ;;
         esac
     done
+    case "$given" in
+    *' --trace '*) ;;
+    *' --trace-nodes '*) slip='--trace-nodes needs --trace' ;;
+    esac
 }
 
 find_surplus() {

@@ -98,7 +98,7 @@ class Expectations:
         self.runs.compare("a free-running run", (output.endswith(b"settled\n"), told, status), (True, wanted, 3))
 
     def endless(self):
-        """Checks a run without history, by `record` or `bus`: it names the lines that it doesn't judge."""
+        """Checks a run without history, by a command: it names the lines that it doesn't judge."""
         usual, _, _ = self.ran(options=("--endless",))
         wanted = b"line 6 names no cycle of the run\nline 4 is not judged in an endless run\n"
         got = self.ran("expect 1 * 1 x1111", "", "expect-none 0 4 1", options=("--endless",))

@@ -137,24 +137,25 @@ class Monitors:
 
     def framed(self):
         """The frames of two cycles, each of which waits for the next one of its channel if it opens a cycle."""
-        lines = ["frame 1 0.000000000 0 A 1 - 0 20 -ns- x0000", "frame 2 0.000000000 0 B 1 - 0 20 -ns- x0000",
-                 "opens 1 0", "frame 3 0.000020000 0 A 2 0 20 20 -n-- x0000",
-                 "opens 2 0", "frame 4 0.000020000 0 B 2 0 20 20 -n-- x0000",
-                 "frame 5 0.000090000 1 A 1 - 0 20 -ns- x0000", "frame 6 0.000090000 1 B 1 - 0 20 -ns- x0000",
-                 "opens 5 1", "frame 7 0.000110000 1 A 2 1 20 20 -n-- x0000",
-                 "opens 6 1", "frame 8 0.000110000 1 B 2 1 20 20 -n-- x0000"]
+        lines = ["frame 1 0.000000000 0 A 1 - 0 20 -ns- x0000 -", "frame 2 0.000000000 0 B 1 - 0 20 -ns- x0000 -",
+                 "opens 1 0 -", "frame 3 0.000020000 0 A 2 0 20 20 -n-- x0000 -",
+                 "opens 2 0 0", "frame 4 0.000020000 0 B 2 0 20 20 -n-- x0000 0",
+                 "frame 5 0.000090000 1 A 1 - 0 20 -ns- x0000 1", "frame 6 0.000090000 1 B 1 - 0 20 -ns- x0000 1",
+                 "opens 5 1 1", "frame 7 0.000110000 1 A 2 1 20 20 -n-- x0000 1",
+                 "opens 6 1 1", "frame 8 0.000110000 1 B 2 1 20 20 -n-- x0000 1"]
         text, whole = "".join(f"{it}\n" for it in lines), recording(frames(2))
         self.check("the frames of two cycles", whole, text + summary(8, 4), 0, words=("--whole", "--frames"))
         self.check("the frames of one channel", recording(frames(1)),
-                   "".join(f"{it}\n" for it in ("frame 2 0.000000000 0 B 1 - 0 20 -ns- x0000", *lines[4:6])) +
+                   "".join(f"{it}\n" for it in ("frame 2 0.000000000 0 B 1 - 0 20 -ns- x0000 -", "opens 2 0 -",
+                                                f"{lines[5][:-1]}-")) +
                    "records 4 foreign 0 symbols 0 skipped 0\n"
                    "channel B frames 2 cycles 1 gaps 0 lost 0 shortest - longest -\n"
                    "slot 1 B 0 data 0 null 1 missing 0 other 0 shortest - longest -\n"
                    "slot 2 B 1 data 0 null 1 missing 0 other 0 shortest - longest -\n", 0,
                    words=("--frames", "--channel", "B"))
         self.check("frames that wait at the end", recording(frames(1)[:2]),
-                   f"{lines[0]}\n{lines[1]}\nopens 1 0\nopens 2 0\n" + ONE_FRAME, 0, words=("--frames",))
-        self.check("a frame that is cut off", whole[:-1], text.replace(f"{lines[10]}\n{lines[11]}\n", "opens 6 1\n")
+                   f"{lines[0]}\n{lines[1]}\nopens 1 0 0\nopens 2 0 0\n" + ONE_FRAME, 0, words=("--frames",))
+        self.check("a frame that is cut off", whole[:-1], text.replace(f"{lines[10]}\n{lines[11]}\n", "opens 6 1 1\n")
                    + CUT_OFF, 1, b"refused Truncated 199\n", words=("--frames",))
 
     def broken(self):

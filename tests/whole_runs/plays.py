@@ -229,8 +229,23 @@ REFUSALS = {
 }
 """Lines for which the scenario is refused, or the run with it, as by `fr_bench run`."""
 
+REASONS = "".join(
+    f"due {cycle} 2 0 4 A 4\n"
+    + "".join(f"stopped {cycle} {slot} A blocked 2 11\neffect {cycle} {slot} B {end} 2 12\n"
+              for slot, end in ((1, "collided"), (2, "collided"), (3, "alone")))
+    + f"open {cycle} 2 0 4 A 4 1\n" for cycle in range(4))
+"""The reasons of the three nodes' scenario: node 2 babbles in each static slot, and slot 3 has no owner."""
+
+LATE = "".join(f"due {cycle} 2 0 4 A 0\nlate {cycle} 2 0 4 A 0 1\n" for cycle in range(4))
+"""The reasons without faults and without a latest minislot of node 2."""
+
+AFTER_70 = "frscenario 1\ncommit 1 0 0 0 x1111\nread 0 1 70 1\nend\n"
+ORIGINS_AFTER_70 = b"1 0 0 commit 0 x1111 = 0\n0 1 70 read 1 = 5 2 A x1111 69\n"
+"""The state buffer of node 1 sends in each cycle, and cycle 69 of the run has count 5."""
+
 COMMANDS = [["outcome"], ["answers"], ["commits"], ["record"], ["windows"], ["bus"], ["matrix"], ["trace", "0"]]
-STREAMED = [["outcome"], ["answers"], ["commits"], ["record"], ["windows"], ["bus"]]
+STREAMED = [["outcome"], ["answers"], ["commits"], ["record"], ["windows"], ["reasons"], ["origins"],
+            ["bus"]]
 """The commands with `--endless`."""
 
 
@@ -291,6 +306,18 @@ class Plays:
             told, _, status = run([self.runs.program, "commits", *words])
             self.runs.compare(f"commits of {outcome.parent.name}", (self.counted(told.decode()), status),
                               (self.reported(outcome.read_text()), 0))
+
+    def causes(self):
+        """Checks the facts for which commits aren't sent or received, and the cycles in which frames came."""
+        cluster = (EXAMPLES / "three-nodes/cluster.toml").read_text()
+        came = ANSWERS.replace("A x7001", "A x7001 0").replace("A x0c0d", "A x0c0d 2").encode()
+        for more in ([], ["--endless"]):
+            self.runs.check(" ".join(["reasons", *more]), ["reasons", *THREE_NODES, *more], (REASONS.encode(), b"", 0))
+            self.runs.check(" ".join(["origins", *more]), ["origins", *THREE_NODES, *more], (came, b"", 0))
+        words = self.given(cluster.replace("latest_a = 4\n", ""), "frscenario 1\nend\n")
+        self.runs.check("reasons of a node that begins no frame", ["reasons", *words], (LATE.encode(), b"", 0))
+        words = [*self.given(cluster, AFTER_70)[:2], "--cycles", "71"]
+        self.runs.check("origins after 64 cycles", ["origins", *words], (ORIGINS_AFTER_70, b"", 0))
 
     def strikes(self):
         """Checks the scenario lines of the faults of a record, and the lines without effect, by each command."""

@@ -105,11 +105,15 @@ def views():
         "commits": (["commits", *run], b""),
         "record": (["record", *run], b""),
         "windows": (["windows", *run], b""),
+        "reasons": (["reasons", *run], b""),
+        "origins": (["origins", *run], b""),
         "bus": (["bus", *run], b""),
         "matrix": (["matrix", *run], b""),
         "trace": (["trace", "0", *run], b""),
         "outcome, endless": (["outcome", *run, "--endless"], b""),
         "windows, endless": (["windows", *run, "--endless"], b""),
+        "reasons, endless": (["reasons", *run, "--endless"], b""),
+        "origins, endless": (["origins", *run, "--endless"], b""),
         "answers, endless": (["answers", *run, "--endless"], b""),
         "commits, endless": (["commits", *run, "--endless"], b""),
         "record, endless": (["record", *run, "--endless"], b""),
@@ -120,10 +124,11 @@ def views():
 def sessions():
     """Returns the same for fr_world: a request of each kind that takes memory."""
     asked = ["commit 0 0 0 x0a0b", "window", "window", "babble 2 A x00", "mute 1 A * s*", "window", "run 2", "now",
-             "report 1", "trace 0", "record 1"]
+             "report 1", "receive 1 0 1", "trace 0", "record 1"]
     given = "".join(f"{line}\n" for line in asked).encode()
     files = ["--record", os.devnull, "--capture", os.devnull]
-    return {"session": ([CLUSTER, "--cycles", "4"], given), WITH_FILES: ([CLUSTER, "--endless", *files], given)}
+    return {"session": ([CLUSTER, "--cycles", "4"], given), WITH_FILES: ([CLUSTER, "--endless", *files], given),
+            "session with kept windows": ([CLUSTER, "--endless", "--keep", "2"], given)}
 
 
 def recordings():

@@ -61,6 +61,47 @@ TIMES = [
 ]
 """The time of each window, open and sealed, and the counters of a node, to which a flipped bit is a syntax error."""
 
+RECEIPTS = [
+    ("receive 1 0 0", "frame -"), ("commit 0 0 0 x0a0b", "committed 0"), ("receive 1 1 0", "frame -"),
+    ("cycle", "open 2 1 0 1 1"), ("receive 1 2 0", "refused Host UnknownTask"),
+    ("receive 1 1 0", "frame 0 2 ---- x0a0b A 0 new"), ("receive 1 0 0", "frame 0 2 ---- x0a0b A 0 old"),
+    ("read 1 0 0", "frame 0 2 ---- x0a0b"), ("receive 1 1 0", "frame 0 2 ---- x0a0b A 0 old"),
+    ("receive 0 0 0", "refused Host NotReceive"), ("receive 1 0 1", "refused Host UnknownBuffer"),
+    ("receive 2 0 0", "refused UnknownNode"), ("receive 1 0", "refused BadLine 13"), ("next 1", "refused BadLine 14"),
+    ("receive 1 0 64", "refused BadLine 15"), ("receive 1 8 0", "refused BadLine 16"),
+    ("next 1 0 0", "refused BadLine 17"), ("next 1 0", "refused Host NoQueue"), ("next 3 0", "refused UnknownNode"),
+    ("commit 0 0 0 x0a0b", "committed 5"),
+    ("receive 1 0 0", "frame 0 2 ---- x0a0b A 0 old"), ("cycle", "over"), ("read 1 1 0", "frame 1 2 ---- x0a0b"),
+    ("receive 1 1 0", "frame 1 2 ---- x0a0b A 1 new"), ("receive 1 1 0", "frame 1 2 ---- x0a0b A 1 old"),
+]
+"""Frames of one receive buffer, of which each is new once; a frame with the same payload is another one."""
+
+QUEUED = [
+    ("next 0 0", "frame -"), ("commit 2 0 0 x0102", "committed 0"), ("cycle", "open 7 1 0 1 1"),
+    ("commit 2 0 0 x0102", "committed 15"), ("cycle", "open 14 2 0 1 1"), ("next 0 0", "frame 0 4 ---- x0102 A 0 new"),
+    ("pop 0 0", "frame 1 4 ---- x0102"), ("next 0 0", "frame -"), ("next 1 0", "refused Host NoQueue"),
+]
+"""Frames of a receive FIFO, each of which is new."""
+
+FAR_CYCLES = [
+    ("run 70", "open 140 6 0 1 1"), ("commit 0 0 0 x0a0b", "committed 280"), ("cycle", "open 142 7 0 1 1"),
+    ("receive 1 0 0", "frame 6 2 ---- x0a0b A 70 new"),
+]
+"""The cycle of the run goes on after 63, and the cycle of the frame begins again."""
+
+KEPT = [
+    ("corrupt A 1", "done"), ("cycle", "open 2 1 0 1 1"), ("record 0", "lines 2\nwindow 0 0 0 1 1\ncorrupt A 1"),
+    ("record 2", "refused NoWindow"), ("window", "open 3 1 0 2 2"),
+    ("record 0", "lines 2\nwindow 0 0 0 1 1\ncorrupt A 1"), ("record 2", "lines 1\nwindow 2 1 0 1 1"),
+    ("window", "open 4 2 0 1 1"), ("record 0", "lines 2\nwindow 0 0 0 1 1\ncorrupt A 1"),
+    ("window", "open 5 2 0 2 2"), ("record 0", "refused NotKept"), ("record 2", "lines 1\nwindow 2 1 0 1 1"),
+    ("window", "open 6 3 0 1 1"), ("record 2", "lines 1\nwindow 2 1 0 1 1"), ("window", "open 7 3 0 2 2"),
+    ("record 2", "refused NotKept"), ("run 200", "open 406 11 0 1 1"), ("record 400", "refused NotKept"),
+    ("record 402", "lines 1\nwindow 402 9 0 1 1"), ("record 406", "refused NoWindow"),
+    ("record 404", "lines 1\nwindow 404 10 0 1 1"), ("record 4294967295", "refused NoWindow"),
+]
+"""The windows of the last two cycles of two static slots."""
+
 REFUSALS = [
     ("commit 3 0 0 x0000", "refused UnknownNode"), ("look 15", "refused UnknownNode"),
     ("report 3", "refused UnknownNode"), ("trace 15", "refused UnknownNode"), ("origin 3", "refused UnknownNode"),
@@ -144,6 +185,8 @@ NO_REQUESTS = [
     "mute 0 A * s01", "mute 0 A ** s*", "mute 0 A * s* 1", "mute 0 A  * s0", "corrupt A * s*", "corrupt A * s* 65536",
     "corrupt 0 A * s* 1", "commit 0 0 0 0 x0a0b", "read 0 0 0 1 ", "mute 0 A * m8001", "end", "frscenario 2", "record",
     "record 4294967296", "report", "report 16", "trace", "trace 0 0", "origin", "origin 16", "origin 0 0",
+    "receive", "receive 0 0", "receive 0 0 0 0", "receive 16 0 0", "receive 0 00 0", "receive 0 0 64", "receive 0 8 0",
+    "Receive 0 0 0", "next", "next 0", "next 0 0 0", "next 16 0", "next 0 8", "next x 0",
     "at 0", "At", "status", "status 0", "status 0 C", "status 16 A", "status A 0", "status 0 A 0",
     "quit", "frworld 1", "now\r", "now\t", "now\0", "lost", "lost 0", "lost 0 AB *", "lost 0 2-1", "lost pedal *",
     "mute 0 AB", "mute 0 BA * s*", "mute 0 A * m1-2", "mute 0 AB 0-1/0 s1", "mute 0 A # x", "mute 0 A * # s*", "# now",
@@ -245,6 +288,8 @@ class Sessions:
         self.check("two cycles by windows", self.small, 2, TWO_CYCLES)
         self.check("times and counters", self.small, 2, TIMES)
         self.check("each refusal", THREE_NODES, 4, REFUSALS)
+        self.check("received frames", self.small, 2, RECEIPTS)
+        self.check("frames of a FIFO", THREE_NODES, 4, QUEUED)
         self.check("fault lines", self.small, 2, FAULT_LINES)
         self.check("fault lines of version 3", self.small, 2, LINES_OF_VERSION_3)
         self.check("a fault by hand before one of a line", self.small, 2, A_FAULT_BY_HAND)
@@ -252,6 +297,7 @@ class Sessions:
         roomy = self.folder / "roomy.toml"
         roomy.write_text(SMALL.replace("slot_entries = 8\n", ""))
         self.check("a fault line of a late cycle", roomy, 66, LATE_CYCLES)
+        self.check("the cycle of a frame", roomy, 80, FAR_CYCLES)
         self.check("no requests at all", THREE_NODES, 1, [])
         late = "refused Bus NotCollecting"
         over = [("run 0", "open 0 0 0 1 1"), ("run 2", "over"), ("now", "over"), ("look 0", late), ("window", late),
@@ -265,11 +311,19 @@ class Sessions:
                          and not ask.startswith("record 1")] for asked in (FAULT_LINES, LINES_OF_VERSION_3))
         for name, asked in (("a window by its events", A_WINDOW), ("fault lines", last),
                             ("fault lines of version 3", newest), ("a fault by hand", A_FAULT_BY_HAND),
-                            ("times and counters", TIMES)):
+                            ("times and counters", TIMES), ("received frames", RECEIPTS)):
             self.check_endless(name, self.small, ("--cycles", "2"), asked)
+        self.check_endless("frames of a FIFO", THREE_NODES, (), QUEUED)
+        self.check_endless("the cycle of a frame", self.small, (), FAR_CYCLES)
+        self.check_endless("kept windows", self.small, ("--keep", "2"), KEPT)
+        for cycles in ("1", "64"):
+            self.check_endless(f"windows of {cycles} cycles", self.small, (f"--keep={cycles}", "--cycles", "2"),
+                               [("run 1", "open 2 1 0 1 1"), ("record 0", "lines 1\nwindow 0 0 0 1 1"),
+                                ("run 1", "over"), ("record 2", "lines 1\nwindow 2 1 0 1 1"),
+                                ("record 0", "refused NotKept" if cycles == "1" else "lines 1\nwindow 0 0 0 1 1")])
         self.check_endless("what isn't kept", THREE_NODES, (), [
             ("record 0", "refused NoWindow"), ("cycle", "open 7 1 0 1 1"), ("record 6", "lines 1\nwindow 6 0 4 7 7"),
-            ("record 5", "refused NoWindow"), ("record 7", "refused NoWindow"), ("trace 0", "refused NoHistory"),
+            ("record 5", "refused NotKept"), ("record 7", "refused NoWindow"), ("trace 0", "refused NoHistory"),
             ("origin 1", "refused NoHistory"), ("trace 15", "refused NoHistory")])
         # Cycles count on beyond 16 bits, so a line of one cycle takes effect once.
         self.check_endless("many cycles", self.small, ("--cycles", "4000000"), [

@@ -73,7 +73,14 @@ SLIPS: list[tuple[str, Words, str]] = [
     ("fr_world", (CLUSTER, "--cycles", "4", "--record", "lines"), "--record needs --endless"),
     ("fr_world", (CLUSTER, "--cycles", "4", "--capture=bus.pcap"), "--capture needs --endless"),
     ("fr_world", (CLUSTER, "--cycles", "4", "--trace", "traces"), "--trace needs --endless"),
+    ("fr_world", (CLUSTER, "--cycles", "4", "--keep", "4"), "--keep needs --endless"),
+    ("fr_world", (CLUSTER, "--endless", "--keep", "0"), "--keep must be a whole number from 1 to 64, not 0"),
+    ("fr_world", (CLUSTER, "--endless", "--keep=65"), "from 1 to 64, not 65"),
+    ("fr_world", (CLUSTER, "--endless", "--trace-nodes", "1"), "--trace-nodes needs --trace"),
+    ("fr_world", (CLUSTER, "--endless", "--trace=a", "--trace-nodes=1,16"), "with commas between them, not 1,16"),
+    ("fr_world", (CLUSTER, "--endless", "--trace=a", "--trace-nodes", "1,1"), "with commas between them, not 1,1"),
     ("fr_world", (CLUSTER, "--endless", "--record"), "--record has no value"),
+    ("fr_world", (CLUSTER, "--endless", "--trace", "-x"), "--trace has no value"),
     ("fr_world", (CLUSTER, "--endless", "--captre", "bus.pcap"), "no option --captre; did you mean --capture?"),
     ("fr_world", ("--cycles=4", CLUSTER, "--cycles", "4"), "--cycles stands twice"),
     ("fr_world", (CLUSTER, "--cycle", "4"), "fr_world has no option --cycle; did you mean --cycles?"),
@@ -126,13 +133,15 @@ ALONE: list[tuple[str, Words, str]] = [
 POOL = ["a", "4", "0", "1024", "1025", "04", "--cycles", "--cycles=4", "--cycles=", "--free", "--free=1", "--channel",
         "A", "--channel=B", "C", "--node=3", "--node", "16", "--from", "--from-window", "--cycle=5", "--cycle", "--own",
         "--all", "--endless", "--until-fault", "--whole", "--findings=5", "--macrotick", "--record", "--capture=c",
-        "--trace", "--", "-", "-x", "--x", "", " ", "\u00e9", "--=", "*", "--cycles --channel", "-4"]
+        "--trace", "--keep=64", "--keep", "--trace-nodes=0,15", "--trace-nodes", "0,01", "15,", "--", "-", "-x", "--x", "",
+        " ", "\u00e9", "--=", "*", "--cycles --channel", "-4"]
 SHAPES = {
     "fr_bench": [["audit"], ["check", "a"], ["midpoint"], ["run", "a", "b", "--cycles", "4"]],
     "fr_view": [["schedule", "a"], ["frames"], ["matrix", "a", "b", "--cycles", "4"],
                 ["trace", "1", "a", "b", "--cycles", "4"], ["answers", "a", "b", "--cycles", "4"],
                 ["record", "a", "b", "--cycles", "4", "--endless"]],
-    "fr_world": [["a", "--cycles", "4"], ["a", "--endless", "--record=b"]],
+    "fr_world": [["a", "--cycles", "4"], ["a", "--endless", "--record=b"],
+                 ["a", "--endless", "--trace=b", "--trace-nodes=3,1"]],
     "fr_monitor": [["a"], ["a", "--findings", "4", "--macrotick=1000"]],
 }
 READ = '. "$1"; name=$2; shift 2; read_words "$@"; [ -z "$slip" ]'

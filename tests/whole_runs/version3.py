@@ -202,8 +202,7 @@ class Version3:
         self.endless_notes()
 
     def endless_notes(self):
-        """Checks, of `fr_view answers`, `commits`, `record` and `bus`, that an endless run names each line that is left
-        out, and no other one."""
+        """Checks, of some commands of `fr_view`, that an endless run names each line that is left out, and no other."""
         path = self.folder / "version3"
         path.write_text(f"{BEGIN}commit 0 0 0 0 x0a0b\n\npop 0 0 4\nlost 2 5-9\nmute 1 AB 3-9 s*\n{END}")
         for command in ("answers", "commits", "record", "bus"):

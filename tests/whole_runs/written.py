@@ -52,6 +52,7 @@ class Written:
         self.failures()
         self.pipes()
         self.traces()
+        self.chosen_traces()
         self.traces_as_they_come()
         self.traced_failures()
         self.traced_pipes()
@@ -218,6 +219,16 @@ class Written:
             self.audits([*calls, *ways["cycles"]])
         unended = self.traced(THREE_NODES, ["window"], rest=b"commit 0 0 0 x0a0b")
         self.runs.compare("an unfinished line isn't traced", unended[1], self.kept_traces(THREE_NODES, ["window"], 3))
+
+    def chosen_traces(self):
+        """Checks that the traces of some nodes are those among all traces, and that no other file is made."""
+        asked = ["commit 0 0 0 x0a0b", "read 1 0 1", "window", "look 1", "fetch 1", "run 3", "pop 2 0"]
+        told, texts = self.traced(THREE_NODES, asked)
+        for nodes in ("0", "1,2", "2,0,1"):
+            self.runs.compare(f"traces of nodes {nodes}", self.traced(THREE_NODES, asked, "--trace-nodes", nodes),
+                              (told, {node: texts[node] for node in nodes.split(",")}))
+        self.runs.compare("a trace of a node that isn't there",
+                          self.traced(THREE_NODES, asked, "--trace-nodes", "1,3"), (refused("Trace 3"), {}))
 
     def audits(self, asked):
         """Checks that each trace audits to the report of its node, and that one of a session cut off is rejected."""

@@ -1,0 +1,68 @@
+"""The lines of `fr_view reasons` and `fr_view origins`, from other views of the run and the tables of the cluster."""
+from collections.abc import Iterable, Iterator
+from typing import Any
+
+Tables = dict[str, Any]
+
+
+def reasons_of(cluster: Tables, windows: str, record: str) -> str:
+    """Returns the lines of `reasons`, from those of `windows` and `record`, and the tables of the cluster file."""
+    sent: dict[str, list[list[str]]] = {}
+    for line in record.splitlines():
+        sent.setdefault(line.split(" ")[0], []).append(line.split(" "))
+    lines = []
+    for words in (line.split(" ") for line in windows.splitlines()):
+        lines += slots_of(cluster, words)
+        lines += effects_of(sent.get(words[0], []))
+    return "".join(f"{it}\n" for it in lines)
+
+
+def slots_of(cluster: Tables, window: list[str]) -> Iterator[str]:
+    """Yields the lines of the dynamic transmit buffers in a window."""
+    _, cycle, minislot, _, slot_a, _, slot_b, _ = window
+    is_first = minislot == "-" and slot_a == "1"
+    for number, node in enumerate(cluster["node"]):
+        for place, buffer in enumerate(node.get("buffer", [])):
+            slot, count = buffer["slot"], int(cycle) % 64
+            is_turn = count % buffer.get("repetition", 1) == buffer.get("base", 0)
+            if buffer["kind"] == "receive" or slot <= cluster["params"]["static_slots"] or not is_turn:
+                continue
+            for channel, open_slot in (("A", slot_a), ("B", slot_b)):
+                latest = node.get(f"latest_{channel.lower()}", 0)
+                words = f"{cycle} {number} {place} {slot} {channel} {latest}"
+                if channel in buffer.get("channels", "AB"):
+                    if is_first:
+                        yield f"due {words}"
+                    elif minislot != "-" and open_slot == str(slot):
+                        yield f"{'late' if int(minislot) > latest else 'open'} {words} {minislot}"
+
+
+def effects_of(sent: list[list[str]]) -> Iterator[str]:
+    """Yields the effects of faults in a window, from the lines of its record."""
+    bits = {words[4]: words[8] for words in sent if words[6] == "corrupt"}
+    for _, cycle, _, slot, channel, node, kind, fate, end, *_, line in (it for it in sent if it[6] != "corrupt"):
+        if kind == "babble" or fate == "muted":
+            yield f"{'stopped' if fate == 'blocked' else 'effect'} {cycle} {slot} {channel} {end} {node} {line}"
+        if end == "turned":
+            yield f"effect {cycle} {slot} {channel} {end} {node} {bits[channel]}"
+
+
+def origins_of(answers: str, traces: list[str]) -> str:
+    """Returns the lines of `origins`, from those of `answers` and the traces of all nodes."""
+    came = [iter(list(cycles_in(it.splitlines()))) for it in traces]
+    lines = []
+    for line in answers.splitlines():
+        words = line.split(" ")
+        cycle = next(came[int(words[0])]) if words[3] in ("read", "pop") else None
+        lines.append(line if cycle is None else f"{line} {cycle}")
+    return "".join(f"{it}\n" for it in lines)
+
+
+def cycles_in(trace: list[str]) -> Iterable[int | None]:
+    """Yields for each read and pop of a trace the cycle of the run in which its frame came, or None without a frame."""
+    begun: list[int] = []
+    for words in (line.split(" ") for line in trace[trace.index("begin") + 1:-1]):
+        if words[0] in ("read", "pop"):
+            yield None if words[-1] == "-" else begun[int(words[-1].split(":")[0])] - 1
+        is_start = words[0] == "fetch" and words[3:5] == ["0", "1"]
+        begun.append((begun[-1] if begun else 0) + is_start)
