@@ -1,5 +1,5 @@
 -- The fields of `Bus` as its state.
-use Rattle.std.specs.Prelude.{ℕ, ◌≤◌}
+use Rattle.std.specs.Prelude.{◌≤◌}
 use Rattle.fr_bus.specs.declared.bus.Bus.TheInside.{Inside}
 use Rattle.fr_bus.specs.Standing.{IsBusHistory, with_record}
 use Rattle.fr_bus.specs.States.{BusState}

@@ -4,7 +4,7 @@ use Rattle.fr_bus.specs.Courses.{opportunities}
 use Rattle.fr_bus.specs.declared.error.BusError.{BusError}
 use Rattle.fr_bus.specs.declared.error.BusError.TheVariants.{BadCycles, Memory}
 use Rattle.fr_bus.specs.Standing.{LiveStanding, IsLiveHistory, ForEachLiveHistory, roomless, bare}
-use Rattle.fr_bus.specs.States.{BusState, new_bus, seal_refusal, sealed_now}
+use Rattle.fr_bus.specs.States.{new_bus, seal_refusal, sealed_now}
 use Rattle.fr_schedule.specs.Clusters.{IsCluster}
 use Rattle.fr_schedule.specs.Descriptions.{Description}
 use Rattle.fr_slots.specs.Parameters.{Parameters}

@@ -1,5 +1,5 @@
 -- The windows of a run, each by the record before it (chapter 5; windows and their numbers are project-defined).
-use Rattle.std.specs.Prelude.{ℕ, ◌+◌, ◌-◌, ◌%◌, ◌==◌, nat_lt, not, min, Bool, false, ◌&&◌, ◌||◌, List, [], ◌∷◌, ◌++◌}
+use Rattle.std.specs.Prelude.{ℕ, ◌+◌, ◌-◌, ◌%◌, nat_lt, not, min, Bool, ◌&&◌, ◌||◌, List, [], ◌∷◌, ◌++◌}
 use Rattle.std.specs.Prelude.{length, map, count_by, Option, Some, None, is_some, option_map, if◌then◌else◌}
 use Rattle.std.specs.List.{filter, find, fold, range_with_len}
 use Rattle.std.specs.Option.{option_or}

@@ -15,6 +15,7 @@ use fr_interface::interface::Offer;
 use fr_schedule::cluster::Cluster;
 use fr_slots::channel::Channel;
 use fr_slots::numbers::NodeId;
+use fr_slots::params::Params;
 use fr_slots::window::Window;
 use fr_status::seen::Seen;
 use std::alloc::{AllocError, Global};
@@ -359,6 +360,37 @@ impl KeptBus {
         self.phase = Phase::Sealed;
     }
 
+    /// Returns the parameters of the cluster.
+    pub(crate) fn params(&self) -> &Params
+        ensures { result.now ≡ self.now.cluster.params }
+    {
+        self.guardian.params()
+    }
+
+    /// Takes the node's observations, as `Bus::take_into` does, without a look at them.
+    pub(crate) fn take(&mut self, node: NodeId, number: u32) -> Result<(), BusError>
+        ensures refusal { result_err result ≡ take_refusal (bare self.old) node number }
+        ensures history { ForEachBusHistory self.old (λ s. OnOk result (IsBusHistory self.new (take_done s node))) }
+        ensures refused { OnErr result (self.new ≡ self.old) }
+        ensures cluster { self.new.cluster ≡ self.old.cluster }
+    {
+        if !self.is_node(node) {
+            return Err(BusError::UnknownNode);
+        }
+        if !self.phase.seals() {
+            return Err(BusError::NotSealed);
+        }
+        if !has_number(number, &self.opened) {
+            return Err(BusError::WrongWindow);
+        }
+        if self.stations.has_taken(node) {
+            return Err(BusError::AlreadyTaken);
+        }
+        self.stations.take(node);
+        self.taken_count += 1;
+        Ok(())
+    }
+
     /// Writes the node's observation on the channel of the last sealed window to `seen`.
     fn see(&self, last: Option<&Sealed>, node: NodeId, channel: Channel, seen: &mut Seen)
         ensures { seen.new ≡ seen_where (bare self.now) (option_map (λ s. s.now) last.entry) channel node }
@@ -390,22 +422,9 @@ impl KeptBus {
         ensures refused_b { OnErr result (b.new ≡ b.old) }
     {
         // It writes in place, as `put` and the interface's `fetch_into` do, so no room for frames is moved.
-        if !self.is_node(node) {
-            return Err(BusError::UnknownNode);
-        }
-        if !self.phase.seals() {
-            return Err(BusError::NotSealed);
-        }
-        if !has_number(number, &self.opened) {
-            return Err(BusError::WrongWindow);
-        }
-        if self.stations.has_taken(node) {
-            return Err(BusError::AlreadyTaken);
-        }
+        self.take(node, number)?;
         self.see(last, node, Channel::A, a);
         self.see(last, node, Channel::B, b);
-        self.stations.take(node);
-        self.taken_count += 1;
         Ok(())
     }
 

@@ -3,12 +3,14 @@
 ghost use Rattle.std.specs.Prelude.{◌≡◌, ◌+◌, ◌*◌, ◌^◌, nat_lt, nat_le, ◌&&◌};
 ghost use Rattle.fr_bus.specs.Live.{cycles_suit};
 ghost use Rattle.fr_bus.specs.Courses.{opportunities};
+ghost use Rattle.fr_bus.specs.Record.{heard};
 
 use crate::error::{BusError, Phase};
 use crate::fault::Fault;
 use crate::kept::KeptBus;
 use crate::outcome::Sealed;
 use fr_interface::interface::Offer;
+use fr_interface::sight::{Heard, Sight};
 use fr_schedule::cluster::Cluster;
 use fr_slots::channel::Channel;
 use fr_slots::numbers::NodeId;
@@ -27,6 +29,9 @@ pub const LIVE_CYCLES: u32 = 4_000_000;
 pub struct LiveBus {
     kept: KeptBus,
     last: Option<Sealed>,
+    // A frame is decoded here, once a window, and not by each node that receives it.
+    heard_a: Heard,
+    heard_b: Heard,
 }
 
 impl Model for LiveBus {
@@ -49,6 +54,18 @@ fn cycles_suit(params: &Params, cycles: u32) -> bool
     cycles >= 1 && cycles <= LIVE_CYCLES && u64::from(cycles) * opportunities <= u64::from(u32::MAX)
 }
 
+/// Writes what is heard on the channel of a sealed window.
+fn hear(params: &Params, sealed: &Sealed, channel: Channel, place: &mut Heard)
+    ensures { place.new ≡ heard params.now sealed.now channel }
+{
+    // In most windows no node sends.
+    if sealed.sent.is_empty() {
+        return place.fall_silent();
+    }
+    let seen = sealed.heard(params, channel);
+    *place = Heard::of(params, &sealed.window, channel, seen);
+}
+
 impl LiveBus {
     ghost use Rattle.std.specs.Prelude.{◌≡◌, OnOk, OnErr, length, option_map};
     ghost use Rattle.std.specs.Result.{result_err};
@@ -56,6 +73,8 @@ impl LiveBus {
     ghost use Rattle.fr_bus.specs.Standing.{bare, ForEachLiveHistory, IsLiveHistory};
     ghost use Rattle.fr_bus.specs.States.{collecting_of, put_refusal, put_done, inject_refusal, inject_done};
     ghost use Rattle.fr_bus.specs.States.{take_refusal, take_done, seen_last, advance_refusal, advanced};
+    ghost use Rattle.fr_bus.specs.LiveFields.{heard_last};
+    ghost use Rattle.fr_interface.specs.Sights.{seen_in};
     ghost use Rattle.fr_slots.specs.declared.channel.Channel.TheVariants as channel;
 
     /// Returns the bus of a cluster for a run of so many cycles, 1 to 4,000,000. It collects in its first window: cycle
@@ -71,7 +90,12 @@ impl LiveBus {
             return Err(BusError::BadCycles);
         }
         match KeptBus::new(alloc, cluster, cycles) {
-            Ok(kept) => Ok(LiveBus { kept, last: None }),
+            Ok(kept) => Ok(LiveBus {
+                kept,
+                last: None,
+                heard_a: Heard::silence(),
+                heard_b: Heard::silence(),
+            }),
             Err(_) => Err(BusError::Memory),
         }
     }
@@ -147,6 +171,8 @@ impl LiveBus {
         let a = sealed.longest(Channel::A);
         let b = sealed.longest(Channel::B);
         self.kept.close(&window, a, b);
+        hear(self.kept.params(), &sealed, Channel::A, &mut self.heard_a);
+        hear(self.kept.params(), &sealed, Channel::B, &mut self.heard_b);
         self.last = Some(sealed);
         Ok(())
     }
@@ -169,6 +195,37 @@ impl LiveBus {
         ensures refused_b { OnErr result (b.new ≡ b.old) }
     {
         self.kept.take_into(self.last.as_ref(), node, number, a, b)
+    }
+
+    /// Takes the node's observations of the sealed window, which has this number, without a copy: `sight` lends them.
+    /// Fails as `Bus::take_into` does.
+    pub fn take(&mut self, node: NodeId, number: u32) -> Result<(), BusError>
+        ensures refusal { result_err result ≡ take_refusal (bare self.old.bus) node number }
+        ensures history { ForEachLiveHistory self.old (λ s. OnOk result (IsLiveHistory self.new (take_done s node))) }
+        ensures refused { OnErr result (self.new ≡ self.old) }
+    {
+        self.kept.take(node, number)
+    }
+
+    /// Returns what is heard on the channel of the last sealed window.
+    fn heard_on(&self, channel: Channel) -> &Heard
+        ensures { result.now ≡ heard_last self.now.bus.cluster.params self.now.last channel }
+    {
+        match channel {
+            Channel::A => &self.heard_a,
+            Channel::B => &self.heard_b,
+        }
+    }
+
+    /// Returns the node's observation on the channel of the last sealed window, or silence before the first one.
+    pub fn sight(&self, node: NodeId, channel: Channel) -> Sight<'_>
+        ensures { ForEachLiveHistory self.now (λ s. seen_in result ≡ seen_last s channel node) }
+    {
+        let heard = self.heard_on(channel);
+        match &self.last {
+            Some(sealed) => sealed.sight(self.kept.params(), channel, node, heard),
+            None => Sight::Heard(heard),
+        }
     }
 
     /// Opens the next window or ends the run, as `Bus::advance` does. Fails as that does.

@@ -13,11 +13,12 @@ ghost use Rattle.fr_slots.specs.declared.channel.Channel.TheVariants as Channel;
 ghost use Rattle.fr_guardian.specs.Guarding.{passes};
 ghost use Rattle.fr_slots.specs.Windows.{slot_of};
 ghost use Rattle.fr_status.specs.Forms.{whole_seen};
-ghost use Rattle.fr_status.specs.declared.seen.Seen.TheVariants as Sight;
+ghost use Rattle.fr_status.specs.declared.seen.Seen.TheVariants as Sees;
 
 use crate::station::{Side, Stations, write_over};
 use fr_frame::frame::{Bytes, duplicate_bytes};
 use fr_guardian::guardian::Guardian;
+use fr_interface::sight::{Heard, Sight};
 use fr_slots::channel::Channel;
 use fr_slots::numbers::NodeId;
 use fr_slots::params::Params;
@@ -328,7 +329,7 @@ fn write_turned(place: &mut Bytes, bytes: &Bytes, corrupt: Option<u16>)
 
 /// Writes silence, unless it is there already.
 fn see_silence(seen: &mut Seen)
-    ensures { seen.new ≡ Sight.Silence }
+    ensures { seen.new ≡ Sees.Silence }
 {
     match seen {
         Seen::Silence => {}
@@ -338,7 +339,7 @@ fn see_silence(seen: &mut Seen)
 
 /// Writes the bytes over the old observation, with the bit flipped if there is one to flip.
 fn see_bytes(bytes: &Bytes, corrupt: Option<u16>, seen: &mut Seen)
-    ensures { seen.new ≡ Sight.Bytes (corrupted bytes.now corrupt) }
+    ensures { seen.new ≡ Sees.Bytes (corrupted bytes.now corrupt) }
 {
     match seen {
         Seen::Bytes(place) => write_turned(place, bytes, corrupt),
@@ -359,7 +360,7 @@ fn see_alone(params: &Params, window: &Window, corrupt: Option<u16>, bytes: &Byt
 
 /// Returns a node's observation if several transmissions passed, its own among them or not.
 fn sight_of_several(any_own: bool) -> Seen
-    ensures { result ≡ (if any_own then Sight.Conflict else Sight.Noise) }
+    ensures { result ≡ (if any_own then Sees.Conflict else Sees.Noise) }
 {
     if any_own { Seen::Conflict } else { Seen::Noise }
 }
@@ -418,6 +419,7 @@ impl Sealed {
     ghost use Rattle.std.specs.Option.{option_copied};
     ghost use Rattle.fr_bus.specs.Record.{corrupt_on, heard, offer_in, seen_by};
     ghost use Rattle.fr_bus.specs.Outcome.{longest};
+    ghost use Rattle.fr_interface.specs.Sights.{seen_in};
     ghost use Rattle.fr_status.specs.Forms.{whole_seen};
 
     /// Returns the bit that a fault flips on the channel, if any (project-defined). It is counted from the most
@@ -475,6 +477,34 @@ impl Sealed {
             }
         }
         seen
+    }
+
+    /// Returns the node's observation on the channel, the result of `Sealed::seen`, given what is heard there.
+    pub(crate) fn sight<'a>(
+        &self,
+        params: &Params,
+        channel: Channel,
+        node: NodeId,
+        common: &'a Heard,
+    ) -> Sight<'a>
+        requires { common.now ≡ heard params.now self.now channel }
+        ensures { seen_in result ≡ seen_by params.now self.now channel node }
+    {
+        let sent = self.sent.as_slice();
+        let Some((only, rest)) = next_passed(channel, sent) else {
+            return Sight::Heard(common);
+        };
+        if next_passed(channel, rest).is_some() {
+            if any_own(channel, node, sent) {
+                Sight::Conflict
+            } else {
+                Sight::Heard(common)
+            }
+        } else if is_of(node, only) {
+            Sight::Own
+        } else {
+            Sight::Heard(common)
+        }
     }
 
     /// Returns whether the node observes this on the channel, as `Sealed::seen` defines it.

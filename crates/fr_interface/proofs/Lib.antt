@@ -14,3 +14,4 @@ pub mod StandingLemmas
 pub mod TestLemmas
 pub mod TransmitLemmas
 pub mod WaitingLemmas
+pub mod QuietLemmas

@@ -11,3 +11,5 @@ pub mod Sending
 pub mod Standing
 pub mod State
 pub mod StateFields
+pub mod HeardFields
+pub mod Sights

@@ -19,6 +19,7 @@
 //! - `Handing`: the bytes that a fetch handed to the bus, by its entry.
 //! - `ErrorNames`: the printed names of refusals.
 //! - `Standing`: the data that an interface keeps in place of the calls before.
+//! - `Sights`: a node's observation, with or without what follows from it.
 //!
 //! Modules that follow the steps of the code, for private functions, with the module that has the meaning:
 //!
@@ -36,7 +37,8 @@
 //! withdrawn commit isn't kept.
 //!
 //! - `sending` has the frames that leave transmit buffers, and `offers` encodes them.
-//! - `observed` has the effects of an observed window, each frame of which is decoded once.
+//! - `observed` has the effects of an observed window. `sight` has observations whose frame was decoded already, for
+//!   another node that heard the same.
 //! - `receiving` reads and pops.
 //! - `index` has for each slot of the plan the range of places of its lines.
 //!
@@ -54,5 +56,6 @@ mod offers;
 mod opening;
 mod receiving;
 mod sending;
+pub mod sight;
 pub mod source;
 pub mod state;

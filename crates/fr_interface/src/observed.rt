@@ -9,7 +9,11 @@ ghost use Rattle.fr_interface.specs.Ranges.{IsTakingRange};
 ghost use Rattle.fr_interface.specs.Seeing.{IsQuiet, status_seen};
 ghost use Rattle.fr_journal.specs.Arrivals.{takes_window, is_for_queue};
 ghost use Rattle.fr_journal.specs.Held.{arrival_of, data_frame_seen, with_data};
+ghost use Rattle.fr_slots.specs.Parameters.{Parameters};
+ghost use Rattle.fr_slots.specs.Windows.{slot_of};
 ghost use Rattle.fr_status.specs.Counting.{HasRoom};
+ghost use Rattle.fr_status.specs.Status.{no_bit};
+ghost use Rattle.fr_status.specs.declared.seen.Seen.TheVariants as Sees;
 
 use crate::index::{IndexedPlan, LineRange};
 use fr_buffers::queue::ReceiveQueue;
@@ -34,6 +38,12 @@ const NO_BIT: SlotStatus = SlotStatus {
     conflict: false,
 };
 
+/// The status of a slot in which the node's own transmission collided with another one.
+const TRANSMISSION_CONFLICT: SlotStatus = SlotStatus {
+    conflict: true,
+    ..NO_BIT
+};
+
 /// The status of the slot on a channel of a window, and the valid data frame in it. The payload of the frame stays
 /// among the observed bytes. A channel without a slot has neither.
 #[derive(Drop)]
@@ -44,7 +54,7 @@ pub(crate) struct Told<'a> {
 
 /// Returns whether no transmission of another node was observed.
 #[tactic(auto, unfolding(fr_status::specs::Status::status_in, fr_status::specs::Status::frame_in))]
-fn is_quiet(seen: &Seen) -> bool
+pub(crate) fn is_quiet(seen: &Seen) -> bool
     ensures { result ≡ true → IsQuiet seen.now }
 {
     match seen {
@@ -79,6 +89,38 @@ impl<'a> Told<'a> {
             frame: data_frame(frame),
         }
     }
+
+    /// Returns what follows if only the node's own transmission passed.
+    #[tactic(auto, unfolding(fr_status::specs::Status::status_in, fr_status::specs::Status::frame_in))]
+    pub(crate) fn of_own(window: &Window, channel: Channel) -> Told<'a>
+        ensures status { (p : Parameters) → result.status ≡ status_seen p window.now channel Sees.Own }
+        ensures frame { (p : Parameters) → result.frame ≡ data_frame_seen p window.now channel Sees.Own }
+    {
+        let status = match window.slot(channel) {
+            Some(_) => Some(NO_BIT),
+            None => None,
+        };
+        Told {
+            status,
+            frame: None,
+        }
+    }
+
+    /// Returns what follows if several transmissions passed, with the node's own among them.
+    #[tactic(auto, unfolding(fr_status::specs::Status::status_in, fr_status::specs::Status::frame_in))]
+    pub(crate) fn of_conflict(window: &Window, channel: Channel) -> Told<'a>
+        ensures status { (p : Parameters) → result.status ≡ status_seen p window.now channel Sees.Conflict }
+        ensures frame { (p : Parameters) → result.frame ≡ data_frame_seen p window.now channel Sees.Conflict }
+    {
+        let status = match window.slot(channel) {
+            Some(_) => Some(TRANSMISSION_CONFLICT),
+            None => None,
+        };
+        Told {
+            status,
+            frame: None,
+        }
+    }
 }
 
 /// Returns the frame, unless it is a null frame.
@@ -86,6 +128,16 @@ fn data_frame(frame: Option<LentFrame<'_>>) -> Option<LentFrame<'_>>
     ensures { result ≡ option_and_then with_data frame.entry }
 {
     frame.filter(|frame| frame.has_data)
+}
+
+/// Returns the status of a channel on which nothing was seen that sets a bit, if it has a slot.
+pub(crate) fn quiet_status(window: &Window, channel: Channel) -> Option<SlotStatus>
+    ensures { result ≡ option_map (λ slot. no_bit) (slot_of window.now channel) }
+{
+    match window.slot(channel) {
+        Some(_) => Some(NO_BIT),
+        None => None,
+    }
 }
 
 /// Counts the slot of this status on the channel, if the channel has one.

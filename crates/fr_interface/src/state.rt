@@ -8,9 +8,9 @@ use crate::call::{Answer, Call};
 use crate::errors::{HostError, InterfaceError, SlotError};
 use crate::index::IndexedPlan;
 use crate::interface::{
-    Offer, Receipt, has_words, is_not_above, kept_payload, kept_window, origin_in, seen_within,
+    Offer, Receipt, has_words, is_not_above, kept_payload, kept_window, origin_in,
 };
-use crate::observed::{Told, arrive_all, count_seen, store_all};
+use crate::observed::{arrive_all, count_seen, quiet_status, store_all};
 use crate::offers::{Outgoing, outgoing_on, spelled_by};
 use crate::opening::Opening;
 use crate::receiving::{
@@ -19,6 +19,7 @@ use crate::receiving::{
 use crate::sending::{
     commit_at, commit_to, pending_at, send_from, tally_at, transmit_buffers, withdraw_from,
 };
+use crate::sight::Sight;
 use crate::source::Source;
 use fr_buffers::queue::ReceiveQueue;
 use fr_buffers::receive::RxBuffer;
@@ -86,7 +87,7 @@ impl Model for InterfaceState {
 
 impl InterfaceState {
     ghost use Rattle.std.specs.Prelude.{◌≡◌, ◌+◌, ◌^◌, ◌≤◌, ◌<◌, [], None, length, count_by, IfOk, IfSome, OnOk};
-    ghost use Rattle.std.specs.Prelude.{IsSome, OnErr, option_map, slice_get};
+    ghost use Rattle.std.specs.Prelude.{IsSome, OnErr, Some, option_map, slice_get};
     ghost use Rattle.std.specs.Result.{result_err};
     ghost use Rattle.fr_journal.specs.declared.entry.Entry.TheVariants as entries;
     ghost use Rattle.fr_journal.specs.Entries.{is_host, is_slot, IsOffered};
@@ -99,6 +100,8 @@ impl InterfaceState {
     ghost use Rattle.fr_interface.specs.Standing.{received_at, KeepsTerms};
     ghost use Rattle.fr_slots.specs.Plans.{buffer_at, with_limits};
     ghost use Rattle.fr_interface.specs.Sending.{outgoing_on, pending_at, frame_by};
+    ghost use Rattle.fr_interface.specs.Seeing.{IsQuiet};
+    ghost use Rattle.fr_interface.specs.Sights.{seen_in};
     ghost use Rattle.fr_journal.specs.Fate.{pending_commit};
     ghost use Rattle.fr_journal.specs.Offers.{IsHandedOut, bytes_of, offered};
     ghost use Rattle.fr_interface.specs.Calls.{call_refusal, call_answer, call_entry};
@@ -452,28 +455,103 @@ impl InterfaceState {
         ensures refused { OnErr result (self.new ≡ self.old) }
         ensures terms { KeepsTerms self.old self.new }
     {
+        self.observe_sights(number, &Sight::Seen(a), &Sight::Seen(b))
+    }
+
+    /// Fails if `observe` refuses the window.
+    pub fn check_observe(&self, number: u32) -> Result<(), SlotError>
+        ensures { result_err result ≡ observe_refused self.now number }
+    {
+        match &self.opening.window {
+            None => Err(SlotError::NotFetched),
+            Some(window) if window.number != number => Err(SlotError::WrongWindow),
+            Some(_) => Ok(()),
+        }
+    }
+
+    /// Closes the window of this number as `observe` does. What was judged for this window isn't judged again.
+    pub fn observe_sights(
+        &mut self,
+        number: u32,
+        a: &Sight<'_>,
+        b: &Sight<'_>,
+    ) -> Result<(), SlotError>
+        ensures refusal { result_err result ≡ observe_refused self.old number }
+        ensures history { ForEachHistory self.old (λ s. OnOk result
+            (IsHistory self.new (with_entry s (entries.Observe number (seen_in a.now) (seen_in b.now))))) }
+        ensures refused { OnErr result (self.new ≡ self.old) }
+        ensures terms { KeepsTerms self.old self.new }
+    {
         let Some(window) = self.opening.window else {
             return Err(SlotError::NotFetched);
         };
         if window.number != number {
             return Err(SlotError::WrongWindow);
         }
-        let moment = self.moment();
-        let told_a = Told::of(&self.params, &window, Channel::A, a);
-        let told_b = Told::of(&self.params, &window, Channel::B, b);
-        count_seen(&mut self.counters, Channel::A, told_a.status);
-        count_seen(&mut self.counters, Channel::B, told_b.status);
-        let (frame_a, frame_b) = (&told_a.frame, &told_b.frame);
-        let plan = &self.plan;
-        store_all(&mut self.receive, plan, moment, &window, frame_a, frame_b);
-        arrive_all(&mut self.queue, plan, moment, &window, frame_a, frame_b);
+        // Most windows show nothing to most nodes.
+        if a.is_quiet() && b.is_quiet() {
+            self.close_quiet(&window, a, b);
+        } else {
+            self.close(&window, a, b);
+        }
+        Ok(())
+    }
+
+    /// Closes the open window, in which nothing was seen that sets a bit or has a frame.
+    fn close_quiet(&mut self, window: &Window, a: &Sight<'_>, b: &Sight<'_>)
+        requires opened { self.old.opening.window ≡ Some window.now }
+        requires quiet_a { IsQuiet (seen_in a.now) }
+        requires quiet_b { IsQuiet (seen_in b.now) }
+        ensures history { ForEachHistory self.old (λ s. IsHistory self.new
+            (with_entry s (entries.Observe window.now.number (seen_in a.now) (seen_in b.now)))) }
+        ensures terms { KeepsTerms self.old self.new }
+    {
+        count_seen(
+            &mut self.counters,
+            Channel::A,
+            quiet_status(window, Channel::A),
+        );
+        count_seen(
+            &mut self.counters,
+            Channel::B,
+            quiet_status(window, Channel::B),
+        );
         self.opening = Opening {
             window: None,
             last: self.opening.last,
         };
         self.slots += 1;
-        let (_a, _b) = (seen_within(a), seen_within(b));
-        Ok(())
+        // For the prover: the clauses of these calls.
+        let _window = kept_window(window);
+        a.known();
+        b.known();
+    }
+
+    /// Closes the open window with what was seen in it.
+    fn close(&mut self, window: &Window, a: &Sight<'_>, b: &Sight<'_>)
+        requires opened { self.old.opening.window ≡ Some window.now }
+        ensures history { ForEachHistory self.old (λ s. IsHistory self.new
+            (with_entry s (entries.Observe window.now.number (seen_in a.now) (seen_in b.now)))) }
+        ensures terms { KeepsTerms self.old self.new }
+    {
+        let moment = self.moment();
+        let told_a = a.told(&self.params, window, Channel::A);
+        let told_b = b.told(&self.params, window, Channel::B);
+        count_seen(&mut self.counters, Channel::A, told_a.status);
+        count_seen(&mut self.counters, Channel::B, told_b.status);
+        let (frame_a, frame_b) = (&told_a.frame, &told_b.frame);
+        let plan = &self.plan;
+        store_all(&mut self.receive, plan, moment, window, frame_a, frame_b);
+        arrive_all(&mut self.queue, plan, moment, window, frame_a, frame_b);
+        self.opening = Opening {
+            window: None,
+            last: self.opening.last,
+        };
+        self.slots += 1;
+        // For the prover: the clauses of these calls.
+        let _window = kept_window(window);
+        a.known();
+        b.known();
     }
 
     /// Returns the source of the buffer's content.

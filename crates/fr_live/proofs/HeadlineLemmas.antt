@@ -1,8 +1,8 @@
 -- The headline promise of each world that leads to some data.
-use Rattle.std.proofs.Common.{◌≡◌, ℕ, List, [], ◌∷◌, length, map, refl, sym, subst, ap, ◌∙◌}
+use Rattle.std.proofs.Common.{◌≡◌, List, [], ◌∷◌, map, sym, subst, ap, ◌∙◌}
 use Rattle.std.proofs.lemmas.List.Elements.{All-nil, All-cons}
 use Rattle.std.specs.List.{All}
-use Rattle.std.specs.Prelude.{slice_index_or, None}
+use Rattle.std.specs.Prelude.{slice_index_or}
 use Rattle.fr_bus.proofs.SenderLemmas.{one_sender}
 use Rattle.fr_core.proofs.HeadlineLemmas.{headline}
 use Rattle.fr_core.specs.Headline.{Headline}

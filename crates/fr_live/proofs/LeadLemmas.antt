@@ -1,7 +1,6 @@
 -- The kept data change as the world that leads to them does.
 use Rattle.std.proofs.Common.{◌≡◌, ℕ, zero, suc, ◌<◌, Bool, true, false, cond, List, [], ◌∷◌, length, refl, sym, ap}
-use Rattle.std.proofs.Common.{subst, ◌∙◌, arith}
-use Rattle.std.proofs.lemmas.Bool.{ltb-true}
+use Rattle.std.proofs.Common.{subst, arith}
 use Rattle.std.specs.Prelude.{nat_lt, slice_index_or, slice_set, Ok, Err}
 use Rattle.fr_bus.specs.Standing.{LiveStanding, IsLiveHistory}
 use Rattle.fr_bus.specs.States.{BusState}

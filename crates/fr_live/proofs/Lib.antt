@@ -4,3 +4,4 @@ pub mod StepLemmas
 pub mod RoomLemmas
 pub mod HeadlineLemmas
 pub mod CallLemmas
+pub mod SeeLemmas

@@ -1,8 +1,8 @@
 -- The kept data refuse what each world that leads to them refuses.
-use Rattle.std.proofs.Common.{◌≡◌, ℕ, ◌<◌, Bool, true, false, cond, List, length, Option, Some, None, refl, sym, ap}
+use Rattle.std.proofs.Common.{◌≡◌, ℕ, ◌<◌, Bool, true, false, cond, List, length, Option, Some, refl, sym, ap}
 use Rattle.std.proofs.Common.{◌∙◌}
 use Rattle.std.proofs.lemmas.Bool.{ltb-true}
-use Rattle.std.specs.Prelude.{nat_lt, option_map}
+use Rattle.std.specs.Prelude.{option_map}
 use Rattle.fr_bus.specs.declared.fault.Fault.{Fault}
 use Rattle.fr_bus.specs.declared.fault.Fault.TheVariants.{Babble, Mute, Corrupt}
 use Rattle.fr_bus.specs.Standing.{BusStanding, bare, IsBusHistory}
@@ -10,14 +10,13 @@ use Rattle.fr_bus.specs.States.{BusState, collecting_of, put_refusal, take_refus
 use Rattle.fr_bus.specs.States.{advance_refusal}
 use Rattle.fr_core.specs.Carried.{Carried, Idle, Knows, Offers, Waits, Took}
 use Rattle.fr_core.specs.declared.error.StepError.{StepError}
-use Rattle.fr_core.specs.declared.error.StepError.TheVariants.{UnknownNode, WrongTurn, Host, Slot, Bus}
+use Rattle.fr_core.specs.declared.error.StepError.TheVariants.{UnknownNode, Host, Slot, Bus}
 use Rattle.fr_core.specs.declared.event.Event.TheVariants.{Commit, Look, Fetch, Put, Take, Observe, Inject, Seal}
 use Rattle.fr_core.specs.declared.event.Event.TheVariants.{Advance}
 use Rattle.fr_core.specs.Steps as steps
 use Rattle.fr_core.specs.Steps.{step_refusal, unless_collecting}
 use Rattle.fr_core.specs.Worlds.{WorldState, interface_at}
-use Rattle.fr_core.specs.Worlds as worlds
-use Rattle.fr_interface.specs.Standing.{Standing, commit_refused}
+use Rattle.fr_interface.specs.Standing.{commit_refused}
 use Rattle.fr_interface.proofs.StandingLemmas.{refusal-commit, refusal-fetch, refusal-observe}
 use Rattle.fr_live.proofs.LeadLemmas.{nodes_same, carried_same, history_at}
 use Rattle.fr_live.specs.LiveSteps.{if_node, look_in_turn, fetch_in_turn, put_in_turn, take_in_turn, observe_in_turn}

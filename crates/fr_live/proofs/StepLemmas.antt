@@ -1,10 +1,8 @@
 -- A step of the kept data is a step of each world that leads to them.
-use Rattle.std.proofs.Common.{◌≡◌, ℕ, true, false, List, [], ◌∷◌, ◌++◌, Option, Some, None, refl, sym, subst, ap, ◌∙◌}
+use Rattle.std.proofs.Common.{◌≡◌, ℕ, true, false, List, [], ◌∷◌, ◌++◌, Option, Some, refl, sym, subst, ap, ◌∙◌}
 use Rattle.std.specs.Prelude.{option_map, Result, Ok, Err, IfOk, OnOk, OnErr, is_err}
 use Rattle.std.specs.Result.{result_err}
 use Rattle.fr_bus.specs.declared.error.BusError.TheVariants as bus
-use Rattle.fr_bus.specs.Standing.{bare}
-use Rattle.fr_bus.specs.States.{seal_refusal}
 use Rattle.fr_core.proofs.WorldLemmas.{kept_step}
 use Rattle.fr_core.specs.declared.error.StepError.{StepError}
 use Rattle.fr_core.specs.declared.error.StepError.TheVariants.{UnknownNode, WrongTurn, Host, Slot, Bus}
@@ -18,7 +16,7 @@ use Rattle.fr_interface.specs.declared.call.Call.{Call}
 use Rattle.fr_interface.specs.declared.call.Call.TheVariants as host_call
 use Rattle.fr_interface.specs.declared.interface.Receipt.{Receipt}
 use Rattle.fr_slots.specs.Windows.{Opportunity}
-use Rattle.fr_core.specs.Steps.{Steps, Refuses, step_refusal, step_reply, step_done, answered, with_window}
+use Rattle.fr_core.specs.Steps.{Refuses, step_refusal, step_reply, step_done, answered, with_window}
 use Rattle.fr_core.specs.Steps.{event_of, reply_of}
 use Rattle.fr_core.specs.Worlds.{WorldState, interface_at}
 use Rattle.fr_live.proofs.CallLemmas.{reply_call}
@@ -27,7 +25,7 @@ use Rattle.fr_core.specs.Agreement.{IsWorld}
 use Rattle.fr_live.specs.LiveSteps.{Accepts, AcceptsAlike, LiveAccepts}
 use Rattle.fr_live.specs.LiveSteps.{LiveApplies, LiveSteps, AppliesAlike, StepsAlike, SealsMachine, with_answer}
 use Rattle.fr_live.specs.LiveSteps.{with_receipt, without_value}
-use Rattle.fr_live.specs.LiveWorlds.{LiveState, Leads, IsWorldHistory}
+use Rattle.fr_live.specs.LiveWorlds.{LiveState, Leads}
 
 -- the answer with this reply in place of the value
 abbrev pub replied : {X : Type 0} → (X → Reply) → Result X StepError → Result Reply StepError

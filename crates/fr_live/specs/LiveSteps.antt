@@ -1,12 +1,12 @@
 -- One step of a world that keeps no history (project-defined): when it is refused, by the kept data, and the world with
 -- its history after it.
 use Rattle.std.specs.Prelude.{◌≡◌, ℕ, List, [], ◌∷◌, Option, Some, None, option_map, Result, Ok, Err, if◌then◌else◌}
-use Rattle.fr_bus.specs.declared.error.BusError.TheVariants.{NotCollecting, Memory}
+use Rattle.fr_bus.specs.declared.error.BusError.TheVariants.{Memory}
 use Rattle.fr_bus.specs.Standing.{bare}
-use Rattle.fr_bus.specs.States.{collecting_of, put_refusal, take_refusal, inject_refusal, seal_refusal, advance_refusal}
+use Rattle.fr_bus.specs.States.{collecting_of, put_refusal, take_refusal, seal_refusal}
 use Rattle.fr_core.specs.Carried.{Carried, Idle, Knows, Offers, Waits, Took}
 use Rattle.fr_core.specs.declared.error.StepError.{StepError}
-use Rattle.fr_core.specs.declared.error.StepError.TheVariants.{UnknownNode, WrongTurn, Host, Slot, Bus}
+use Rattle.fr_core.specs.declared.error.StepError.TheVariants.{UnknownNode, WrongTurn, Slot, Bus}
 use Rattle.fr_core.specs.declared.event.Event.{Event}
 use Rattle.fr_core.specs.declared.event.Reply.{Reply}
 use Rattle.fr_core.specs.declared.event.Reply.TheVariants.{Committed}
@@ -15,8 +15,8 @@ use Rattle.fr_interface.specs.declared.interface.Receipt.{Receipt}
 use Rattle.fr_core.specs.declared.event.Event.TheVariants.{Look, Fetch, Put, Take, Observe, Seal}
 use Rattle.fr_core.specs.Steps.{Steps, Applies, reply_of, step_done, step_refusal, unless_collecting}
 use Rattle.fr_core.specs.Worlds.{WorldState}
-use Rattle.fr_interface.specs.Standing.{commit_refused, fetch_refused, observe_refused}
-use Rattle.fr_live.specs.LiveWorlds.{LiveState, Leads, IsWorldHistory, has_node, standing_at, carried_at}
+use Rattle.fr_interface.specs.Standing.{fetch_refused, observe_refused}
+use Rattle.fr_live.specs.LiveWorlds.{LiveState, Leads, IsWorldHistory, has_node, standing_at}
 
 -- ---- the refusals by the kept data
 

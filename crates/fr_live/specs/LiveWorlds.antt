@@ -1,5 +1,5 @@
 -- The data that a world keeps for its calls, in place of journals and record (project-defined).
-use Rattle.std.specs.Prelude.{◌≡◌, ℕ, ◌≤◌, nat_lt, Bool, true, false, List, [], ◌∷◌, length, map, replicate, Result, Ok}
+use Rattle.std.specs.Prelude.{◌≡◌, ℕ, nat_lt, Bool, true, false, List, [], ◌∷◌, length, map, Result, Ok}
 use Rattle.std.specs.Prelude.{Err, slice_index_or}
 use Rattle.fr_bus.specs.declared.error.BusError.{BusError}
 use Rattle.fr_bus.specs.declared.error.BusError.TheVariants.{BadCycles, Memory}

@@ -1,5 +1,5 @@
 -- The fields of `Room` as numbers of entries.
-use Rattle.std.specs.Prelude.{ℕ, ◌≤◌}
+use Rattle.std.specs.Prelude.{◌≤◌}
 use Rattle.fr_live.specs.declared.room.Room.TheInside.{Inside}
 use Rattle.fr_live.specs.LiveWorlds.{Entries}
 use Rattle.fr_slots.specs.Numbers.{last_host_limit, last_slot_limit}

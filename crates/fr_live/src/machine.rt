@@ -20,6 +20,7 @@ use fr_interface::errors::InterfaceError;
 use fr_interface::interface::Receipt;
 use fr_interface::state::InterfaceState;
 use fr_schedule::cluster::Cluster;
+use fr_slots::channel::Channel;
 use fr_slots::numbers::{NodeId, TaskId};
 use fr_slots::params::Params;
 use fr_slots::plan::NodePlan;
@@ -452,7 +453,35 @@ impl LiveMachine {
 
     /// Executes the take and the observe of the node, up to the first one that is refused. Returns how many were
     /// accepted.
+    ///
+    /// The observation is lent by the bus, so nothing is copied, and no frame is decoded again.
     pub(crate) fn see(&mut self, node: NodeId) -> usize
+        ensures few { result ≤ 2 }
+        ensures accepts { LiveAccepts self.old (take result (see_events node)) self.new }
+    {
+        let Ok(place) = self.place(node) else {
+            return 0;
+        };
+        let Due::Take(window) = self.controllers[place].due else {
+            return 0;
+        };
+        if self.interfaces[place].check_observe(window.number).is_err() {
+            return self.see_in_turn(node);
+        }
+        if self.bus.take(node, window.number).is_err() {
+            return 0;
+        }
+        let a = self.bus.sight(node, Channel::A);
+        let b = self.bus.sight(node, Channel::B);
+        let outcome = self.interfaces[place].observe_sights(window.number, &a, &b);
+        let accepted = outcome.is_ok();
+        prove!(accepted);
+        self.controllers[place].due = Due::Look;
+        2
+    }
+
+    /// Does the same as `see`, one event after the other.
+    fn see_in_turn(&mut self, node: NodeId) -> usize
         ensures few { result ≤ 2 }
         ensures accepts { LiveAccepts self.old (take result (see_events node)) self.new }
     {

@@ -1,4 +1,4 @@
-use Rattle.std.proofs.Common.{◌≡◌, ◌<◌, ◌+◌, ◌++◌, List, drop, length, sym, ap, append_assoc, ◌∙◌, arith}
+use Rattle.std.proofs.Common.{◌<◌, ◌+◌, ◌++◌, List, drop, length, sym, ap, append_assoc, ◌∙◌, arith}
 use Rattle.fr_bus.proofs.StationLemmas.{sent_more}
 use Rattle.fr_bus.specs.declared.outcome.Sent.{Sent}
 use Rattle.fr_bus.specs.Outcome.{sent_from, sent_of}

@@ -1,4 +1,4 @@
-use Rattle.std.proofs.Common.{◌≡◌, refl, subst}
+use Rattle.std.proofs.Common.{◌≡◌, subst}
 use Rattle.std.specs.Prelude.{OnOk}
 use Rattle.fr_bus.proofs.StandingLemmas.{lawful_either, accepted_either, KeepsRecord, inject_keeps}
 use Rattle.fr_bus.specs.BusFields.{state_in}

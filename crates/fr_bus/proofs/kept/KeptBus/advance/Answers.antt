@@ -1,4 +1,4 @@
-use Rattle.std.proofs.Common.{None, length, refl, sym, subst, ap, ◌∙◌}
+use Rattle.std.proofs.Common.{length, refl, sym, subst, ap, ◌∙◌}
 use Rattle.std.specs.List.{count_by}
 use Rattle.fr_bus.proofs.CountLemmas.{count_none}
 use Rattle.fr_bus.proofs.StandingLemmas.{history_advance}

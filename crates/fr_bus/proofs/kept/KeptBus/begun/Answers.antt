@@ -1,4 +1,4 @@
-use Rattle.std.proofs.Common.{◌≡◌, ◌≤◌, arith, ap, sym, subst, ◌∙◌}
+use Rattle.std.proofs.Common.{◌≡◌, ◌≤◌, arith, sym, subst}
 use Rattle.fr_bus.proofs.StandingLemmas.{course_cycles}
 use Rattle.fr_bus.specs.KeptFields.{standing_in}
 use Rattle.fr_bus.specs.Standing.{BusStanding}

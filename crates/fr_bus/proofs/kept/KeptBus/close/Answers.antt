@@ -2,7 +2,7 @@ use Rattle.std.proofs.Common.{sym, subst}
 use Rattle.fr_bus.proofs.StandingLemmas.{next_window, history_seal}
 use Rattle.fr_bus.specs.KeptFields.{standing_in}
 use Rattle.fr_bus.specs.Standing.{BusStanding, IsDecided, IsBusHistory}
-use Rattle.fr_bus.specs.States.{BusState, sealed_now}
+use Rattle.fr_bus.specs.States.{sealed_now}
 use Rattle.fr_bus.proofs.kept.KeptBus.close.Goals as goal
 
 pub pass-requires-clause-next : goal.pass-requires-clause-next

@@ -1,5 +1,4 @@
-use Rattle.std.proofs.Common.{rules, Some, None}
-use Rattle.std.specs.Prelude.{slice_index_or}
+use Rattle.std.proofs.Common.{Some}
 use Rattle.fr_bus.proofs.StandingLemmas.{history_corrupt_a, history_corrupt_b}
 use Rattle.fr_bus.specs.declared.fault.Fault.TheVariants.{Corrupt}
 use Rattle.fr_bus.specs.KeptFields.{standing_in}

@@ -1,10 +1,9 @@
-use Rattle.std.proofs.Common.{◌≡◌, ◌<◌, rules, List, length, length-set, refl, sym, ◌∙◌}
+use Rattle.std.proofs.Common.{◌<◌, rules, length, length-set}
 use Rattle.std.specs.Prelude.{slice_set, slice_index_or}
 use Rattle.fr_bus.proofs.CountLemmas.{counted_same}
 use Rattle.fr_bus.proofs.StandingLemmas.{history_change, side_put, side_taken}
 use Rattle.fr_bus.specs.KeptFields.{standing_in}
 use Rattle.fr_bus.specs.States.{inject_done, muting, idle_station, is_put, is_taken}
-use Rattle.fr_bus.specs.Stations.{Station}
 use Rattle.fr_bus.specs.declared.fault.Fault.TheVariants.{Mute}
 use Rattle.fr_bus.proofs.kept.KeptBus.mute.Goals as goal
 

@@ -1,15 +1,13 @@
-use Rattle.std.proofs.Common.{◌≡◌, [], None, length, replicate, refl, subst, sym, ap, ◌∙◌}
+use Rattle.std.proofs.Common.{◌≡◌, [], None, replicate, refl, subst, sym, ap, ◌∙◌}
 use Rattle.std.specs.List.{count_by}
 use Rattle.fr_bus.proofs.CountLemmas.{count_none}
 use Rattle.fr_bus.proofs.NextLemmas.{next_is}
 use Rattle.fr_bus.proofs.RunLemmas.{run_new}
 use Rattle.fr_bus.proofs.StandingLemmas.{own_history}
-use Rattle.fr_bus.specs.Courses.{Standpoint, course_of, next_of}
+use Rattle.fr_bus.specs.Courses.{course_of, next_of}
 use Rattle.fr_bus.specs.declared.error.Phase.TheVariants.{Collect}
 use Rattle.fr_bus.specs.Standing.{BusStanding, IsBusHistory, standing_of}
 use Rattle.fr_bus.specs.States.{new_bus, idle_station, is_put, is_taken}
-use Rattle.fr_bus.specs.Windows.{following}
-use Rattle.fr_schedule.specs.Descriptions.{Description}
 use Rattle.fr_slots.specs.Parameters.{Parameters}
 use Rattle.fr_bus.proofs.kept.KeptBus.new.Goals as goal
 

@@ -1,10 +1,9 @@
-use Rattle.std.proofs.Common.{◌≡◌, ◌<◌, rules, false, List, length, length-set, refl, sym, ◌∙◌}
+use Rattle.std.proofs.Common.{◌≡◌, ◌<◌, rules, false, length, length-set, refl, sym, ◌∙◌}
 use Rattle.std.specs.Prelude.{slice_set, slice_index_or}
 use Rattle.fr_bus.proofs.CountLemmas.{counted_more, counted_same}
 use Rattle.fr_bus.proofs.StandingLemmas.{history_change}
 use Rattle.fr_bus.specs.KeptFields.{standing_in}
 use Rattle.fr_bus.specs.States.{put_done, offering, idle_station, is_put, is_taken}
-use Rattle.fr_bus.specs.Stations.{Station}
 use Rattle.fr_bus.proofs.kept.KeptBus.put.Goals as goal
 
 pub invariant_of-self : goal.invariant_of-self

@@ -1,18 +1,26 @@
 use Rattle.std.proofs.Common.{refl, sym, subst}
 use Rattle.fr_bus.proofs.StandingLemmas.{has_either, live_either, kept_record}
+use Rattle.fr_bus.proofs.LiveLemmas.{heard_stays}
 use Rattle.fr_bus.specs.LiveFields.{standing_in}
 use Rattle.fr_bus.specs.Standing.{LiveStanding, IsLiveHistory}
-use Rattle.fr_bus.specs.States.{BusState, put_done}
+use Rattle.fr_bus.specs.States.{put_done}
+use Rattle.fr_slots.specs.declared.channel.Channel.TheVariants.{A, B}
 use Rattle.fr_bus.proofs.live.LiveBus.put.Goals as goal
 
 pub invariant_of-self : goal.invariant_of-self
 invariant_of-self c =
     let old = standing_in c.self.inside in
     let new : LiveStanding = record { bus = c.put.new.self; last = c.self.inside.last } in
-    has_either old new c.self.invariant (λ b. put_done b c.args.node c.args.offer.now) c.put.result
-    (λ b is. live_either old new b (put_done b c.args.node c.args.offer.now) is (kept_record b _ refl refl refl) refl
-    c.put.result
-    (c.put.ensures.history b is.of_bus)) refl c.put.ensures.refused
+    record {
+      had = has_either old new c.self.invariant.had (λ b. put_done b c.args.node c.args.offer.now) c.put.result
+          (λ b is. live_either old new b (put_done b c.args.node c.args.offer.now) is (kept_record b _ refl refl refl)
+          refl c.put.result
+          (c.put.ensures.history b is.of_bus)) refl c.put.ensures.refused;
+      on_a = heard_stays c.put.new.self old.bus old.last A c.self.inside.heard_a c.put.ensures.cluster
+          c.self.invariant.on_a;
+      on_b = heard_stays c.put.new.self old.bus old.last B c.self.inside.heard_b c.put.ensures.cluster
+          c.self.invariant.on_b;
+    }
 
 pub returns-clause-history : goal.returns-clause-history
 returns-clause-history c b is =

@@ -1,4 +1,4 @@
-use Rattle.std.proofs.Common.{◌≡◌, refl, sym, subst, ◌∙◌}
+use Rattle.std.proofs.Common.{refl, sym, subst, ◌∙◌}
 use Rattle.fr_core.specs.declared.event.Event.{Event}
 use Rattle.fr_core.specs.declared.event.Event.TheVariants.{Look, Fetch, Put, Take, Observe, Inject}
 use Rattle.fr_live.proofs.RefusalLemmas.{look_refuses, fetch_refuses, put_refuses, take_refuses, observe_refuses}

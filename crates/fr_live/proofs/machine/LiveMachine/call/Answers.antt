@@ -1,8 +1,8 @@
-use Rattle.std.proofs.Common.{◌≡◌, rules, ℕ, ◌<◌, true, Some, None, length, sym, ap, subst, ◌∙◌}
+use Rattle.std.proofs.Common.{◌≡◌, rules, ◌<◌, true, Some, length, sym, ap, subst, ◌∙◌}
 use Rattle.std.proofs.lemmas.Bool.{ltb-true}
 use Rattle.std.specs.Prelude.{option_map, slice_set}
 use Rattle.std.specs.Result.{result_err}
-use Rattle.fr_core.specs.declared.error.StepError.TheVariants.{UnknownNode, Host}
+use Rattle.fr_core.specs.declared.error.StepError.TheVariants.{Host}
 use Rattle.fr_core.specs.Steps.{with_interface}
 use Rattle.fr_core.specs.Worlds.{WorldState, interface_at}
 use Rattle.fr_core.specs.Worlds as worlds

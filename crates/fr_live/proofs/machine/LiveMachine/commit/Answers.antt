@@ -1,10 +1,10 @@
-use Rattle.std.proofs.Common.{◌≡◌, ℕ, ◌<◌, true, List, length, sym, ap, subst, ◌∙◌}
+use Rattle.std.proofs.Common.{◌≡◌, ◌<◌, length, sym, ap, subst, ◌∙◌}
 use Rattle.std.proofs.lemmas.Bool.{ltb-true}
 use Rattle.std.specs.Prelude.{slice_set}
 use Rattle.fr_core.specs.Steps.{with_interface}
-use Rattle.fr_core.specs.Worlds.{WorldState, interface_at}
-use Rattle.fr_interface.specs.Standing.{Standing, IsHistory}
-use Rattle.fr_interface.specs.State.{State, with_entry}
+use Rattle.fr_core.specs.Worlds.{interface_at}
+use Rattle.fr_interface.specs.Standing.{IsHistory}
+use Rattle.fr_interface.specs.State.{with_entry}
 use Rattle.fr_journal.specs.declared.entry.Entry.TheVariants as entries
 use Rattle.fr_live.proofs.LeadLemmas.{place_ok, history_lent, with_history}
 use Rattle.fr_live.specs.LiveWorlds.{LiveState, Leads, has_node}

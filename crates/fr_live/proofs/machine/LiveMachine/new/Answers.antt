@@ -1,4 +1,4 @@
-use Rattle.std.proofs.Common.{◌≡◌, ◌≤◌, rules, List, length, map, replicate, sym, ap, subst, ◌∙◌}
+use Rattle.std.proofs.Common.{◌≡◌, ◌≤◌, rules, length, map, replicate, sym, ap, subst, ◌∙◌}
 use Rattle.std.proofs.lemmas.List.{length-map}
 use Rattle.fr_core.specs.Carried.{Idle}
 use Rattle.fr_core.specs.Worlds.{new_interface}

@@ -1,11 +1,11 @@
-use Rattle.std.proofs.Common.{◌≡◌, ℕ, ◌<◌, true, List, length, sym, ap, subst, ◌∙◌}
+use Rattle.std.proofs.Common.{◌≡◌, ◌<◌, List, length, sym, ap, subst, ◌∙◌}
 use Rattle.std.proofs.lemmas.Bool.{ltb-true}
 use Rattle.std.specs.Prelude.{slice_set, slice_index_or}
 use Rattle.fr_core.specs.Carried.{Carried, Idle, Took, carried_of}
-use Rattle.fr_core.specs.Steps.{with_interface, with_carried, observed}
-use Rattle.fr_core.specs.Worlds.{WorldState, interface_at}
-use Rattle.fr_interface.specs.Standing.{Standing, IsHistory}
-use Rattle.fr_interface.specs.State.{State, with_entry}
+use Rattle.fr_core.specs.Steps.{with_interface, observed}
+use Rattle.fr_core.specs.Worlds.{interface_at}
+use Rattle.fr_interface.specs.Standing.{IsHistory}
+use Rattle.fr_interface.specs.State.{with_entry}
 use Rattle.fr_journal.specs.declared.entry.Entry.TheVariants as entries
 use Rattle.fr_live.proofs.LeadLemmas.{place_ok, history_lent, with_history, with_place, index_any}
 use Rattle.fr_live.specs.LiveWorlds.{LiveState, Leads, has_node}

@@ -1,5 +1,4 @@
-use Rattle.std.proofs.Common.{◌≡◌, [], ◌∷◌, ◌∙◌, sym, false}
-use Rattle.std.specs.Prelude.{is_err}
+use Rattle.std.proofs.Common.{[], ◌∷◌, ◌∙◌, sym}
 use Rattle.fr_core.specs.declared.event.Event.TheVariants.{Look, Fetch, Put}
 use Rattle.fr_live.proofs.RefusalLemmas.{look_refuses, fetch_refuses, put_refuses}
 use Rattle.fr_live.proofs.StepLemmas.{accepted_one, accepted_then, refused_none}

@@ -1,36 +1,104 @@
-use Rattle.std.proofs.Common.{[], ◌∷◌, ◌∙◌, sym}
+use Rattle.std.proofs.Common.{◌≡◌, ◌<◌, None, true, [], ◌∷◌, length, sym, ap, subst, ◌∙◌, rules}
+use Rattle.std.proofs.lemmas.Bool.{ltb-true}
+use Rattle.std.specs.Prelude.{slice_set}
+use Rattle.fr_bus.specs.Standing.{ForEachLiveHistory, IsLiveHistory, bare}
+use Rattle.fr_bus.specs.States.{take_done, take_refusal}
+use Rattle.fr_core.specs.Carried.{Idle, Waits, carried_of}
 use Rattle.fr_core.specs.declared.event.Event.TheVariants.{Take, Observe}
-use Rattle.fr_live.proofs.RefusalLemmas.{take_refuses, observe_refuses}
-use Rattle.fr_live.proofs.StepLemmas.{accepted_one, accepted_then, refused_none}
+use Rattle.fr_interface.specs.Sights.{seen_in}
+use Rattle.fr_interface.specs.Standing.{ForEachHistory, IsHistory, Standing, observe_refused}
+use Rattle.fr_interface.specs.State.{with_entry}
+use Rattle.fr_journal.specs.declared.entry.Entry.TheVariants as entries
+use Rattle.fr_live.proofs.LeadLemmas.{index_any, place_ok}
+use Rattle.fr_live.proofs.SeeLemmas.{Sees, accepted_holds, accepted_none, bus_refused, none_accepted, ok_holds}
+use Rattle.fr_live.proofs.SeeLemmas.{sees_both}
 use Rattle.fr_live.specs.LiveSteps.{LiveAccepts}
+use Rattle.fr_live.specs.LiveWorlds.{LiveState, carried_at, has_node, no_standing, standing_at}
+use Rattle.fr_slots.specs.Windows.{Opportunity}
 use Rattle.fr_live.proofs.machine.LiveMachine.see.Goals as goal
 
-pub returns-then-is_err-clause-accepts : goal.returns-then-is_err-clause-accepts
-returns-then-is_err-clause-accepts c =
-    refused_none c.args.self.now c.take.new.self (Take c.args.node) c.take.result
-    (sym c.is_err.ensures.value ∙ c.if-is_err.true) c.take.ensures.refused
+pub returns-in_default-clause-accepts : goal.returns-in_default-clause-accepts
+returns-in_default-clause-accepts c = none_accepted c.args.self.now
+
+pub returns-in_default-due : goal.returns-in_default-due
+returns-in_default-due c = record { few = search rules; accepts = none_accepted c.args.self.now }
 
 pub returns-then-is_err-2-clause-accepts : goal.returns-then-is_err-2-clause-accepts
 returns-then-is_err-2-clause-accepts c =
-    let old = c.args.self.now in
-    let took : LiveAccepts old (Take c.args.node ∷ []) c.take.new.self =
-    accepted_one old c.take.new.self (Take c.args.node) c.take.result
-    (sym c.is_err.ensures.value ∙ c.if-is_err.false)
-    (λ w is. c.take.ensures.refusal ∙ take_refuses w old is c.args.node) c.take.ensures.leads in
-    accepted_then old c.take.new.self c.observe.new.self (Take c.args.node ∷ []) [] took
-    (refused_none c.take.new.self c.observe.new.self (Observe c.args.node) c.observe.result
-    (sym c.is_err-2.ensures.value ∙ c.if-is_err-2.true) c.observe.ensures.refused)
+    let l : LiveState = record {
+      interfaces = c.self.inside.interfaces.items;
+      bus = c.self.inside.bus;
+      carried = c.self.inside.controllers.items;
+    } in
+    subst (λ (x : LiveState). LiveAccepts x [] (record l { bus = c.take.new.self })) c.self.view_is
+    (bus_refused l c.take.new.self c.take.result (sym c.is_err-2.ensures.value ∙ c.if-is_err-2.true)
+    c.take.ensures.refused)
 
 pub returns-clause-accepts : goal.returns-clause-accepts
 returns-clause-accepts c =
-    let old = c.args.self.now in
-    let took : LiveAccepts old (Take c.args.node ∷ []) c.take.new.self =
-    accepted_one old c.take.new.self (Take c.args.node) c.take.result
+    let l : LiveState = record {
+      interfaces = c.self.inside.interfaces.items;
+      bus = c.self.inside.bus;
+      carried = c.self.inside.controllers.items;
+    } in
+    let n = c.args.node in
+    let place = c.in-Ok.place in
+    let at = place_ok (has_node c.args.self.now n) n place c.in-Ok.ensures in
+    let window = c.in-Take.window in
+    let bus = c.take.new.self in
+    let h = c.observe_sights-outcome.new.self in
+    let a = seen_in c.sight-a.result in
+    let b = seen_in c.sight-b.result in
+    let number : c.window.inside.number ≡ window.number = ap (λ (x : Opportunity). x.number) c.window.view_is in
+    let there : has_node l n ≡ true = ap (λ (x : LiveState). has_node x n) c.self.view_is ∙ at.0 in
+    let within : n < length l.interfaces = ltb-true n (length l.interfaces) there in
+    let in_place : place < length l.interfaces = subst (λ m. m < length l.interfaces) (sym at.1) within in
+    let carried_place : place < length l.carried = subst (λ m. place < m) c.self.invariant in_place in
+    let waits : carried_at l place ≡ Waits window =
+    index_any l.carried place Idle c.index.result.now carried_place ∙ sym c.index.ensures ∙ sym c.behind-self.view_is
+    ∙ ap (λ d. carried_of d c.behind-self.inside.offer c.behind-self.inside.a c.behind-self.inside.b) c.in-Take.is in
+    let shared : c.index-2.result.now ≡ standing_at l place =
+    c.index-2.ensures ∙ index_any l.interfaces place c.index-2.result.now no_standing in_place in
+    let lent : c.index_mut.result.now ≡ standing_at l place =
+    c.index_mut.ensures.value ∙ index_any l.interfaces place c.index_mut.result.now no_standing in_place in
+    let unobserved : observe_refused (standing_at l place) window.number ≡ None =
+    accepted_none c.check_observe.result (observe_refused (standing_at l place) window.number)
     (sym c.is_err.ensures.value ∙ c.if-is_err.false)
-    (λ w is. c.take.ensures.refusal ∙ take_refuses w old is c.args.node) c.take.ensures.leads in
-    let observed : LiveAccepts c.take.new.self (Observe c.args.node ∷ []) c.observe.new.self =
-    accepted_one c.take.new.self c.observe.new.self (Observe c.args.node) c.observe.result
+    (c.check_observe.ensures ∙ (λ i. observe_refused (shared i) (number i))) in
+    let untaken : take_refusal (bare l.bus.bus) n window.number ≡ None =
+    accepted_none c.take.result (take_refusal (bare l.bus.bus) n window.number)
     (sym c.is_err-2.ensures.value ∙ c.if-is_err-2.false)
-    (λ w is. c.observe.ensures.refusal ∙ observe_refuses w c.take.new.self is c.args.node) c.observe.ensures.leads in
-    accepted_then old c.take.new.self c.observe.new.self (Take c.args.node ∷ []) (Observe c.args.node ∷ []) took
-    observed
+    (c.take.ensures.refusal ∙ ap (take_refusal (bare l.bus.bus) n) number) in
+    let closes : ForEachHistory (standing_at l place)
+    (λ s. IsHistory h (with_entry s (entries.Observe window.number a b))) =
+    subst (λ m. ForEachHistory (standing_at l place) (λ s. IsHistory h (with_entry s (entries.Observe m a b)))) number
+    (subst (λ (x : Standing). ForEachHistory x
+    (λ s. IsHistory h (with_entry s (entries.Observe c.window.inside.number a b)))) lent
+    (λ s is. ok_holds (IsHistory h (with_entry s (entries.Observe c.window.inside.number a b)))
+    c.observe_sights-outcome.result (sym c.is_ok-accepted.ensures.value ∙ c.if-prove.false)
+    (c.observe_sights-outcome.ensures.history s is))) in
+    let took : ForEachLiveHistory l.bus (λ s. IsLiveHistory bus (take_done s n)) =
+    λ s is. accepted_holds (IsLiveHistory bus (take_done s n)) c.take.result
+    (sym c.is_err-2.ensures.value ∙ c.if-is_err-2.false) (c.take.ensures.history s is) in
+    let sees : Sees l n window bus h a b = record {
+      there = there;
+      carries = subst (λ m. m < length l.carried) at.1 carried_place;
+      waits = ap (carried_at l) (sym at.1) ∙ waits;
+      taking = untaken;
+      observing = subst (λ m. observe_refused (standing_at l m) window.number ≡ None) at.1 unobserved;
+      took = took;
+      on_a = c.sight-a.ensures;
+      on_b = c.sight-b.ensures;
+      closes = subst (λ m. ForEachHistory (standing_at l m)
+          (λ s. IsHistory h (with_entry s (entries.Observe window.number a b)))) at.1 closes;
+    } in
+    subst (λ (x : LiveState). LiveAccepts x (Take n ∷ Observe n ∷ []) (record {
+      interfaces = slice_set l.interfaces place h;
+      bus = bus;
+      carried = slice_set l.carried place Idle;
+    })) c.self.view_is
+    (subst (λ m. LiveAccepts l (Take n ∷ Observe n ∷ []) (record {
+      interfaces = slice_set l.interfaces m h;
+      bus = bus;
+      carried = slice_set l.carried m Idle;
+    })) (sym at.1) (sees_both l n window bus h a b sees))

@@ -1,4 +1,3 @@
-use Rattle.std.proofs.Common.{subst}
 use Rattle.fr_live.proofs.HeadlineLemmas.{each_world}
 use Rattle.fr_live.proofs.world.LiveWorld.known.Goals as goal
 

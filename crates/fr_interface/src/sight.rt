@@ -1,0 +1,215 @@
+//! Observations that are judged once, for all nodes that make them.
+
+ghost use Rattle.std.specs.Prelude.{◌≡◌};
+
+use crate::interface::seen_within;
+use crate::observed::{Told, is_quiet};
+use fr_frame::frame::Frame;
+use fr_frame::lent::LentFrame;
+use fr_slots::channel::Channel;
+use fr_slots::params::Params;
+use fr_slots::window::Window;
+use fr_status::seen::Seen;
+use fr_status::status::SlotStatus;
+use std::marker::Model;
+
+/// The status of the slot and the valid data frame that follow from an observation on a channel of a window.
+#[derive(Drop)]
+pub(crate) struct Judged {
+    pub params: Params,
+    pub window: Window,
+    pub channel: Channel,
+    pub status: Option<SlotStatus>,
+    pub frame: Option<Frame>,
+}
+
+/// Returns the frame, whose payload stays where it is.
+fn lent(frame: &Frame) -> LentFrame<'_>
+    ensures { result ≡ frame.now }
+{
+    LentFrame {
+        preamble: frame.preamble,
+        has_data: frame.has_data,
+        sync: frame.sync,
+        startup: frame.startup,
+        id: frame.id,
+        payload: frame.payload.as_slice(),
+        cycle: frame.cycle,
+    }
+}
+
+impl Judged {
+    ghost use Rattle.std.specs.Prelude.{◌≡◌, ◌↔◌, IsTrue};
+    ghost use Rattle.fr_interface.specs.Sights.{IsFor};
+
+    /// Returns whether these follow from the observation on this channel of this window.
+    fn is_for(&self, params: &Params, window: &Window, channel: Channel) -> bool
+        ensures { IsTrue result ↔ IsFor self.now params.now window.now channel }
+    {
+        self.window == *window && self.channel == channel && self.params == *params
+    }
+
+    /// Returns status and frame, whose payload stays where it is.
+    fn told(&self) -> Told<'_>
+        ensures status { result.status ≡ self.now.status }
+        ensures frame { result.frame ≡ self.now.frame }
+    {
+        let frame = match &self.frame {
+            Some(frame) => Some(lent(frame)),
+            None => None,
+        };
+        Told {
+            status: self.status,
+            frame,
+        }
+    }
+}
+
+// Without it each receiver of a window checked the same bytes again.
+/// What is heard on a channel in a window, with the status of its slot and the valid data frame (project-defined). All
+/// nodes that observe the same share them, so they are found once.
+#[derive(Drop)]
+pub struct Heard {
+    seen: Seen,
+    judged: Option<Judged>,
+}
+
+impl Model for Heard {
+    ghost use Rattle.fr_status.specs.Forms.{Seen};
+    ghost use Rattle.fr_interface.specs.HeardFields.{IsJudged};
+
+    ghost Value = { Seen };
+
+    ghost view = { λ h. h.seen };
+
+    ghost invariant = { IsJudged };
+}
+
+impl Heard {
+    ghost use Rattle.std.specs.Prelude.{◌≡◌};
+    ghost use Rattle.fr_interface.specs.Seeing.{status_seen};
+    ghost use Rattle.fr_journal.specs.Held.{data_frame_seen};
+    ghost use Rattle.fr_status.specs.declared.seen.Seen.TheVariants as Sees;
+
+    /// Returns silence.
+    pub fn silence() -> Heard
+        ensures { result ≡ Sees.Silence }
+    {
+        Heard {
+            seen: Seen::Silence,
+            judged: None,
+        }
+    }
+
+    /// Writes silence, unless it is there already.
+    pub fn fall_silent(&mut self)
+        ensures { self.new ≡ Sees.Silence }
+    {
+        match self.seen {
+            Seen::Silence => {}
+            _ => *self = Heard::silence(),
+        }
+    }
+
+    /// Returns the observation on the channel of a window, with what follows from it.
+    pub fn of(params: &Params, window: &Window, channel: Channel, seen: Seen) -> Heard
+        ensures { result ≡ seen }
+    {
+        let told = Told::of(params, window, channel, &seen);
+        let frame = match &told.frame {
+            Some(frame) => Some(Frame::from_lent(frame)),
+            None => None,
+        };
+        let judged = Judged {
+            params: Params { ..*params },
+            window: Window { ..*window },
+            channel,
+            status: told.status,
+            frame,
+        };
+        Heard {
+            seen,
+            judged: Some(judged),
+        }
+    }
+
+    /// Returns the observation.
+    pub fn seen(&self) -> &Seen
+        ensures { result.now ≡ self.now }
+    {
+        &self.seen
+    }
+
+    /// Returns the status and the frame of the observation on the channel of a window. They are found anew if they were
+    /// found for another one.
+    fn told(&self, params: &Params, window: &Window, channel: Channel) -> Told<'_>
+        ensures status { result.status ≡ status_seen params.now window.now channel self.now }
+        ensures frame { result.frame ≡ data_frame_seen params.now window.now channel self.now }
+    {
+        match &self.judged {
+            Some(judged) if judged.is_for(params, window, channel) => judged.told(),
+            _ => Told::of(params, window, channel, &self.seen),
+        }
+    }
+}
+
+/// A node's observation on a channel (project-defined). It borrows what others observe, too.
+#[derive(Clone, Copy)]
+pub enum Sight<'a> {
+    /// Only the node's own transmission.
+    Own,
+    /// Several transmissions, with the node's own among them.
+    Conflict,
+    /// An observation whose status and frame are still to be found.
+    Seen(&'a Seen),
+    /// An observation whose status and frame were found for its channel and window.
+    Heard(&'a Heard),
+}
+
+impl<'a> Sight<'a> {
+    ghost use Rattle.std.specs.Prelude.{◌≡◌, true};
+    ghost use Rattle.fr_interface.specs.Seeing.{IsQuiet, status_seen};
+    ghost use Rattle.fr_interface.specs.Sights.{seen_in};
+    ghost use Rattle.fr_journal.specs.Entries.{IsSeen};
+    ghost use Rattle.fr_journal.specs.Held.{data_frame_seen};
+
+    /// Returns whether it sets no bit and has no frame.
+    pub(crate) fn is_quiet(&self) -> bool
+        ensures { result ≡ true → IsQuiet (seen_in self.now) }
+    {
+        match self {
+            Sight::Own => is_quiet(&Seen::Own),
+            Sight::Conflict => false,
+            Sight::Seen(seen) => is_quiet(seen),
+            Sight::Heard(heard) => is_quiet(heard.seen()),
+        }
+    }
+
+    /// States that each of its bytes is below 256, and has no effect.
+    pub(crate) fn known(&self)
+        ensures { IsSeen (seen_in self.now) }
+    {
+        match self {
+            Sight::Own | Sight::Conflict => {}
+            Sight::Seen(seen) => {
+                let _seen = seen_within(seen);
+            }
+            Sight::Heard(heard) => {
+                let _seen = seen_within(heard.seen());
+            }
+        }
+    }
+
+    /// Returns the status and the frame of the observation on the channel of a window.
+    pub(crate) fn told(&self, params: &Params, window: &Window, channel: Channel) -> Told<'a>
+        ensures status { result.status ≡ status_seen params.now window.now channel (seen_in self.now) }
+        ensures frame { result.frame ≡ data_frame_seen params.now window.now channel (seen_in self.now) }
+    {
+        match self {
+            Sight::Own => Told::of_own(window, channel),
+            Sight::Conflict => Told::of_conflict(window, channel),
+            Sight::Seen(seen) => Told::of(params, window, channel, seen),
+            Sight::Heard(heard) => heard.told(params, window, channel),
+        }
+    }
+}
