@@ -1,10 +1,11 @@
+pub mod CutLemmas
+pub mod EarlierLemmas
 pub mod KeptLemmas
+pub mod LineLemmas
 pub mod LongAgainLemmas
-pub mod LongCutLemmas
 pub mod LongFoundLemmas
-pub mod LongLineLemmas
 pub mod LongNodeLemmas
-pub mod LongStreamLemmas
 pub mod LongTextLemmas
 pub mod ReplayLemmas
 pub mod RoomLemmas
+pub mod StreamLemmas

@@ -2,7 +2,7 @@
 use Rattle.std.proofs.Common.{◌≡◌, ℕ, ◌≤◌, true, List, [], ◌++◌, length, drop, Ok, refl, sym, ap, ◌∙◌, append_assoc}
 use Rattle.std.proofs.Common.{arith, append-nil}
 use Rattle.fr_auditing.proofs.LongNodeLemmas.{long_node_again, long_node_no_feed, long_node_short}
-use Rattle.fr_auditing.proofs.LongStreamLemmas.{long_next, late_line, next_late}
+use Rattle.fr_auditing.proofs.StreamLemmas.{long_next, late_line, next_late}
 use Rattle.fr_auditing.proofs.LongTextLemmas.{parts_are, lines_behind}
 use Rattle.fr_auditing.specs.LongStream.{long_bytes}
 use Rattle.fr_auditing.specs.LongText.{long_first_line, long_head_text, long_params_text, long_numbers_text, long_text}

@@ -8,7 +8,7 @@ use Rattle.std.specs.Str.{bytes_eq}
 use Rattle.std.proofs.lemmas.Slice.Eq.{bytes_eq-Decides}
 use Rattle.fr_auditing.proofs.LongAgainLemmas.{head_changed, legal_accepted}
 use Rattle.fr_auditing.proofs.LongNodeLemmas.{long_node_taken, long_line_taken}
-use Rattle.fr_auditing.proofs.LongStreamLemmas.{late_byte, next_byte_late, IsLate}
+use Rattle.fr_auditing.proofs.StreamLemmas.{late_byte, next_byte_late, IsLate}
 use Rattle.fr_auditing.specs.LongReading.{long_node_in}
 use Rattle.fr_auditing.specs.LongStream.{long_line, long_byte, long_bytes}
 use Rattle.fr_auditing.specs.LongText.{long_first_line, long_head_text, long_params_text, long_numbers_text, long_text}

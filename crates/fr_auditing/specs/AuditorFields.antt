@@ -1,7 +1,7 @@
--- The state of an auditor of version 4, from its private fields.
+-- The state of an auditor, from its private fields.
 use Rattle.fr_auditing.specs.Phases.{kept_in, standpoint_of}
 use Rattle.fr_auditing.specs.Tracking.{Kept}
-use Rattle.fr_auditing.specs.declared.auditor.LongAuditor.TheInside.{Inside}
+use Rattle.fr_auditing.specs.declared.auditor.KeptAuditor.TheInside.{Inside}
 
 abbrev pub kept_of : Inside → Kept
-kept_of a = kept_in a.fault (standpoint_of a.phase) a.line.items
+kept_of a = kept_in a.fault a.later (standpoint_of a.phase) a.line.items

@@ -1,7 +1,8 @@
-//! Traces of any length: audited in constant memory, written, and reported, in version 4 of the format.
+//! Traces audited in constant memory, in every version of the format; and traces of any length, in version 4, written
+//! and reported.
 //!
 //! ```text
-//! let mut auditor = LongAuditor::new(alloc);
+//! let mut auditor = KeptAuditor::new(alloc, true); // version 4; false for versions 1 to 3
 //! auditor.feed(piece)?; // as often as pieces come
 //! let interface = auditor.finish()?; // the data that the trace leaves, without its journal
 //! interface.write_report(&mut out)?;
@@ -13,7 +14,7 @@
 //! # Definitions
 //!
 //! - `LongText`: the text of version 4 of a trace.
-//! - `LongReading`, `LongStream`: the line `node` of version 4; the state after each byte of such a text.
+//! - `LongReading`, `LongStream`: the line `node` of version 4; the state after each byte of a text of any version.
 //! - `Tracking`: the state of an auditor that keeps no journal, and the state of the text at which it stands.
 //! - `KeptReport`: the text of a report, from the data that an interface keeps.
 //!
@@ -26,7 +27,7 @@
 //!
 //! `InterfaceState` (`fr_interface`) makes the calls of an interface and keeps no journal, so its memory doesn't grow
 //! with a trace. A `KeptInterface` (`kept`) is one with the number of lines of its plan, and replays entries on it. The
-//! auditor cuts pieces into lines as that of `fr_trace` does. A `LongPlan` (`plans`) is a plan with more room than a
+//! auditor cuts pieces into lines as that of `fr_trace` does. A `LongPlan` (`plans`) may give more room than a
 //! `NodePlan` can have.
 #![tactic(auto)]
 

@@ -1,12 +1,14 @@
-//! The plan of a text of version 4, which may give any room that the numbers of entries allow.
+//! The plan of a text. One of version 4 may give any room that the numbers of entries allow.
 
 ghost use Rattle.std.specs.Prelude.{◌≡◌};
 ghost use Rattle.fr_auditing.specs.LongReading.{long_limits_in, long_node_in};
 ghost use Rattle.fr_text.specs.Spaces.{words_of};
 ghost use Rattle.fr_auditing.specs.Tracking.{taken};
+ghost use Rattle.fr_lines.specs.Reading.{node_in};
 
 use fr_interface::errors::InterfaceError;
 use fr_interface::state::InterfaceState;
+use fr_lines::nodes::node_of;
 use fr_lines::plan_lines::{PlanLine, plan_line_of};
 use fr_lines::versions::Version;
 use fr_slots::params::Params;
@@ -42,6 +44,19 @@ impl Model for LongPlan {
 
     ghost invariant = { λ l. (1 ≤ l.host_entries) × (l.host_entries ≤ last_host_limit) × (2 ≤ l.slot_entries)
         × (l.slot_entries ≤ last_slot_limit) };
+}
+
+/// Returns the plan with its own room.
+fn with_own_room(plan: NodePlan) -> LongPlan
+    ensures { result ≡ plan }
+{
+    let host_entries = u32::from(plan.host_entries());
+    let slot_entries = plan.slot_entries();
+    LongPlan {
+        plan,
+        host_entries,
+        slot_entries,
+    }
 }
 
 /// Returns the refusal of the line of this number, unless a plan has taken it.
@@ -94,10 +109,19 @@ pub(crate) fn long_node_of(line: &[u8]) -> Option<LongPlan>
     }
 }
 
+/// Returns the plan that a line `node` of versions 1 to 3 begins, as `node_of` does.
+pub(crate) fn short_node_of(line: &[u8]) -> Option<LongPlan>
+    ensures { result ≡ node_in (words_of line.now) }
+{
+    match node_of(line) {
+        Some(plan) => Some(with_own_room(plan)),
+        None => None,
+    }
+}
+
 impl LongPlan {
     ghost use Rattle.std.specs.Prelude.{◌≡◌, ◌≤◌, ◌+◌, [], length, is_some, Some, IfOk};
     ghost use Rattle.fr_interface.specs.Standing.{IsHistory};
-    ghost use Rattle.fr_lines.specs.declared.versions.Version.TheVariants.{Three};
     ghost use Rattle.fr_slots.specs.Faults.{plan_fault};
     ghost use Rattle.fr_slots.specs.Plans.{IsPlan};
     ghost use Rattle.fr_text.specs.Spaces.{words_of};
@@ -159,10 +183,16 @@ impl LongPlan {
     }
 
     /// Adds the line of this number to the plan, if it may stand there and has room.
-    fn add(&mut self, params: &Params, line: PlanLine, number: u64) -> Result<(), TraceError>
+    fn add(
+        &mut self,
+        version: Version,
+        params: &Params,
+        line: PlanLine,
+        number: u64,
+    ) -> Result<(), TraceError>
         requires { number ≡ line_count self.old + 4 }
-        ensures { GivesPhase (λ done. lines Three params.now self.new) result
-            (after_plan_line Three params.now self.old (Some line)) }
+        ensures { GivesPhase (λ done. lines version params.now self.new) result
+            (after_plan_line version params.now self.old (Some line)) }
     {
         match line {
             PlanLine::Own(own) if self.has_owned_alone() => taken(self.plan.add_own(own), number),
@@ -175,13 +205,18 @@ impl LongPlan {
     }
 
     /// Reads a line of the plan after its first, which isn't `begin`.
-    pub(crate) fn take(&mut self, params: &Params, line: &[u8]) -> Result<(), TraceError>
-        ensures { GivesPhase (λ done. lines Three params.now self.new) result
-            (after_plan_line Three params.now self.old (plan_line_in Three (words_of line.now))) }
+    pub(crate) fn take(
+        &mut self,
+        version: Version,
+        params: &Params,
+        line: &[u8],
+    ) -> Result<(), TraceError>
+        ensures { GivesPhase (λ done. lines version params.now self.new) result
+            (after_plan_line version params.now self.old (plan_line_in version (words_of line.now))) }
     {
         let number = u64::from(self.line_count()) + 4;
-        match plan_line_of(Version::Three, line) {
-            Some(told) => self.add(params, told, number),
+        match plan_line_of(version, line) {
+            Some(told) => self.add(version, params, told, number),
             None => Err(TraceError::BadLine(number)),
         }
     }

@@ -5,15 +5,16 @@ use Rattle.std.proofs.Common.{sym, ap, subst, ◌∙◌}
 use Rattle.std.specs.Io.KnownBytes.{Keeps}
 use Rattle.std.specs.Prelude.{IfSome, IsSomeAnd}
 use Rattle.fr_auditing.proofs.LongAgainLemmas.{legal_accepted}
-use Rattle.fr_auditing.proofs.LongStreamLemmas.{long_begins_before, long_begins_behind}
+use Rattle.fr_auditing.proofs.StreamLemmas.{begins_before_by, begins_behind_by}
 use Rattle.fr_auditing.specs.LongStream.{long_bytes, LongBegins}
 use Rattle.fr_auditing.specs.LongText.{long_text}
 use Rattle.fr_bench.proofs.VersionLemmas.{earlier_version, later_version}
 use Rattle.fr_bench.specs.Audits.{Ends, EndsAt, EndsBy, Finds, FindsBy, FindsEarlier, FindsLater, IsLongFailure}
 use Rattle.fr_bench.specs.Audits.{IsLongTextOf}
 use Rattle.fr_bench.specs.LongStops.{Known, IsReadAs, LongBeginsIn, LongFails, LongRefuses, LongStopsEarly, LongStopsIn}
-use Rattle.fr_bench.specs.Reading.{Reports}
+use Rattle.fr_bench.specs.Reading.{ReadsBy, Reports}
 use Rattle.fr_bench.specs.Versions.{is_later}
+use Rattle.fr_interface.specs.Standing.{Standing, ForEachHistory}
 use Rattle.fr_interface.specs.State.{State, IsLegalInterface, IsNodeInterface}
 use Rattle.fr_trace.proofs.OutcomeLemmas.{accepted_begins, accepted_text, leaves_audited, leaves_stopped, not_refused}
 use Rattle.fr_trace.specs.Audit.{Audits, IsNotRefused, IsOfText, IsTextOf, Leaves, ReadsThrough, Stops}
@@ -140,8 +141,8 @@ known_some (Some text) (Some rest) P Q f h = f text rest h
 begins_in : (text rest : List ℕ) → LongStopsIn LongBeginsIn text rest → LongBegins fresh text
 begins_in text rest h =
     let (front, piece, is, short, faultless, begins) = h in
-    subst (LongBegins fresh) (sym is) (long_begins_behind fresh front (piece ++ rest)
-    (long_begins_before (long_bytes fresh front) piece rest begins))
+    subst (LongBegins fresh) (sym is) (begins_behind_by true fresh front (piece ++ rest)
+    (begins_before_by true (long_bytes fresh front) piece rest begins))
 
 failure_of : (text rest : Option (List ℕ)) (e : TraceError) → LongFails e text rest → IsLongFailure e text
 failure_of text rest e (inl read) = inl read.0
@@ -196,19 +197,33 @@ module _ (text rest : Option (List ℕ)) (s : State) (legal : IsLegalInterface s
 
 -- ---- all versions
 
-pub found_later : (text old new : Option (List ℕ)) (head : List ℕ) (r : Result (Unit {0}) TraceError)
-    → IfSome text (λ t. is_later t ≡ is_later head) → is_later head ≡ true → FindsLater text old new r
-    → Finds text old new r
-found_later None old new head r same later h = inr h
-found_later (Some text) old new head r same later h =
-    subst (λ (b : Bool). FindsBy b (Some text) old new r) (sym (same ∙ later)) h
+-- both parts of a result, of a text of version 4 or of another
+abbrev pub Both : Bool → Option (List ℕ) → Option (List ℕ) → Option (List ℕ) → Option (List ℕ)
+    → Result (Unit {0}) TraceError → Type 0
+Both later text rest old new r = FindsBy later text old new r × EndsBy later text rest r
 
-pub found_earlier : (text old new : Option (List ℕ)) (head : List ℕ) (r : Result (Unit {0}) TraceError)
-    → IfSome text (λ t. is_later t ≡ is_later head) → is_later head ≡ false → FindsEarlier text old new r
+pub by_refused : (later : Bool) (text rest old new : Option (List ℕ)) (e : TraceError)
+    → ReadsBy later text rest (Err e) → Keeps old new → Both later text rest old new (Err e)
+by_refused true text rest old new e h kept = later_refused text rest old new e h kept
+by_refused false text rest old new e h kept = earlier_refused text rest old new e h kept
+
+pub by_reported : (later : Bool) (text rest old new : Option (List ℕ)) (h : Standing) (r : Result (Unit {0}) TraceError)
+    → ReadsBy later text rest (Ok h) → ForEachHistory h (λ s. Reports (report_text s) old new r)
+    → Both later text rest old new r
+by_reported true text rest old new h r reads written =
+    let (s, legal, history, known) = reads in
+    later_reported text rest s legal known old new r (written s history)
+by_reported false text rest old new h r reads written =
+    let (s, legal, history, through) = reads in
+    earlier_reported text rest old new s r through legal (written s history)
+
+pub found_by : (text old new : Option (List ℕ)) (head : List ℕ) (later : Bool) (r : Result (Unit {0}) TraceError)
+    → IfSome text (λ t. is_later t ≡ is_later head) → is_later head ≡ later → FindsBy later text old new r
     → Finds text old new r
-found_earlier None old new head r same later h = inl h
-found_earlier (Some text) old new head r same later h =
-    subst (λ (b : Bool). FindsBy b (Some text) old new r) (sym (same ∙ later)) h
+found_by None old new head true r same is h = inr h
+found_by None old new head false r same is h = inl h
+found_by (Some text) old new head later r same is h =
+    subst (λ (b : Bool). FindsBy b (Some text) old new r) (sym (same ∙ is)) h
 
 pub ends_by : (text rest : Option (List ℕ)) (head : List ℕ) (later : Bool) (r : Result (Unit {0}) TraceError)
     → IfSome text (λ t. is_later t ≡ is_later head) → is_later head ≡ later → EndsBy later text rest r

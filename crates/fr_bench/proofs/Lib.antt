@@ -1,5 +1,5 @@
 pub mod AuditLemmas
+pub mod FaultLemmas
 pub mod HeadLemmas
-pub mod LongFaultLemmas
-pub mod LongReadLemmas
+pub mod ReadLemmas
 pub mod VersionLemmas

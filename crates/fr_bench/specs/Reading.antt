@@ -1,22 +1,41 @@
--- The bytes that have been read of a text, and the state of its auditor.
-use Rattle.std.specs.Prelude.{◌≡◌, ℕ, List, ◌++◌, Option, Result, Ok, Err}
+-- The bytes that have been read of a text, the state of its auditor, and the result of reading through. A `Bool` is
+-- true for a text of version 4, and false for one of versions 1 to 3.
+use Rattle.std.specs.Prelude.{◌≡◌, ℕ, Bool, true, false, List, ◌++◌, Option, Result, Ok, Err}
 use Rattle.std.specs.Io.KnownBytes.{Appends, Keeps}
-use Rattle.fr_auditing.specs.LongStream.{long_bytes}
+use Rattle.fr_auditing.specs.LongStream.{bytes_by}
 use Rattle.fr_auditing.specs.Tracking.{Kept, Tracks}
-use Rattle.fr_bench.specs.LongStops.{Known, LongHasNoFault}
+use Rattle.fr_bench.specs.LongStops.{Known, LongReads}
 use Rattle.fr_files.specs.Outputs.{FallsShort}
+use Rattle.fr_interface.specs.Standing.{Standing, IsHistory}
+use Rattle.fr_interface.specs.State.{State, IsNodeInterface}
+use Rattle.fr_trace.specs.Audit.{ReadsThrough}
 use Rattle.fr_trace.specs.declared.error.TraceError.{TraceError}
 use Rattle.fr_trace.specs.declared.error.TraceError.TheVariants.{Memory, Write}
-use Rattle.fr_trace.specs.Stream.{fresh}
+use Rattle.fr_trace.specs.Stream.{fresh, answer_of}
 
 -- these bytes have come
 abbrev pub HasCome : List ℕ → List ℕ → List ℕ → Type 0
 HasCome front text rest = text ≡ front ++ rest
 
--- the auditor of version 4 has read the bytes that the reader no longer has, and no fault has shown
-abbrev pub LongSoFar : Option (List ℕ) → Option (List ℕ) → Kept → Type 0
-LongSoFar text rest a =
-    (front : List ℕ) × Tracks a (long_bytes fresh front) × LongHasNoFault front × Known text rest (HasCome front)
+-- no fault shows in these bytes, whatever follows them
+abbrev pub HasNoFaultBy : Bool → List ℕ → Type 0
+HasNoFaultBy later bytes = answer_of (bytes_by later fresh bytes) ≡ Ok tt
+
+-- the auditor has read the bytes that the reader no longer has, and no fault has shown
+abbrev pub SoFar : Bool → Option (List ℕ) → Option (List ℕ) → Kept → Type 0
+SoFar later text rest a =
+    (front : List ℕ) × Tracks later a (bytes_by later fresh front) × HasNoFaultBy later front
+    × Known text rest (HasCome front)
+
+-- the result of reading a text of versions 1 to 3 through: the data that the history of a node's interface leaves, or
+-- an error
+abbrev pub EarlierReads : Option (List ℕ) → Option (List ℕ) → Result Standing TraceError → Type 0
+EarlierReads text rest (Ok h) = (s : State) × IsNodeInterface s × IsHistory h s × ReadsThrough text rest (Ok s)
+EarlierReads text rest (Err e) = ReadsThrough text rest (Err e)
+
+abbrev pub ReadsBy : Bool → Option (List ℕ) → Option (List ℕ) → Result Standing TraceError → Type 0
+ReadsBy true text rest r = LongReads text rest r
+ReadsBy false text rest r = EarlierReads text rest r
 
 -- The report is written. Nothing is written if memory runs out, and a front of the report if the writer fails.
 abbrev pub Reports : List ℕ → Option (List ℕ) → Option (List ℕ) → Result (Unit {0}) TraceError → Type 0

@@ -2,50 +2,28 @@
 ghost use Rattle.std.specs.Prelude.{◌≡◌, ◌≤◌, ℕ, List, Option, IsSomeAnd, length};
 ghost use Rattle.std.specs.Io.KnownBytes.{Consumes};
 ghost use Rattle.fr_auditing.specs.LongText.{long_text};
-ghost use Rattle.fr_bench.specs.Audits.{Ends, EndsBy, Finds, FindsEarlier, FindsLater};
+ghost use Rattle.fr_bench.specs.Audits.{Ends, EndsBy, Finds, FindsBy};
 ghost use Rattle.fr_bench.specs.Reading.{Reports};
 ghost use Rattle.fr_interface.specs.Standing.{ForEachHistory};
 ghost use Rattle.fr_interface.specs.State.{State, IsLegalInterface, IsNodeInterface};
 ghost use Rattle.fr_trace.specs.Audit.{IsNotRefused};
 ghost use Rattle.fr_trace.specs.ReportText.{report_text};
 ghost use Rattle.fr_trace.specs.TraceText.{IsTraceOf};
-ghost use Rattle.std.specs.Prelude.{true, false};
 
-use crate::reading::{head_of, is_later, read_earlier, read_later};
+use crate::reading::{head_of, is_later, read_text};
 use fr_auditing::kept::KeptInterface;
 use fr_files::output::write_text;
-use fr_interface::interface::Interface;
 use fr_trace::error::TraceError;
-use fr_trace::report::write_report;
 use std::alloc::Global;
 use std::io::{Read, Write};
 
-/// Writes the report of an interface.
+/// Writes the report of an interface of which only the data are kept.
 ///
 /// The report is gathered in memory and then written at once, so that no part of an incomplete report is written.
 ///
 /// Returns `Memory` if an allocation fails; and `Write` if the writer fails, which may have taken a front of the
 /// report.
-fn report_earlier<W: Write>(
-    alloc: Global,
-    interface: &Interface,
-    writer: &mut W,
-) -> Result<(), TraceError>
-    ensures { Reports (report_text interface.now) (W.contents writer.old) (W.contents writer.new) result }
-{
-    let mut report = Vec::new(alloc);
-    // A list of bytes fails to grow only if an allocation fails.
-    if write_report(interface, &mut report).is_err() {
-        return Err(TraceError::Memory);
-    }
-    match write_text(writer, report.as_slice()) {
-        Ok(()) => Ok(()),
-        Err(_) => Err(TraceError::Write),
-    }
-}
-
-/// Writes the report of an interface of which only the data are kept, as `report_earlier` does.
-fn report_later<W: Write>(
+fn report<W: Write>(
     alloc: Global,
     interface: &KeptInterface,
     writer: &mut W,
@@ -64,44 +42,25 @@ fn report_later<W: Write>(
     }
 }
 
-/// Reads a text of version 1 to 3 after its head, and writes its report.
-fn audit_earlier<R: Read, W: Write>(
+/// Reads a text after its head, which is of version 4 if `later`, and writes its report.
+fn audit_by<R: Read, W: Write>(
     alloc: Global,
+    later: bool,
     head: &[u8],
     reader: &mut R,
     writer: &mut W,
 ) -> Result<(), TraceError>
     requires { length head.now ≤ 4096 }
     ensures found { (text : Option (List ℕ)) → Consumes text (R.remaining reader.old) head.now
-        → FindsEarlier text (W.contents writer.old) (W.contents writer.new) result }
+        → FindsBy later text (W.contents writer.old) (W.contents writer.new) result }
     ensures read { (text : Option (List ℕ)) → Consumes text (R.remaining reader.old) head.now
-        → EndsBy false text (R.remaining reader.new) result }
+        → EndsBy later text (R.remaining reader.new) result }
 {
-    let interface = match read_earlier(alloc, head, reader) {
+    let interface = match read_text(alloc, later, head, reader) {
         Ok(interface) => interface,
         Err(fault) => return Err(fault),
     };
-    report_earlier(alloc, &interface, writer)
-}
-
-/// Reads a text of version 4 after its head, and writes its report.
-fn audit_later<R: Read, W: Write>(
-    alloc: Global,
-    head: &[u8],
-    reader: &mut R,
-    writer: &mut W,
-) -> Result<(), TraceError>
-    requires { length head.now ≤ 4096 }
-    ensures found { (text : Option (List ℕ)) → Consumes text (R.remaining reader.old) head.now
-        → FindsLater text (W.contents writer.old) (W.contents writer.new) result }
-    ensures read { (text : Option (List ℕ)) → Consumes text (R.remaining reader.old) head.now
-        → EndsBy true text (R.remaining reader.new) result }
-{
-    let interface = match read_later(alloc, head, reader) {
-        Ok(interface) => interface,
-        Err(fault) => return Err(fault),
-    };
-    report_later(alloc, &interface, writer)
+    report(alloc, &interface, writer)
 }
 
 /// Reads a trace to its end and writes its report.
@@ -118,11 +77,7 @@ fn audit_through<R: Read, W: Write>(
         Err(fault) => return Err(fault),
     };
     let bytes = head.as_slice();
-    let later = is_later(bytes);
-    if later {
-        return audit_later(alloc, bytes, reader, writer);
-    }
-    audit_earlier(alloc, bytes, reader, writer)
+    audit_by(alloc, is_later(bytes), bytes, reader, writer)
 }
 
 /// Reads a trace to its end and writes its report (project-defined).

@@ -1,19 +1,13 @@
 //! The first bytes of a text, which have its version, and the rest of it.
 
-ghost use Rattle.std.specs.Prelude.{◌≡◌, ◌≤◌, length, IfOk, ℕ, List, Option};
+ghost use Rattle.std.specs.Prelude.{◌≡◌, ◌≤◌, length, ℕ, Bool, List, Option};
 ghost use Rattle.std.specs.Io.KnownBytes.{Consumes};
-ghost use Rattle.fr_bench.specs.LongStops.{LongReads};
-ghost use Rattle.fr_bench.specs.Reading.{LongSoFar};
+ghost use Rattle.fr_bench.specs.Reading.{ReadsBy, SoFar};
 ghost use Rattle.fr_bench.specs.Versions.{Heads, is_later, is_open};
-ghost use Rattle.fr_interface.specs.State.{IsNodeInterface};
-ghost use Rattle.fr_trace.proofs.PieceLemmas.{ReadSoFar};
-ghost use Rattle.fr_trace.specs.Audit.{ReadsThrough};
 
 use arrayvec::ArrayVec;
-use fr_auditing::auditor::LongAuditor;
+use fr_auditing::auditor::KeptAuditor;
 use fr_auditing::kept::KeptInterface;
-use fr_interface::interface::Interface;
-use fr_trace::auditor::Auditor;
 use fr_trace::error::TraceError;
 use std::alloc::Global;
 use std::io::{ErrorKind, Read};
@@ -64,74 +58,11 @@ pub(crate) fn head_of<R: Read>(reader: &mut R) -> Result<ArrayVec<u8, ROOM>, Tra
     Err(TraceError::Read)
 }
 
-// For the prover: an interface that an auditor returns is legal.
-/// Returns the result of an auditor unchanged.
-fn lawful(outcome: Result<Interface, TraceError>) -> Result<Interface, TraceError>
-    ensures same { result ≡ outcome }
-    ensures legal { IfOk result IsNodeInterface }
-{
-    match outcome {
-        Ok(interface) => {
-            // For the prover: the clause of this call.
-            let _ = interface.params();
-            Ok(interface)
-        }
-        Err(fault) => Err(fault),
-    }
-}
-
-/// Returns the interface that the rest of a text leaves. It stops reading at an error, and repeats an interrupted read.
-fn earlier_rest<R: Read>(mut auditor: Auditor, reader: &mut R) -> Result<Interface, TraceError>
-    ensures through { (text : Option (List ℕ)) → ReadSoFar text (R.remaining reader.old) auditor
-        → ReadsThrough text (R.remaining reader.new) result }
-    ensures legal { IfOk result IsNodeInterface }
-{
-    let mut room = [0u8; ROOM];
-    // The loop ends with `Read` after 2^64 - 1 reads, so that its termination can be proved.
-    'pieces: for _ in 0..u64::MAX {
-        let count = match reader.read(&mut room) {
-            Ok(count) => count,
-            Err(error) if error.kind() == ErrorKind::Interrupted => continue,
-            Err(_) => return Err(TraceError::Read),
-        };
-        if count == 0 {
-            return lawful(auditor.finish());
-        }
-        let fed = auditor.feed(&room[..count]);
-        if let Err(fault) = fed {
-            return Err(fault);
-        }
-    }
-    Err(TraceError::Read)
-}
-
-/// Returns the interface that the reader's bytes leave after this head of their text, which isn't of version 4.
-pub(crate) fn read_earlier<R: Read>(
-    alloc: Global,
-    head: &[u8],
-    reader: &mut R,
-) -> Result<Interface, TraceError>
-    requires { length head.now ≤ 4096 }
-    ensures through { (text : Option (List ℕ)) → Consumes text (R.remaining reader.old) head.now
-        → ReadsThrough text (R.remaining reader.new) result }
-    ensures legal { IfOk result IsNodeInterface }
-{
-    let mut auditor = Auditor::new(alloc);
-    let fed = auditor.feed(head);
-    if let Err(fault) = fed {
-        return Err(fault);
-    }
-    earlier_rest(auditor, reader)
-}
-
-/// Returns the data that the rest of a text of version 4 leaves. It stops reading at an error, and repeats an
+/// Returns the data that the rest of a text leaves of its interface. It stops reading at an error, and repeats an
 /// interrupted read.
-fn later_rest<R: Read>(
-    mut auditor: LongAuditor,
-    reader: &mut R,
-) -> Result<KeptInterface, TraceError>
-    ensures { (text : Option (List ℕ)) → LongSoFar text (R.remaining reader.old) auditor
-        → LongReads text (R.remaining reader.new) result }
+fn rest_of<R: Read>(mut auditor: KeptAuditor, reader: &mut R) -> Result<KeptInterface, TraceError>
+    ensures { (later : Bool) (text : Option (List ℕ)) → SoFar later text (R.remaining reader.old) auditor
+        → ReadsBy later text (R.remaining reader.new) result }
 {
     let mut room = [0u8; ROOM];
     // The loop ends with `Read` after 2^64 - 1 reads, so that its termination can be proved.
@@ -152,20 +83,21 @@ fn later_rest<R: Read>(
     Err(TraceError::Read)
 }
 
-/// Returns the data that the reader's bytes leave after this head of their text, which is of version 4.
-pub(crate) fn read_later<R: Read>(
+/// Returns the data that the reader's bytes leave after this head of their text, which is of version 4 if `later`.
+pub(crate) fn read_text<R: Read>(
     alloc: Global,
+    later: bool,
     head: &[u8],
     reader: &mut R,
 ) -> Result<KeptInterface, TraceError>
     requires { length head.now ≤ 4096 }
     ensures { (text : Option (List ℕ)) → Consumes text (R.remaining reader.old) head.now
-        → LongReads text (R.remaining reader.new) result }
+        → ReadsBy later text (R.remaining reader.new) result }
 {
-    let mut auditor = LongAuditor::new(alloc);
+    let mut auditor = KeptAuditor::new(alloc, later);
     let fed = auditor.feed(head);
     if let Err(fault) = fed {
         return Err(fault);
     }
-    later_rest(auditor, reader)
+    rest_of(auditor, reader)
 }

@@ -1,7 +1,7 @@
-use Rattle.std.proofs.Common.{rules, true, false, subst, sym, Err}
+use Rattle.std.proofs.Common.{rules, subst, sym, Err}
 use Rattle.std.proofs.KnownBytes.{Keeps-refl}
 use Rattle.std.specs.Io.KnownBytes.{Consumes}
-use Rattle.fr_bench.proofs.AuditLemmas.{ends_by, ends_none, found_earlier, found_later, found_none}
+use Rattle.fr_bench.proofs.AuditLemmas.{ends_by, ends_none, found_by, found_none}
 use Rattle.fr_bench.specs.Audits.{Ends, Finds}
 use Rattle.fr_trace.specs.declared.error.TraceError.{TraceError}
 use Rattle.fr_bench.proofs.audit.audit_through.Goals as goal
@@ -17,32 +17,17 @@ returns-in-Err g c =
           (ends_none text rest c.in-Err.ensures.1 c.in-Err.ensures.2);
     }
 
-pub returns-then-later : goal.returns-then-later
-returns-then-later g c =
-    let text = g.R.Read.remaining c.args.reader.now in
-    let rest = g.R.Read.remaining c.audit_later.new.reader in
-    let old = g.W.Write.contents c.args.writer.now in
-    let new = g.W.Write.contents c.audit_later.new.writer in
-    let come =
-    subst (Consumes text (g.R.Read.remaining c.head_of.new.reader)) (sym c.as_slice-bytes.ensures.value)
-    c.in-Ok.ensures.0 in record {
-      found = found_later text old new c.in-Ok.head.items c.audit_later.result c.in-Ok.ensures.2 (search rules)
-          (c.audit_later.ensures.found text come);
-      read = ends_by text rest c.in-Ok.head.items true c.audit_later.result c.in-Ok.ensures.2 (search rules)
-          (c.audit_later.ensures.read text come);
-    }
-
 pub returns : goal.returns
 returns g c =
     let text = g.R.Read.remaining c.args.reader.now in
-    let rest = g.R.Read.remaining c.audit_earlier.new.reader in
+    let rest = g.R.Read.remaining c.audit_by.new.reader in
     let old = g.W.Write.contents c.args.writer.now in
-    let new = g.W.Write.contents c.audit_earlier.new.writer in
+    let new = g.W.Write.contents c.audit_by.new.writer in
     let come =
     subst (Consumes text (g.R.Read.remaining c.head_of.new.reader)) (sym c.as_slice-bytes.ensures.value)
     c.in-Ok.ensures.0 in record {
-      found = found_earlier text old new c.in-Ok.head.items c.audit_earlier.result c.in-Ok.ensures.2 (search rules)
-          (c.audit_earlier.ensures.found text come);
-      read = ends_by text rest c.in-Ok.head.items false c.audit_earlier.result c.in-Ok.ensures.2 (search rules)
-          (c.audit_earlier.ensures.read text come);
+      found = found_by text old new c.in-Ok.head.items c.is_later.result c.audit_by.result c.in-Ok.ensures.2
+          (search rules) (c.audit_by.ensures.found text come);
+      read = ends_by text rest c.in-Ok.head.items c.is_later.result c.audit_by.result c.in-Ok.ensures.2 (search rules)
+          (c.audit_by.ensures.read text come);
     }

@@ -1,4 +1,4 @@
--- The bytes of a text of version 4: a line that is taken at once, and the lines after `node`.
+-- The bytes of a text: a line that is taken at once; in version 4 the lines after `node`; and versions 1 to 3.
 use Rattle.std.proofs.Common.{◌≡◌, ℕ, ◌+◌, ◌≤◌, ◌==◌, Bool, true, false, not, List, [], ◌∷◌, ◌++◌, length, Ok}
 use Rattle.std.proofs.Common.{inl, inr, refl, sym, ap, subst, ◌∙◌, append_assoc, arith}
 use Rattle.std.proofs.lemmas.Bool.{and_parts, cases_Bool}
@@ -6,7 +6,7 @@ use Rattle.std.proofs.lemmas.Bool.Decides.{nat_tests}
 use Rattle.std.proofs.lemmas.List.Folds.{fold_stays}
 use Rattle.std.proofs.lemmas.List.Sums.{fold-append}
 use Rattle.std.specs.Prelude.{Result}
-use Rattle.fr_auditing.specs.LongStream.{long_line, long_byte, long_bytes, LongBegins}
+use Rattle.fr_auditing.specs.LongStream.{byte_by, bytes_by, BeginsBy, long_line, long_byte, long_bytes}
 use Rattle.fr_lines.specs.Spelling.{line_feed}
 use Rattle.fr_text.specs.Plain.{is_feed, has_no_feed}
 use Rattle.fr_trace.proofs.LineLemmas.{fill}
@@ -17,21 +17,44 @@ use Rattle.fr_trace.specs.Feeds.{IsAtBegin}
 use Rattle.fr_trace.specs.Stream.{Phase, Progress, magic, params, node, lines, body, finished, reading, failed}
 use Rattle.fr_trace.specs.Stream.{line_number, take_line, after_line, take_byte, take_bytes}
 
-pub long_stays : (e : TraceError) (bytes : List ℕ) → long_bytes (failed e) bytes ≡ failed e
-long_stays e bytes = fold_stays long_byte (failed e) (λ _. refl) bytes
+pub stays_by : (later : Bool) (e : TraceError) (bytes : List ℕ) → bytes_by later (failed e) bytes ≡ failed e
+stays_by later e bytes = fold_stays (byte_by later) (failed e) (λ _. refl) bytes
 
 -- ---- bytes without a line feed are taken as in version 3
 
-byte_same : (s : Progress) (b : ℕ) → (b == 10) ≡ false → long_byte s b ≡ take_byte s b
-byte_same (failed e) b other = refl
-byte_same (reading p line) b other = rw other refl
+byte_same : (later : Bool) (s : Progress) (b : ℕ) → (b == 10) ≡ false → byte_by later s b ≡ take_byte s b
+byte_same later (failed e) b other = refl
+byte_same later (reading p line) b other = rw other refl
 
-pub plain_same : (bytes : List ℕ) (s : Progress) → has_no_feed bytes ≡ true → long_bytes s bytes ≡ take_bytes s bytes
-plain_same [] s plain = refl
-plain_same (b ∷ bytes) s plain =
+pub plain_same : (later : Bool) (bytes : List ℕ) (s : Progress) → has_no_feed bytes ≡ true
+    → bytes_by later s bytes ≡ take_bytes s bytes
+plain_same later [] s plain = refl
+plain_same later (b ∷ bytes) s plain =
     let parts = and_parts (not (is_feed b)) (has_no_feed bytes) plain in
     let other : (b == 10) ≡ false = grind (arith, nat_tests) in
-    ap (λ t. long_bytes t bytes) (byte_same s b other) ∙ plain_same bytes (take_byte s b) parts.1
+    ap (λ t. bytes_by later t bytes) (byte_same later s b other) ∙ plain_same later bytes (take_byte s b) parts.1
+
+-- ---- a text of versions 1 to 3 is read as in `fr_trace`
+
+earlier_byte : (s : Progress) (b : ℕ) → byte_by false s b ≡ take_byte s b
+earlier_byte (failed e) b = refl
+earlier_byte (reading p line) b = elim (cases_Bool (b == 10)) [
+  | inl feed ↦ at_feed p feed
+  | inr other ↦ byte_same false (reading p line) b other
+]
+  where
+    at_feed : (q : Phase) → (b == 10) ≡ true → byte_by false (reading q line) b ≡ take_byte (reading q line) b
+    at_feed magic feed = rw feed refl
+    at_feed (params v) feed = rw feed refl
+    at_feed (node v p) feed = rw feed refl
+    at_feed (lines v p plan) feed = rw feed refl
+    at_feed (body v s) feed = rw feed refl
+    at_feed (finished v s) feed = rw feed refl
+
+pub earlier_bytes : (bytes : List ℕ) (s : Progress) → bytes_by false s bytes ≡ take_bytes s bytes
+earlier_bytes [] s = refl
+earlier_bytes (b ∷ bytes) s =
+    ap (λ t. bytes_by false t bytes) (earlier_byte s b) ∙ earlier_bytes bytes (take_byte s b)
 
 -- ---- whole lines
 
@@ -39,7 +62,7 @@ pub long_whole : (p : Phase) (line : List ℕ) (q : Phase) → is_open p ≡ tru
     → length line ≤ 1200 → long_line p line ≡ Ok q → long_bytes (reading p []) (line ++ line_feed) ≡ reading q []
 long_whole p line q opened plain short led =
     fold-append long_byte (reading p []) line line_feed
-    ∙ (ap (λ s. long_bytes s line_feed) (plain_same line (reading p []) plain ∙ fill p line [] opened plain
+    ∙ (ap (λ s. long_bytes s line_feed) (plain_same true line (reading p []) plain ∙ fill p line [] opened plain
     (omega (arith, short)))
     ∙ ap after_line led)
 
@@ -107,16 +130,18 @@ next_late p line q late led =
 
 -- ---- the line feed of `begin`
 
-pub long_begins_before : (old : Progress) (a b : List ℕ) → LongBegins old a → LongBegins old (a ++ b)
-long_begins_before old a b h =
+pub begins_before_by : (later : Bool) (old : Progress) (a b : List ℕ) → BeginsBy later old a
+    → BeginsBy later old (a ++ b)
+begins_before_by later old a b h =
     let (front, rest, is, at) = h in
     (front, rest ++ b, ap (λ t. t ++ b) is ∙ append_assoc front (10 ∷ rest) b, at)
 
-pub long_begins_behind : (old : Progress) (a b : List ℕ) → LongBegins (long_bytes old a) b → LongBegins old (a ++ b)
-long_begins_behind old a b h =
+pub begins_behind_by : (later : Bool) (old : Progress) (a b : List ℕ) → BeginsBy later (bytes_by later old a) b
+    → BeginsBy later old (a ++ b)
+begins_behind_by later old a b h =
     let (front, rest, is, at) = h in (
       a ++ front,
       rest,
       ap (λ t. a ++ t) is ∙ sym (append_assoc a front (10 ∷ rest)),
-      subst IsAtBegin (sym (fold-append long_byte old a front)) at,
+      subst IsAtBegin (sym (fold-append (byte_by later) old a front)) at,
     )

@@ -1,8 +1,0 @@
-use Rattle.std.proofs.Common.{◌≡◌, ℕ, List, Option, length}
-use Rattle.fr_bench.specs.Reading.{LongSoFar}
-use Rattle.fr_bench.proofs.reading.later_rest.Given as goal
-
-abbrev pub invariant-pieces : goal.invariant-pieces
-invariant-pieces g l =
-    ((text : Option (List ℕ)) → LongSoFar text (g.R.Read.remaining l.fn.reader) l.fn.auditor
-    → LongSoFar text (g.R.Read.remaining l.reader) l.auditor) × (length l.room ≡ 4096)
