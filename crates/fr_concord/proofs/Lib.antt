@@ -12,6 +12,7 @@ pub mod ReceiverLemmas
 pub mod LinkedLemmas
 pub mod SenderLemmas
 pub mod ListeningLemmas
+pub mod RecordingLemmas
 pub mod EndLemmas
 pub mod FaultLineLemmas
 pub mod FaultRunLemmas

@@ -8,6 +8,7 @@ pub mod Rising
 pub mod Receivers
 pub mod Linked
 pub mod Listening
+pub mod Recordings
 pub mod Ends
 pub mod FaultLines
 pub mod FaultRuns

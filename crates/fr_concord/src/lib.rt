@@ -15,6 +15,7 @@
 //! - `Receivers`: the receivers in `commits` and in tables, against those of journals.
 //! - `Linked`: links, against transmit buffers; their receivers, against those of frames.
 //! - `Listening`: the listener of a capture of the bus.
+//! - `Recordings`: a capture of the bus, read back as a recording.
 //! - `Ends`: the ends of transmissions in `record` and `commits`, against what is heard.
 //! - `FaultLines`: the line numbers of faults in the record of a run.
 //! - `FaultRuns`: a session of fault lines, against the single-threaded run with these faults.
@@ -42,6 +43,8 @@
 //!   links, and what stores its frames is among their receivers.
 //! - `ListeningLemmas`: `is_heard_alike`, `is_captured_alike`, `is_own_or_conflict`. A listener hears what a silent
 //!   node observes.
+//! - `RecordingLemmas`: `is_same_capture`, `is_read_again`, `has_no_alarm`. What `fr_view bus` writes is read back as
+//!   what a listener received. In a run without faults it has no finding.
 //! - `EndLemmas`: `are_ends_heard`. The printed end of a transmission is what a listener hears of it.
 //! - `FaultRunLemmas`: `sessions_played`. A session of fault lines and a run leads to the world of the single-threaded
 //!   run.

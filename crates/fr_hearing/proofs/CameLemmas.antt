@@ -15,6 +15,7 @@ use Rattle.fr_slots.specs.Faults.{minislots_filled}
 use Rattle.fr_judging.specs.Distances.{time_finding, time_from}
 use Rattle.fr_judging.specs.Judging.{State, static_came, static_found, static_with, dynamic_came, came, came_with, back}
 use Rattle.fr_judging.specs.Judging.{show, fix, keep_frame, channels_finding, placed_finding, is_placed, none_found}
+use Rattle.fr_judging.specs.Judging.{none_away}
 use Rattle.fr_judging.specs.Lanes.{after_dynamic as dynamic_lane}
 use Rattle.fr_judging.specs.Rules.{due_at, slot_time, are_both}
 use Rattle.fr_judging.specs.declared.line.At.{At}
@@ -33,10 +34,12 @@ pub record IsPlain (r : Rules) : Type 0 where
 abbrev pub core_at : Rules → Channel → Spot → Core
 core_at r channel s = record {
   found = none_found;
+  away = none_away;
   rules = r;
   channel = channel;
   opposite = None;
   aside = None;
+  answered = false;
   held = None;
   current = Some s.cycle;
   last = s.last;
@@ -48,10 +51,10 @@ core_at r channel s = record {
 -- ---- a static slot
 
 static_core : (s : State) (f : Fields) (at : At) (d : Option Due) → static_finding d f ≡ None
-    → s.other.current ≡ None → (s.rules.macrotick == 0) ≡ true
+    → s.other.current ≡ None → (s.rules.macrotick == 0) ≡ true → s.away ≡ none_away
     → core (static_came s f at d) ≡ (record (core s) { last = f.id })
 unfolding static_came
-static_core s f at d fits none untimed =
+static_core s f at d fits none untimed away =
     let nothing : option_or (static_finding d f) (channels_finding s f d) ≡ None =
     ap (λ (o : Option Finding). option_or o (channels_finding s f d)) fits ∙ no_channels s f d none in
     let in_time : time_finding s.rules s.mine f.id at.time None ≡ None =
@@ -60,14 +63,14 @@ static_core s f at d fits none untimed =
     ∙ ap (λ (o : Option Finding). core (static_with s f at d None o)) in_time
     ∙ keep_core (fix (show (back s f at d) f d) f at None) f at
     ∙ ap (λ (c : Core). let r : Core = record c { last = f.id } in r)
-    (fix_core (show (back s f at d) f d) f at None ∙ show_core (back s f at d) f d ∙ back_core s f at d)
+    (fix_core (show (back s f at d) f d) f at None ∙ show_core (back s f at d) f d ∙ back_core s f at d away)
 
 static_at : (r : Rules) (channel : Channel) (s : State) (at : At) (d : Due) (spot : Spot) (f : Fields)
     → core s ≡ core_at r channel spot → IsPlain r → IsOwners d f
     → core (static_came s f at (Some d)) ≡ core_at r channel (record spot { last = f.id })
 static_at r channel s at d spot f e plain is =
     static_core s f at (Some d) (owners_fits d f is) (ap (λ (c : Core). c.opposite) e)
-    (ap (λ (c : Core). c.rules.macrotick == 0) e ∙ plain.untimed)
+    (ap (λ (c : Core). c.rules.macrotick == 0) e ∙ plain.untimed) (ap (λ (c : Core). c.away) e)
     ∙ ap (λ (c : Core). let t : Core = record c { last = f.id } in t) e
 
 -- ---- a dynamic slot

@@ -1,31 +1,33 @@
 -- The part of a judge's state on which findings depend, and the steps that leave it as it is.
 use Rattle.std.proofs.Common.{◌≡◌, ℕ, zero, suc, ◌+◌, ◌-◌, ◌<◌, ◌≤◌, Bool, true, false, cond, List, refl}
-use Rattle.std.proofs.Common.{ap, ◌∙◌, arith}
-use Rattle.std.proofs.lemmas.Bool.{cond-false}
-use Rattle.std.specs.Prelude.{Option, Some, None, nat_le, ◌==◌, not, ◌&&◌, ◌||◌}
+use Rattle.std.proofs.Common.{ap, ◌∙◌, arith, replicate, inl, inr}
+use Rattle.std.proofs.lemmas.Bool.{cond-true, cond-false, eq-eqb, cases_lt}
+use Rattle.std.proofs.lemmas.List.{get_or-replicate, get_or_past, length-replicate}
+use Rattle.std.specs.Prelude.{Option, Some, None, nat_le, slice_index, ◌==◌, not, ◌&&◌, ◌||◌}
 use Rattle.fr_frame.specs.Fields.{Fields}
 use Rattle.fr_logged.specs.Logged.{place_of as frame_place}
 use Rattle.fr_logged.specs.declared.due.Due.{Due}
 use Rattle.fr_logged.specs.declared.finding.Finding.{Finding}
-use Rattle.fr_recording.specs.Numbers.{counted}
 use Rattle.fr_slots.specs.declared.channel.Channel.{Channel}
-use Rattle.fr_judging.specs.Judging.{State, add_line, back_line, add_back, back_of, back, away_at, with_away, show}
+use Rattle.fr_judging.specs.Judging.{State, add_back, back_of, back, away_at, with_away, none_away, show}
 use Rattle.fr_judging.specs.Judging.{show_frame, count_frame, find_some, keep_frame, fix, miss, miss_due, skipped}
 use Rattle.fr_judging.specs.Judging.{skip_to, channels_finding, differ, beside, is_beside, silence, shown_in, shown_at}
 use Rattle.fr_judging.specs.Lanes.{same_open}
 use Rattle.fr_judging.specs.Rules.{due_at, other_channel}
+use Rattle.fr_judging.specs.Tallies.{away_place}
 use Rattle.fr_judging.specs.declared.lane.Held.{Held}
 use Rattle.fr_judging.specs.declared.line.At.{At}
-use Rattle.fr_judging.specs.declared.line.Line.{Line}
 use Rattle.fr_judging.specs.declared.line.Line.TheVariants as line
 use Rattle.fr_judging.specs.declared.rules.Rules.{Rules}
 
 pub record Core : Type 0 where
   pub found : List ℕ
+  pub away : List ℕ
   pub rules : Rules
   pub channel : Channel
   pub opposite : Option ℕ
   pub aside : Option Held
+  pub answered : Bool
   pub held : Option Held
   pub current : Option ℕ
   pub last : ℕ
@@ -33,14 +35,16 @@ pub record Core : Type 0 where
   pub minislot : ℕ
   pub heard : Bool
 
--- of the other channel the open cycle and the waiting frame alone
+-- of the other channel the open cycle and the waiting frame alone, and whether it had a good frame
 abbrev pub core : State → Core
 core s = record {
   found = s.found;
+  away = s.away;
   rules = s.rules;
   channel = s.channel;
   opposite = s.other.current;
   aside = s.other.held;
+  answered = s.other.heard;
   held = s.mine.held;
   current = s.mine.current;
   last = s.mine.last;
@@ -49,36 +53,32 @@ core s = record {
   heard = s.mine.heard;
 }
 
--- ---- lines and counts
+-- ---- no slot comes back
 
-line_core : (s : State) (l : Line) → core (add_line s l) ≡ core s
-unfolding add_line
-line_core s l = refl
+zero_of : (n i : ℕ) → slice_index (replicate n 0) i ≡ 0
+zero_of n i = elim (cases_lt i n) [
+  | inl within ↦ get_or-replicate n i 0 0 within
+  | inr past ↦ get_or_past (replicate n 0) i 0 (omega (arith, length-replicate {A = ℕ} n 0, past))
+]
 
-back_line_core : (s : State) (l : Line) → core (back_line s l) ≡ core s
-back_line_core s l = by (nat_le s.backs s.rules.most)
-  where
-    by : (b : Bool) → core (cond b (add_line s l) s) ≡ core s
-    by true = line_core s l
-    by false = refl
+-- no slot was missing so far
+pub none_at : (i : ℕ) → slice_index none_away i ≡ 0
+unfolding none_away
+none_at i = zero_of 32768 i
 
-add_back_core : (s : State) (l : Line) → core (add_back s l) ≡ core s
-unfolding add_back
-add_back_core s l = back_line_core (record s { backs = counted s.backs 1 }) l
+back_none : (s : State) (f : Fields) (at : At) (node times : ℕ) → times ≡ 0 → back_of s f at node times ≡ s
+back_none s f at node times none =
+    cond-true (times == 0) s
+    (add_back (with_away s f.id node 0) (line.Back at (frame_place s.channel f) node times)) (eq-eqb times 0 none)
 
-back_of_core : (s : State) (f : Fields) (at : At) (node times : ℕ) → core (back_of s f at node times) ≡ core s
-back_of_core s f at node times = by (times == 0)
-  where
-    by : (b : Bool) → core (cond b s (add_back (with_away s f.id node 0)
-        (line.Back at (frame_place s.channel f) node times))) ≡
-        core s
-    by true = refl
-    by false = add_back_core (with_away s f.id node 0) (line.Back at (frame_place s.channel f) node times)
-
-pub back_core : (s : State) (f : Fields) (at : At) (d : Option Due) → core (back s f at d) ≡ core s
+pub back_core : (s : State) (f : Fields) (at : At) (d : Option Due) → s.away ≡ none_away
+    → core (back s f at d) ≡ core s
 unfolding back
-back_core s f at None = refl
-back_core s f at (Some d) = back_of_core s f at d.node (away_at s f.id d.node)
+back_core s f at None none = refl
+back_core s f at (Some d) none =
+    ap core (back_none s f at d.node (away_at s f.id d.node)
+    (ap (λ (l : List ℕ). slice_index l (away_place f.id s.channel d.node)) none
+    ∙ none_at (away_place f.id s.channel d.node)))
 
 pub show_core : (s : State) (f : Fields) (d : Option Due) → core (show s f d) ≡ core s
 unfolding show

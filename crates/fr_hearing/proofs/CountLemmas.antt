@@ -1,12 +1,12 @@
 -- Cycle counts modulo 64, and the frames by which a cycle is opened.
-use Rattle.std.proofs.Common.{◌≡◌, ℕ, zero, suc, ◌+◌, ◌-◌, ◌%◌, ◌/◌, ◌<◌, ◌≤◌, Bool, true, false, cond, refl, sym, ap}
-use Rattle.std.proofs.Common.{◌∙◌, arith}
+use Rattle.std.proofs.Common.{◌≡◌, ℕ, ◌+◌, ◌-◌, ◌%◌, ◌<◌, Bool, true, false, cond, refl, ap}
+use Rattle.std.proofs.Common.{arith}
 use Rattle.std.proofs.lemmas.Bool.{cond-true, eq-eqb, ne_eqb, lt-ltb, and_from, not_from_false, or_left}
 use Rattle.std.specs.Prelude.{Option, Some, None, nat_le, nat_lt, ◌==◌, not, ◌&&◌, ◌||◌}
 use Rattle.fr_frame.specs.Fields.{Fields}
 use Rattle.fr_judging.specs.Distances.{steps_of}
 use Rattle.fr_judging.specs.Judging.{next_of}
-use Rattle.fr_judging.specs.Lanes.{ahead_of, is_near, is_next, opens_by, opens_in, opens}
+use Rattle.fr_judging.specs.Lanes.{ahead_of, is_near, is_next, opens_by, opens}
 
 steps_one : (c x : ℕ) → c < 64 → x ≡ (c + 1) % 64 → (x + 63 - c) % 64 ≡ 0
 steps_one c x lt is = omega arith

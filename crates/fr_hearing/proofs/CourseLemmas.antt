@@ -1,30 +1,28 @@
 -- All frames of some cycles of a channel leave no finding.
-use Rattle.std.proofs.Common.{◌≡◌, ℕ, zero, suc, ◌+◌, ◌-◌, ◌%◌, ◌<◌, ◌≤◌, Bool, true, false, cond, List, [], ◌∷◌, refl}
+use Rattle.std.proofs.Common.{◌≡◌, ℕ, ◌+◌, ◌%◌, ◌<◌, Bool, true, false, cond, List, ◌∷◌, refl}
 use Rattle.std.proofs.Common.{sym}
-use Rattle.std.proofs.Common.{ap, subst, ◌∙◌, arith, ◌⊎◌, inl, inr}
-use Rattle.std.proofs.lemmas.Bool.{cond_both}
-use Rattle.std.specs.Prelude.{Option, Some, None, min, nat_le, ◌==◌, ℤ}
+use Rattle.std.proofs.Common.{ap, subst, ◌∙◌, ◌⊎◌, inl, inr}
+use Rattle.std.specs.Prelude.{Option, Some, None, nat_le}
 use Rattle.fr_frame.specs.Fields.{Fields}
 use Rattle.fr_slots.specs.declared.channel.Channel.{Channel}
 use Rattle.fr_slots.specs.Parameters.{Parameters}
 use Rattle.fr_judging.specs.Judging.{State, place_frame, settle, next_of, speak, good}
 use Rattle.fr_judging.specs.Lanes.{opens}
 use Rattle.fr_judging.specs.declared.lane.Held.{Held}
-use Rattle.fr_judging.specs.declared.lane.Next.{Next}
 use Rattle.fr_judging.specs.declared.line.At.{At}
 use Rattle.fr_judging.specs.declared.rules.Rules.{Rules}
-use Rattle.fr_hearing.specs.Heard.{Spot, cycle_start, after_frame, after_dynamic, IsFirst, IsFurther, IsNext, IsOver}
+use Rattle.fr_hearing.specs.Heard.{Spot, cycle_start, after_frame, after_dynamic, IsFirst, IsFurther, IsNext}
 use Rattle.fr_hearing.specs.Heard.{FollowOn}
 use Rattle.fr_hearing.proofs.CameLemmas.{IsPlain, core_at}
-use Rattle.fr_hearing.proofs.CoreLemmas.{Core, core}
+use Rattle.fr_hearing.proofs.CoreLemmas.{core}
 use Rattle.fr_hearing.proofs.CountLemmas.{opens_same, opens_first, opens_next, next_fits}
 use Rattle.fr_hearing.proofs.OpenLemmas.{core_before}
-use Rattle.fr_hearing.proofs.StepLemmas.{waiting, held_at, place_further, place_first, place_next, settle_at}
-use Rattle.fr_hearing.proofs.StepLemmas.{settle_first, settle_next, good_is, spoken, heard_core}
+use Rattle.fr_hearing.proofs.StepLemmas.{waiting, held_at, place_further, place_next, settle_at}
+use Rattle.fr_hearing.proofs.StepLemmas.{settle_first, settle_next, good_is, spoken}
 
 -- ---- places
 
-same_cycle_after : (p : Parameters) (s : Spot) (f : Fields) → (after_frame p s f).cycle ≡ s.cycle
+pub same_cycle_after : (p : Parameters) (s : Spot) (f : Fields) → (after_frame p s f).cycle ≡ s.cycle
 same_cycle_after p s f = by (nat_le f.id p.static_slots)
   where
     by : (b : Bool) → (let t : Spot = cond b (record s { last = f.id }) (after_dynamic p s f) in t).cycle ≡ s.cycle

@@ -42,7 +42,7 @@ IsShort o = (bytes : ArrayVec ℕ) → o ≡ Bytes bytes → length bytes.items 
 front_short : (bytes : List ℕ) → length (take (length bytes - 3) bytes) ≤ length bytes
 front_short bytes = omega (arith, length-take (length bytes - 3) bytes)
 
-captured_short : (error : Option DecodeError) (bytes : List ℕ) → length (captured_bytes error bytes) ≤ length bytes
+pub captured_short : (error : Option DecodeError) (bytes : List ℕ) → length (captured_bytes error bytes) ≤ length bytes
 captured_short None bytes = front_short bytes
 captured_short (Some TooShort) bytes = omega arith
 captured_short (Some LengthMismatch) bytes = omega arith
@@ -196,7 +196,7 @@ short_seen w head channel healthy k r at bytes is = by (window_heard w head chan
         let few = loud.few in
         omega (arith, size, few)
 
-not_refused : (q : Progress) → IsReady q → end_in q.state.phase q.state q.held ≡ None
+pub not_refused : (q : Progress) → IsReady q → end_in q.state.phase q.state q.held ≡ None
 not_refused q is =
     ap (λ (phase : Phase). end_in phase q.state q.held) is.phase_is
     ∙ ap (λ (held : List ℕ). end_in (RecordHeader 1000 210)

@@ -35,13 +35,13 @@ use Rattle.fr_status.specs.declared.seen.Seen.TheVariants.{Silence, Overrun, Byt
 
 -- ---- the length of a transmission
 
-longest_none : (channel : Channel) (r : Recorded) → all_passed channel r.sent ≡ [] → longest channel r.sent ≡ 0
+pub longest_none : (channel : Channel) (r : Recorded) → all_passed channel r.sent ≡ [] → longest channel r.sent ≡ 0
 longest_none channel r e = ap (λ (l : List Sent). fold max 0 (map (λ (t : Sent). length t.bytes.items) l)) e
 
 max_zero : (n : ℕ) → max 0 n ≡ n
 max_zero n = omega arith
 
-longest_one : (channel : Channel) (r : Recorded) (t : Sent) → all_passed channel r.sent ≡ t ∷ []
+pub longest_one : (channel : Channel) (r : Recorded) (t : Sent) → all_passed channel r.sent ≡ t ∷ []
     → longest channel r.sent ≡ length t.bytes.items
 longest_one channel r t e =
     ap (λ (l : List Sent). fold max 0 (map (λ (u : Sent). length u.bytes.items) l)) e ∙ max_zero (length t.bytes.items)
@@ -49,7 +49,7 @@ longest_one channel r t e =
 module _ (d : Description) (cluster : IsCluster d) (w : Opportunity) (channel : Channel) (slot : ℕ)
     (fits : window_fits d.params w ≡ true) (slot_is : slot_of w channel ≡ Some slot) (f : Fields) where
   -- a frame that is due ends within its slot, or within the dynamic segment
-  ends : (b : Bool) → is_static w ≡ b → IsThere d w channel slot f b → (bytes : ℕ) → bytes ≡ 8 + length f.payload
+  pub ends : (b : Bool) → is_static w ≡ b → IsThere d w channel slot f b → (bytes : ℕ) → bytes ≡ 8 + length f.payload
       → overruns d.params w bytes ≡ false
   ends true static there bytes size =
       let words = there.owners.words in
@@ -76,7 +76,7 @@ module _ (d : Description) (cluster : IsCluster d) (w : Opportunity) (channel : 
       by_zero zero e = absurd (let none : ⊥ = cc in none)
       by_zero (suc m) e = omega arith
 
-  few_bytes : (b : Bool) → is_static w ≡ b → IsThere d w channel slot f b → length f.payload ≤ 254
+  pub few_bytes : (b : Bool) → is_static w ≡ b → IsThere d w channel slot f b → length f.payload ≤ 254
   few_bytes true static there =
       let words = there.owners.words in
       let due_words = static_words d slot channel w.cycle there.due

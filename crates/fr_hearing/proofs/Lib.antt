@@ -1,25 +1,32 @@
-mod CoreLemmas
-mod FrameLemmas
-mod CameLemmas
-mod CountLemmas
-mod OpenLemmas
-mod StepLemmas
-mod CourseLemmas
-mod RecordLemmas
+pub mod CoreLemmas
+pub mod ToldLemmas
+pub mod ConverseLemmas
+pub mod SpelledLemmas
+pub mod FrameLemmas
+pub mod CameLemmas
+pub mod CountLemmas
+pub mod OpenLemmas
+pub mod FoundLemmas
+pub mod StepLemmas
+pub mod CourseLemmas
+pub mod FrameFoundLemmas
+pub mod RecordLemmas
 pub mod AlarmLaws
+pub mod AcceptedLaws
 pub mod OfferLaws
 pub mod CaptureLaws
-mod OwnedLemmas
+pub mod OwnedLemmas
 pub mod ListenLaws
 pub mod OwnersLaws
-mod SizeLemmas
-mod SingleLemmas
-mod NextLemmas
-mod PassageLemmas
-mod CycleLemmas
-mod HearingLemmas
+pub mod SizeLemmas
+pub mod SingleLemmas
+pub mod NextLemmas
+pub mod PassageLemmas
+pub mod CycleLemmas
+pub mod HearingLemmas
 pub mod SilenceLaws
 pub mod RunLaws
-mod ReadingLemmas
+pub mod ReadingLemmas
 pub mod FileLaws
+pub mod ReadBackLaws
 pub mod WorkedLemmas

@@ -10,7 +10,7 @@ use Rattle.fr_slots.specs.declared.channel.Channel.{Channel}
 use Rattle.fr_judging.specs.Distances.{by_times, by_counts, steps_from, distance_to, distance_by, time_between}
 use Rattle.fr_judging.specs.Judging.{State, came, listen, tell_silent, with_alone, skip_before, open_first, open_after}
 use Rattle.fr_judging.specs.Judging.{open_closed, open_next, open_cycle, end_cycle, end_in, enter, leave, tell_gap}
-use Rattle.fr_judging.specs.Judging.{find_some, none_found, static_end}
+use Rattle.fr_judging.specs.Judging.{find_some, none_found, none_away, static_end}
 use Rattle.fr_judging.specs.Lanes.{begun}
 use Rattle.fr_judging.specs.Rules.{due_at, are_both}
 use Rattle.fr_judging.specs.declared.distance.Distance.{Distance}
@@ -49,10 +49,12 @@ before_none c s f at e free =
 abbrev pub core_before : Rules → Channel → Core
 core_before r channel = record {
   found = none_found;
+  away = none_away;
   rules = r;
   channel = channel;
   opposite = None;
   aside = None;
+  answered = false;
   held = None;
   current = None;
   last = 0;
@@ -74,7 +76,7 @@ either_same : {X : Type 0} (b : Bool) (x y : X) → x ≡ y → cond b x y ≡ y
 either_same true x y e = e
 either_same false x y e = refl
 
-abbrev begin_core : Core → Fields → Core
+abbrev pub begin_core : Core → Fields → Core
 begin_core c f = record c {
   current = Some f.cycle;
   last = 0;
@@ -108,7 +110,7 @@ open_first_at r channel s at f e plain is =
 
 -- ---- the next cycle
 
-untimed_distance : (r : Rules) (steps a b : ℕ) (x y : Option ℤ) → (r.macrotick == 0) ≡ true
+pub untimed_distance : (r : Rules) (steps a b : ℕ) (x y : Option ℤ) → (r.macrotick == 0) ≡ true
     → by_times r steps a b x y ≡ by_counts steps
 untimed_distance r steps a b None y e = refl
 untimed_distance r steps a b (Some x) None e = refl

@@ -1,31 +1,27 @@
 -- In a static window a node offers something only if it owns the slot.
-use Rattle.std.proofs.Common.{◌≡◌, ℕ, zero, suc, ◌<◌, ◌≤◌, Bool, true, false, cond, ◌&&◌, List, [], ◌∷◌, ◌++◌, refl}
+use Rattle.std.proofs.Common.{◌≡◌, ℕ, ◌<◌, Bool, true, false, cond, ◌&&◌, List, [], ◌∷◌, refl}
 use Rattle.std.proofs.Common.{sym}
-use Rattle.std.proofs.Common.{ap, subst, ◌∙◌, arith, Option, Some, None, slice_get}
-use Rattle.std.proofs.lemmas.Bool.{cond-true, eqb-true, cases_Bool, and_from}
+use Rattle.std.proofs.Common.{ap, ◌∙◌, Option, Some, None}
+use Rattle.std.proofs.lemmas.Bool.{eqb-true, and_from}
 use Rattle.std.proofs.lemmas.List.Quantifiers.{position-Some}
 use Rattle.std.proofs.lemmas.Option.{get_or_from_slice_get}
 use Rattle.std.specs.Prelude.{is_some, ◌==◌, ◌||◌}
-use Rattle.std.specs.List.{find, position, list_any}
-use Rattle.std.specs.Option.{option_and_then}
+use Rattle.std.specs.List.{find, list_any}
 use Rattle.fr_core.proofs.CaseLemmas.{both_first, both_rest}
-use Rattle.fr_core.proofs.TakingLemmas.{IsOfferedBy, in_slot, transmitter_transmits}
-use Rattle.fr_guardian.proofs.AloneLemmas.{each_at}
-use Rattle.fr_hearing.proofs.OfferLaws.{IsBuffer, some_buffer, line_is}
+use Rattle.fr_core.proofs.TakingLemmas.{in_slot}
+use Rattle.fr_hearing.proofs.OfferLaws.{some_buffer, line_is}
 use Rattle.fr_journal.specs.declared.entry.Offered.{Offered}
 use Rattle.fr_journal.specs.declared.entry.Offered.TheVariants.{Nothing, Null, Data}
 use Rattle.fr_journal.specs.Forms.{Entry}
-use Rattle.fr_journal.specs.Offers.{transmitter, is_admitting, commit_offered, owns, line_of, data_or, offered_at}
+use Rattle.fr_journal.specs.Offers.{is_admitting, commit_offered, owns, data_or, offered_at}
 use Rattle.fr_journal.specs.Offers.{offered}
-use Rattle.fr_logged.specs.Dues.{line_in}
 use Rattle.fr_slots.proofs.FaultlessLemmas.{faultless}
 use Rattle.fr_slots.specs.Admission.{includes, cycle_admitted}
 use Rattle.fr_slots.specs.declared.channel.Channel.{Channel}
-use Rattle.fr_slots.specs.declared.plan.Buffer.{Buffer}
 use Rattle.fr_slots.specs.declared.plan.Own.{Own}
-use Rattle.fr_slots.specs.Faults.{claims, is_owned, transmits, transmits_static, plan_fault, IsFaultless, FitsStatic}
+use Rattle.fr_slots.specs.Faults.{claims, is_owned, transmits, transmits_static, plan_fault}
 use Rattle.fr_slots.specs.Parameters.{Parameters, is_static_slot}
-use Rattle.fr_slots.specs.Plans.{Plan, buffer_at, admits_slot, filter_admits}
+use Rattle.fr_slots.specs.Plans.{Plan, admits_slot, filter_admits}
 use Rattle.fr_slots.specs.Windows.{Opportunity, slot_of, is_static}
 
 pub some_found : {X : Type 0} (test : X → Bool) (xs : List X) → list_any test xs ≡ true → is_some (find test xs) ≡ true

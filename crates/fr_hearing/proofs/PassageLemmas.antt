@@ -104,7 +104,7 @@ pub record IsAt (d : Description) (channel : Channel) (c : Standpoint) (s : Spot
   pub begins_b : 1 ≤ c.b.begins
   pub lane : IsLaneAt d s (lane_of channel c)
 
-cycle_below : (c : Standpoint) → cycle_of c < 64
+pub cycle_below : (c : Standpoint) → cycle_of c < 64
 cycle_below c = mod_below (c.begun - 1) 64 (omega arith)
 
 -- ---- a static window
@@ -174,7 +174,7 @@ module _ (d : Description) (channel : Channel) (cluster : IsCluster d) where
         };
       }
 
-  after_static : (s : Spot) (f : Fields) (slot : ℕ) → f.id ≡ slot → slot ≤ d.params.static_slots
+  pub after_static : (s : Spot) (f : Fields) (slot : ℕ) → f.id ≡ slot → slot ≤ d.params.static_slots
       → after_frame d.params s f ≡ record s { last = slot }
   after_static s f slot id few =
       cond-true (nat_le f.id d.params.static_slots) (let t : Spot = record s { last = f.id } in t)
@@ -184,7 +184,7 @@ module _ (d : Description) (channel : Channel) (cluster : IsCluster d) where
 
   -- ---- a further static window
 
-  static_loud : (c : Standpoint) (s : Spot) → IsAt d channel c s → c.statics < d.params.static_slots
+  pub static_loud : (c : Standpoint) (s : Spot) → IsAt d channel c s → c.statics < d.params.static_slots
       → IsAt d channel (static_passed c) (record s { last = c.statics + 1 })
   static_loud c s at further = record {
     cycle_is = at.cycle_is;
@@ -217,7 +217,7 @@ module _ (d : Description) (channel : Channel) (cluster : IsCluster d) where
         begins = l.begins;
       }
 
-  static_quiet : (c : Standpoint) (s : Spot) → IsAt d channel c s → c.statics < d.params.static_slots
+  pub static_quiet : (c : Standpoint) (s : Spot) → IsAt d channel c s → c.statics < d.params.static_slots
       → due_at d (c.statics + 1) channel s.cycle ≡ None → IsAt d channel (static_passed c) s
   static_quiet c s at further none = record {
     cycle_is = at.cycle_is;
@@ -299,7 +299,7 @@ module _ (d : Description) (channel : Channel) (cluster : IsCluster d) where
       }
 
   -- after the first window, with this last frame
-  first_at : (c : Standpoint) (last : ℕ) → c.params ≡ d.params → last ≤ 1
+  pub first_at : (c : Standpoint) (last : ℕ) → c.params ≡ d.params → last ≤ 1
       → AreFree d channel (c.begun % 64) (last + 1) 2
       → IsAt d channel (first_passed c) (record (cycle_start d.params (c.begun % 64)) { last = last })
   first_at c last params_are few free =
@@ -388,7 +388,7 @@ module _ (d : Description) (channel : Channel) (cluster : IsCluster d) (c : Stan
     lane = subst (IsLaneAt d t) (sym (lane_after channel)) lane;
   }
 
-  dynamic_quiet : (s : Spot) → IsAt d channel c s → longest channel r.sent ≡ 0
+  pub dynamic_quiet : (s : Spot) → IsAt d channel c s → longest channel r.sent ≡ 0
       → IsAt d channel (dynamic_passed c m (longest A r.sent) (longest B r.sent)) s
   dynamic_quiet s at none =
       dynamic_at s s at refl (λ k low high. at.free k low (omega (arith, high)))
@@ -493,7 +493,7 @@ module _ (d : Description) (channel : Channel) (cluster : IsCluster d) (c : Stan
           begins = omega (arith, id, row, begin);
         })
 
-    dynamic_loud : IsAt d channel (dynamic_passed c m (longest A r.sent) (longest B r.sent))
+    pub dynamic_loud : IsAt d channel (dynamic_passed c m (longest A r.sent) (longest B r.sent))
         (after_frame d.params s l.frame)
     dynamic_loud =
         let after : after_frame d.params s l.frame ≡ after_dynamic d.params s l.frame =

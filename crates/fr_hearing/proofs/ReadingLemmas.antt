@@ -93,7 +93,7 @@ pub record IsReady (p : Progress) : Type 0 where
   pub order_is : p.state.order ≡ LowFirst
   pub none_held : p.held ≡ []
 
-abbrev head_of : ℕ → ℕ → Head
+abbrev pub head_of : ℕ → ℕ → Head
 head_of time count = record {
   time = Some (pos (long LowFirst 0 (record_header time count) * 10 ^ 9
       + long LowFirst 4 (record_header time count) * 1000));
@@ -136,10 +136,11 @@ take_all [] = refl
 take_all (x ∷ xs) = ap (λ (l : List ℕ). x ∷ l) (take_all xs)
 
 -- one record was read
-pub record IsItemRead (p : Progress) (bytes packet : List ℕ) : Type 0 where
+pub record IsItemRead (p : Progress) (bytes packet : List ℕ) (due : Option ℤ) : Type 0 where
   pub next : Progress
   pub ready : IsReady next
   pub time : Option ℤ
+  pub time_is : time ≡ due
   pub leads : take_bytes p bytes ≡ next
   pub told : records_from p bytes ≡ logged time packet ∷ []
 
@@ -157,7 +158,7 @@ module _ (time : ℕ) (packet : List ℕ) (some : 1 ≤ length packet) (few : le
       (ne_eqb (length packet) 0 (λ z. let none : ⊥ = omega (arith, some, z) in none))
 
   pub read_item : (p : Progress) → IsReady p
-      → IsItemRead p (record_header time (length packet) ++ packet) packet
+      → IsItemRead p (record_header time (length packet) ++ packet) packet (head_of time (length packet)).time
   read_item p is =
       let s : State = p.state in
       let size = length_head time (length packet) in
@@ -183,6 +184,7 @@ module _ (time : ℕ) (packet : List ℕ) (some : 1 ≤ length packet) (few : le
           none_held = refl;
         };
         time = (head_of time (length packet)).time;
+        time_is = refl;
         leads = bytes_more (record_header time (length packet)) packet p
             ∙ ap (λ (q : Progress). take_bytes q packet) middle ∙ second.leads;
         told = records_more (record_header time (length packet)) packet p

@@ -80,11 +80,12 @@ cycles_are_heard w head channel some healthy =
 
 -- ---- each of them is a frame
 
-record IsDueAt (d : Description) (slot : ℕ) (channel : Channel) (cycle : ℕ) (x : Due) : Type 0 where
-  few : slot ≤ 2047
-  due_is : due_of d slot channel cycle ≡ Some x
+pub record IsDueAt (d : Description) (slot : ℕ) (channel : Channel) (cycle : ℕ) (x : Due) : Type 0 where
+  pub few : slot ≤ 2047
+  pub due_is : due_of d slot channel cycle ≡ Some x
 
-due_in : (d : Description) (slot : ℕ) (channel : Channel) (cycle : ℕ) (x : Due) → due_at d slot channel cycle ≡ Some x
+pub due_in : (d : Description) (slot : ℕ) (channel : Channel) (cycle : ℕ) (x : Due)
+    → due_at d slot channel cycle ≡ Some x
     → IsDueAt d slot channel cycle x
 due_in d slot channel cycle x e = by (nat_le 1 slot && nat_le slot last_slot) refl e
   where

@@ -1,9 +1,9 @@
 -- The next frame of a channel: it is one of the open cycle, or waits for the frame after it.
-use Rattle.std.proofs.Common.{◌≡◌, ℕ, zero, suc, ◌+◌, ◌-◌, ◌%◌, ◌<◌, ◌≤◌, Bool, true, false, cond, List, [], ◌∷◌, refl}
+use Rattle.std.proofs.Common.{◌≡◌, ◌+◌, ◌%◌, ◌<◌, true, false, cond, refl}
 use Rattle.std.proofs.Common.{sym}
-use Rattle.std.proofs.Common.{ap, subst, ◌∙◌, arith, ◌*◌}
+use Rattle.std.proofs.Common.{ap, ◌∙◌, ◌*◌}
 use Rattle.std.proofs.lemmas.Bool.{cond-true, cond-false, eq-eqb, ne_eqb, lt-leb}
-use Rattle.std.specs.Prelude.{Option, Some, None, min, nat_le, ◌==◌, ℤ, ◌-ℤ◌}
+use Rattle.std.specs.Prelude.{Option, Some, None, nat_le, ◌==◌, ℤ, ◌-ℤ◌}
 use Rattle.fr_frame.specs.Fields.{Fields}
 use Rattle.fr_logged.specs.Findings.{with_numbers}
 use Rattle.fr_logged.specs.Logged.{place_of as frame_place}
@@ -11,7 +11,7 @@ use Rattle.fr_logged.specs.declared.finding.Name.TheVariants as name
 use Rattle.fr_slots.specs.declared.channel.Channel.{Channel}
 use Rattle.fr_judging.specs.Distances.{is_anew, anew_by, is_long}
 use Rattle.fr_judging.specs.Judging.{State, came, member, place_frame, hold, open_cycle, settle, settle_with, decide}
-use Rattle.fr_judging.specs.Judging.{add_ill, wrong_count, next_of, speak, good, skip_before, find, mark_odd, disturb}
+use Rattle.fr_judging.specs.Judging.{wrong_count, next_of, speak, good, skip_before, find, mark_odd, disturb}
 use Rattle.fr_judging.specs.Lanes.{same_open, opens}
 use Rattle.fr_judging.specs.declared.lane.Held.{Held}
 use Rattle.fr_judging.specs.declared.lane.Next.{Next}
@@ -32,7 +32,7 @@ held_at f at = record { at = at; frame = f }
 
 -- ---- a frame of the open cycle
 
-untimed_anew : (r : Rules) (x y : Option ℤ) → (r.macrotick == 0) ≡ true → anew_by r x y ≡ false
+pub untimed_anew : (r : Rules) (x y : Option ℤ) → (r.macrotick == 0) ≡ true → anew_by r x y ≡ false
 untimed_anew r None y e = refl
 untimed_anew r (Some x) None e = refl
 untimed_anew r (Some x) (Some y) e =
@@ -68,7 +68,7 @@ hold_core : (s : State) (f : Fields) (at : At) → core (hold s f at) ≡ waitin
 unfolding hold
 hold_core s f at = refl
 
-place_other : (c : Core) (s : State) (f : Fields) (at : At) → core s ≡ c
+pub place_other : (c : Core) (s : State) (f : Fields) (at : At) → core s ≡ c
     → same_open c.current (Some f.cycle) ≡ false → core (place_frame s f at) ≡ waiting c (held_at f at)
 unfolding place_frame
 place_other c s f at e other =
@@ -89,17 +89,17 @@ place_next r channel s spot f at e fits next =
 
 -- ---- a frame that no longer waits
 
-abbrev freed : State → State
+abbrev pub freed : State → State
 freed s = record s { mine = record s.mine { held = None; ill_held = 0 } }
 
-abbrev free_core : Core → Core
+abbrev pub free_core : Core → Core
 free_core c = record c { held = None }
 
 pub settle_none : (s : State) (next : Option Next) → s.mine.held ≡ None → settle s next ≡ s
 unfolding settle
 settle_none s next none = ap (settle_with s next) none
 
-settle_some : (c : Core) (s : State) (next : Option Next) (h : Held) → core s ≡ waiting c h
+pub settle_some : (c : Core) (s : State) (next : Option Next) (h : Held) → core s ≡ waiting c h
     → opens c.current (next_of h.frame) next ≡ true → core (settle s next) ≡ core (open_cycle (freed s) h.frame h.at)
 unfolding settle decide
 settle_some c s next h e opening =

@@ -1,6 +1,6 @@
 -- The record of a frame in a capture: the packet that `fr_capture` writes of the bytes on the channel
 -- (project-defined).
-use Rattle.std.specs.Prelude.{◌≡◌, ℕ, ℤ, ◌∷◌, length, Option, None}
+use Rattle.std.specs.Prelude.{ℤ, length, Option, None}
 use Rattle.fr_capture.specs.Pcap.{packet, link_type}
 use Rattle.fr_frame.specs.Encoding.{encoded}
 use Rattle.fr_frame.specs.Fields.{Fields, IsFrame}

@@ -1,7 +1,9 @@
 pub mod Heard
 pub mod Alarms
+pub mod Accepted
 pub mod Offering
 pub mod Captured
 pub mod Listening
 pub mod Runs
 pub mod Files
+pub mod ReadBack
