@@ -7,18 +7,20 @@ use Rattle.std.specs.Option.{option_map, option_or}
 use Rattle.fr_frame.specs.Fields.{Fields}
 use Rattle.fr_judging.specs.Judging.{State, lane_on, is_lawless}
 use Rattle.fr_judging.specs.Lanes.{same_open}
-use Rattle.fr_judging.specs.Rules.{judges}
+use Rattle.fr_judging.specs.Rules.{due_at, judges}
 use Rattle.fr_judging.specs.declared.lane.Held.{Held}
 use Rattle.fr_judging.specs.declared.lane.Lane.{Lane}
 use Rattle.fr_judging.specs.declared.line.At.{At}
 use Rattle.fr_logged.specs.Logged.{kind_of, spelled, place_in}
 use Rattle.fr_logged.specs.Rules.{letters_of}
+use Rattle.fr_logged.specs.declared.due.Due.{Due}
 use Rattle.fr_logged.specs.declared.finding.Finding.{Finding}
 use Rattle.fr_logged.specs.declared.finding.Place.{Place}
 use Rattle.fr_logged.specs.declared.record.Kind.{Kind}
 use Rattle.fr_logged.specs.declared.record.Kind.TheVariants.{Foreign, Symbol, Frame}
 use Rattle.fr_recording.specs.Numbers.{counted}
 use Rattle.fr_recording.specs.Records.{Record}
+use Rattle.fr_schedule.specs.Descriptions.{Description}
 use Rattle.fr_slots.specs.Faults.{minislots_filled}
 use Rattle.fr_slots.specs.Parameters.{Parameters, is_static_slot}
 use Rattle.fr_slots.specs.declared.channel.Channel.{Channel}
@@ -72,6 +74,32 @@ begin_of p l waits f =
 abbrev pub length_of : Parameters → Fields → ℕ
 length_of p f =
     if is_static_slot p f.id then p.static_mt else minislots_filled p (length f.payload / 2) * p.minislot_mt
+
+-- the first macrotick and the macroticks of the slot that a header names, if it is a static one
+unfoldable pub static_text : Parameters → ℕ → List ℕ
+static_text p slot = codes " " ++ decimal ((slot - 1) * p.static_mt) ++ codes " " ++ decimal p.static_mt
+
+unfoldable pub named_text : Parameters → Option ℕ → List ℕ
+named_text p None = codes " - -"
+named_text p (Some slot) =
+    if nat_le 1 slot && nat_le slot p.static_slots then static_text p slot else codes " - -"
+
+-- ---- the sender
+
+abbrev pub node_of : Option Due → Option ℕ
+node_of due = option_map (λ (d : Due). d.node) due
+
+abbrev pub sender_of : Description → Channel → Option ℕ → Option ℕ → Option ℕ
+sender_of d channel None slot = None
+sender_of d channel (Some cycle) None = None
+sender_of d channel (Some cycle) (Some slot) = node_of (due_at d slot channel cycle)
+
+-- the node that may send at a place: the owner of a static slot, or the sender of a dynamic one
+abbrev pub sender_at : Description → Place → Option ℕ
+sender_at d p = sender_of d p.channel p.cycle p.slot
+
+unfoldable pub node_text : Description → Place → List ℕ
+node_text d place = codes " " ++ optional_text (sender_at d place)
 
 -- ---- the cycle with a count
 
@@ -129,23 +157,25 @@ slot_text p l waits f =
 unfoldable pub content_text : Fields → List ℕ
 content_text f = codes " " ++ letters_text (letters_of f) ++ codes " " ++ hex_text f.payload
 
-unfoldable pub good_text : Parameters → Lane → Bool → Fields → List ℕ
-good_text p l waits f = slot_text p l waits f ++ content_text f
+unfoldable pub good_text : Description → Lane → Bool → Place → Fields → List ℕ
+good_text d l waits place f = slot_text d.params l waits f ++ node_text d place ++ content_text f
 
--- a record without a frame of the cluster: the nearest cycle with the count that its header names
-unfoldable pub broken_text : Lane → Option ℕ → List ℕ
-broken_text l count = nearest_text (known_on l) count ++ codes " - - - - -"
+-- A record without a frame of the cluster: the nearest cycle with the count that its header names, and the static slot
+-- and the sender that it names.
+unfoldable pub broken_text : Description → Lane → Place → List ℕ
+broken_text d l place =
+    nearest_text (known_on l) place.cycle ++ named_text d.params place.slot ++ node_text d place ++ codes " - - -"
 
-abbrev pub placed_text : State → Channel → Bool → Fields → List ℕ
-placed_text s channel waits f =
-    good_text s.rules.cluster.params (lane_on s channel) waits f ++ beside_text s channel f.cycle
+abbrev pub placed_text : State → Channel → Bool → Place → Fields → List ℕ
+placed_text s channel waits place f =
+    good_text s.rules.cluster (lane_on s channel) waits place f ++ beside_text s channel f.cycle
 
 -- what a record spells on the channel, after the judgement of the record; a frame of no slot has no place
-unfoldable pub spelled_text : State → Channel → ℕ → Option ℕ → Result Fields Finding → List ℕ
-spelled_text s channel number count (Err finding) = broken_text (lane_on s channel) count
-spelled_text s channel number count (Ok f) =
-    if is_lawless s f.id then broken_text (lane_on s channel) count
-    else placed_text s channel (is_waiting (lane_on s channel) number) f
+unfoldable pub spelled_text : State → Channel → ℕ → Place → Result Fields Finding → List ℕ
+spelled_text s channel number place (Err finding) = broken_text s.rules.cluster (lane_on s channel) place
+spelled_text s channel number place (Ok f) =
+    if is_lawless s f.id then broken_text s.rules.cluster (lane_on s channel) place
+    else placed_text s channel (is_waiting (lane_on s channel) number) place f
 
 -- the record, and the place that its header names
 unfoldable pub front_text : At → Place → List ℕ
@@ -154,7 +184,7 @@ front_text at place = codes "frame " ++ at_text (Some at) ++ codes " " ++ place_
 unfoldable pub frame_line : State → Channel → Record → List ℕ
 frame_line s channel r =
     front_text (record { number = s.records; time = r.time }) (place_in channel r.bytes)
-    ++ spelled_text s channel s.records (place_in channel r.bytes).cycle (spelled channel r.original r.bytes) ++ 10 ∷ []
+    ++ spelled_text s channel s.records (place_in channel r.bytes) (spelled channel r.original r.bytes) ++ 10 ∷ []
 
 -- ---- the cycle of a frame that waited
 

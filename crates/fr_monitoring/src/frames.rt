@@ -12,13 +12,15 @@ ghost use Rattle.fr_monitoring.specs.FrameText.{begin_of, length_of, cycle_text,
 ghost use Rattle.fr_monitoring.specs.FrameText.{spelled_text, front_text, frame_line, has_opened, opened_text};
 ghost use Rattle.fr_monitoring.specs.FrameText.{opens_line, opens_text, frame_text, last_text, known_on, open_on};
 ghost use Rattle.fr_monitoring.specs.FrameText.{before_text, steps_to, stepped_text, nearest_text, other_than};
-ghost use Rattle.fr_monitoring.specs.FrameText.{beside_text, broken_text, placed_text};
+ghost use Rattle.fr_monitoring.specs.FrameText.{beside_text, broken_text, placed_text, named_text, node_text};
+ghost use Rattle.fr_monitoring.specs.FrameText.{node_of, sender_at, sender_of, static_text};
 
 use crate::line::{letters_text, write_at, write_optional, write_place};
 use fr_frame::lent::LentFrame;
 use fr_judging::judge::Judge;
 use fr_judging::lane::Lane;
 use fr_judging::line::At;
+use fr_judging::rules::Rules;
 use fr_logged::finding::{Letters, Place};
 use fr_logged::record::{Kind, place_in, spelled};
 use fr_recording::phase::Head;
@@ -302,19 +304,66 @@ fn write_content<W: Write>(writer: &mut W, frame: &LentFrame<'_>) -> io::Result<
     write_hex(writer, frame.payload)
 }
 
-/// Writes the cycle of a frame, where its slot is, and what it has.
+/// Returns the node that may send at a place, if there is one.
+fn sender_at(rules: &Rules, place: &Place) -> Option<u32>
+    ensures { result ≡ sender_at rules.now.cluster place.now }
+{
+    let (Some(cycle), Some(slot)) = (place.cycle, place.slot) else {
+        return None;
+    };
+    match rules.due(slot, place.channel, cycle) {
+        Some(due) => Some(u32::from(due.node)),
+        None => None,
+    }
+}
+
+/// Writes a space, and the node that may send at a place, or a dash for none.
+#[tactic(auto, unfolding(crate::specs::FrameText::node_text))]
+fn write_node<W: Write>(writer: &mut W, rules: &Rules, place: &Place) -> io::Result<()>
+    ensures { Writes W.contents writer.old writer.new result (node_text rules.now.cluster place.now) }
+{
+    write!(writer, " ")?;
+    write_optional(writer, sender_at(rules, place))
+}
+
+/// Writes the cycle of a frame, where its slot is, its sender, and what it has.
 #[tactic(auto, unfolding(crate::specs::FrameText::good_text))]
 fn write_good<W: Write>(
     writer: &mut W,
-    params: &Params,
+    rules: &Rules,
     lane: &Lane,
     waits: bool,
+    place: &Place,
     frame: &LentFrame<'_>,
 ) -> io::Result<()>
-    ensures { Writes W.contents writer.old writer.new result (good_text params.now lane.now waits frame.now) }
+    ensures { Writes W.contents writer.old writer.new result
+        (good_text rules.now.cluster lane.now waits place.now frame.now) }
 {
-    write_slot(writer, params, lane, waits, frame)?;
+    write_slot(writer, rules.cluster.params(), lane, waits, frame)?;
+    write_node(writer, rules, place)?;
     write_content(writer, frame)
+}
+
+/// Writes where a static slot is.
+#[tactic(auto, unfolding(crate::specs::FrameText::static_text))]
+fn write_static<W: Write>(writer: &mut W, params: &Params, slot: u16) -> io::Result<()>
+    ensures { Writes W.contents writer.old writer.new result (static_text params.now slot) }
+{
+    let before = u32::from(slot.saturating_sub(1)) * u32::from(params.static_mt);
+    write!(writer, " {before} {}", params.static_mt)
+}
+
+/// Writes where the slot is that a header names, if it is a static one.
+#[tactic(auto, unfolding(crate::specs::FrameText::named_text))]
+fn write_named<W: Write>(writer: &mut W, params: &Params, slot: Option<u32>) -> io::Result<()>
+    ensures { Writes W.contents writer.old writer.new result (named_text params.now slot) }
+{
+    match slot {
+        Some(slot) if 1 <= slot && slot <= u32::from(params.static_slots) => {
+            write_static(writer, params, slot as u16)
+        }
+        _ => write!(writer, " - -"),
+    }
 }
 
 /// Returns whether no slot of the cluster has this frame ID.
@@ -325,13 +374,20 @@ fn is_lawless(judge: &Judge, id: u16) -> bool
     id == 0 || (id > params.static_slots && params.minislots == 0)
 }
 
-/// Writes the nearest cycle with the count that the header of a broken record names.
+/// Writes what the header of a broken record names: the nearest cycle with its count, a static slot, and the sender.
 #[tactic(auto, unfolding(crate::specs::FrameText::broken_text))]
-fn write_broken<W: Write>(writer: &mut W, lane: &Lane, count: Option<Cycle>) -> io::Result<()>
-    ensures { Writes W.contents writer.old writer.new result (broken_text lane.now count) }
+fn write_broken<W: Write>(
+    writer: &mut W,
+    rules: &Rules,
+    lane: &Lane,
+    place: &Place,
+) -> io::Result<()>
+    ensures { Writes W.contents writer.old writer.new result (broken_text rules.now.cluster lane.now place.now) }
 {
-    write_nearest(writer, known_on(lane), count)?;
-    write!(writer, " - - - - -")
+    write_nearest(writer, known_on(lane), place.cycle)?;
+    write_named(writer, rules.cluster.params(), place.slot)?;
+    write_node(writer, rules, place)?;
+    write!(writer, " - - -")
 }
 
 /// Writes the place and the content of a good frame, and the cycle beside its own.
@@ -340,12 +396,20 @@ fn write_placed<W: Write>(
     judge: &Judge,
     channel: Channel,
     waits: bool,
+    place: &Place,
     frame: &LentFrame<'_>,
 ) -> io::Result<()>
-    ensures { Writes W.contents writer.old writer.new result (placed_text judge.now channel waits frame.now) }
+    ensures { Writes W.contents writer.old writer.new result
+        (placed_text judge.now channel waits place.now frame.now) }
 {
-    let params = judge.rules().cluster.params();
-    write_good(writer, params, judge.lane(channel), waits, frame)?;
+    write_good(
+        writer,
+        judge.rules(),
+        judge.lane(channel),
+        waits,
+        place,
+        frame,
+    )?;
     write_beside(writer, judge, channel, frame.cycle)
 }
 
@@ -355,19 +419,19 @@ fn write_spelled<W: Write>(
     writer: &mut W,
     judge: &Judge,
     channel: Channel,
-    count: Option<Cycle>,
+    place: &Place,
     original: u32,
     bytes: &[u8],
 ) -> io::Result<()>
     ensures { Writes W.contents writer.old writer.new result
-        (spelled_text judge.now channel judge.now.records count (spelled channel original bytes.now)) }
+        (spelled_text judge.now channel judge.now.records place.now (spelled channel original bytes.now)) }
 {
     match spelled(channel, original, bytes) {
         Ok(frame) if !is_lawless(judge, frame.id) => {
             let waits = is_waiting(judge.lane(channel), judge.records());
-            write_placed(writer, judge, channel, waits, &frame)
+            write_placed(writer, judge, channel, waits, place, &frame)
         }
-        _ => write_broken(writer, judge.lane(channel), count),
+        _ => write_broken(writer, judge.rules(), judge.lane(channel), place),
     }
 }
 
@@ -405,7 +469,7 @@ fn write_frame<W: Write>(
     };
     let place = place_in(channel, bytes);
     write_front(writer, &at, &place)?;
-    write_spelled(writer, judge, channel, place.cycle, head.original, bytes)?;
+    write_spelled(writer, judge, channel, &place, head.original, bytes)?;
     writeln!(writer)
 }
 
