@@ -14,7 +14,7 @@ use Rattle.fr_cli.specs.declared.view.ViewOrder.TheVariants as the_order
 use Rattle.fr_cli.specs.declared.error.OrderError.{OrderError}
 use Rattle.fr_cli.specs.declared.error.OrderError.TheVariants as refusal
 use Rattle.fr_cli.specs.declared.view.Asked.{Asked}
-use Rattle.fr_cli.specs.declared.view.Asked.TheVariants.{Reasons, Origins}
+use Rattle.fr_cli.specs.declared.view.Asked.TheVariants.{Reasons, Origins, Received}
 use Rattle.fr_cli.specs.declared.view.Asked.TheVariants.{Outcome, Answers, Commits, Record, Windows, Heard, Trace}
 use Rattle.fr_cli.specs.ViewOrders.{IsAnswerTo, IsOrder, IsScheduleBy, IsShowBy, asked_by, asks, channel_asked}
 use Rattle.fr_cli.specs.ViewOrders.{cycle_asked, drawn_by, from_asked, has_schedule_by, has_show_by, matrix_of}
@@ -241,6 +241,7 @@ asked_with name node drawn =
     else if bytes_eq name (codes "windows") then Some Windows
     else if bytes_eq name (codes "reasons") then Some Reasons
     else if bytes_eq name (codes "origins") then Some Origins
+    else if bytes_eq name (codes "received") then Some Received
     else if bytes_eq name (codes "bus") then Some Heard
     else if bytes_eq name (codes "trace") then option_map Trace (node_asked node)
     else if bytes_eq name (codes "matrix") then drawn else None

@@ -6,7 +6,7 @@ use Rattle.std.specs.Str.{bytes_eq}
 use Rattle.clap.specs.Words.{App, Row, Rule, Text, fault_of, first_of, new_app, new_rule, subcommand_of}
 use Rattle.clap.specs.Words.{with_rule, with_subcommand}
 use Rattle.fr_cli.specs.declared.view.Asked.{Asked}
-use Rattle.fr_cli.specs.declared.view.Asked.TheVariants.{Reasons, Origins}
+use Rattle.fr_cli.specs.declared.view.Asked.TheVariants.{Reasons, Origins, Received}
 use Rattle.fr_cli.specs.declared.view.Asked.TheVariants.{Outcome, Answers, Commits, Record, Windows, Heard, Trace}
 use Rattle.fr_cli.specs.declared.view.Asked.TheVariants.{Matrix}
 use Rattle.fr_slots.specs.declared.channel.Channel.{Channel}
@@ -110,8 +110,11 @@ line_commands = with_subcommand with_record (of_long_run (codes "windows")).top
 abbrev pub with_reasons : App
 with_reasons = with_subcommand line_commands (of_long_run (codes "reasons")).top
 
+abbrev pub with_origins : App
+with_origins = with_subcommand with_reasons (of_long_run (codes "origins")).top
+
 abbrev pub cause_commands : App
-cause_commands = with_subcommand with_reasons (of_long_run (codes "origins")).top
+cause_commands = with_subcommand with_origins (of_long_run (codes "received")).top
 
 -- and with those that show it in another form
 abbrev pub with_bus : App
@@ -202,6 +205,7 @@ asked_by name first_word =
     else if bytes_eq name (codes "windows") then Some Windows
     else if bytes_eq name (codes "reasons") then Some Reasons
     else if bytes_eq name (codes "origins") then Some Origins
+    else if bytes_eq name (codes "received") then Some Received
     else if bytes_eq name (codes "bus") then Some Heard
     else if bytes_eq name (codes "trace") then option_map Trace (node_asked (first_word (codes "NODE")))
     else if bytes_eq name (codes "matrix") then drawn_by first_word
@@ -237,6 +241,7 @@ streamed_by name =
     else if bytes_eq name (codes "windows") then Some streamed.Windows
     else if bytes_eq name (codes "reasons") then Some streamed.Reasons
     else if bytes_eq name (codes "origins") then Some streamed.Origins
+    else if bytes_eq name (codes "received") then Some streamed.Received
     else if bytes_eq name (codes "bus") then Some streamed.Heard
     else None
 

@@ -39,6 +39,8 @@ pub enum Asked {
     Reasons,
     /// The answers, with the cycle of the run in which each frame came.
     Origins,
+    /// A line for each node and window, with the node's observations.
+    Received,
     /// A capture of the bus, as a passive listener receives it.
     Heard,
     /// The trace of the node of this number, 0 to 15.
@@ -73,6 +75,8 @@ pub enum StreamAsked {
     Reasons,
     /// The answers, with the cycle of the run in which each frame came.
     Origins,
+    /// A line for each node and window, with the node's observations.
+    Received,
     /// A capture of the bus, as a passive listener receives it.
     Heard,
 }
@@ -263,7 +267,8 @@ fn cause_commands<'a>(alloc: Global, lines: Command<'a>) -> Result<Command<'a>, 
     ensures { IfOk result (λ c. app_of c ≡ cause_commands) }
 {
     let first = lines.subcommand(of_long_run(alloc, "reasons")?)?;
-    first.subcommand(of_long_run(alloc, "origins")?)
+    let second = first.subcommand(of_long_run(alloc, "origins")?)?;
+    second.subcommand(of_long_run(alloc, "received")?)
 }
 
 /// Returns the program with all its commands.
@@ -437,6 +442,7 @@ fn asked_in(name: &str, arguments: &ArgMatches<'_>) -> Option<Asked>
         "windows" => Some(Asked::Windows),
         "reasons" => Some(Asked::Reasons),
         "origins" => Some(Asked::Origins),
+        "received" => Some(Asked::Received),
         "bus" => Some(Asked::Heard),
         "trace" => Some(Asked::Trace(node_of(arguments.get_str("NODE")?)?)),
         "matrix" => drawn_in(arguments),
@@ -470,6 +476,7 @@ fn streamed_in(name: &str) -> Option<StreamAsked>
         "windows" => Some(StreamAsked::Windows),
         "reasons" => Some(StreamAsked::Reasons),
         "origins" => Some(StreamAsked::Origins),
+        "received" => Some(StreamAsked::Received),
         "bus" => Some(StreamAsked::Heard),
         _ => None,
     }

@@ -41,7 +41,8 @@ use Rattle.fr_streaming.specs.CommitLog.{AddsToLog}
 use Rattle.fr_streaming.specs.declared.log.CallPlace.{CallPlace}
 use Rattle.fr_streaming.specs.declared.telling.Streamed.{Streamed}
 use Rattle.fr_streaming.specs.declared.telling.Streamed.TheVariants.{Outcome, Answers, Commits, Record, Windows}
-use Rattle.fr_streaming.specs.declared.telling.Streamed.TheVariants.{Reasons, Origins, Heard}
+use Rattle.fr_streaming.specs.Received.{received_text}
+use Rattle.fr_streaming.specs.declared.telling.Streamed.TheVariants.{Reasons, Origins, Received, Heard}
 use Rattle.fr_streaming.specs.LogSteps.{call_text, place_in, IsBetween}
 use Rattle.fr_streaming.specs.Streams.{asked, told_call, Breaks, Goes, MakesCalls, TellsBetween}
 
@@ -105,6 +106,9 @@ call_told Origins s d l w made v place answer history world does place_is is rep
     (sym reply_is)
     ∙ ap₂ (λ (c : Option ℕ) (channel : Option Channel). came_line c channel (asked_of made) made.reply) came channel
     ∙ sym (append-nil (origin_line v made))
+call_told Received s d l w made v place answer history world does place_is is reply_is =
+    ap (λ (b : BusState). received_text d b.sealed) (bus_kept w made v does)
+    ∙ sym (append-nil (received_text d w.bus.sealed))
 call_told Heard s d l w made v place answer history world does place_is is reply_is =
     ap (λ (b : BusState). capture_of d.params b.sealed) (bus_kept w made v does)
     ∙ sym (append-nil (capture_of d.params w.bus.sealed))

@@ -10,5 +10,6 @@ pub mod LogEndLemmas
 pub mod LogTextLemmas
 pub mod TellLemmas
 pub mod CallLemmas
+pub mod ReceivedLemmas
 pub mod StreamLemmas
 pub mod CommitLawLemmas

@@ -49,7 +49,8 @@ use Rattle.fr_streaming.proofs.LedLemmas.{err_as, executes_none, executes_then, 
 use Rattle.fr_streaming.proofs.LedLemmas.{windows_executed, within_executed, cycle_executed, cycles_executed}
 use Rattle.fr_streaming.specs.declared.telling.Streamed.{Streamed}
 use Rattle.fr_streaming.specs.declared.telling.Streamed.TheVariants.{Outcome, Answers, Commits, Record, Windows}
-use Rattle.fr_streaming.specs.declared.telling.Streamed.TheVariants.{Reasons, Origins, Heard}
+use Rattle.fr_streaming.specs.Received.{received_in, received_text}
+use Rattle.fr_streaming.specs.declared.telling.Streamed.TheVariants.{Reasons, Origins, Received, Heard}
 use Rattle.fr_streaming.specs.CommitLog.{AddsToLog}
 use Rattle.fr_streaming.specs.LogSteps.{IsBetween}
 use Rattle.fr_streaming.specs.Runs.{opening}
@@ -94,6 +95,7 @@ module _ (s : Contents) (d : Description) where
   told_after Windows cycles calls v text world tells = append-nil text ∙ sym tells
   told_after Reasons cycles calls v text world tells = append-nil text ∙ sym tells
   told_after Origins cycles calls v text world tells = append-nil text ∙ tells
+  told_after Received cycles calls v text world tells = append-nil text ∙ sym tells
   told_after Heard cycles calls v text world tells =
       ap (λ (t : List ℕ). file_header ++ t) (append-nil text)
       ∙ ap (λ (t : List ℕ). t ++ text) (sym (append-nil file_header)) ∙ sym tells
@@ -130,6 +132,12 @@ module _ (s : Contents) (d : Description) where
       ∙ ap (λ (o : Option Recorded). reasons_text s d w.bus.sealed
       ++ told_last Reasons s d n.bus.bus.course.begun o []) (sym last)
   window_told Origins cycle nodes faults l n w v nodes_is plays from is = refl
+  window_told Received cycle nodes faults l n w v nodes_is plays from is =
+      let (made, grows, last, begun) = sealed_more cycle nodes faults n w v plays is in
+      ap (received_text d) grows ∙ each_after-snoc (said_after (received_in d)) w.bus.sealed made
+      ∙ ap (λ (k : ℕ). received_text d w.bus.sealed ++ received_in d (k - 1) made) begun
+      ∙ ap (λ (o : Option Recorded). received_text d w.bus.sealed
+      ++ told_last Received s d n.bus.bus.course.begun o []) (sym last)
   window_told Heard cycle nodes faults l n w v nodes_is plays from is =
       let (made, grows, last, begun) = sealed_more cycle nodes faults n w v plays is in
       ap (capture_of d.params) grows
@@ -150,6 +158,7 @@ module _ (s : Contents) (d : Description) where
   tells_none Windows w = sym (append-nil (spans_text d.params w.bus.sealed))
   tells_none Reasons w = sym (append-nil (reasons_text s d w.bus.sealed))
   tells_none Origins w = refl
+  tells_none Received w = sym (append-nil (received_text d w.bus.sealed))
   tells_none Heard w = sym (append-nil (capture_of d.params w.bus.sealed))
 
   pub tells_then : (streamed : Streamed) (w u v : WorldState) (xs ys : List ExecutedCall) (a b : List ℕ)
@@ -174,6 +183,8 @@ module _ (s : Contents) (d : Description) where
       ap₂ (λ (x y : List ℕ). x ++ y)
       (one ∙ origins_kept w xs u v first (executes_keeps u ys v second)) two
       ∙ sym (flat_map-append (origin_line v) xs ys)
+  tells_then Received w u v xs ys a b first second one two =
+      two ∙ ap (λ (t : List ℕ). t ++ b) one ∙ append_assoc (received_text d w.bus.sealed) a b
   tells_then Heard w u v xs ys a b first second one two =
       two ∙ ap (λ (t : List ℕ). t ++ b) one ∙ append_assoc (capture_of d.params w.bus.sealed) a b
 

@@ -29,8 +29,9 @@ use Rattle.fr_streaming.specs.declared.log.CallPlace.{CallPlace}
 use Rattle.fr_streaming.specs.declared.log.NodeOffers.{NodeOffers}
 use Rattle.fr_streaming.specs.declared.telling.Streamed.{Streamed}
 use Rattle.fr_streaming.specs.declared.telling.Streamed.TheVariants.{Outcome, Answers, Commits, Record, Windows}
-use Rattle.fr_streaming.specs.declared.telling.Streamed.TheVariants.{Reasons, Origins, Heard}
+use Rattle.fr_streaming.specs.declared.telling.Streamed.TheVariants.{Reasons, Origins, Received, Heard}
 use Rattle.fr_streaming.specs.LogSteps.{call_text, offers_in, sent_from, IsBetween}
+use Rattle.fr_streaming.specs.Received.{received_in, received_text}
 
 -- ---- the text as the run goes
 
@@ -43,6 +44,7 @@ IsTold Record s d w calls text = text ≡ record_text s d.params w.bus.sealed
 IsTold Windows s d w calls text = text ≡ spans_text d.params w.bus.sealed
 IsTold Reasons s d w calls text = text ≡ reasons_text s d w.bus.sealed
 IsTold Origins s d w calls text = text ≡ flat_map (origin_line w) calls
+IsTold Received s d w calls text = text ≡ received_text d w.bus.sealed
 IsTold Heard s d w calls text = text ≡ capture_of d.params w.bus.sealed
 
 -- what the view has before the first window
@@ -54,6 +56,7 @@ told_opening Record = []
 told_opening Windows = []
 told_opening Reasons = []
 told_opening Origins = []
+told_opening Received = []
 told_opening Heard = file_header
 
 -- what the view has of a call at this place with this answer of its interface
@@ -65,6 +68,7 @@ told_call Record asked place answer = []
 told_call Windows asked place answer = []
 told_call Reasons asked place answer = []
 told_call Origins asked place answer = origin_answered asked answer
+told_call Received asked place answer = []
 told_call Heard asked place answer = []
 
 -- the commits that the nodes offer in the open window, as far as the view has any
@@ -76,6 +80,7 @@ offers_for Record l = []
 offers_for Windows l = []
 offers_for Reasons l = []
 offers_for Origins l = []
+offers_for Received l = []
 offers_for Heard l = []
 
 -- what the view has of the window that was sealed last, when so many cycles have begun, of these offers
@@ -91,6 +96,8 @@ told_last Windows s d begun (Some r) offers = span_line d.params (begun - 1) r
 told_last Reasons s d begun None offers = []
 told_last Reasons s d begun (Some r) offers = reasons_in s d (begun - 1) r
 told_last Origins s d begun last offers = []
+told_last Received s d begun None offers = []
+told_last Received s d begun (Some r) offers = received_in d (begun - 1) r
 told_last Heard s d begun None offers = []
 told_last Heard s d begun (Some r) offers = window_records d.params (begun - 1) r
 
@@ -103,6 +110,7 @@ told_closing Record w = []
 told_closing Windows w = []
 told_closing Reasons w = []
 told_closing Origins w = []
+told_closing Received w = []
 told_closing Heard w = []
 
 -- ---- calls of tasks among events
@@ -148,6 +156,8 @@ TellsBetween Windows s d old calls new text =
 TellsBetween Reasons s d old calls new text =
     reasons_text s d new.bus.sealed ≡ reasons_text s d old.bus.sealed ++ text
 TellsBetween Origins s d old calls new text = text ≡ flat_map (origin_line new) calls
+TellsBetween Received s d old calls new text =
+    received_text d new.bus.sealed ≡ received_text d old.bus.sealed ++ text
 TellsBetween Heard s d old calls new text =
     capture_of d.params new.bus.sealed ≡ capture_of d.params old.bus.sealed ++ text
 

@@ -1,5 +1,6 @@
 //! Runs of a scenario without history: a view of the run is written as it goes, so that a run of hours needs the memory
-//! of one cycle. It is the answers of the calls, a log of the commits, the record of the bus, or a capture of it.
+//! of one cycle. It is the answers of the calls, a log of the commits, the record of the bus, a capture of it, or what
+//! each node receives.
 //!
 //! ```text
 //! let notes = stream_run(alloc, &cluster, &names, &mut scenario_file, cycles, Streamed::Record, &mut output)?;
@@ -11,6 +12,7 @@
 //!
 //! - `Streams`: the text of a view after some calls and windows, and what a run in a world without history has written.
 //! - `CommitLog`: the lines of the log of commits, by the journals of the world with its whole history.
+//! - `Received`: what each node receives in a window.
 //! - `CommitLaws`: what happens to the commits of a journal; the log and the view of all commits after a run follow
 //!   from it.
 //! - `Runs`: the run of a scenario, and the reasons why there is none.
@@ -33,6 +35,7 @@ mod hindrance;
 pub mod laws;
 mod log;
 mod playing;
+mod received;
 pub mod stream;
 mod telling;
 mod windows;

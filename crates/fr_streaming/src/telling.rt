@@ -10,6 +10,7 @@ ghost use Rattle.fr_text.specs.Writing.{Writes};
 
 use crate::hindrance::Hindrance;
 use crate::log::{AllOffers, CallPlace, NodeOffers, offers_in, write_call, write_left, write_sent};
+use crate::received::write_received;
 use fr_bus::live::LiveBus;
 use fr_capture::pcap::write_file_header;
 use fr_core::event::Event;
@@ -44,6 +45,8 @@ pub enum Streamed {
     Reasons,
     /// The answers, with the cycle of the run in which each frame came.
     Origins,
+    /// A line for each node and window, with the node's observations.
+    Received,
     /// A capture of the frames at a passive listener on the bus.
     Heard,
 }
@@ -172,6 +175,7 @@ fn write_last<W: Write>(
         Streamed::Reasons => {
             reasons::write_window(writer, scenario, cluster, cycle as usize, sealed)
         }
+        Streamed::Received => write_received(writer, cluster, cycle, sealed),
         Streamed::Heard => listener::write_window(writer, params, cycle, sealed),
     }
 }

@@ -34,6 +34,7 @@ shown_of asked.Record = Some shown.Record
 shown_of asked.Windows = Some shown.Windows
 shown_of asked.Reasons = None
 shown_of asked.Origins = None
+shown_of asked.Received = None
 shown_of asked.Heard = Some shown.Heard
 shown_of (asked.Trace node) = option_map shown.Trace (number_within 0 last_node node)
 shown_of (asked.Matrix channel None from from_window) = Some (drawn channel None from from_window)
@@ -49,6 +50,7 @@ streamed_of asked_stream.Record = streamed.Record
 streamed_of asked_stream.Windows = streamed.Windows
 streamed_of asked_stream.Reasons = streamed.Reasons
 streamed_of asked_stream.Origins = streamed.Origins
+streamed_of asked_stream.Received = streamed.Received
 streamed_of asked_stream.Heard = streamed.Heard
 
 -- ---- all commands
@@ -67,6 +69,8 @@ task_of (order.Show asked.Reasons cluster scenario cycles) =
     Some (task.Stream streamed.Reasons cluster scenario cycles)
 task_of (order.Show asked.Origins cluster scenario cycles) =
     Some (task.Stream streamed.Origins cluster scenario cycles)
+task_of (order.Show asked.Received cluster scenario cycles) =
+    Some (task.Stream streamed.Received cluster scenario cycles)
 task_of (order.Show asked cluster scenario cycles) =
     option_map (λ s. task.Run s cluster scenario cycles) (shown_of asked)
 task_of (order.Stream asked cluster scenario cycles) =

@@ -19,6 +19,7 @@
 //! fr_view windows cluster.toml scenario --cycles 8   when each window begins, and how long its slots last
 //! fr_view reasons cluster.toml scenario --cycles 8   why commits weren't sent or received
 //! fr_view origins cluster.toml scenario --cycles 8   the answers, with the cycle in which each frame came
+//! fr_view received cluster.toml scenario --cycles 8  what each node receives in each window
 //! fr_view bus cluster.toml scenario --cycles 8       the frames at a listener on the bus, as a capture
 //! fr_view matrix cluster.toml scenario --cycles 8    the transmissions on the bus, as a picture
 //! fr_view trace 0 cluster.toml scenario --cycles 8   the trace of a node after the run
@@ -92,6 +93,8 @@ fr_view reasons FILE SCENARIO --cycles N [--endless]
     why commits weren't sent or received: when dynamic slots open, and what faults do
 fr_view origins FILE SCENARIO --cycles N [--endless]
     the same as answers, with the cycle in which each frame came
+fr_view received FILE SCENARIO --cycles N [--endless]
+    what each node receives in each window, what it counts, and what stores it
 fr_view bus FILE SCENARIO --cycles N [--endless] > CAPTURE
     what a listener on the bus hears, as a capture that Wireshark opens
     --endless, of all these: a run of up to 4,000,000 cycles, written as it goes
@@ -195,7 +198,7 @@ fn stream_files<R: Files + Print + Eprint + AllocGlobal + Clock>(
     )?;
     tell_skipped(rt, notes.skipped.as_slice());
     for number in &notes.unjudged {
-        let _ = eprintln!(rt; "line {number} is not judged in an endless run");
+        let _ = eprintln!(rt; "line {number} is not judged in a run without history");
     }
     Ok(())
 }

@@ -87,7 +87,7 @@ fn shown_of(asked: Asked) -> Option<Shown>
         Asked::Record => Some(Shown::Record),
         Asked::Windows => Some(Shown::Windows),
         // These are written as the run goes.
-        Asked::Reasons | Asked::Origins => None,
+        Asked::Reasons | Asked::Origins | Asked::Received => None,
         Asked::Heard => Some(Shown::Heard),
         Asked::Trace(node) => Some(Shown::Trace(NodeId::new(node)?)),
         Asked::Matrix {
@@ -127,6 +127,7 @@ fn streamed_of(asked: StreamAsked) -> Streamed
         StreamAsked::Windows => Streamed::Windows,
         StreamAsked::Reasons => Streamed::Reasons,
         StreamAsked::Origins => Streamed::Origins,
+        StreamAsked::Received => Streamed::Received,
         StreamAsked::Heard => Streamed::Heard,
     }
 }
@@ -177,6 +178,17 @@ pub fn task_of(order: ViewOrder<'_>) -> Option<Task<'_>>
             cycles,
         } => Some(Task::Stream {
             streamed: Streamed::Origins,
+            cluster,
+            scenario,
+            cycles: u32::from(cycles),
+        }),
+        ViewOrder::Show {
+            asked: Asked::Received,
+            cluster,
+            scenario,
+            cycles,
+        } => Some(Task::Stream {
+            streamed: Streamed::Received,
             cluster,
             scenario,
             cycles: u32::from(cycles),

@@ -42,6 +42,18 @@ returns-in_err-write_whole-clause-early g c =
     (subst (FallsShort a b) (c.as_slice-2.ensures.value ∙ c.in-Ok-opening_in.ensures.text)
     c.in_err-write_whole.ensures.cut))
 
+pub returns-in_err-write_whole-clause-refused : goal.returns-in_err-write_whole-clause-refused
+returns-in_err-write_whole-clause-refused g c =
+    let d = c.args.cluster.now in
+    let s = c.args.scenario.now in
+    let n = c.args.cycles in
+    let e = c.in_err-write_whole.field-0.0 in
+    let gone : c.from_residual-in_err-write_whole.result ≡ Err (refusal.Text e) = search rules in
+    let named = gone ∙ ap (λ (x : BenchError). Err (refusal.Text x)) c.in_err-write_whole.ensures.refused in
+    let checks : ChecksStream d s (min n 1024) (Ok tt) =
+    subst (λ (k : ℕ). ChecksStream d s k (Ok tt)) c.min.ensures c.in_ok-check_named.ensures in
+    subst (TellsRun d s n) (sym named) (not_refused d s n c.in_ok-world.ensures.0 checks)
+
 pub returns-in-Err-clause-refused : goal.returns-in-Err-clause-refused
 returns-in-Err-clause-refused g c =
     let d = c.args.cluster.now in
