@@ -149,6 +149,28 @@ class Recordings(Monitor):
         self.assertEqual(running.returncode, 3)
 
 
+STAND_IN = ("frame 1 0.000000000 0 A 1 - 0 20 1 -ns- x0000 -", "frame 2 0.000010000 0 B 1 - 0 20 0 -ns- x0000 -",
+            "frame 3 0.000020000 5 A 2 - 20 20 - -n-- x0000 -", "finding 1 0.000000000 0 A 1 Cycle - 0",
+            "finding 3 0.000020000 5 A 2 Order 2 2", "frame 4 0.000030000 5 A 2 7 20 20 1 - - -",
+            "finding 4 0.000030000 5 A 2 HeaderCrc x001 x002", "finding 4 0.000030000 5 A 1 Missing 1 0",
+            "finding 4 0.000030000 - B - Silent 5 -", "finding - - - A - Nothing - -",
+            "records 4 foreign 0 symbols 0 skipped 0")
+"""Lines in which the cluster's senders are exchanged. Frames 1 and 3 wait."""
+
+
+class Senders(Monitor):
+    def test_senders_are_those_of_the_program(self) -> None:
+        """A finding has the sender of the frame of its record, or the node that it names."""
+        program = self.folder / "fr_monitor"
+        program.write_text(f"#!{sys.executable} -IS\nimport sys\nprint({chr(10).join(STAND_IN)!r})\nsys.exit(3)\n")
+        program.chmod(0o755)
+        with patch.dict(os.environ, MUSMYRTLE_MONITOR=str(program)):
+            found = self.found(frames(1))
+        self.assertEqual([(it[0], it[4], it[5]) for it in found], [
+            (1, "brake", "Cycle"), (3, None, "Order"), (4, "brake", "HeaderCrc"), (4, "brake", "Missing"),
+            (4, None, "Silent"), (None, None, "Nothing")])
+
+
 class Refusals(Monitor):
     def test_recordings(self) -> None:
         broken = self.written("broken", "no capture")

@@ -163,7 +163,8 @@ class Scripts(Pages):
         self.assertIn("On A it may be used by pedal (0) in every cycle.", slot["details"])
         self.assertIn("What it carried (2)", slot["details"])
         self.assertIn("Slot 3 on A in cycle 1, minislot 1It begins at 280 µs and takes 40 µs.", window["details"])
-        self.assertIn("What each node received (2)nodestatuserrorstored inpedal (0)ownbrake (1)validFIFO",
+        self.assertIn("What each node received (2)nodeobservationcounted asstored inpedal (0)own"
+                      "brake (1)framevalidFIFO",
                       window["details"])
 
     def test_faults_and_errors(self) -> None:
@@ -175,7 +176,7 @@ class Scripts(Pages):
         self.assertIn("It took effect in 1 window.", effect["details"])
         self.assertIn("It had no effect in the whole run.", idle["details"])
         self.assertEqual(error["status"], "Slot 1 on B in cycle 0")
-        self.assertIn("pedal (0)conflictbrake (1)conflict", error["details"])
+        self.assertIn("pedal (0)conflictconflictbrake (1)conflictconflict", error["details"])
         self.assertEqual(collision["status"], "There is no earlier collision.")
         self.assertEqual(none["status"], "There is no later error.")
 

@@ -16,7 +16,11 @@ from tests.shows import NETWORK, SCENE, THREE
 TOP = Path(__file__).resolve().parents[2]
 RANDOM_RUNS = 6
 COMMON = ("windows", "record", "idle", "outcomes", "tables", "parts", "commits", "answers", "sources")
-"""The facts that both pages have."""
+"""The facts that each page has."""
+SEEN = ("counts", "stored")
+"""Those of a page that shows what each node received."""
+NO_PLACE = "musmyrtle.show.page_received.MOST_PLACES"
+"""The limit of the places for what nodes received."""
 CUT_OFF = """#!{python}
 import os, signal, subprocess, sys
 words = sys.argv[1:]
@@ -32,12 +36,16 @@ os.kill(os.getpid(), signal.SIGKILL)
 @needs_node
 class Endless(Pages):
     def compared(self, run: list[str]) -> None:
-        """Compares both pages of a run."""
-        history, endless = self.facts(self.page(*run, name="history.html"),
-                                      self.page(*run, "--endless", name="endless.html"))
-        for key in COMMON:
+        """Compares the pages of a run: with history, without it, and without room for what each node received."""
+        pages = [self.page(*run, name="history.html"), self.page(*run, "--endless", name="endless.html")]
+        with mock.patch(NO_PLACE, 0):
+            pages.append(self.page(*run, "--endless", name="long.html"))
+        history, endless, long = self.facts(*pages)
+        for key in (*COMMON, *SEEN):
             with self.subTest(key):
                 self.assertEqual(endless[key], history[key])
+        self.assertEqual({key: long[key] for key in COMMON}, {key: history[key] for key in COMMON})
+        self.assertEqual((long["counts"], long["stored"]), (None, []))
 
     def test_the_run_of_two_nodes(self) -> None:
         self.compared(self.run_of())
@@ -63,12 +71,21 @@ class Endless(Pages):
                 compared += 1
         self.assertEqual(compared, RANDOM_RUNS)
 
-    def test_commits_of_an_endless_run(self) -> None:
-        """A commit leads to its receiver, and the receive buffer to the commits that it stored."""
+    def test_what_nodes_received(self) -> None:
+        """The first frame of the pedal comes to a receive buffer of the brake. Nothing is missing on the page."""
         page = self.page(*self.run_of(), "--endless")
+        first, error, _, buffer = self.walked(page, "press n", "click nodes brake", "click details position")
+        self.assertEqual(first["missing"], "")
+        self.assertIn("It stored 1 frame in the run.", buffer["details"])
+        self.assertIn("pedal (0)conflictconflictbrake (1)conflictconflict", error["details"])
+
+    def test_a_run_with_too_many_places(self) -> None:
+        """A commit leads to its receiver, and the receive buffer to the commits that it stored."""
+        with mock.patch(NO_PLACE, 0):
+            page = self.page(*self.run_of(), "--endless")
         first, _, commit, brake, buffer = self.walked(
             page, "click nodes pedal", "click details cycle 0", "click nodes brake", "click details position")
-        self.assertIn("What each node received in each window isn't known", first["missing"])
+        self.assertIn("This run is too long to show what each node received", first["missing"])
         self.assertIn("Result: received by brake (1) position (1).", commit["details"])
         self.assertIn("state (2)x2222slot 4 opened at minislot 5, latest is 3, in cycles 0-1", brake["details"])
         self.assertIn("Commits that it stored (1)sent incommit", buffer["details"])
@@ -112,11 +129,10 @@ class Endless(Pages):
             self.assertEqual((status, text), (1, ""))
             self.assertIn(f"musmyrtle: refused {refusal}", told)
 
-    def test_a_world_that_is_missing(self) -> None:
+    def test_no_world_is_asked(self) -> None:
         with mock.patch.dict(os.environ, MUSMYRTLE_WORLD=str(self.folder / "none")):
-            status, text, told = self.asked("page", *self.run_of(), "--endless")
-        self.assertEqual((status, text), (2, ""))
-        self.assertIn("fr_world is looked for in this order", told)
+            status, _, told = self.asked("page", *self.run_of(), "--endless")
+        self.assertEqual((status, told), (0, ""))
 
     def test_a_program_that_is_killed_within_a_line(self) -> None:
         program = os.environ.get("MUSMYRTLE_VIEW") or usual_program("fr_view") or "fr_view"

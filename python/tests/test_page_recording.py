@@ -22,7 +22,7 @@ from tests.test_monitor import CYCLE, HEADER, SLOT, Monitor, frame, sealed
 
 LOG = bytes(range(32))
 KINDS = {"u8": "B", "u16": "H", "u32": "I"}
-NOTHING = 2**32 - 1
+NOTHING, NO_COUNT = 2**32 - 1, 255
 MONITOR = usual_program("fr_monitor") or "fr_monitor"
 
 
@@ -66,6 +66,11 @@ class Recorded(Monitor, Pages):
         return header, lines_of(columns)
 
 
+    def counts(self, records: list[tuple[int, bytes]], *words: str, status: int = 0) -> list[Any]:
+        """Returns the count of each cycle on the page of some records."""
+        return unpacked(self.page_text(records, *words, status=status))[1]["cycle_count"]
+
+
 def static(cycle: int, count: int | None = None) -> list[tuple[int, bytes]]:
     """Returns the times and the frames of both static slots in a cycle, with this cycle count."""
     return [(cycle * CYCLE + (slot - 1) * SLOT, frame(channel, slot, cycle if count is None else count))
@@ -84,7 +89,7 @@ class Places(Recorded):
             (0, 40, 3, 20, "A", 0, "offer", "alone", 5), (0, 60, 4, 5, "A", 1, "offer", late, 6),
             (1, 100, 1, 20, "A", 0, "offer", "alone", 7), (1, 100, 1, 20, "B", 0, "offer", "alone", 8),
             (1, 120, 2, 20, "A", 1, "offer", "alone", 9), (1, 120, 2, 20, "B", 1, "offer", "alone", 10)])
-        self.assertEqual((header["cycles"], header["first_cycle"], header["first_count"]), (2, 0, 0))
+        self.assertEqual((header["cycles"], header["first_cycle"]), (2, 0))
         self.assertEqual([it[:7] for it in header["findings"]],
                          [[6, "0.000130000", 0, "A", 4, 1, f"Late: {late}"]])
 
@@ -118,7 +123,8 @@ class Places(Recorded):
         records = [it for place, its in enumerate(cycles) for it in its if place >= 2 or it[1][0] == 1]
         header, lines = self.data(records)
         self.assertEqual(sorted({it[0] for it in lines if it[4] == "B"}), [2, 3])
-        self.assertEqual((header["cycles"], header["first_count"]), (4, 62))
+        self.assertEqual(header["cycles"], 4)
+        self.assertEqual(self.counts(records), [62, 63, 0, 1])
 
     def test_lost_cycles(self) -> None:
         """Cycles 1 to 4 were lost, and have no windows."""
@@ -127,13 +133,15 @@ class Places(Recorded):
         self.assertEqual(sorted({it[0] for it in lines}), [0, 5, 6])
         self.assertEqual((header["cycles"], [it[6] for it in header["findings"]]),
                          (7, ["Gap: no frame of 4 cycles was recorded"] * 2))
+        self.assertEqual(self.counts(records, status=3), [0, *[NO_COUNT] * 4, 5, 6])
 
     def test_a_part(self) -> None:
         """Cycles 2 and 3 of five begin at macrotick 0, and keep their numbers."""
         records = [it for cycle in range(5) for it in static(cycle)]
         header, lines = self.data(records, "--cycles", "2-3")
         self.assertEqual([it[:2] for it in lines], [(0, 0)] * 2 + [(0, 20)] * 2 + [(1, 100)] * 2 + [(1, 120)] * 2)
-        self.assertEqual((header["cycles"], header["first_cycle"], header["first_count"]), (2, 2, 2))
+        self.assertEqual((header["cycles"], header["first_cycle"]), (2, 2))
+        self.assertEqual(self.counts(records, "--cycles", "2-3"), [2, 3])
         self.assertIn("Only the cycles 2 to 3 of the recording are shown; it has 5 cycles.", header["missing"])
         self.assertEqual(self.asked("page", self.cluster, "--recording", self.recording(records), "--cycles", "7"), (
             2, "", "musmyrtle: the recording has no cycle 7: it has 5 cycles\n"))
@@ -238,27 +246,37 @@ class Frames(Recorded):
         records = [*static(0)[::2], (90, frame("A", 3, 0, LOG, True)), (130, frame("A", 4, 0, b"\1\2", True)),
                    *static(1)[::2]]
         self.assertEqual(self.printed_by(records, "--frames"), [
-            "frame 1 0.000000000 0 A 1 - 0 20 -ns- x0000 -", "opens 1 0 -",
-            "frame 2 0.000040000 0 A 2 0 20 20 -n-- x0000 -",
-            f"frame 3 0.000090000 0 A 3 0 40 20 ---- x{LOG.hex()} -",
-            "frame 4 0.000130000 0 A 4 0 60 5 ---- x0102 -", "frame 5 0.000200000 1 A 1 - 0 20 -ns- x0000 -",
-            "opens 5 1 -", "frame 6 0.000240000 1 A 2 1 20 20 -n-- x0000 -"])
+            "frame 1 0.000000000 0 A 1 - 0 20 0 -ns- x0000 -", "opens 1 0 -",
+            "frame 2 0.000040000 0 A 2 0 20 20 1 -n-- x0000 -",
+            f"frame 3 0.000090000 0 A 3 0 40 20 0 ---- x{LOG.hex()} -",
+            "frame 4 0.000130000 0 A 4 0 60 5 1 ---- x0102 -", "frame 5 0.000200000 1 A 1 - 0 20 0 -ns- x0000 -",
+            "opens 5 1 -", "frame 6 0.000240000 1 A 2 1 20 20 1 -n-- x0000 -"])
         self.assertEqual(self.printed_by(records), [])
 
     def test_a_frame_that_waits_at_the_end(self) -> None:
         """The first frame of cycle 1 is the last record: the end opens its cycle."""
         records = [*static(0)[::2], *static(1)[:1]]
         self.assertEqual(self.printed_by(records, "--frames")[-2:], [
-            "frame 3 0.000200000 1 A 1 - 0 20 -ns- x0000 -", "opens 3 1 -"])
+            "frame 3 0.000200000 1 A 1 - 0 20 0 -ns- x0000 -", "opens 3 1 -"])
 
     def test_frames_of_no_cycle(self) -> None:
         """A wrong cycle count opens nothing, a slot came before, and no slot has ID 0."""
         records = [*static(0)[::2], (60, frame("A", 3, 9, b"\1\2", True)), (90, frame("A", 4, 0, b"\1\2", True)),
                    (95, frame("A", 3, 0, b"\1\2", True)), (99, frame("A", 0, 0)), (99, b"\x01\x00\x20")]
         self.assertEqual(self.printed_by(records, "--frames")[3:], [
-            "frame 3 0.000060000 9 A 3 - 40 5 ---- x0102 -", "frame 4 0.000090000 0 A 4 0 45 5 ---- x0102 -",
-            "frame 5 0.000095000 0 A 3 0 - 5 ---- x0102 -", "frame 6 0.000099000 0 A 0 0 - - - - -",
-            "frame 7 0.000099000 - A - - - - - - -"])
+            "frame 3 0.000060000 9 A 3 - 40 5 0 ---- x0102 -", "frame 4 0.000090000 0 A 4 0 45 5 1 ---- x0102 -",
+            "frame 5 0.000095000 0 A 3 0 - 5 0 ---- x0102 -", "frame 6 0.000099000 0 A 0 0 - - - - - -",
+            "frame 7 0.000099000 - A - - - - - - - -"])
+
+    def test_broken_records(self) -> None:
+        """A broken record of a static slot has the place and the sender that its header names, another one no place."""
+        flipped = [bytearray(frame("A", slot, 0)) for slot in (2, 3, 9)]
+        for it in flipped:
+            it[5] ^= 0x40
+        records = [*static(0)[:1], *((SLOT, bytes(it)) for it in flipped), *static(1)[::2]]
+        self.assertEqual([it for it in self.printed_by(records, "--frames") if it.endswith("- - -")], [
+            "frame 2 0.000040000 0 A 2 0 20 20 1 - - -", "frame 3 0.000040000 0 A 3 0 - - 0 - - -",
+            "frame 4 0.000040000 0 A 9 0 - - - - - -"])
 
     def test_cycles_beside_each_other(self) -> None:
         """Channel B begins with count 63, two cycles before channel A. The counts are modulo 64."""

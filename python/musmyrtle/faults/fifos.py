@@ -1,22 +1,26 @@
-"""The frames of a receive FIFO, read from the trace of its node.
+"""The frames of a receive FIFO, from three outputs of the programs on its node, which are put side by side here.
 
-A trace costs no host entry, so it tells the content also where no task can pop the FIFO. `fr_view frames` says which
-frames the FIFO stored; the `pop` entries of the trace say which of them a task took.
+`fr_view frames` names the frames that the FIFO stored. The lines `pop` of the trace name those that tasks popped, by
+the line `see` and the channel. The line `queue` of the report has the numbers of frames that wait and that were
+overwritten. So the last ones that no task popped wait. Nothing is executed again: if the three outputs don't agree, the
+content isn't known. A trace costs no host entry, so this also works where no task can pop the FIFO.
 """
-import math
 from bisect import bisect_right
-from collections import deque
 from collections.abc import Iterable, Iterator
 from dataclasses import dataclass, field
 
-from musmyrtle.cluster import Parameters
 from musmyrtle.faults.children import Children
 from musmyrtle.visible import visible
+from musmyrtle.world.replies import Queue
 
 TABLE = ("time", "cycle", "slot", "channel", "status", "error", "id", "flags", "taker", "bytes")
 """The columns of `fr_view frames`."""
 FIFO_TAKER = "queue"
 """The word for the receive FIFO in the column `taker`."""
+BYTES = ("valid", "content", "syntax", "-")
+"""The states of observed bytes in the column `status`."""
+COUNTS = "queue "
+"""The front of the line of a report with the numbers of frames that wait and that were overwritten."""
 
 
 class Unread(Exception):
@@ -60,81 +64,76 @@ class Fifo:
         return self.kept + self.overwritten
 
 
-class Trace:
-    """The entries of a trace that begins with its run, whose cycles begin with the windows STARTS."""
+class Seen:
+    """The bytes that a node observed, by its trace, in the order of the table: A before B.
 
-    def __init__(self, lines: list[str], starts: list[int], parameters: Parameters) -> None:
-        self.entries = lines[lines.index("begin") + 1:-1]
-        self.starts, self.parameters = starts, parameters
+    STARTS are the first windows of the cycles.
+    """
 
-    def pops(self) -> list[int]:
-        """Returns the numbers of the entries by which tasks popped the FIFO."""
-        return [number for number, line in enumerate(self.entries) if line[0] == "p"]
+    def __init__(self, trace: list[str], starts: list[int]) -> None:
+        self.entries = trace[trace.index("begin") + 1:-1]
+        self.starts = starts
 
-    def begin_before(self, number: int) -> int:
-        """Returns the macrotick of the run at which the last window before an entry begins, or -1 before the first."""
-        while number:
-            number -= 1
-            if self.entries[number].startswith("fetch "):
-                return self.begin_of(self.entries[number])
-        return -1
+    def observations(self) -> Iterator[tuple[str, int]]:
+        """Yields the place of each observation of bytes, as a line `pop` spells it, and its cycle of the run."""
+        for number, line in enumerate(self.entries):
+            if line.startswith("see "):
+                _, window, *words = line.split(" ")
+                for channel, word in zip("AB", words):
+                    if word.startswith("x"):
+                        yield f"{number}:{channel}", bisect_right(self.starts, int(window)) - 1
 
-    def begin_of(self, fetch: str) -> int:
-        it = self.parameters
-        window, _, minislot, slot = (int(word) if word != "-" else 0 for word in fetch.split(" ")[1:5])
-        cycle = bisect_right(self.starts, window) - 1
-        place = (slot - 1) * it.static_mt
-        if minislot:
-            place = it.static_slots * it.static_mt + (minislot - 1) * it.minislot_mt
-        return cycle * it.cycle_mt + place
+    def pops(self) -> list[str]:
+        """Returns the place of each frame that a task popped."""
+        answers = [line.split(" ")[2] for line in self.entries if line.startswith("pop ")]
+        return [it for it in answers if it != "-"]
 
 
-def read_fifo(table: list[str], lines: list[str], starts: list[int], capacity: int, parameters: Parameters) -> Fifo:
+def read_fifo(table: list[str], trace: list[str], starts: list[int], counts: Queue) -> Fifo:
     """Returns the frames of a node's FIFO, by their fates.
 
-    LINES are the node's trace, TABLE has the frames of it, and STARTS the number of the first window of each cycle.
-    Raises `Unread` where the content can't be told.
+    TRACE has the lines of the node's trace, and TABLE those of `fr_view frames` about it. STARTS are the first windows
+    of the cycles, and COUNTS the numbers of the node's report. Raises `Unread` where these don't agree.
     """
-    trace, fifo = Trace(lines, starts, parameters), Fifo()
-    stored = deque(stored_frames(table, parameters))
-    waiting: deque[tuple[int, StoredFrame]] = deque()
-
-    def store(until: float) -> None:
-        while stored and stored[0][0] <= until:
-            waiting.append(stored.popleft())
-            if len(waiting) > capacity:
-                fifo.overwritten.append(waiting.popleft()[1])
-
-    for number in trace.pops():
-        store(trace.begin_before(number))
-        source = trace.entries[number].split(" ")[2]
-        if not is_oldest(trace, source, waiting):
-            raise Unread(f"entry {number} of its trace pops {source}, which isn't the oldest frame")
-        if waiting:
-            fifo.popped.append(waiting.popleft()[1])
-    store(math.inf)
-    fifo.waiting = [frame for _, frame in waiting]
-    return fifo
+    seen = Seen(trace, starts)
+    stored, pops = dict(stored_frames(table, seen)), dict.fromkeys(seen.pops())
+    for place in pops:
+        if place not in stored:
+            raise Unread(f"a task popped {visible(place)}, which no table row has for the FIFO")
+    left = [frame for place, frame in stored.items() if place not in pops]
+    if len(left) != counts.waiting + counts.lost:
+        raise Unread(f"its table has {len(left)} frames that no task popped, and its report {counts.waiting} waiting "
+                     f"and {counts.lost} overwritten")
+    return Fifo([stored[place] for place in pops], left[counts.lost:], left[:counts.lost])
 
 
-def is_oldest(trace: Trace, source: str, waiting: deque[tuple[int, StoredFrame]]) -> bool:
-    """Returns whether a `pop` entry took the oldest frame, as `12:A`, or reports with `-` that there is none."""
-    if source == "-" or not waiting:
-        return source == "-" and not waiting
-    entry, channel = source.split(":")
-    begin, oldest = waiting[0]
-    return channel == oldest.channel and trace.begin_before(int(entry)) == begin
+def stored_frames(table: Iterable[str], seen: Seen) -> Iterator[tuple[str, StoredFrame]]:
+    """Yields the frames that the FIFO stored, each with its place in the trace."""
+    rows = [row_of(line) for line in table]
+    rows = [row for row in rows if row[4] in BYTES]
+    places = list(seen.observations())
+    if [place[-1] for place, _ in places] != [row[3] for row in rows]:
+        raise Unread("the table of frames has other rows than its trace has observations of bytes")
+    for (place, cycle), (_, _, _, channel, _, _, slot, flags, receiver, payload) in zip(places, rows):
+        if receiver == FIFO_TAKER:
+            yield place, StoredFrame(cycle, int(slot), flags, payload, channel)
 
 
-def stored_frames(table: Iterable[str], parameters: Parameters) -> Iterator[tuple[int, StoredFrame]]:
-    """Yields the frames that the FIFO stored, each with the macrotick of the run at which its window begins."""
-    for line in table:
-        words = line.split(" ")
-        if len(words) != len(TABLE):
-            raise Unread(f"`{visible(line[:60])}` is no line of the table of frames")
-        if words[8] == FIFO_TAKER:
-            time, _, _, channel, _, _, slot, flags, _, payload = words
-            yield int(time), StoredFrame(int(time) // parameters.cycle_mt, int(slot), flags, payload, channel)
+def row_of(line: str) -> list[str]:
+    """Returns the words of a row of the table of frames."""
+    words = line.split(" ")
+    if len(words) != len(TABLE):
+        raise Unread(f"`{visible(line[:60])}` is no line of the table of frames")
+    return words
+
+
+def counts_in(report: Iterable[str]) -> Queue:
+    """Returns the numbers of frames in the report of a node that has a FIFO."""
+    for line in report:
+        if line.startswith(COUNTS):
+            waiting, lost = line.removeprefix(COUNTS).split(" ")
+            return Queue(int(waiting), int(lost))
+    raise Unread("its report has no line `queue`")
 
 
 def table_of(program: str, trace: list[str], children: Children) -> list[str]:

@@ -8,7 +8,7 @@ from contextlib import closing
 from dataclasses import dataclass, field
 
 from musmyrtle.cluster import CYCLES, Cluster
-from musmyrtle.faults.fifos import Fifo, Unread, read_fifo, table_of
+from musmyrtle.faults.fifos import Fifo, Unread, counts_in, read_fifo, table_of
 from musmyrtle.faults.frames import data_frame
 from musmyrtle.faults.runs import Folder
 from musmyrtle.faults.traces import fetched
@@ -209,12 +209,12 @@ class Play:
     def read_fifos(self) -> None:
         for node in self.player.cluster.nodes:
             if node.queue:
-                self.played.fifos[node.number] = self.read_fifo(node.number, node.queue.capacity)
+                self.played.fifos[node.number] = self.read_fifo(node.number)
 
-    def read_fifo(self, node: int, capacity: int) -> Fifo | str:
+    def read_fifo(self, node: int) -> Fifo | str:
         try:
             trace = self.session.block(f"trace {node}")
             table = table_of(self.player.viewer, trace, self.player.folder.children)
-            return read_fifo(table, trace, self.played.starts, capacity, self.player.cluster.parameters)
+            return read_fifo(table, trace, self.played.starts, counts_in(self.session.block(f"report {node}")))
         except (Unread, Refused) as error:
             return str(error)

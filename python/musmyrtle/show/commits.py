@@ -1,4 +1,7 @@
-"""The command `commits`: a row for each transmission of each commit, or for the fate of one that wasn't sent."""
+"""The command `commits`: a row for each transmission of each commit, or for the fate of one that wasn't sent.
+
+A latency is the difference of two times that `fr_view windows` prints.
+"""
 from collections.abc import Iterator
 
 from musmyrtle.show.facts import ARRIVED, Commit, Facts, Sent

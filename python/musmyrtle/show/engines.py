@@ -21,7 +21,7 @@ from musmyrtle.visible import cut, visible
 
 COMMAND = "musmyrtle"
 IDLE_FRONT, IDLE_BACK = "line ", " struck nothing"
-NOT_JUDGED = " is not judged in an endless run"
+NOT_JUDGED = " is not judged in a run without history"
 """The end of the message on an expectation in a view that is written as the run goes."""
 MOST_REASONS = 20
 

@@ -2,7 +2,7 @@
 from dataclasses import dataclass
 from functools import cache, cached_property
 
-from musmyrtle.faults.fifos import TABLE, Fifo, Unread, read_fifo
+from musmyrtle.faults.fifos import Fifo, Unread, read_fifo
 from musmyrtle.lint.command import USAGE
 from musmyrtle.lint.lint import read_bytes
 from musmyrtle.names import Names
@@ -12,7 +12,9 @@ from musmyrtle.scenario import Reading, Scenario
 from musmyrtle.show.causes import Causes
 from musmyrtle.show.engines import Inputs
 from musmyrtle.show.network import Network
+from musmyrtle.show.received import errors_in
 from musmyrtle.show.windows import Windows
+from musmyrtle.world.replies import Queue
 
 ARRIVED = "alone"
 """The end of a transmission that arrived as it was sent."""
@@ -208,6 +210,11 @@ class Facts:
         its = self.by_place.get((cycle, slot, channel))
         return self.windows.begins[its[0].window] if its else None
 
+    @cached_property
+    def errors(self) -> dict[tuple[int, str, str], list[tuple[int, int]]]:
+        """Returns the cycles and slots in which nodes counted errors, by node, channel and counter."""
+        return errors_in(self.inputs.lines_of_run("received"), self.windows)
+
     # ---- traces
 
     def read_trace(self, node: int) -> list[str]:
@@ -219,11 +226,13 @@ class Facts:
         data = "".join(f"{line}\n" for line in self.trace(node)).encode()
         return [line.split(" ") for line in self.inputs.ask("fr_view", ["frames", "--all"], data).lines[1:]]
 
-    def fifo(self, node: int, capacity: int) -> Fifo:
-        """Returns the frames of a node's receive FIFO by their fates. Raises `Stop` where they can't be read."""
-        trace = self.trace(node)
-        table = [" ".join(words) for words in self.frames(node) if len(words) == len(TABLE)]
+    def fifo(self, node: int, counts: Queue) -> Fifo:
+        """Returns the frames of a node's receive FIFO by their fates.
+
+        COUNTS are those of its report. Raises `Stop` where the frames can't be read.
+        """
+        table = [" ".join(words) for words in self.frames(node)]
         try:
-            return read_fifo(table, trace, list(self.windows.starts), capacity, self.network.cluster.parameters)
+            return read_fifo(table, self.trace(node), list(self.windows.starts), counts)
         except Unread as error:
             raise Stop(USAGE, f"the FIFO of node {node} can't be read: {error}") from None

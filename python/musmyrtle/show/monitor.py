@@ -17,7 +17,8 @@ from musmyrtle.program import Answer, is_launcher, itself, no_answer, places
 from musmyrtle.show.engines import COMMAND, Inputs, opened
 from musmyrtle.show.network import Network
 from musmyrtle.show.options import CLUSTER
-from musmyrtle.show.recordings import BACK, FINDING, back_row, channel_row, finding_row, found_row, slot_row, total_row
+from musmyrtle.show.recordings import (BACK, FINDING, FRAME, Senders, back_row, channel_row, finding_row, found_row,
+                                       slot_row, total_row)
 from musmyrtle.show.tables import Column, Row, Section, as_json, as_text
 
 FOUND, REFUSED = 3, 1
@@ -120,14 +121,19 @@ class Tables:
     """The rows of a recording by their kinds, in the order of the program's lines."""
 
     def __init__(self, network: Network) -> None:
-        self.network = network
+        self.network, self.senders = network, Senders()
         self.rows: dict[str, list[Row]] = {it: [] for it in KINDS}
 
     def add(self, line: str) -> Section | None:
         """Adds the row of a line, and returns it as a table of its own. Lines of other kinds have none."""
         words = line.split(" ")
-        if words[0] in (FINDING, BACK):
-            kind, row = FINDING, (finding_row if words[0] == FINDING else back_row)(self.network, words)
+        if words[0] == FRAME:
+            self.senders.add(words)
+            return None
+        if words[0] == FINDING:
+            kind, row = FINDING, finding_row(self.network, words, self.senders.of(words))
+        elif words[0] == BACK:
+            kind, row = FINDING, back_row(self.network, words)
         elif words[0] == "records":
             kind, row = "total", total_row(words)
         elif words[0] == "channel":
@@ -198,7 +204,7 @@ def outcome(given: argparse.Namespace, inputs: Inputs, source: IO[bytes]) -> int
         section = tables.add(line)
         if section is not None and given.json:
             write(sys.stdout, as_json([section]))
-    status, told = judged(inputs, given, source, add)
+    status, told = judged(inputs, given, source, add, "--frames")
     if not given.json and any(tables.rows.values()):
         printed(shown(given, tables.sections()))
     tell(told)

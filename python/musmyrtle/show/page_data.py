@@ -1,16 +1,16 @@
 """The data of the page of a run: what the programs print about it, in columns, and the names of the cluster file."""
-from collections.abc import Iterator, Sequence
+from collections.abc import Iterable
 from typing import Any
 
-from musmyrtle.show.facts import ARRIVED, Facts, text
+from musmyrtle.show.facts import ARRIVED, Facts
 from musmyrtle.show.log import ENDS
 from musmyrtle.show.network import Network
 from musmyrtle.show.page_calls import Answers, add_commits
 from musmyrtle.show.page_columns import Columns
+from musmyrtle.show.page_received import Received
 from musmyrtle.show.page_record import Record
 from musmyrtle.show.page_windows import add_windows
-from musmyrtle.show.summary import ERRORS
-from musmyrtle.show.windows import Windows
+from musmyrtle.show.received import ERRORS
 from musmyrtle.version import version
 from musmyrtle.visible import visible
 
@@ -22,8 +22,7 @@ def packed_run(facts: Facts) -> bytes:
     """Returns the packed data of a run. Raises `Stop` where the run is refused."""
     facts.run()
     columns, record = Columns(), Record()
-    windows = facts.windows
-    add_windows(windows, columns)
+    add_windows(facts.windows, columns)
     for it in facts.record:
         record.add(it)
     record.fill(columns)
@@ -32,10 +31,17 @@ def packed_run(facts: Facts) -> bytes:
     for line in facts.inputs.of_run("origins").lines:
         answers.add(line)
     answers.fill(columns)
-    add_counted((), columns)
-    add_seen(facts, windows, columns)
+    received_of(facts, facts.inputs.lines_of_run("received")).fill(columns)
     ended = facts.inputs.of_run("outcome")
     return columns.packed(header_of(facts, outcomes_of(ended.lines), list(ended.idle)))
+
+
+def received_of(facts: Facts, lines: Iterable[str]) -> Received:
+    """Returns what each node received, from the lines of `fr_view received`."""
+    received = Received(len(facts.windows.cycles), len(facts.network.cluster.nodes))
+    for line in lines:
+        received.add(line)
+    return received
 
 
 # ---- what isn't in columns
@@ -52,12 +58,13 @@ def header_of(facts: Facts, outcomes: list[list[str]], idle: list[int], missing:
     return {
         "version": version(), "cluster": shown(inputs.task.cluster), "scenario": shown(inputs.task.scenario or ""),
         "cycles": inputs.cycles, "macrotick_us": network.macrotick, "params": vars(network.cluster.parameters),
+        "dynamic_begin": facts.windows.dynamic_begin,
         "nodes": [{**node_of(network, it), "outcome": outcomes[it]} for it in range(len(network.cluster.nodes))],
         "plan": [it.split(" ") for it in inputs.of_cluster("fr_bench", "plan").lines if not it.startswith("guard ")],
         "faults": fault_lines(facts), "idle": idle, "arrived": ARRIVED,
         "is_endless": bool(missing), "missing": missing,
         "expectations": len(facts.scenario.expectations), "missed": [vars(it) for it in inputs.misses],
-        "ends": {**ENDS, "collided": "collided", ARRIVED: "arrived"}, "errors": {it: list(ERRORS[it]) for it in ERRORS},
+        "ends": {**ENDS, "collided": "collided", ARRIVED: "arrived"}, "errors": ERRORS,
     }
 
 
@@ -101,53 +108,3 @@ def fault_lines(facts: Facts) -> list[dict[str, Any]]:
         else:
             found[it.number] = list(it.words)
     return [{"line": number, "words": words} for number, words in found.items()]
-
-
-# ---- what each node received
-
-
-def add_seen(facts: Facts, windows: Windows, columns: Columns) -> None:
-    """Adds what each node received in each window on each channel, as `fr_view frames --all` prints it.
-
-    The column has a place for each node, window and channel, in this order. Each place holds the words for status and
-    error, or nothing where the table has no row. Receivers are rare, and have columns of their own.
-    """
-    count = len(windows.cycles)
-    places = {begin: 2 * window for window, begin in enumerate(windows.begins)}
-    states = [""] * (2 * count * len(facts.network.cluster.nodes))
-    stored: list[tuple[int, str]] = []
-    for node in range(len(facts.network.cluster.nodes)):
-        base = 2 * count * node
-        for time, _, slot, channel, status, error, _, _, receiver, _ in rows_of_node(facts, node):
-            place = base + places[int(time)] + (channel == "B")
-            states[place] = f"{status} {error} {'-' if slot == '-' else 'slot'}"
-            if text(receiver):
-                stored.append((place, receiver))
-    columns.words("seen_state", ["", *states])
-    columns.rising("stored_place", [place for place, _ in stored])
-    columns.words("stored_by", [receiver for _, receiver in stored])
-
-
-def add_nothing_seen(columns: Columns) -> None:
-    """Adds the same columns without an entry, for a run of which no node's table is known."""
-    columns.words("seen_state", [])
-    columns.rising("stored_place", [])
-    columns.words("stored_by", [])
-
-
-def add_counted(counted: Sequence[tuple[int, int, int]], columns: Columns) -> None:
-    """Adds the errors that nodes counted in cycles: node, cycle and number. A run with tables has them there."""
-    columns.numbers("counted_node", "u8", (it[0] for it in counted))
-    columns.numbers("counted_cycle", "u32", (it[1] for it in counted))
-    columns.numbers("counted_errors", "u32", (it[2] for it in counted))
-
-
-def rows_of_node(facts: Facts, node: int) -> Iterator[list[str]]:
-    """Yields the words of each row of a node's table.
-
-    They aren't kept, since sixteen tables of a long run are large.
-    """
-    trace = facts.trace(0) if node == 0 else facts.read_trace(node)
-    data = "".join(f"{line}\n" for line in trace).encode()
-    for line in facts.inputs.ask("fr_view", ["frames", "--all"], data).lines[1:]:
-        yield line.split(" ")

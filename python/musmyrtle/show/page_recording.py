@@ -1,7 +1,8 @@
 """The page of a recording of a real bus: its frames, as `fr_monitor --frames` prints them, beside the schedule.
 
-The places of static slots and minislots in a cycle are those of `fr_view windows`, for a run of one cycle in which
-nothing is done.
+The program names the cycle, the place and the sender of each frame. The empty slots and minislots of a cycle, and its
+length, are those of `fr_view windows`, for a run of two cycles in which nothing is done. The page adds form alone: it
+puts the cycles one after another, each with the length of a cycle, and a missing frame into its slot.
 """
 import argparse
 import re
@@ -21,11 +22,12 @@ from musmyrtle.show.facts import ARRIVED, Transmission
 from musmyrtle.show.monitor import STANDARD_INPUT, judged
 from musmyrtle.show.network import Network
 from musmyrtle.show.page_columns import NOTHING, Columns, Words
-from musmyrtle.show.page_data import add_counted, add_nothing_seen, node_of, shown
+from musmyrtle.show.page_data import node_of, shown
+from musmyrtle.show.page_received import add_counted, add_nothing_seen
 from musmyrtle.show.page_record import Record
 from musmyrtle.show.page_windows import add_windows
 from musmyrtle.show.recorded import Frame, Note, Recorded
-from musmyrtle.show.recordings import BACK, Place, sender
+from musmyrtle.show.recordings import BACK, Place
 from musmyrtle.show.windows import CHANNELS, Windows
 from musmyrtle.version import version
 from musmyrtle.visible import visible
@@ -49,22 +51,24 @@ NARROWED = "Only the cycles {} of the recording are shown; it has {}."
 
 
 class Cycle:
-    """The windows of a cycle without a frame: where each static slot and each minislot begins."""
+    """The windows of a cycle without a frame: where each static slot and each minislot begins, and where it ends."""
 
     def __init__(self, its: Windows) -> None:
-        statics = [it for it, minislot in enumerate(its.minislots) if minislot == 0]
+        self.length, self.dynamic_begin = its.begin_of_cycle(1), its.dynamic_begin
+        windows = range(its.starts[1])
+        statics = [it for it in windows if its.minislots[it] == 0]
         self.slots = [(its.begins[it], its.slots["A"][it], its.lengths["A"][it]) for it in statics]
         self.of_slot = {slot: (begin, length) for begin, slot, length in self.slots}
-        self.minislots = {its.begins[it]: minislot for it, minislot in enumerate(its.minislots) if minislot}
+        self.minislots = {its.begins[it]: its.minislots[it] for it in windows if its.minislots[it]}
 
 
 def cycle_of(inputs: Inputs) -> Cycle:
-    """Returns the windows of a cycle, from a run of one cycle in which nothing is done."""
+    """Returns the windows of a cycle, from a run of two cycles in which nothing is done."""
     task = inputs.task
     with TemporaryDirectory(prefix="musmyrtle-") as folder:
         scenario = Path(folder, "scenario")
         scenario.write_text("frscenario 2\nend\n", encoding="ascii")
-        idle = Inputs(Task(task.cluster, IDLE_RUN, 1, {**task.files, IDLE_RUN: str(scenario)}))
+        idle = Inputs(Task(task.cluster, IDLE_RUN, 2, {**task.files, IDLE_RUN: str(scenario)}))
         idle.programs = inputs.programs
         return Cycle(Windows(idle.of_run("windows").lines))
 
@@ -108,8 +112,6 @@ class Shown:
         self.by_cycle: dict[int, list[Frame]] = {}
         self.unplaced: list[Frame] = []
         for frame, number in zip(found.frames.values(), numbers):
-            if frame.data is None and frame.slot in cycle.of_slot:
-                frame.begin, frame.length = cycle.of_slot[frame.slot]
             if number is None or frame.begin is None:
                 self.unplaced.append(frame)
             elif number in self.cycles:
@@ -120,10 +122,17 @@ class Shown:
             if number is not None and number in self.cycles and note.place.slot in cycle.of_slot:
                 self.missing.setdefault(number, []).append(note)
 
-    def check_length(self, network: Network) -> None:
+    def counts(self) -> Iterator[int | None]:
+        """Yields the cycle count of each cycle, as far as a good frame or a missing one names it."""
+        for number in self.cycles:
+            frames = [it.count for it in self.by_cycle.get(number, ()) if it.data is not None]
+            missing = [it.place.cycle for it in self.missing.get(number, ())]
+            yield next((it for it in [*frames, *missing] if it is not None), None)
+
+    def check_length(self) -> None:
         """Raises `Stop` where a page has no room for what is shown."""
         windows = len(self.by_cycle) * len(self.cycle.slots) + sum(map(len, self.by_cycle.values()))
-        if windows > MOST_WINDOWS or len(self.cycles) * network.cluster.parameters.cycle_mt > MOST_TIME:
+        if windows > MOST_WINDOWS or len(self.cycles) * self.cycle.length > MOST_TIME:
             raise Stop(USAGE, f"a page has no room for the {counted(len(self.cycles), 'cycle')} of this recording, "
                               f"which may have {MOST_WINDOWS:,} static slots and frames, and fewer than 2^32 "
                               "macroticks; --cycles A-B shows a part of it")
@@ -139,16 +148,14 @@ class Bus:
         self.shown, self.network = shown_part, network
         self.windows, self.record = Windows(), Record()
         self.numbers, self.seconds = array("I"), Words()
-        self.senders: dict[tuple[int, str, int], int | None] = {}
         self.nobody = len(network.cluster.nodes)
         self.errors: Counter[tuple[int, int]] = Counter()
         """The errors of a node's slots by node and cycle."""
         self.places: dict[tuple[int, int, str], int] = {}
         """The windows of findings by cycle, slot and channel."""
-        length = network.cluster.parameters.cycle_mt
-        for number in self.shown.cycles:
+        for place, number in enumerate(self.shown.cycles):
             if number in self.shown.by_cycle or number in self.shown.missing:
-                self.add_cycle(number, (number - self.shown.cycles.start) * length)
+                self.add_cycle(number, place * self.shown.cycle.length)
 
     def add_cycle(self, number: int, start: int) -> None:
         """Adds the windows of a cycle and their lines. START is the macrotick at which it begins."""
@@ -178,8 +185,7 @@ class Bus:
     def add_line(self, window: int, cycle: int, it: Frame | Note) -> None:
         """Adds the line of a frame, or of one that was missing."""
         place = it.place if isinstance(it, Note) else Place(it.record, it.seconds, it.count, it.channel, it.slot)
-        node = it.node if isinstance(it, Note) else self.sender_of(place)
-        node = self.nobody if node is None else node
+        node = self.nobody if it.node is None else it.node
         if isinstance(it, Note):
             what, passed, end, flags, data = MISSING, None, it.why, None, None
         elif it.data is None:
@@ -196,21 +202,13 @@ class Bus:
         self.numbers.append(NOTHING["u32"] if is_missing or place.record is None else place.record)
         self.seconds.add("" if is_missing else place.seconds or "")
 
-    def sender_of(self, place: Place) -> int | None:
-        """Returns the node that the cluster lets send at a place, if there is one."""
-        if place.slot is None or place.cycle is None:
-            return None
-        key = place.slot, place.channel, place.cycle
-        if key not in self.senders:
-            self.senders[key] = sender(self.network, place)
-        return self.senders[key]
-
     def fill(self, columns: Columns) -> None:
         """Adds the columns of the windows and of the record."""
         add_windows(self.windows, columns)
         self.record.fill(columns)
         columns.numbers("record_number", "u32", self.numbers)
         columns.words("record_seconds", self.seconds)
+        columns.numbers("cycle_count", "u8", self.shown.counts())
 
 
 # ---- the data of the page
@@ -220,7 +218,7 @@ def packed_recording(inputs: Inputs, given: argparse.Namespace, found: Recorded,
     """Returns the packed data of a recording. CUT_OFF is the reason why it wasn't read to its end, or nothing."""
     cycle = cycle_of(inputs)
     part = Shown(found, cycle, given.cycles)
-    part.check_length(inputs.network)
+    part.check_length()
     bus, columns = Bus(part, inputs.network), Columns()
     bus.fill(columns)
     add_no_host(columns)
@@ -274,10 +272,10 @@ def header_of(inputs: Inputs, given: argparse.Namespace, bus: Bus, missing: list
     return {
         "version": version(), "cluster": shown(inputs.task.cluster), "scenario": shown(source),
         "cycles": len(part.cycles), "macrotick_us": network.macrotick,
-        "params": vars(network.cluster.parameters), "nodes": nodes, "plan": plan, "faults": [], "idle": [],
+        "params": vars(network.cluster.parameters), "dynamic_begin": part.cycle.dynamic_begin,
+        "nodes": nodes, "plan": plan, "faults": [], "idle": [],
         "arrived": ARRIVED, "is_endless": True, "missing": missing, "expectations": 0, "missed": [],
-        "ends": {ARRIVED: "as due"}, "errors": {}, "is_recording": True, "first_cycle": part.cycles.start,
-        "first_count": (part.found.count_of_first() + part.cycles.start) % 64,
+        "ends": {ARRIVED: "as due"}, "errors": (), "is_recording": True, "first_cycle": part.cycles.start,
         "findings": [list(it) for it in findings_of(bus)], "unplaced": [unplaced_row(it) for it in part.unplaced],
     }
 

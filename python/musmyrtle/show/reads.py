@@ -1,7 +1,7 @@
 """The command `reads`: what tasks read and popped, what each FIFO holds at the end, and what it lost."""
 from collections.abc import Iterator
 
-from musmyrtle.faults.fifos import StoredFrame
+from musmyrtle.faults.fifos import Fifo, StoredFrame
 from musmyrtle.show.facts import Call, Facts
 from musmyrtle.show.network import Network
 from musmyrtle.show.selection import Selection
@@ -18,8 +18,8 @@ def reads(facts: Facts, selection: Selection) -> list[Section]:
     sources = Sources(facts.commits)
     calls = [(it, sources.of(it)) for it in facts.calls if it.kind in READING]
     rows = [row_of(facts, it, source) for it, source in calls if is_selected(it, selection)]
-    held = [row for node in facts.network.cluster.nodes if node.queue and selection.has_node(node.number)
-            for row in fifo_rows(facts, node.number, node.queue.capacity, selection)]
+    nodes = [it.number for it in facts.network.cluster.nodes if it.queue and selection.has_node(it.number)]
+    held = [row for node in nodes for row in fifo_rows(facts, node, selection)]
     return [Section("call", "Calls", call_columns(facts.network), rows, "No call is selected."),
             Section("fifo", "Receive FIFOs at the end", fifo_columns(facts.network), held)]
 
@@ -69,9 +69,10 @@ def row_of(facts: Facts, call: Call, source: Source | None) -> Row:
     return Row(values, call.data is None)
 
 
-def fifo_rows(facts: Facts, node: int, capacity: int, selection: Selection) -> Iterator[Row]:
+def fifo_rows(facts: Facts, node: int, selection: Selection) -> Iterator[Row]:
     """Yields the frames that a FIFO overwrote, and those that it holds at the end, the oldest first."""
-    fifo = facts.fifo(node, capacity)
+    counts = facts.ended[0].nodes[node].queue
+    fifo = Fifo() if counts is None else facts.fifo(node, counts)
     states = [("overwritten", fifo.overwritten), *([] if selection.is_errors else [("waiting", fifo.waiting)])]
     for state, frames in states:
         for frame in frames:

@@ -2,11 +2,10 @@
 from dataclasses import dataclass, field
 
 from musmyrtle.show.network import Network
-from musmyrtle.show.recordings import BACK, FINDING, Place, back_row, finding_row, number, text
+from musmyrtle.show.recordings import BACK, FINDING, FRAME, Place, Senders, back_row, finding_row, number, text
 from musmyrtle.show.tables import Name
 
-FRAME, OPENS = "frame", "opens"
-CYCLE_COUNTS = 64
+OPENS = "opens"
 ELSEWHERE = ("Missing", "Silent", "Symbol", "Nothing")
 """The findings that aren't about the frame of their record."""
 
@@ -15,9 +14,9 @@ ELSEWHERE = ("Missing", "Silent", "Symbol", "Nothing")
 class Frame:
     """A record of a frame: its number and time, and the place that its header names.
 
-    `cycle` is the number of its cycle on its channel, `begin` and `length` are those of its slot in macroticks. A
-    broken record has no flags and no data, and the nearest cycle with the count of its header. `reasons` has its
-    findings in words.
+    `cycle` is the number of its cycle on its channel, `begin` and `length` are those of its slot in macroticks, and
+    `node` may send there. A broken record has no flags and no data, and the nearest cycle with the count of its header.
+    `reasons` has its findings in words.
     """
 
     record: int
@@ -28,6 +27,7 @@ class Frame:
     cycle: int | None
     begin: int | None
     length: int | None
+    node: int | None
     flags: str | None
     data: str | None
     reasons: list[str] = field(default_factory=list)
@@ -51,12 +51,11 @@ class Note:
 
 @dataclass(slots=True)
 class Lane:
-    """A channel: the number and the count of the cycle that it opened last, and the latest number of each count.
+    """A channel: the latest number of each count, as the lines have them.
 
     `base` is the number of its first cycle on the axis that both channels share.
     """
 
-    open: tuple[int, int] | None = None
     latest: dict[int, int] = field(default_factory=dict)
     base: int | None = None
 
@@ -69,6 +68,7 @@ class Recorded:
         self.frames: dict[int, Frame] = {}
         self.notes: list[Note] = []
         self.lanes = {"A": Lane(), "B": Lane()}
+        self.senders = Senders()
         self.records = 0
 
     def add(self, line: str) -> None:
@@ -85,28 +85,33 @@ class Recorded:
 
     def add_frame(self, words: list[str]) -> None:
         """Adds the frame of a line. A broken one is in the cycle that its header names."""
+        self.senders.add(words)
         place = Place.of(words)
-        cycle, begin, length = map(number, words[6:9])
+        cycle, begin, length, node = map(number, words[6:10])
         frame = Frame(place.record or 0, place.seconds, place.cycle, place.channel, place.slot, cycle, begin, length,
-                      text(words[9]), text(words[10]))
+                      node, text(words[10]), text(words[11]))
         self.frames[frame.record] = frame
         if frame.data is not None:
-            self.open(frame, cycle, number(words[11]))
+            self.open(frame, cycle, number(words[12]))
 
     def open(self, frame: Frame, cycle: int | None, beside: int | None) -> None:
-        """Puts a good frame into a cycle, beside which the other channel has the cycle BESIDE."""
+        """Puts a good frame into a cycle, beside which the other channel has the cycle BESIDE.
+
+        The first BESIDE of the channel that begins later shifts its cycles, so that both have one axis. This is form:
+        no count is compared here.
+        """
         frame.cycle = cycle
         if cycle is None or frame.count is None:
             return
         lane, other = self.lanes[frame.channel], self.lanes["B" if frame.channel == "A" else "A"]
-        lane.open = cycle, frame.count
         lane.latest[frame.count] = cycle
         if lane.base is None:
             lane.base = (0 if other.base is None or beside is None else other.base + beside) - cycle
 
     def add_note(self, words: list[str]) -> None:
         """Adds a finding, or the return of a slot."""
-        row = (finding_row if words[0] == FINDING else back_row)(self.network, words)
+        is_finding = words[0] == FINDING
+        row = finding_row(self.network, words, self.senders.of(words)) if is_finding else back_row(self.network, words)
         place, node, name, why = Place.of(words), row.values["node"], str(row.values["name"]), str(row.values["why"])
         frame, cycle = None, None
         if name == "Missing" and place.cycle is not None:
@@ -128,10 +133,3 @@ class Recorded:
         """Returns the number of a channel's cycle in the recording, from 0, if it is known."""
         base = self.lanes[channel].base
         return None if cycle is None or base is None else base + cycle - self.first()
-
-    def count_of_first(self) -> int:
-        """Returns the cycle count of cycle 0 of the recording."""
-        for it in self.lanes.values():
-            if it.base is not None and it.open is not None:
-                return (it.open[1] - (it.base + it.open[0] - self.first())) % CYCLE_COUNTS
-        return 0

@@ -1,8 +1,12 @@
-"""The lines that `fr_monitor` prints of a recording, and its findings in words."""
+"""The lines that `fr_monitor` prints of a recording, and its findings in words.
+
+The program names the node that may send in a slot: in the line of each frame, or in the finding itself. So a finding is
+joined with the frame of its record, and only names and words are added here.
+"""
+from collections import deque
 from collections.abc import Callable
 from dataclasses import dataclass
 
-from musmyrtle.cluster import Buffer, Ownership
 from musmyrtle.show.network import Network
 from musmyrtle.show.tables import Numbers, Row, decimal
 
@@ -49,7 +53,9 @@ MEANINGS = {
     "Nothing": "channels without a frame",
 }
 NANOSECONDS = ("Clock", "Time")
-FINDING, BACK, FOUND = "finding", "back", "found"
+FRAME, FINDING, BACK, FOUND = "frame", "finding", "back", "found"
+NAMED = ("Missing", "NoBuffer")
+"""The findings that have the node as the expected word."""
 
 
 @dataclass(frozen=True, slots=True)
@@ -83,17 +89,34 @@ def microseconds(word: str) -> float | None:
     return None if word == "-" else int(word) / 1000
 
 
-def sender(network: Network, place: Place) -> int | None:
-    """Returns the node that the cluster lets send at a place, if there is one."""
-    if place.cycle is None or place.slot is None:
-        return None
-    is_static = network.cluster.is_static(place.slot)
-    for node in network.cluster.nodes:
-        buffers = [it for it in node.buffers if it.transmits]
-        lines: list[Ownership | Buffer] = [*node.owned] if is_static else [*buffers]
-        if any(it.slot == place.slot and place.channel in it.channels and it.cycles.admit(place.cycle) for it in lines):
-            return node.number
-    return None
+class Senders:
+    """The nodes that may send in the slots of the last frames, by the lines of `fr_monitor --frames`.
+
+    A finding is about the last frame of its channel, or about one that waited for it. At most two frames of a channel
+    wait, of which the older one ends with the line of the younger one.
+    """
+
+    def __init__(self) -> None:
+        self.last: dict[str, tuple[int, int | None]] = {}
+        self.waiting: dict[str, deque[tuple[int, int | None]]] = {it: deque(maxlen=2) for it in "AB"}
+
+    def add(self, words: list[str]) -> None:
+        """Adds the line of a frame."""
+        record, channel, node = int(words[1]), words[4], number(words[9])
+        self.last[channel] = record, node
+        # A frame that waits has no cycle yet, and a broken record has no indicators.
+        if words[6] == "-" and words[10] != "-":
+            self.waiting[channel].append((record, node))
+
+    def of(self, words: list[str]) -> int | None:
+        """Returns the node of a line `finding`, if there is one."""
+        place, name, expected = Place.of(words), words[6], words[7]
+        if name in NAMED:
+            return number(expected)
+        if place.slot is None or place.channel not in self.last:
+            return None
+        known = dict([*self.waiting[place.channel], self.last[place.channel]])
+        return None if place.record is None else known.get(place.record)
 
 
 def length_why(expected: str, found: str) -> str:
@@ -137,15 +160,9 @@ def why(network: Network, name: str, place: Place, expected: str, found: str, no
     return spelled.format(expected=expected, found=found, slot=place.slot, channel=place.channel, node=of_node, **times)
 
 
-def node_of(network: Network, name: str, place: Place, expected: str) -> int | None:
-    """Returns the node of a finding: the one that it names, or otherwise the sender at its place."""
-    return int(expected) if name in ("Missing", "NoBuffer") else sender(network, place)
-
-
-def finding_row(network: Network, words: list[str]) -> Row:
-    """Returns the row of a line `finding`."""
+def finding_row(network: Network, words: list[str], node: int | None) -> Row:
+    """Returns the row of a line `finding`, with the node that may send at its place."""
     place, (name, expected, found) = Place.of(words), words[6:9]
-    node = node_of(network, name, place, expected)
     return Row({
         "record": place.record, "seconds": place.seconds, "cycle": place.cycle, "channel": place.channel,
         "slot": place.slot, "node": None if node is None else network.node(node), "name": name,

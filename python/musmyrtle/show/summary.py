@@ -1,16 +1,18 @@
-"""The command `run`: what a person wants to know at the end of a run."""
+"""The command `run`: what a person wants to know at the end of a run.
+
+The counts are those of the reports. Their slots and cycles are the rows of `fr_view received` with the same word. The
+run ends with its last cycle, which is as long as `cycle_mt` says.
+"""
 from collections import Counter
 from collections.abc import Iterator
 
 from musmyrtle.lint.lint import read_bytes
 from musmyrtle.show.facts import Facts
 from musmyrtle.show.reasons import why
+from musmyrtle.show.received import ERRORS
 from musmyrtle.show.tables import Column, Numbers, Row, Section
 from musmyrtle.visible import cut
 from musmyrtle.world.replies import Counters, Queue, ReceiveBuffer
-
-ERRORS = {"syntax": ("syntax", "noise"), "content": ("content",), "boundary": ("overrun",), "conflict": ("conflict",)}
-"""The error counters, each with the states in the table of frames that it counts."""
 
 
 def run(facts: Facts) -> list[Section]:
@@ -27,7 +29,8 @@ def totals(facts: Facts) -> Section:
     columns = (Column("nodes", "nodes"), Column("cycles", "cycles"), facts.network.column("time", "time"),
                Column("windows", "windows"), Column("commits", "commits"), Column("delivered", "delivered"),
                Column("idle_faults", "faults without effect"))
-    time = facts.network.time(facts.inputs.cycles * facts.network.cluster.parameters.cycle_mt)
+    last = facts.windows.begin_of_cycle(facts.inputs.cycles - 1)
+    time = facts.network.time(last + facts.network.cluster.parameters.cycle_mt)
     return Section("total", "Run", columns, [Row({
         "nodes": len(outcome.nodes), "cycles": facts.inputs.cycles, "time": time, "windows": outcome.windows,
         "commits": len(facts.commits), "delivered": delivered, "idle_faults": len(idle_lines)})])
@@ -104,12 +107,10 @@ def errors(facts: Facts) -> Section:
 
 def error_rows(facts: Facts, node: int, channel: str, counters: Counters) -> Iterator[Row]:
     """Yields a row for each error counter of a node on a channel, with the slots and cycles that it counted."""
-    cycles = dict(zip(facts.windows.begins, facts.windows.cycles))
-    for error, states in ERRORS.items():
+    for error in ERRORS:
         count = int(getattr(counters, error))
         if count:
-            seen = [(cycles[int(words[0])], int(words[2])) for words in facts.frames(node)
-                    if words[3] == channel and words[4] in states and words[2] != "-"]
+            seen = facts.errors.get((node, channel, error), [])
             lines = {it.line for cycle, slot in seen for it in facts.causes.of((cycle, slot, channel))}
             slots = Counter(slot for _, slot in seen)
             yield Row({

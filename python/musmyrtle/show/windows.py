@@ -29,6 +29,12 @@ class Windows:
             self.slots[channel].append(number_of(words[at]))
             self.lengths[channel].append(number_of(words[at + 1]))
 
+    @property
+    def dynamic_begin(self) -> int:
+        """Returns the macrotick of a cycle at which its dynamic segment begins, or 0 without one."""
+        first = next((window for window, minislot in enumerate(self.minislots) if minislot), None)
+        return 0 if first is None else self.begins[first] - self.begin_of_cycle(self.cycles[first])
+
     def begin_of_cycle(self, cycle: int) -> int:
         """Returns the macrotick of the run at which a cycle of the run begins."""
         return self.begins[self.starts[cycle]]

@@ -5,7 +5,7 @@ const {runOf} = require("./loaded.js");
 
 /** Returns the counts of a node on both channels, with the receive buffers and FIFOs that stored frames. */
 function countsOf(run, node) {
-  return CHANNELS.map((_, channel) => Object.keys(run.header.errors).map((it) => countOf(run, node, channel, it)));
+  return CHANNELS.map((_, channel) => run.header.errors.map((it) => countOf(run, node, channel, it)));
 }
 
 /** Returns the frames that nodes stored: time, channel, node, and what stored it. */

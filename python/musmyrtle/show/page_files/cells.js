@@ -92,14 +92,14 @@ function cellsSeen(run, cells, node) {
 
 /** Returns the mark of a word for what a node received. */
 function seenMark(run, word) {
-  const status = word.split(" ")[0];
-  if (status === "conflict") {
+  const [seen, counted] = word.split(" ");
+  if (seen === "conflict") {
     return MARK.error | MARK.collision;
   }
-  if (Object.values(run.header.errors).some((it) => it.includes(status))) {
+  if (run.header.errors.includes(counted)) {
     return MARK.error;
   }
-  return status === "" || status === "silence" ? MARK.silent : MARK.data;
+  return seen === "" || seen === "silence" ? MARK.silent : MARK.data;
 }
 
 /** Adds sums before each cell: macroticks with traffic, errors and collisions. */

@@ -69,7 +69,7 @@ function detailsOfNode(run, node) {
 
 /** Returns a sentence for the counters of a node on each channel, and one for its receive FIFO. */
 function counterTexts(run, node) {
-  const names = ["valid", ...Object.keys(run.header.errors)];
+  const names = ["valid", ...run.header.errors];
   const found = [];
   for (const line of run.header.nodes[node].outcome) {
     const [front, ...numbers] = line.split(" ");
@@ -185,10 +185,10 @@ function detailsOfCommit(run, commit) {
     + "journal.",
     `Slot: ${slot} on ${channels}.`, `Result: ${fateText(run, commit)}.`];
   details.line = commitLine(run, commit);
-  details.lit.calls = [{time: cycle * run.cycleLength, text: "call"}];
+  details.lit.calls = [{time: run.beginOf(cycle), text: "call"}];
   const ended = run.number("commit_ended", commit, "u32");
   if (ended !== null) {
-    details.lit.calls.push({time: ended * run.cycleLength, text: run.word("commit_fate", commit)});
+    details.lit.calls.push({time: run.beginOf(ended), text: run.word("commit_fate", commit)});
   }
   details.tables = [sentTable(run, commit, details), readTable(run, commit, details)];
   details.lit.nodes.set(node, "sends");
@@ -209,7 +209,7 @@ function sentAt(run, sent) {
 
 /** Returns the table of a commit's transmissions, and adds them to what lights up. */
 function sentTable(run, commit, details) {
-  const start = run.columns.commit_cycle[commit] * run.cycleLength;
+  const start = run.beginOf(run.columns.commit_cycle[commit]);
   const rows = [];
   details.span = [start, start + run.cycleLength];
   for (const sent of sendsOf(run, commit)) {
@@ -221,7 +221,7 @@ function sentTable(run, commit, details) {
     details.lit.places.push(2 * window + channel);
     if (!rows.length) {
       // The cycles from the call to the first transmission.
-      details.span = [start, (run.columns.sent_cycle[sent] + 1) * run.cycleLength];
+      details.span = [start, run.beginOf(run.columns.sent_cycle[sent]) + run.cycleLength];
     }
     rows.push([link(`cycle ${run.columns.sent_cycle[sent]}`, "window", window, channel), timeText(run, begin),
                timeText(run, begin - start), link(String(slot), "slot", slot), CHANNELS[channel],
@@ -240,11 +240,11 @@ function readTable(run, commit, details) {
       const node = run.columns.answer_node[answer];
       const cycle = run.columns.answer_cycle[answer];
       const kind = run.word("answer_kind", answer);
-      const time = cycle * run.cycleLength;
+      const time = run.beginOf(cycle);
       details.lit.calls.push({time, text: kind});
       rows.push([link(nodeName(run, node), "node", node), String(run.columns.answer_task[answer]), `cycle ${cycle}`,
                  kind, receiverName(run, {node, buffer: run.number("answer_buffer", answer, "u8")}),
-                 timeText(run, time), timeText(run, time - run.columns.commit_cycle[commit] * run.cycleLength)]);
+                 timeText(run, time), timeText(run, time - run.beginOf(run.columns.commit_cycle[commit]))]);
     }
   }
   return {caption: "Calls that read it", head: ["node", "task", "called in", "call", "buffer", "at",

@@ -188,7 +188,7 @@ class Explorer {
       start: () => clamped({...view, from: 0}), end: () => clamped({...view, from: view.length}),
       whole: () => wholeView(view.length, view.width),
       cycle: () => clamped({...view, span: this.run.cycleLength,
-                            from: Math.floor(timeAt(view, middle) / this.run.cycleLength) * this.run.cycleLength}),
+                            from: this.run.beginOf(cycleAt(this.run, timeAt(view, middle)))}),
     };
     this.set(acts[command]());
   }

@@ -142,18 +142,16 @@ function addCountedErrors(run, add) {
   });
 }
 
-/** Returns whether a node counts what the word stands for: an error on a channel with a slot. */
+/** Returns whether a node counts an error for what the word stands for. */
 function isErrorWord(run, word) {
-  const [status, , slot] = word.split(" ");
-  return slot === "slot" && Object.values(run.header.errors).some((it) => it.includes(status));
+  return run.header.errors.includes(word.split(" ")[1]);
 }
 
 /** Returns the counts of an error of a node on a channel, for the comparison with its counters. */
 function countOf(run, node, channel, error) {
   let count = 0;
   for (let window = 0; window < run.windows; window += 1) {
-    const {status, hasSlot} = run.seen(node, window, channel);
-    count += hasSlot && run.header.errors[error].includes(status) ? 1 : 0;
+    count += run.seen(node, window, channel).counted === error ? 1 : 0;
   }
   return count;
 }

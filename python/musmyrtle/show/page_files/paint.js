@@ -38,18 +38,20 @@ function paint(context, picture) {
 
 /** Paints the dynamic segments, and the borders of cycles with their numbers. */
 function paintCycles(context, {run, view, theme, height, lanes}) {
-  const {static_slots, static_mt, minislots, minislot_mt} = run.header.params;
+  const {minislots, minislot_mt} = run.header.params;
+  const {dynamic_begin: dynamicBegin} = run.header;
   const width = pixelOf(view, view.from + run.cycleLength);
   if (width < 6) {
     return;
   }
-  for (let cycle = Math.floor(view.from / run.cycleLength); cycle < run.header.cycles; cycle += 1) {
-    const x = pixelOf(view, cycle * run.cycleLength);
+  for (let cycle = cycleAt(run, view.from); cycle < run.header.cycles; cycle += 1) {
+    const start = run.beginOf(cycle);
+    const x = pixelOf(view, start);
     if (x > view.width) {
       break;
     }
-    const begin = pixelOf(view, cycle * run.cycleLength + static_slots * static_mt);
-    const end = pixelOf(view, cycle * run.cycleLength + static_slots * static_mt + minislots * minislot_mt);
+    const begin = pixelOf(view, start + dynamicBegin);
+    const end = pixelOf(view, start + dynamicBegin + minislots * minislot_mt);
     context.fillStyle = theme.dynamic;
     context.fillRect(begin, AXIS, end - begin, height - AXIS);
     context.fillStyle = theme.grid;

@@ -14,7 +14,6 @@ class Run {
     this.windows = its.window_begin.length;
     this.nodes = this.header.nodes.length;
     this.cycleLength = this.header.params.cycle_mt;
-    this.length = this.header.cycles * this.cycleLength;
     this.slots = CHANNELS.map((it) => its[`window_slot_${it}`]);
     this.lengths = CHANNELS.map((it) => its[`window_length_${it}`]);
     this.starts = {};
@@ -23,11 +22,12 @@ class Run {
     }
     /** True of the page of a recording, which has no commits and no calls. */
     this.isRecording = this.header.is_recording === true;
-    /** False of an endless run, of which no node's observations are known. */
+    /** False of a recording, and of a run that is too long to show what each node received. */
     this.hasSeen = its.seen_state.length > 0;
     this.firstSent = beginnings(its.commit_sends);
     this.firstOfWindow = firstLines(its.record_window, this.windows);
     this.firstOfCycle = firstLines(its.window_cycle, this.header.cycles);
+    this.length = this.beginOf(this.header.cycles - 1) + this.cycleLength;
   }
 
   /** Returns the word of a column at a place. */
@@ -68,13 +68,10 @@ class Run {
     return found;
   }
 
-  /**
-   * Returns the word for what a node received: its status, the error of bytes, and whether a slot was open. The run has
-   * observations.
-   */
+  /** Returns the words for what a node received, and for what it counted. The run has observations. */
   seen(node, window, channel) {
-    const [status, error, slot] = this.word("seen_state", this.seenPlace(node, window, channel)).split(" ");
-    return {status: status || "", error: error || "-", hasSlot: slot === "slot"};
+    const [seen, counted] = this.word("seen_state", this.seenPlace(node, window, channel)).split(" ");
+    return {seen: seen || "silence", counted: counted || "-"};
   }
 
   /** Returns the place of an observation in its column, whose first word is no observation. */
@@ -87,6 +84,15 @@ class Run {
     const wanted = this.seenPlace(node, window, channel) - 1;
     const place = below(this.columns.stored_place, wanted);
     return this.columns.stored_place[place] === wanted ? this.word("stored_by", place) : null;
+  }
+
+  /**
+   * Returns the macrotick at which a cycle begins: that of its first window. A cycle of a recording without frames has
+   * none, and stands as many cycles after the first one as its number says.
+   */
+  beginOf(cycle) {
+    const first = this.firstOfCycle[cycle];
+    return first < this.firstOfCycle[cycle + 1] ? this.columns.window_begin[first] : cycle * this.cycleLength;
   }
 
   /** Returns the window in which a channel had a slot in a cycle, or -1. */
@@ -114,6 +120,21 @@ function firstLines(keys, count) {
   return beginnings(sizes);
 }
 
+/** Returns the cycle at a time: the last one that begins by then. */
+function cycleAt(run, time) {
+  let first = 0;
+  let last = run.header.cycles - 1;
+  while (first < last) {
+    const middle = (first + last + 1) >> 1;
+    if (run.beginOf(middle) <= time) {
+      first = middle;
+    } else {
+      last = middle - 1;
+    }
+  }
+  return first;
+}
+
 // ---- names and times
 
 /** Returns a name, cut where it is long. */
@@ -130,10 +151,13 @@ function nodeName(run, node) {
   return name === null ? `node ${node}` : `${cut(name)} (${node})`;
 }
 
-/** Returns the number of a cycle, or of a recording `3 (count 41)`. */
+/** Returns the number of a cycle, and of a recording `3 (count 41)` where a line of the program has the count. */
 function cycleText(run, cycle) {
-  const {first_cycle: first, first_count: count} = run.header;
-  return run.isRecording ? `${first + cycle} (count ${(count + cycle) % 64})` : String(cycle);
+  if (!run.isRecording) {
+    return String(cycle);
+  }
+  const count = run.number("cycle_count", cycle, "u8");
+  return `${run.header.first_cycle + cycle}${count === null ? "" : ` (count ${count})`}`;
 }
 
 /** Returns `position (1)`, or `buffer 1` without a name. */

@@ -105,12 +105,12 @@ function faultCell(run, line) {
 function receivedTable(run, window, channel) {
   const rows = [];
   for (let node = 0; node < run.nodes && run.hasSeen; node += 1) {
-    const {status, error} = run.seen(node, window, channel);
+    const {seen, counted} = run.seen(node, window, channel);
     const stored = run.storedBy(node, window, channel);
-    rows.push([link(nodeName(run, node), "node", node), status || "nothing", error === "-" ? "" : error,
+    rows.push([link(nodeName(run, node), "node", node), seen, counted === "-" ? "" : counted,
                stored === null ? "" : storedText(run, node, stored)]);
   }
-  return {caption: "What each node received", head: ["node", "status", "error", "stored in"], rows};
+  return {caption: "What each node received", head: ["node", "observation", "counted as", "stored in"], rows};
 }
 
 /** Returns the names of buffers that stored a frame, from a word such as `b0,b2` or `queue`. */
@@ -123,7 +123,7 @@ function storedText(run, node, word) {
 /** Returns the details of a cycle: when it is, and what was sent in it. */
 function detailsOfCycle(run, cycle) {
   const details = emptyDetails(`Cycle ${cycleText(run, cycle)}`);
-  const begin = cycle * run.cycleLength;
+  const begin = run.beginOf(cycle);
   const first = run.firstOfWindow[run.firstOfCycle[cycle]];
   const lines = Array.from({length: run.firstOfWindow[run.firstOfCycle[cycle + 1]] - first}, (_, it) => first + it);
   details.facts = [`It begins at ${timeText(run, begin)} and takes ${timeText(run, run.cycleLength)}.`];
