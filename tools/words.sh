@@ -45,7 +45,7 @@ find_command() {
     fr_view-capture) flags='--own --until-fault' input=TRACE ;;
     fr_view-frames) flags='--all --until-fault' input=TRACE ;;
     fr_view-outcome | fr_view-answers | fr_view-commits | fr_view-record | fr_view-windows | fr_view-reasons | \
-        fr_view-origins | fr_view-bus)
+        fr_view-origins | fr_view-received | fr_view-bus)
         places='FILE SCENARIO' options=--cycles flags=--endless ;;
     fr_view-matrix) places='FILE SCENARIO' options='--cycles --channel --node --from --from-window' ;;
     fr_view-trace) places='NODE FILE SCENARIO' options=--cycles ;;

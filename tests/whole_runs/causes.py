@@ -1,8 +1,12 @@
-"""The lines of `fr_view reasons` and `fr_view origins`, from other views of the run and the tables of the cluster."""
+"""The lines of `fr_view reasons`, `origins` and `received`, from other outputs and the tables of the cluster."""
 from collections.abc import Iterable, Iterator
 from typing import Any
 
 Tables = dict[str, Any]
+COUNTED = {"own": "-", "silence": "-", "conflict": "conflict", "noise": "syntax", "overrun": "boundary"}
+"""The bit of the slot status for an observation without bytes (docs/formats/frame.md)."""
+BROKEN = {"-": "frame", "short": "short", "length": "length", "header": "header-crc", "frame": "frame-crc"}
+"""The words of `received` for bytes, by the errors of a table of frames."""
 
 
 def reasons_of(cluster: Tables, windows: str, record: str) -> str:
@@ -66,3 +70,29 @@ def cycles_in(trace: list[str]) -> Iterable[int | None]:
             yield None if words[-1] == "-" else begun[int(words[-1].split(":")[0])] - 1
         is_start = words[0] == "fetch" and words[3:5] == ["0", "1"]
         begun.append((begun[-1] if begun else 0) + is_start)
+
+
+def received_of(windows: str, tables: list[str]) -> str:
+    """Returns the lines of `received`, from those of `windows`, and the tables `frames --all` of all nodes."""
+    rows: dict[tuple[str, int, str], list[str]] = {}
+    for node, table in enumerate(tables):
+        for line in table.splitlines()[1:]:
+            time, _, slot, channel, *words = line.split(" ")
+            rows[time, node, channel] = [slot, *words]
+    lines = []
+    for number, cycle, _, begin, *_ in (line.split(" ") for line in windows.splitlines()):
+        for node in range(len(tables)):
+            seen = [observation_of(rows.get((begin, node, channel))) for channel in "AB"]
+            if any(it[0] != "silence" for it in seen):
+                lines.append(" ".join([number, cycle, str(node), *seen[0], *seen[1]]))
+    return "".join(f"{it}\n" for it in lines)
+
+
+def observation_of(row: list[str] | None) -> tuple[str, str, str]:
+    """Returns the words of an observation: what was observed, what is counted, and what stored it."""
+    if row is None:
+        return "silence", "-", "-"
+    slot, status, error, _, _, receivers, _ = row
+    if status in COUNTED:
+        return status, "-" if slot == "-" else COUNTED[status], receivers
+    return BROKEN[error], status, receivers

@@ -100,7 +100,7 @@ class Expectations:
     def endless(self):
         """Checks a run without history, by a command: it names the lines that it doesn't judge."""
         usual, _, _ = self.ran(options=("--endless",))
-        wanted = b"line 6 names no cycle of the run\nline 4 is not judged in an endless run\n"
+        wanted = b"line 6 names no cycle of the run\nline 4 is not judged in a run without history\n"
         got = self.ran("expect 1 * 1 x1111", "", "expect-none 0 4 1", options=("--endless",))
         self.runs.compare(f"{self.command} without history", got, (usual, wanted, 0))
 

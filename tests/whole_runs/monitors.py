@@ -77,7 +77,9 @@ ONE_FRAME = "".join([
     "records 2 foreign 0 symbols 0 skipped 0\n",
     *(f"channel {channel} frames 1 cycles 1 gaps 0 lost 0 shortest - longest -\n" for channel in "AB"),
     *(f"slot {slot} {channel} {node} data 0 null {null} missing 0 other 0 shortest - longest -\n"
-      for slot, channel, node, null in ((1, "A", 0, 1), (1, "B", 0, 1), (2, "A", 1, 0), (2, "B", 1, 0), (4, "A", 2, 0))),
+      for slot, channel, node, null in (
+          (1, "A", 0, 1), (1, "B", 0, 1), (2, "A", 1, 0), (2, "B", 1, 0), (4, "A", 2, 0),
+      )),
 ])
 """The summary of the frames of slot 1 in a cycle."""
 
@@ -137,16 +139,16 @@ class Monitors:
 
     def framed(self):
         """The frames of two cycles, each of which waits for the next one of its channel if it opens a cycle."""
-        lines = ["frame 1 0.000000000 0 A 1 - 0 20 -ns- x0000 -", "frame 2 0.000000000 0 B 1 - 0 20 -ns- x0000 -",
-                 "opens 1 0 -", "frame 3 0.000020000 0 A 2 0 20 20 -n-- x0000 -",
-                 "opens 2 0 0", "frame 4 0.000020000 0 B 2 0 20 20 -n-- x0000 0",
-                 "frame 5 0.000090000 1 A 1 - 0 20 -ns- x0000 1", "frame 6 0.000090000 1 B 1 - 0 20 -ns- x0000 1",
-                 "opens 5 1 1", "frame 7 0.000110000 1 A 2 1 20 20 -n-- x0000 1",
-                 "opens 6 1 1", "frame 8 0.000110000 1 B 2 1 20 20 -n-- x0000 1"]
+        lines = ["frame 1 0.000000000 0 A 1 - 0 20 0 -ns- x0000 -", "frame 2 0.000000000 0 B 1 - 0 20 0 -ns- x0000 -",
+                 "opens 1 0 -", "frame 3 0.000020000 0 A 2 0 20 20 1 -n-- x0000 -",
+                 "opens 2 0 0", "frame 4 0.000020000 0 B 2 0 20 20 1 -n-- x0000 0",
+                 "frame 5 0.000090000 1 A 1 - 0 20 0 -ns- x0000 1", "frame 6 0.000090000 1 B 1 - 0 20 0 -ns- x0000 1",
+                 "opens 5 1 1", "frame 7 0.000110000 1 A 2 1 20 20 1 -n-- x0000 1",
+                 "opens 6 1 1", "frame 8 0.000110000 1 B 2 1 20 20 1 -n-- x0000 1"]
         text, whole = "".join(f"{it}\n" for it in lines), recording(frames(2))
         self.check("the frames of two cycles", whole, text + summary(8, 4), 0, words=("--whole", "--frames"))
         self.check("the frames of one channel", recording(frames(1)),
-                   "".join(f"{it}\n" for it in ("frame 2 0.000000000 0 B 1 - 0 20 -ns- x0000 -", "opens 2 0 -",
+                   "".join(f"{it}\n" for it in ("frame 2 0.000000000 0 B 1 - 0 20 0 -ns- x0000 -", "opens 2 0 -",
                                                 f"{lines[5][:-1]}-")) +
                    "records 4 foreign 0 symbols 0 skipped 0\n"
                    "channel B frames 2 cycles 1 gaps 0 lost 0 shortest - longest -\n"

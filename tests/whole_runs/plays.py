@@ -243,9 +243,26 @@ AFTER_70 = "frscenario 1\ncommit 1 0 0 0 x1111\nread 0 1 70 1\nend\n"
 ORIGINS_AFTER_70 = b"1 0 0 commit 0 x1111 = 0\n0 1 70 read 1 = 5 2 A x1111 69\n"
 """The state buffer of node 1 sends in each cycle, and cycle 69 of the run has count 5."""
 
+RECEIVED = "".join(
+    f"{7 * cycle} {cycle} 0 own - - conflict conflict -\n"
+    f"{7 * cycle} {cycle} 1 frame valid {'-' if cycle % 2 else 'b1'} noise syntax -\n"
+    f"{7 * cycle} {cycle} 2 frame valid - conflict conflict -\n"
+    f"{7 * cycle + 1} {cycle} 0 frame valid b1 noise syntax -\n"
+    f"{7 * cycle + 1} {cycle} 1 own - - conflict conflict -\n"
+    f"{7 * cycle + 1} {cycle} 2 frame valid b1 conflict conflict -\n"
+    f"{7 * cycle + 2} {cycle} 0 silence - - short syntax -\n"
+    f"{7 * cycle + 2} {cycle} 1 silence - - short syntax -\n"
+    f"{7 * cycle + 2} {cycle} 2 silence - - own - -\n"
+    + ("" if cycle == 2 else f"{7 * cycle + 3} {cycle} 0 frame valid queue silence - -\n"
+       f"{7 * cycle + 3} {cycle} 1 frame valid - silence - -\n{7 * cycle + 3} {cycle} 2 own - - silence - -\n")
+    for cycle in range(4))
+"""The three nodes' lines `received`. Node 2 babbles a byte on B in each static slot, and sends in slot 4 in cycles 0, 1
+and 3. Node 0 sends data in cycles 0 and 2, and otherwise null frames, which no buffer stores. A cycle has three static
+slots and four minislots."""
+
 COMMANDS = [["outcome"], ["answers"], ["commits"], ["record"], ["windows"], ["bus"], ["matrix"], ["trace", "0"]]
 STREAMED = [["outcome"], ["answers"], ["commits"], ["record"], ["windows"], ["reasons"], ["origins"],
-            ["bus"]]
+            ["received"], ["bus"]]
 """The commands with `--endless`."""
 
 
@@ -308,12 +325,15 @@ class Plays:
                               (self.reported(outcome.read_text()), 0))
 
     def causes(self):
-        """Checks the facts for which commits aren't sent or received, and the cycles in which frames came."""
+        """Checks the facts for which commits aren't sent or received, the cycles in which frames came, and what nodes
+        receive."""
         cluster = (EXAMPLES / "three-nodes/cluster.toml").read_text()
         came = ANSWERS.replace("A x7001", "A x7001 0").replace("A x0c0d", "A x0c0d 2").encode()
         for more in ([], ["--endless"]):
             self.runs.check(" ".join(["reasons", *more]), ["reasons", *THREE_NODES, *more], (REASONS.encode(), b"", 0))
             self.runs.check(" ".join(["origins", *more]), ["origins", *THREE_NODES, *more], (came, b"", 0))
+            self.runs.check(" ".join(["received", *more]), ["received", *THREE_NODES, *more],
+                            (RECEIVED.encode(), b"", 0))
         words = self.given(cluster.replace("latest_a = 4\n", ""), "frscenario 1\nend\n")
         self.runs.check("reasons of a node that begins no frame", ["reasons", *words], (LATE.encode(), b"", 0))
         words = [*self.given(cluster, AFTER_70)[:2], "--cycles", "71"]
