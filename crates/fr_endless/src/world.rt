@@ -63,15 +63,15 @@ fn buffers_of(alloc: Global, plans: &[NodePlan]) -> Result<Vec<u8>, AllocError>
 }
 
 impl EndlessWorld {
-    ghost use Rattle.std.specs.Prelude.{◌≡◌, ◌≤◌, IfOk, length, take};
+    ghost use Rattle.std.specs.Prelude.{◌≡◌, ◌≤◌, IfOk, length, slice_get, take};
     ghost use Rattle.fr_core.specs.Headline.{Headline};
     ghost use Rattle.fr_core.specs.Steps.{event_of};
     ghost use Rattle.fr_core.specs.Worlds.{interface_at};
     ghost use Rattle.fr_endless.specs.Alike.{buffers_each};
     ghost use Rattle.fr_interface.specs.Calls.{call_answer};
     ghost use Rattle.fr_endless.specs.Fronts.{events_of};
-    ghost use Rattle.fr_live.specs.LiveSteps.{AcceptsAlike, AppliesAlike, StepsAlike, offer_events, see_events};
-    ghost use Rattle.fr_live.specs.LiveSteps.{with_answer};
+    ghost use Rattle.fr_live.specs.LiveSteps.{AcceptsAlike, AppliesAlike, RefusesAlike, StepsAlike, with_answer};
+    ghost use Rattle.fr_live.specs.LiveSteps.{offer_events, see_events};
     ghost use Rattle.fr_live.specs.LiveWorlds.{OpensLiveWorld, ForEachWorld};
 
     /// Returns the opening world of a cluster, as `LiveWorld::new` does. Fails as that does.
@@ -111,6 +111,7 @@ impl EndlessWorld {
     fn offer(&mut self, node: NodeId) -> usize
         ensures few { result ≤ 3 }
         ensures accepts { AcceptsAlike self.old (take result (offer_events node)) self.new }
+        ensures refuses { RefusesAlike self.new (slice_get (offer_events node) result) }
     {
         self.world.offer(node)
     }
@@ -119,6 +120,7 @@ impl EndlessWorld {
     fn see(&mut self, node: NodeId) -> usize
         ensures few { result ≤ 2 }
         ensures accepts { AcceptsAlike self.old (take result (see_events node)) self.new }
+        ensures refuses { RefusesAlike self.new (slice_get (see_events node) result) }
     {
         self.world.see(node)
     }
@@ -128,6 +130,7 @@ impl EndlessWorld {
     pub fn pass(&mut self, front: &Front) -> usize
         ensures few { result ≤ length (events_of front.now) }
         ensures accepts { AcceptsAlike self.old (take result (events_of front.now)) self.new }
+        ensures refuses { RefusesAlike self.new (slice_get (events_of front.now) result) }
     {
         match front {
             Front::Offer(node) => self.offer(*node),
@@ -136,8 +139,8 @@ impl EndlessWorld {
         }
     }
 
-    /// Executes the events of a node that stand first in the list, if one call executes them, up to the first one that
-    /// is refused. Returns how many were accepted.
+    /// Executes events that stand first in the list, without their answers, and returns how many. Each was accepted. It
+    /// executes those of a node that `front_of` finds there, and otherwise none.
     pub fn pass_front(&mut self, events: &[Event]) -> usize
         ensures few { result ≤ length events.now }
         ensures accepts { AcceptsAlike self.old (take result events.now) self.new }

@@ -4,7 +4,6 @@ use Rattle.std.proofs.Common.{subst, ap, ◌∙◌, get_or-set_same}
 use Rattle.std.proofs.lemmas.Bool.{ltb-true}
 use Rattle.std.specs.Prelude.{slice_set, option_map, Result, Ok, Err, OnOk, OnErr, is_err, is_ok}
 use Rattle.std.specs.Result.{result_err}
-use Rattle.fr_bus.specs.declared.error.BusError.{BusError}
 use Rattle.fr_bus.specs.Standing.{LiveStanding, ForEachLiveHistory, IsLiveHistory, bare}
 use Rattle.fr_bus.specs.States.{seen_last, take_done, take_refusal}
 use Rattle.fr_core.specs.Carried.{Carried, Idle, Waits, Took}
@@ -44,21 +43,13 @@ module _ {X E : Type 0} (P : Type 0) where
   ok_holds (Ok x) accepted holds = holds
   ok_holds (Err e) accepted holds = absurd (let none : ⊥ = cc accepted in none)
 
+  pub err_holds : (r : Result X E) → is_err r ≡ true → OnErr r P → P
+  err_holds (Ok x) refused holds = absurd (let none : ⊥ = cc refused in none)
+  err_holds (Err e) refused holds = holds
+
 pub accepted_none : {X E : Type 0} (r : Result X E) (found : Option E) → is_err r ≡ false → result_err r ≡ found
     → found ≡ None
 accepted_none r found accepted told = sym told ∙ no_refused r accepted
-
--- nothing was done
-pub none_accepted : (l : LiveState) → LiveAccepts l [] l
-unfolding Accepts
-none_accepted l w is = (w, refl, is)
-
-pub bus_refused : {X : Type 0} (l : LiveState) (bus : LiveStanding) (r : Result X BusError) → is_err r ≡ true
-    → OnErr r (bus ≡ l.bus) → LiveAccepts l [] (record l { bus = bus })
-unfolding Accepts
-bus_refused l bus (Ok x) refused same w is = absurd (let none : ⊥ = cc refused in none)
-bus_refused l bus (Err e) refused same w is =
-    (w, refl, subst (λ (b : LiveStanding). Leads w (record l { bus = b })) (sym same) is)
 
 -- the data of a node whose take is due: its window, and the answers of the bus and of the interface
 pub record Sees (l : LiveState) (n : ℕ) (window : Opportunity) (bus : LiveStanding) (h : Standing) (a b : Seen)

@@ -1,6 +1,7 @@
 -- A step of the kept data is a step of each world that leads to them.
-use Rattle.std.proofs.Common.{◌≡◌, ℕ, true, false, List, [], ◌∷◌, ◌++◌, Option, Some, refl, sym, subst, ap, ◌∙◌}
+use Rattle.std.proofs.Common.{◌≡◌, ℕ, true, false, List, [], ◌∷◌, ◌++◌, Option, Some, None, refl, sym, subst, ap, ◌∙◌}
 use Rattle.std.specs.Prelude.{option_map, Result, Ok, Err, IfOk, OnOk, OnErr, is_err}
+use Rattle.std.specs.Option.{is_some}
 use Rattle.std.specs.Result.{result_err}
 use Rattle.fr_bus.specs.declared.error.BusError.TheVariants as bus
 use Rattle.fr_core.proofs.WorldLemmas.{kept_step}
@@ -22,7 +23,7 @@ use Rattle.fr_core.specs.Worlds.{WorldState, interface_at}
 use Rattle.fr_live.proofs.CallLemmas.{reply_call}
 use Rattle.fr_live.proofs.RefusalLemmas.{seal_refuses}
 use Rattle.fr_core.specs.Agreement.{IsWorld}
-use Rattle.fr_live.specs.LiveSteps.{Accepts, AcceptsAlike, LiveAccepts}
+use Rattle.fr_live.specs.LiveSteps.{Accepts, AcceptsAlike, LiveAccepts, LiveRefuses, RefusesAlike}
 use Rattle.fr_live.specs.LiveSteps.{LiveApplies, LiveSteps, AppliesAlike, StepsAlike, SealsMachine, with_answer}
 use Rattle.fr_live.specs.LiveSteps.{with_receipt, without_value}
 use Rattle.fr_live.specs.LiveWorlds.{LiveState, Leads}
@@ -218,6 +219,16 @@ module _ {X : Type 0} (old new : LiveState) (event : Event) where
   unfolding Accepts
   refused_none (Ok x) refused same w is = absurd (let none : ⊥ = cc refused in none)
   refused_none (Err e) refused same w is = (w, refl, subst (Leads w) (sym same) is)
+
+  -- the refused event is refused by each world that leads to the data, before and after
+  pub refused_next : (r : Result X StepError) → is_err r ≡ true → OnErr r (new ≡ old)
+      → ((w : WorldState) → Leads w old → result_err r ≡ step_refusal w event) → LiveRefuses new (Some event)
+  refused_next (Ok x) refused same told w is = absurd (let none : ⊥ = cc refused in none)
+  refused_next (Err e) refused same told w is = sym (ap is_some (told w (subst (Leads w) same is)))
+
+pub refuses_alike : (l : LiveState) (event : Option Event) → LiveRefuses l event → RefusesAlike l event
+refuses_alike l None refused = tt
+refuses_alike l (Some event) refused = λ w is. refused w is.leads
 
 kept_all : (events : List Event) (w v : WorldState) → Accepts w events v → IsWorld w → IsWorld v
 unfolding Accepts

@@ -1,6 +1,8 @@
 -- One step of a world that keeps no history (project-defined): when it is refused, by the kept data, and the world with
 -- its history after it.
-use Rattle.std.specs.Prelude.{◌≡◌, ℕ, List, [], ◌∷◌, Option, Some, None, option_map, Result, Ok, Err, if◌then◌else◌}
+use Rattle.std.specs.Prelude.{◌≡◌, ℕ, true, List, [], ◌∷◌, Option, Some, None, option_map, Result, Ok, Err}
+use Rattle.std.specs.Prelude.{if◌then◌else◌}
+use Rattle.std.specs.Option.{is_some}
 use Rattle.fr_bus.specs.declared.error.BusError.TheVariants.{Memory}
 use Rattle.fr_bus.specs.Standing.{bare}
 use Rattle.fr_bus.specs.States.{collecting_of, put_refusal, take_refusal, seal_refusal}
@@ -116,6 +118,15 @@ LiveAccepts old events new = (w : WorldState) → Leads w old → (v : WorldStat
 abbrev pub AcceptsAlike : LiveState → List Event → LiveState → Type 0
 AcceptsAlike old events new =
     (w : WorldState) → IsWorldHistory old w → (v : WorldState) × Accepts w events v × IsWorldHistory new v
+
+-- each world that leads to the data refuses this event, if there is one
+abbrev pub LiveRefuses : LiveState → Option Event → Type 0
+LiveRefuses l None = Unit {0}
+LiveRefuses l (Some event) = (w : WorldState) → Leads w l → is_some (step_refusal w event) ≡ true
+
+abbrev pub RefusesAlike : LiveState → Option Event → Type 0
+RefusesAlike l None = Unit {0}
+RefusesAlike l (Some event) = (w : WorldState) → IsWorldHistory l w → is_some (step_refusal w event) ≡ true
 
 -- the events of a node before the seal of a window, and those after it
 abbrev pub offer_events : ℕ → List Event

@@ -129,7 +129,7 @@ fn done(outcome: Result<(), StepError>) -> Result<Reply, StepError>
 
 impl LiveMachine {
     ghost use Rattle.std.specs.Prelude.{◌≡◌, ◌≤◌, Ok, Err, IfOk, OnOk, OnErr, Some, option_map, length, take};
-    ghost use Rattle.std.specs.Prelude.{if◌then◌else◌};
+    ghost use Rattle.std.specs.Prelude.{if◌then◌else◌, slice_get};
     ghost use Rattle.std.specs.List.{list_all};
     ghost use Rattle.std.specs.Result.{result_err};
     ghost use Rattle.fr_bus.specs.Standing.{bare};
@@ -141,7 +141,7 @@ impl LiveMachine {
     ghost use Rattle.fr_interface.specs.Calls.{call_answer};
     ghost use Rattle.fr_interface.specs.Standing.{commit_refused};
     ghost use Rattle.fr_live.specs.LiveWorlds.{OpensMachine, ForEachLead, Leads, has_node, standing_at, carried_at};
-    ghost use Rattle.fr_live.specs.LiveSteps.{LiveAccepts, LiveApplies, LiveSteps, SealsMachine, if_node};
+    ghost use Rattle.fr_live.specs.LiveSteps.{LiveAccepts, LiveApplies, LiveRefuses, LiveSteps, SealsMachine, if_node};
     ghost use Rattle.fr_live.specs.LiveSteps.{look_in_turn, offer_events, see_events};
     ghost use Rattle.fr_live.specs.LiveSteps.{fetch_in_turn, put_in_turn, take_in_turn, observe_in_turn};
 
@@ -438,6 +438,7 @@ impl LiveMachine {
     pub(crate) fn offer(&mut self, node: NodeId) -> usize
         ensures few { result ≤ 3 }
         ensures accepts { LiveAccepts self.old (take result (offer_events node)) self.new }
+        ensures refuses { LiveRefuses self.new (slice_get (offer_events node) result) }
     {
         if self.look(node).is_err() {
             return 0;
@@ -458,18 +459,19 @@ impl LiveMachine {
     pub(crate) fn see(&mut self, node: NodeId) -> usize
         ensures few { result ≤ 2 }
         ensures accepts { LiveAccepts self.old (take result (see_events node)) self.new }
+        ensures refuses { LiveRefuses self.new (slice_get (see_events node) result) }
     {
         let Ok(place) = self.place(node) else {
-            return 0;
+            return self.see_in_turn(node);
         };
         let Due::Take(window) = self.controllers[place].due else {
-            return 0;
+            return self.see_in_turn(node);
         };
         if self.interfaces[place].check_observe(window.number).is_err() {
             return self.see_in_turn(node);
         }
         if self.bus.take(node, window.number).is_err() {
-            return 0;
+            return self.see_in_turn(node);
         }
         let a = self.bus.sight(node, Channel::A);
         let b = self.bus.sight(node, Channel::B);
@@ -484,6 +486,7 @@ impl LiveMachine {
     fn see_in_turn(&mut self, node: NodeId) -> usize
         ensures few { result ≤ 2 }
         ensures accepts { LiveAccepts self.old (take result (see_events node)) self.new }
+        ensures refuses { LiveRefuses self.new (slice_get (see_events node) result) }
     {
         if self.take(node).is_err() {
             return 0;

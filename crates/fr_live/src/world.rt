@@ -33,13 +33,14 @@ impl Model for LiveWorld {
 }
 
 impl LiveWorld {
-    ghost use Rattle.std.specs.Prelude.{◌≡◌, ◌≤◌, IfOk, take};
+    ghost use Rattle.std.specs.Prelude.{◌≡◌, ◌≤◌, IfOk, slice_get, take};
     ghost use Rattle.std.specs.List.{list_all};
     ghost use Rattle.fr_core.specs.Headline.{Headline};
     ghost use Rattle.fr_core.specs.Steps.{event_of};
     ghost use Rattle.fr_core.specs.Worlds.{interface_at, is_between};
     ghost use Rattle.fr_interface.specs.Calls.{call_answer};
-    ghost use Rattle.fr_live.specs.LiveSteps.{AcceptsAlike, AppliesAlike, StepsAlike, offer_events, see_events};
+    ghost use Rattle.fr_live.specs.LiveSteps.{AcceptsAlike, AppliesAlike, RefusesAlike, StepsAlike};
+    ghost use Rattle.fr_live.specs.LiveSteps.{offer_events, see_events};
     ghost use Rattle.fr_live.specs.LiveSteps.{with_answer};
     ghost use Rattle.fr_live.specs.LiveWorlds.{OpensLiveWorld, ForEachWorld};
 
@@ -84,6 +85,7 @@ impl LiveWorld {
     pub fn offer(&mut self, node: NodeId) -> usize
         ensures few { result ≤ 3 }
         ensures accepts { AcceptsAlike self.old (take result (offer_events node)) self.new }
+        ensures refuses { RefusesAlike self.new (slice_get (offer_events node) result) }
     {
         self.machine.offer(node)
     }
@@ -93,6 +95,7 @@ impl LiveWorld {
     pub fn see(&mut self, node: NodeId) -> usize
         ensures few { result ≤ 2 }
         ensures accepts { AcceptsAlike self.old (take result (see_events node)) self.new }
+        ensures refuses { RefusesAlike self.new (slice_get (see_events node) result) }
     {
         self.machine.see(node)
     }

@@ -1,7 +1,7 @@
-use Rattle.std.proofs.Common.{◌≡◌, ◌<◌, None, true, [], ◌∷◌, length, sym, ap, subst, ◌∙◌, rules}
+use Rattle.std.proofs.Common.{◌≡◌, ◌<◌, None, true, [], ◌∷◌, length, take, sym, ap, subst, ◌∙◌}
 use Rattle.std.proofs.lemmas.Bool.{ltb-true}
 use Rattle.std.specs.Prelude.{slice_set}
-use Rattle.fr_bus.specs.Standing.{ForEachLiveHistory, IsLiveHistory, bare}
+use Rattle.fr_bus.specs.Standing.{ForEachLiveHistory, IsLiveHistory, LiveStanding, bare}
 use Rattle.fr_bus.specs.States.{take_done, take_refusal}
 use Rattle.fr_core.specs.Carried.{Idle, Waits, carried_of}
 use Rattle.fr_core.specs.declared.event.Event.TheVariants.{Take, Observe}
@@ -10,18 +10,12 @@ use Rattle.fr_interface.specs.Standing.{ForEachHistory, IsHistory, Standing, obs
 use Rattle.fr_interface.specs.State.{with_entry}
 use Rattle.fr_journal.specs.declared.entry.Entry.TheVariants as entries
 use Rattle.fr_live.proofs.LeadLemmas.{index_any, place_ok}
-use Rattle.fr_live.proofs.SeeLemmas.{Sees, accepted_holds, accepted_none, bus_refused, none_accepted, ok_holds}
+use Rattle.fr_live.proofs.SeeLemmas.{Sees, accepted_holds, accepted_none, err_holds, ok_holds}
 use Rattle.fr_live.proofs.SeeLemmas.{sees_both}
 use Rattle.fr_live.specs.LiveSteps.{LiveAccepts}
 use Rattle.fr_live.specs.LiveWorlds.{LiveState, carried_at, has_node, no_standing, standing_at}
 use Rattle.fr_slots.specs.Windows.{Opportunity}
 use Rattle.fr_live.proofs.machine.LiveMachine.see.Goals as goal
-
-pub returns-in_default-clause-accepts : goal.returns-in_default-clause-accepts
-returns-in_default-clause-accepts c = none_accepted c.args.self.now
-
-pub returns-in_default-due : goal.returns-in_default-due
-returns-in_default-due c = record { few = search rules; accepts = none_accepted c.args.self.now }
 
 pub returns-then-is_err-2-clause-accepts : goal.returns-then-is_err-2-clause-accepts
 returns-then-is_err-2-clause-accepts c =
@@ -30,9 +24,13 @@ returns-then-is_err-2-clause-accepts c =
       bus = c.self.inside.bus;
       carried = c.self.inside.controllers.items;
     } in
-    subst (λ (x : LiveState). LiveAccepts x [] (record l { bus = c.take.new.self })) c.self.view_is
-    (bus_refused l c.take.new.self c.take.result (sym c.is_err-2.ensures.value ∙ c.if-is_err-2.true)
-    c.take.ensures.refused)
+    let same : c.take.new.self ≡ l.bus =
+    err_holds (c.take.new.self ≡ l.bus) c.take.result (sym c.is_err-2.ensures.value ∙ c.if-is_err-2.true)
+    c.take.ensures.refused in
+    let events = take c.see_in_turn-then-is_err-2.result (Take c.args.node ∷ Observe c.args.node ∷ []) in
+    subst (λ (x : LiveState). LiveAccepts x events c.see_in_turn-then-is_err-2.new.self) c.self.view_is
+    (subst (λ (b : LiveStanding). LiveAccepts (record l { bus = b }) events c.see_in_turn-then-is_err-2.new.self) same
+    c.see_in_turn-then-is_err-2.ensures.accepts)
 
 pub returns-clause-accepts : goal.returns-clause-accepts
 returns-clause-accepts c =

@@ -1,7 +1,7 @@
 use Rattle.std.proofs.Common.{[], ◌∷◌, ◌∙◌, sym}
 use Rattle.fr_core.specs.declared.event.Event.TheVariants.{Take, Observe}
 use Rattle.fr_live.proofs.RefusalLemmas.{take_refuses, observe_refuses}
-use Rattle.fr_live.proofs.StepLemmas.{accepted_one, accepted_then, refused_none}
+use Rattle.fr_live.proofs.StepLemmas.{accepted_one, accepted_then, refused_next, refused_none}
 use Rattle.fr_live.specs.LiveSteps.{LiveAccepts}
 use Rattle.fr_live.proofs.machine.LiveMachine.see_in_turn.Goals as goal
 
@@ -34,3 +34,15 @@ returns-clause-accepts c =
     (λ w is. c.observe.ensures.refusal ∙ observe_refuses w c.take.new.self is c.args.node) c.observe.ensures.leads in
     accepted_then old c.take.new.self c.observe.new.self (Take c.args.node ∷ []) (Observe c.args.node ∷ []) took
     observed
+
+pub returns-then-is_err-clause-refuses : goal.returns-then-is_err-clause-refuses
+returns-then-is_err-clause-refuses c =
+    refused_next c.args.self.now c.take.new.self (Take c.args.node) c.take.result
+    (sym c.is_err.ensures.value ∙ c.if-is_err.true) c.take.ensures.refused
+    (λ w is. c.take.ensures.refusal ∙ take_refuses w c.args.self.now is c.args.node)
+
+pub returns-then-is_err-2-clause-refuses : goal.returns-then-is_err-2-clause-refuses
+returns-then-is_err-2-clause-refuses c =
+    refused_next c.take.new.self c.observe.new.self (Observe c.args.node) c.observe.result
+    (sym c.is_err-2.ensures.value ∙ c.if-is_err-2.true) c.observe.ensures.refused
+    (λ w is. c.observe.ensures.refusal ∙ observe_refuses w c.take.new.self is c.args.node)
