@@ -50,12 +50,12 @@ frames_of d channel (r ∷ rs) h = with_frame d channel r h.0 (frames_of d chann
 -- ---- a cycle has a frame
 
 -- a static slot with an owner
-record HasOwner (d : Description) (channel : Channel) (cycle : ℕ) : Type 0 where
-  slot : ℕ
-  from_one : 1 ≤ slot
-  static : slot ≤ d.params.static_slots
-  due : Due
-  due_is : due_at d slot channel cycle ≡ Some due
+pub record HasOwner (d : Description) (channel : Channel) (cycle : ℕ) : Type 0 where
+  pub slot : ℕ
+  pub from_one : 1 ≤ slot
+  pub static : slot ≤ d.params.static_slots
+  pub due : Due
+  pub due_is : due_at d slot channel cycle ≡ Some due
 
 any_at : {X : Type 0} (test : X → Bool) (xs : List X) (k : ℕ) (x : X) → slice_get xs k ≡ Some x → test x ≡ true
     → list_any test xs ≡ true
@@ -68,7 +68,7 @@ any_at test (y ∷ xs) (suc k) x at passes = by (test y) (any_at test xs k x at 
     by true rest = refl
     by false rest = rest
 
-has_owner : (d : Description) (channel : Channel) (cycle : ℕ) → IsCluster d → cycle < 64
+pub has_owner : (d : Description) (channel : Channel) (cycle : ℕ) → IsCluster d → cycle < 64
     → is_clocked d channel cycle ≡ true → HasOwner d channel cycle
 has_owner d channel cycle cluster fits clocked =
     let node = some_found_in (owns_some channel cycle) d.plans clocked in
@@ -103,7 +103,7 @@ has_owner d channel cycle cluster fits clocked =
           (buffer_in line.value.slot channel cycle node.value)) own_is.slot_is.from_one own_is.slot_is.at_most due;
     }
 
-not_free : (d : Description) (channel : Channel) (cycle : ℕ) → HasOwner d channel cycle
+pub not_free : (d : Description) (channel : Channel) (cycle : ℕ) → HasOwner d channel cycle
     → AreFree d channel cycle 1 (static_end d) → ⊥
 not_free d channel cycle o free =
     let few = o.static in

@@ -115,16 +115,16 @@ slot_static A number cycle slot = refl
 slot_static B number cycle slot = refl
 
 -- the frame of the owner of a static slot
-record IsStaticFrame (d : Description) (channel : Channel) (cycle slot : ℕ) (f : Fields) : Type 0 where
-  id_is : f.id ≡ slot
-  cycle_is : f.cycle ≡ cycle
-  due : Due
-  due_is : due_of d slot channel cycle ≡ Some due
-  owners : IsOwners due f
+pub record IsStaticFrame (d : Description) (channel : Channel) (cycle slot : ℕ) (f : Fields) : Type 0 where
+  pub id_is : f.id ≡ slot
+  pub cycle_is : f.cycle ≡ cycle
+  pub due : Due
+  pub due_is : due_of d slot channel cycle ≡ Some due
+  pub owners : IsOwners due f
 
 module _ (d : Description) (channel : Channel) (r : Recorded) (number cycle slot : ℕ)
     (is : r.window ≡ static_window number cycle slot) where
-  static_frame : (l : IsLoud d channel r) → IsStaticFrame d channel cycle slot l.frame
+  pub static_frame : (l : IsLoud d channel r) → IsStaticFrame d channel cycle slot l.frame
   static_frame l =
       let o : IsOwnersThere d r.window channel l.slot l.frame =
       subst (λ (b : Bool). IsThere d r.window channel l.slot l.frame b) (ap is_static is) l.is_there in
@@ -140,7 +140,7 @@ module _ (d : Description) (channel : Channel) (r : Recorded) (number cycle slot
         owners = o.owners;
       }
 
-  static_none : IsQuiet d channel r → due_at d slot channel cycle ≡ None
+  pub static_none : IsQuiet d channel r → due_at d slot channel cycle ≡ None
   static_none q =
       let at : r.window.cycle ≡ cycle = ap (λ (w : Opportunity). w.cycle) is in
       due_at_none d slot channel cycle (ap (λ (k : ℕ). due_of d slot channel k) (sym at)
@@ -151,7 +151,7 @@ module _ (d : Description) (channel : Channel) (cluster : IsCluster d) where
   few_statics : d.params.static_slots ≤ 1023
   few_statics = cluster.params_are.static_slots_fit.at_most
 
-  further_static : (s : Spot) (f : Fields) (slot : ℕ) → IsStaticFrame d channel s.cycle slot f → s.cycle < 64
+  pub further_static : (s : Spot) (f : Fields) (slot : ℕ) → IsStaticFrame d channel s.cycle slot f → s.cycle < 64
       → s.last < slot → slot ≤ d.params.static_slots → AreFree d channel s.cycle (s.last + 1) slot
       → IsFurther d channel s f
   further_static s f slot is fits below few free =
@@ -440,7 +440,7 @@ module _ (d : Description) (channel : Channel) (cluster : IsCluster d) (c : Stan
           in_time = omega (arith, begin, first, minislot, time);
         }
 
-    further_dynamic : IsFurther d channel s l.frame
+    pub further_dynamic : IsFurther d channel s l.frame
     further_dynamic =
         let id = id_is in
         let under = at.lane.below in

@@ -109,7 +109,7 @@ module _ (d : Description) (channel : Channel) (cluster : IsCluster d) where
   few_bytes s f x false dynamic due allowed =
       (allowed.words, (dynamic_sized d f.id channel f.cycle x cluster dynamic due).words_fit)
 
-  is_frame : (s : Spot) (f : Fields) → IsAllowed d channel s f → IsFrame f
+  pub is_frame : (s : Spot) (f : Fields) → IsAllowed d channel s f → IsFrame f
   is_frame s f is =
       let due = due_in d f.id channel f.cycle is.due is.due_is in
       let few = due.few in
@@ -139,10 +139,10 @@ module _ (d : Description) (channel : Channel) (cluster : IsCluster d) where
 
 -- ---- their records
 
-abbrev packet_for : Channel → Fields → List ℕ
+abbrev pub packet_for : Channel → Fields → List ℕ
 packet_for channel f = packet channel None (encoded f channel)
 
-packet_seen : (channel : Channel) (bytes : ArrayVec ℕ) (f : Fields) → IsFrame f → bytes.items ≡ encoded f channel
+pub packet_seen : (channel : Channel) (bytes : ArrayVec ℕ) (f : Fields) → IsFrame f → bytes.items ≡ encoded f channel
     → packet channel (refusal channel bytes.items) bytes.items ≡ packet_for channel f
 packet_seen channel bytes f is_frame spelled =
     ap (λ (l : List ℕ). packet channel (refusal channel l) l) spelled

@@ -1,0 +1,9 @@
+mod ViewLemmas
+mod OpeningLemmas
+mod GoodLemmas
+mod SideLemmas
+mod JointLemmas
+mod FinishLemmas
+mod WindowLemmas
+mod WalkLemmas
+mod PairLaws

@@ -1,0 +1,140 @@
+-- Recordings of both channels of a run without faults have no finding.
+use Rattle.std.proofs.Common.{◌≡◌, ℕ, zero, suc, ◌+◌, ◌*◌, ◌<◌, ◌≤◌, true, List, [], ◌∷◌, ◌++◌, length}
+use Rattle.std.proofs.Common.{Some, None, refl, sym, ap, subst, ◌∙◌, arith, inl, inr}
+use Rattle.std.proofs.lemmas.List.{append_assoc}
+use Rattle.std.specs.Prelude.{◌^◌}
+use Rattle.arrayvec.specs.ArrayVec.{ArrayVec}
+use Rattle.fr_bus.specs.Courses.{opportunities}
+use Rattle.fr_bus.specs.Record.{Recorded, heard}
+use Rattle.fr_capture.specs.Pcap.{packet}
+use Rattle.fr_core.specs.Headline.{Headline}
+use Rattle.fr_core.specs.Worlds.{WorldState}
+use Rattle.fr_frame.specs.Refusal.{refusal}
+use Rattle.fr_hearing.proofs.HearingLemmas.{window_heard, each_heard}
+use Rattle.fr_hearing.proofs.OwnersLaws.{length-frame}
+use Rattle.fr_hearing.proofs.PassageLemmas.{IsHeardAt}
+use Rattle.fr_hearing.proofs.ReadBackLaws.{is_read_back}
+use Rattle.fr_hearing.specs.Files.{Clock, capture_of}
+use Rattle.fr_hearing.specs.ReadBack.{read_time, read_seen, read_window, AreShort}
+use Rattle.fr_hearing.specs.Runs.{IsHealthy, packets_seen}
+use Rattle.fr_judging.specs.Rules.{rules_of, judges, is_clocked}
+use Rattle.fr_pairing.proofs.SideLemmas.{FrameMap, AreAlike}
+use Rattle.fr_pairing.proofs.WalkLemmas.{all_mapped, none_found_in}
+use Rattle.fr_pairing.specs.Pairs.{packets_of_both, AreInOrder, HasNoneForBoth, NoAlarmTogether, NoAlarmInFileTogether}
+use Rattle.fr_recording.specs.Numbers.{most_counted}
+use Rattle.fr_recording.specs.Records.{Record}
+use Rattle.fr_recording.specs.Stream.{records_in}
+use Rattle.fr_schedule.specs.Descriptions.{Description}
+use Rattle.fr_slots.specs.declared.channel.Channel.{Channel}
+use Rattle.fr_slots.specs.declared.channel.Channel.TheVariants.{A, B}
+use Rattle.fr_slots.specs.History.{each_after}
+use Rattle.fr_slots.specs.Parameters.{Parameters}
+use Rattle.fr_status.specs.Forms.{Seen}
+use Rattle.fr_status.specs.declared.seen.Seen.TheVariants.{Silence, Own, Conflict, Noise, Overrun, Bytes}
+
+-- ---- the records of a run
+
+some_product : (cycles slots : ℕ) → 1 ≤ slots → cycles ≤ cycles * slots
+some_product cycles zero some = absurd (let none : ⊥ = omega (arith, some) in none)
+some_product cycles (suc slots) some = omega arith
+
+few_cycles : (cycles slots product : ℕ) → cycles ≤ product → product < 2 ^ 32 → cycles + 2 ≤ most_counted
+few_cycles cycles slots product low high = omega (arith, low, high)
+
+-- nothing is asked of the frames
+any_frame : FrameMap
+any_frame channel cycle slot f = Unit {0}
+
+none_alike : (d : Description) → HasNoneForBoth d → AreAlike d any_frame
+none_alike d none channel cycle slot f g x here there due both =
+    let single = none slot channel f.cycle x due in
+    absurd (let no : ⊥ = cc (sym both ∙ single) in no)
+
+pub no_alarm_together : (w : WorldState) → Headline w → NoAlarmTogether w
+unfolding rules_of any_frame
+no_alarm_together w head most whole records healthy_a healthy_b some_a some_b none in_order =
+    let d : Description = w.bus.cluster in
+    let slots = head.run.lawful.params_are.static_slots_fit in
+    let least : 2 ≤ d.params.static_slots = slots.from_least in
+    let greatest : d.params.static_slots ≤ 1023 = slots.at_most in
+    let product = some_product w.bus.cycles (opportunities d.params) (omega (arith, least)) in
+    let few = few_cycles w.bus.cycles (opportunities d.params) (w.bus.cycles * opportunities d.params) product
+    head.run.few_windows in
+    none_found_in (rules_of w.bus.cluster most whole None 0) (record { untimed = refl }) greatest any_frame
+    (none_alike w.bus.cluster none) head.run.lawful all w.bus.cycles few clocked w.bus.sealed head.run.recorded
+    (each_heard w.bus.cluster A w.bus.sealed (window_heard w head A healthy_a))
+    (each_heard w.bus.cluster B w.bus.sealed (window_heard w head B healthy_b))
+    (all_mapped (rules_of w.bus.cluster most whole None 0) (record { untimed = refl }) greatest any_frame
+    (none_alike w.bus.cluster none) head.run.lawful all w.bus.cycles few clocked (λ channel x l cycle. tt) []
+    w.bus.sealed)
+    healthy_a.complete.some_window healthy_a.complete.static_over head.run.some_cycles records in_order
+  where
+    all : (channel : Channel) → judges (rules_of w.bus.cluster most whole None 0) channel ≡ true
+    all A = refl
+    all B = refl
+
+    clocked : (channel : Channel) (cycle : ℕ) → cycle < 64 → is_clocked w.bus.cluster channel cycle ≡ true
+    clocked A = healthy_a.clocked some_a
+    clocked B = healthy_b.clocked some_b
+
+-- ---- the file
+
+seen_order : (time : ℕ) (channel : Channel) (o : Seen) (records : List Record) (packets : List (List ℕ))
+    → AreInOrder records packets → AreInOrder (read_seen time channel o ++ records) (packets_seen channel o ++ packets)
+seen_order time channel Silence records packets rest = rest
+seen_order time channel Own records packets rest = rest
+seen_order time channel Conflict records packets rest = rest
+seen_order time channel Noise records packets rest = rest
+seen_order time channel Overrun records packets rest = rest
+seen_order time channel (Bytes bytes) records packets rest = inr (
+  Some (read_time time),
+  packet channel (refusal channel bytes.items) bytes.items,
+  packets,
+  refl,
+  refl,
+  rest,
+)
+
+read_order : (time : Clock) (p : Parameters) (before rs : List Recorded)
+    → AreInOrder (each_after (λ (b : List Recorded) (r : Recorded). read_window p (time b r) r) before rs)
+    (packets_of_both p rs)
+unfolding each_after
+read_order time p before [] = refl
+read_order time p before (r ∷ rs) =
+    let a : List Record = read_seen (time before r) A (heard p r A) in
+    let b : List Record = read_seen (time before r) B (heard p r B) in
+    let more : List Record = each_after (λ (b : List Recorded) (r : Recorded). read_window p (time b r) r)
+    (before ++ r ∷ []) rs in
+    subst (λ (l : List Record). AreInOrder l (packets_of_both p (r ∷ rs))) (sym (append_assoc a b more))
+    (seen_order (time before r) A (heard p r A) (b ++ more) (packets_seen B (heard p r B) ++ packets_of_both p rs)
+    (seen_order (time before r) B (heard p r B) more (packets_of_both p rs) (read_order time p (before ++ r ∷ []) rs)))
+
+short_both : (w : WorldState) → Headline w → IsHealthy w A → IsHealthy w B
+    → AreShort w.bus.cluster.params w.bus.sealed
+short_both w head healthy_a healthy_b k r at channel bytes is = by channel is (heard_on channel)
+  where
+    same_bytes : (x y : ArrayVec ℕ) → Bytes x ≡ Bytes y → x ≡ y
+    same_bytes x y e = cc
+
+    heard_on : (on : Channel) → IsHeardAt w.bus.cluster on r
+    heard_on A = window_heard w head A healthy_a k r at
+    heard_on B = window_heard w head B healthy_b k r at
+
+    by : (on : Channel) → heard w.bus.cluster.params r on ≡ Bytes bytes → IsHeardAt w.bus.cluster on r
+        → length bytes.items ≤ 262
+    by on e (inl quiet) = absurd (let both : Silence ≡ Bytes bytes = sym quiet.hears ∙ e in let none : ⊥ = cc in none)
+    by on e (inr loud) =
+        let same : loud.bytes ≡ bytes = same_bytes loud.bytes bytes (sym loud.hears ∙ e) in
+        let size : length bytes.items ≡ 8 + length loud.frame.payload =
+        ap (λ (b : ArrayVec ℕ). length b.items) (sym same) ∙ ap (λ (l : List ℕ). length l) loud.spelled
+        ∙ length-frame loud.frame on in
+        let few = loud.few in
+        omega (arith, size, few)
+
+pub no_alarm_in_file_together : (w : WorldState) → Headline w → NoAlarmInFileTogether w
+no_alarm_in_file_together w head most whole time healthy_a healthy_b some_a some_b none =
+    let read = (is_read_back time w.bus.cluster.params w.bus.sealed (short_both w head healthy_a healthy_b)).1 in
+    no_alarm_together w head most whole (records_in (capture_of time w.bus.cluster.params w.bus.sealed)) healthy_a
+    healthy_b some_a some_b none
+    (subst (λ (l : List Record). AreInOrder l (packets_of_both w.bus.cluster.params w.bus.sealed)) (sym read)
+    (read_order time w.bus.cluster.params [] w.bus.sealed))
