@@ -205,6 +205,15 @@ class TestPage(unittest.TestCase):
             self.assertEqual(Labels.read(data), Labels())
         self.assertEqual(Labels.read(b'\xef\xbb\xbfnode = [{name = "a"}]').node(0), "node 0 a")
 
+    def test_long_names(self):
+        """They are cut as in tables, so that no line of the summary is long."""
+        text = TWO_NODES.replace("[[node]]\n", f'[[node]]\nname = "{"n" * 10_000}"\n')
+        labels = Labels.read(text.encode())
+        self.assertEqual(labels.node(1), f"node 1 {'n' * 40}..")
+        found = "".join(summary(results([], text, labels=labels, overwritten={0: 1}, quiet=(0, 1))))
+        self.assertIn("n" * 40, found)
+        self.assertLess(max(map(len, found.split("\n"))), 200)
+
     def test_a_name_that_is_no_string(self):
         """The bench reads no key `name`, so a cluster file may have any value there. The number stands by itself."""
         text = 'node = [{name = 7}, {name = "b", buffer = [{name = ["c"]}, {name = "d"}]}]'

@@ -14,6 +14,7 @@ import unittest
 from pathlib import Path
 from unittest.mock import patch
 
+from musmyrtle.show import recordings
 from musmyrtle.show.monitor import explained
 from musmyrtle.show.recordings import MEANINGS, SPECIAL, WORDS
 from tests.shows import NETWORK, Shows
@@ -171,6 +172,24 @@ class Senders(Monitor):
             (4, None, "Silent"), (None, None, "Nothing")])
 
 
+class Waits(unittest.TestCase):
+    def test_many_frames_wait(self) -> None:
+        """A frame is known until its wait ends, however many wait meanwhile, and forgotten soon after that."""
+        senders = recordings.Senders()
+        for record in range(1, 6):
+            senders.add(f"frame {record} 0.0 {record} A 1 - 0 20 {record} -n-- x0000 -".split())
+        finding = "finding {} 0.0 1 A 1 {} - -"
+        found = [senders.of(finding.format(record, name).split())
+                 for record, name in ((1, "Cycle"), (1, "Order"), (2, "Order"), (5, "Order"), (6, "Order"))]
+        self.assertEqual(found, [1, 1, 2, 5, None])
+        senders.end(2)
+        self.assertEqual(senders.of(finding.format(2, "Order").split()), 2)
+        for record, cycle, known in ((7, "-", [1, 2, 3]), (8, "-", [3]), (9, "6", [3]), (10, "6", [3]), (11, "6", [])):
+            senders.add(f"frame {record} 0.0 6 A 1 {cycle} 0 20 7 -n-- x0000 -".split())
+            self.assertEqual([it for it in (1, 2, 3) if senders.of(finding.format(it, "Order").split())], known)
+        self.assertEqual((senders.waiting, [len(it) for it in senders.ended["A"]]), ({"A": {}, "B": {}}, [0, 0]))
+
+
 class Refusals(Monitor):
     def test_recordings(self) -> None:
         broken = self.written("broken", "no capture")
@@ -225,6 +244,20 @@ class Refusals(Monitor):
             status, output, told = self.asked("monitor", self.cluster, self.recording(frames(1)))
         self.assertEqual((status, output), (2, ""))
         self.assertIn("was killed by signal 9 (SIGKILL)", told)
+
+    def test_lines_that_can_not_be_read(self) -> None:
+        """A program that ends within a line, and one of another version."""
+        stub = self.folder / "stub"
+        for script, expected in (
+                ("printf 'frame 1 0.1'\nkill -9 $$\n", "was killed by signal 9 (SIGKILL)"),
+                ("echo frame 1 0.1\n", "stub prints `frame 1 0.1`, which this version of musmyrtle can't read")):
+            stub.write_text(f"#!/bin/sh\n{script}")
+            stub.chmod(0o755)
+            for words in (("monitor", self.cluster), ("page", self.cluster, "--recording")):
+                with self.subTest(words=words, script=script), patch.dict(os.environ, {"MUSMYRTLE_MONITOR": str(stub)}):
+                    status, output, told = self.asked(*words, self.recording(frames(1)))
+                    self.assertEqual((status, output), (2, ""))
+                    self.assertIn(expected, told)
 
 
 class Reasons(unittest.TestCase):

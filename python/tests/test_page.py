@@ -187,9 +187,9 @@ class Scripts(Pages):
         page = self.page(*self.run_of(scene=f"frscenario 3\n{lines}end\n"))
         first, both, lost = self.walked(page, "click faults line 3", "click faults line 5")
         self.assertIn("line 3: mute pedal (0) AB 0 d31 windowline 4: corrupt AB 1 m9 0no effect"
-                      "line 5: lost brake (1) 12 windows", first["faults"])
+                      "line 5: lost brake (1) 11 window", first["faults"])
         self.assertIn("It took effect in 1 window.", both["details"])
-        self.assertIn("It took effect in 2 windows.", lost["details"])
+        self.assertIn("It took effect in 1 window.Where it took effect (2)", lost["details"])
 
     def test_the_view(self) -> None:
         shown = self.walked(self.page(*self.run_of()), "press 1", "press 0", "press +", "press Home", "press End",

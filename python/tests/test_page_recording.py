@@ -65,7 +65,6 @@ class Recorded(Monitor, Pages):
         header, columns = unpacked(self.page_text(records, *words, status=status))
         return header, lines_of(columns)
 
-
     def counts(self, records: list[tuple[int, bytes]], *words: str, status: int = 0) -> list[Any]:
         """Returns the count of each cycle on the page of some records."""
         return unpacked(self.page_text(records, *words, status=status))[1]["cycle_count"]
@@ -204,6 +203,7 @@ class Shown(Recorded):
         self.assertIn("3 cycles of 200 µs", first["subject"])
         self.assertIn("no frame of brake (1)", first["faults"])
         self.assertIn("Slot 2 on A in cycle 1 (count 1)", error["details"])
+        self.assertNotIn("It opened", slot["details"])
         self.assertIn("no node sends in slot 7 on B in this cycle", slot["details"])
         self.assertTrue(nobody["details"].startswith("no configured sender"))
 

@@ -5,6 +5,7 @@ import sys
 import unittest
 from unittest import mock
 
+from musmyrtle.show.tables import shortened
 from tests.shows import FIRST, NETWORK, POP, SCENE, SECOND, THREE, Shows
 
 
@@ -116,6 +117,17 @@ class Commits(Shows):
             "node buffer cycle bytes sent in slot channel begin [us] latency [us] end receivers".split(),
             "pedal (0) position (0) 0 x0001 0 1 A 0 0 arrived brake (1) position (1)".split(),
             "pedal (0) position (0) 0 x0001 0 1 B 0 0 collided -".split()])
+
+    def test_long_bytes(self) -> None:
+        """A text has the first eight of more than 16 bytes, and the last one. JSON and CSV have all."""
+        run = self.run_of()
+        for command in ("commits", "log", "reads"):
+            self.assertRegex(self.printed(command, *run), r"x[0-9a-f]{16}\.\.[0-9a-f]{2} ")
+            for form in ("--json", "--csv"):
+                self.assertNotIn("..", self.printed(command, *run, form))
+                self.assertIn(FIRST.removeprefix("x"), self.printed(command, *run, form))
+        self.assertEqual([shortened(it) for it in ("-", "x", f"x{'ab' * 16}", f"x{'ab' * 17}", "word" * 10)],
+                         ["-", "x", f"x{'ab' * 16}", "xabababababababab..ab", "word" * 10])
 
 
 class Reads(Shows):

@@ -175,6 +175,10 @@ class Statuses(Shows):
             (("log", *run[:2]), "musmyrtle log: the following arguments are required: --cycles"),
             (("log", *run, "--json", "--csv"), "musmyrtle log: argument --csv: not allowed with argument --json"),
             (("log", *run, "--node", "2"), "musmyrtle: the cluster has 2 nodes, and none is 2; names: pedal, brake"),
+            (("log", *run, "--slot", "0"), "musmyrtle: the cluster has no slot 0: its slots are 1 to 12"),
+            (("commits", *run, "--slot", "13"), "musmyrtle: the cluster has no slot 13: its slots are 1 to 12"),
+            (("reads", *run, "--slot", "1,3-5000"), "musmyrtle: the cluster has no slot 13: its slots are 1 to 12"),
+            (("latency", run[0], "--slot", "5000", "--channel", "A"), "musmyrtle: the cluster has no slot 5000: "),
             (("log", *run, "--nodes", "1"), "musmyrtle log: unknown words: --nodes 1; did you mean --node?\n"),
             (("lint", *run, "c"), "musmyrtle lint: unknown words: c; musmyrtle lint --help describes the words\n"),
             (("log", *run, "--slot"),
@@ -191,6 +195,13 @@ class Statuses(Shows):
                 # The line of a fault without effect stands before.
                 self.assertTrue(error.split("\n")[-2].startswith(told.rstrip("\n")), error)
                 self.assertNotIn("usage: ", error)
+
+    def test_a_slot_that_never_opens(self) -> None:
+        """A buffer is for it, so that it can be selected."""
+        run = self.run_of(NETWORK.replace('kind = "event", slot = 3,', 'kind = "event", slot = 40,'))
+        status, output, _ = self.asked("commits", *run, "--slot", "40", "--csv")
+        self.assertEqual((status, len(output.splitlines())), (0, 3))
+        self.assertEqual(self.asked("commits", *run, "--slot", "41")[0], 2)
 
     def test_a_name_that_two_nodes_have(self) -> None:
         status, _, told = self.asked("log", *self.run_of(NETWORK.replace('"brake"', '"pedal"')), "--node", "pedal")

@@ -5,7 +5,7 @@ from dataclasses import dataclass, field
 from musmyrtle.cluster_file import document_of
 from musmyrtle.faults.listing import ALL_STATIC, SingleFault
 from musmyrtle.names import tables_of
-from musmyrtle.visible import visible
+from musmyrtle.visible import cut, visible
 
 ONE_CHANNEL = "one channel"
 """The label of a fault that leaves the other channel as it is."""
@@ -13,7 +13,7 @@ ONE_CHANNEL = "one channel"
 
 @dataclass(frozen=True)
 class Labels:
-    """The names of nodes and buffers by their keys `name`, made safe to show.
+    """The names of nodes and buffers by their keys `name`, made safe to show, and cut where they are long.
 
     A thing without a name is shown by its number.
     """
@@ -32,10 +32,10 @@ class Labels:
         found = cls()
         for number, node in enumerate(tables_of(document.get("node"))):
             if isinstance(name := node.get("name"), str):
-                found.nodes[number] = visible(name)
+                found.nodes[number] = visible(cut(name))
             for place, buffer in enumerate(tables_of(node.get("buffer"))):
                 if isinstance(name := buffer.get("name"), str):
-                    found.buffers[number, place] = visible(name)
+                    found.buffers[number, place] = visible(cut(name))
         return found
 
     def node(self, number: int) -> str:

@@ -20,7 +20,7 @@ from musmyrtle.show.log import log
 from musmyrtle.show.options import Words
 from musmyrtle.show.parameters import check
 from musmyrtle.show.reads import reads
-from musmyrtle.show.selection import Selection, numbers_of_nodes
+from musmyrtle.show.selection import Selection, known_slots, numbers_of_nodes
 from musmyrtle.show.senders import plan
 from musmyrtle.show.summary import run
 from musmyrtle.show.tables import Section, as_text
@@ -46,7 +46,8 @@ def selection_of(given: argparse.Namespace, inputs: Inputs) -> Selection:
     """Returns the rows that the words select."""
     channels = None if given.channel is None else frozenset(given.channel)
     cycles, is_errors = getattr(given, "in_cycles", None), getattr(given, "errors", False)
-    return Selection(numbers_of_nodes(given.node, inputs.network), given.slot, channels, cycles, is_errors)
+    nodes, slots = numbers_of_nodes(given.node, inputs.network), known_slots(given.slot, inputs.network)
+    return Selection(nodes, slots, channels, cycles, is_errors)
 
 
 def table(name: str, purpose: str, words: Words, examples: tuple[str, ...],

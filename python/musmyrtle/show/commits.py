@@ -27,7 +27,7 @@ def commits(facts: Facts, selection: Selection) -> list[Section]:
 def columns(network: Network) -> tuple[Column, ...]:
     """Returns the columns of commits."""
     return (Column("node", "node", "name"), Column("buffer", "buffer", "name"), Column("task", ""),
-            Column("cycle", "cycle"), Column("entry", ""), Column("data", "bytes"), Column("fate", ""),
+            Column("cycle", "cycle"), Column("entry", ""), Column("data", "bytes", "bytes"), Column("fate", ""),
             Column("ended_cycle", ""), Column("sent_cycle", "sent in"), Column("slot", "slot"),
             Column("channel", "channel"), network.column("begin", "begin"), network.column("latency", "latency"),
             Column("end", "end", words=FATES), Column("receivers", "receivers"), Column("why", "why"))

@@ -1,5 +1,4 @@
 """The command `latency`: the transmit buffers and the channels of a cluster, in runs without faults."""
-from musmyrtle.cluster import LAST_SLOT
 from musmyrtle.findings import counted
 from musmyrtle.latencies import Latency, Load, read_latencies, read_way, words_for_way
 from musmyrtle.lint.command import USAGE
@@ -24,7 +23,7 @@ def latencies(inputs: Inputs) -> tuple[list[Latency], list[Load]]:
 
 def way(inputs: Inputs, slots: frozenset[int] | None, channel: str | None) -> list[Section]:
     """Returns the way to the latest start of a slot, if one slot and a channel are given."""
-    if slots is None or len(slots) != 1 or channel is None or not slots <= set(range(1, LAST_SLOT + 1)):
+    if slots is None or len(slots) != 1 or channel is None:
         return []
     slot, network = min(slots), inputs.network
     words = [*words_for_way(slot, channel), "--", inputs.task.file(inputs.task.cluster)]

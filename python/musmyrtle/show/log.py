@@ -19,7 +19,7 @@ def columns(network: Network) -> tuple[Column, ...]:
     return (Column("cycle", "cycle"), Column("window", ""), Column("minislot", ""), network.column("begin", "begin"),
             Column("slot", "slot"), Column("channel", "channel"), Column("node", "node", "name"),
             Column("what", "what"), Column("passed", ""), Column("end", "end", words=ENDS), Column("frame", "frame"),
-            Column("flags", "flags"), Column("bit", "bit"), Column("data", "bytes"), Column("line", "line"))
+            Column("flags", "flags"), Column("bit", "bit"), Column("data", "bytes", "bytes"), Column("line", "line"))
 
 
 def is_error(it: Transmission) -> bool:

@@ -17,12 +17,15 @@ from musmyrtle.program import Answer, is_launcher, itself, no_answer, places
 from musmyrtle.show.engines import COMMAND, Inputs, opened
 from musmyrtle.show.network import Network
 from musmyrtle.show.options import CLUSTER
-from musmyrtle.show.recordings import (BACK, FINDING, FRAME, Senders, back_row, channel_row, finding_row, found_row,
-                                       slot_row, total_row)
+from musmyrtle.show.recordings import (BACK, FINDING, FRAME, OPENS, Senders, back_row, channel_row, finding_row,
+                                       found_row, slot_row, total_row)
 from musmyrtle.show.tables import Column, Row, Section, as_json, as_text
+from musmyrtle.visible import cut
 
 FOUND, REFUSED = 3, 1
 MOST_NUMBER = 4294967295
+LONGEST_LINE = 120
+"""The characters of a line that a message has."""
 STANDARD_INPUT = "-"
 PURPOSE = ("Compares a recording of a real bus with the cluster. Prints each frame that the schedule doesn't allow,\n"
            "and each missing one, with the reason.")
@@ -130,6 +133,9 @@ class Tables:
         if words[0] == FRAME:
             self.senders.add(words)
             return None
+        if words[0] == OPENS:
+            self.senders.end(int(words[1]))
+            return None
         if words[0] == FINDING:
             kind, row = FINDING, finding_row(self.network, words, self.senders.of(words))
         elif words[0] == BACK:
@@ -162,20 +168,36 @@ KINDS: dict[str, tuple[str, tuple[Column, ...], str]] = {
 
 def asked(inputs: Inputs, program: str, words: list[str], source: IO[bytes], add: Callable[[str], None]
           ) -> tuple[int, list[str]]:
-    """Runs the program on a recording, and returns its status and messages. ADD gets each line as it comes."""
+    """Runs the program on a recording, and returns its status and messages. ADD gets each line as it comes.
+
+    Raises `Stop` where the program can't be run, or prints a line that ADD can't read.
+    """
     # A pipe for the messages could fill while the rows are read.
     try:
         with (TemporaryFile() as messages, inputs.children.started(
                 [program, *words], stdin=source, stdout=subprocess.PIPE, stderr=messages) as process):
             for line in process.stdout or ():
-                add(line.decode(errors="replace").rstrip("\n"))
+                # A line without an end is that of a program that ended within it, which its status tells.
+                if line.endswith(b"\n"):
+                    read(program, line.decode(errors="replace").rstrip("\n"), add)
             process.wait()
             messages.seek(0)
             told = messages.read().decode(errors="replace").splitlines()
+    except BrokenPipeError:
+        raise
     except OSError as error:
         raise Stop(USAGE, f"{program} can't be run: {error.strerror}. fr_monitor is looked for in this order: "
                           f"{places('fr_monitor')}") from None
     return process.returncode, told
+
+
+def read(program: str, line: str, add: Callable[[str], None]) -> None:
+    """Gives a line to ADD. Raises `Stop` where it isn't a line of this version of the program."""
+    try:
+        add(line)
+    except (IndexError, KeyError, ValueError):
+        raise Stop(USAGE, f"{program} prints `{cut(line, LONGEST_LINE)}`, which this version of {COMMAND} can't read"
+                   ) from None
 
 
 def judged(inputs: Inputs, given: argparse.Namespace, source: IO[bytes], add: Callable[[str], None], *more: str

@@ -27,7 +27,7 @@ def reads(facts: Facts, selection: Selection) -> list[Section]:
 def call_columns(network: Network) -> tuple[Column, ...]:
     """Returns the columns of calls."""
     return (Column("node", "node", "name"), Column("task", ""), Column("cycle", "cycle"), Column("call", "call"),
-            Column("buffer", "buffer", "name"), Column("data", "bytes"), Column("frame_cycle", "sent in"),
+            Column("buffer", "buffer", "name"), Column("data", "bytes", "bytes"), Column("frame_cycle", "sent in"),
             Column("cycle_count", ""), Column("slot", "slot"), Column("channel", "channel"),
             Column("sender", "sender", "name"), Column("sender_buffer", "its buffer", "name"),
             Column("commit_cycle", "commit"), network.column("age", "age"), network.column("latency", "latency"))
@@ -36,7 +36,8 @@ def call_columns(network: Network) -> tuple[Column, ...]:
 def fifo_columns(network: Network) -> tuple[Column, ...]:
     """Returns the columns of frames in receive FIFOs."""
     return (Column("node", "node", "name"), Column("state", "state"), Column("frame_cycle", "sent in"),
-            Column("slot", "slot"), Column("channel", "channel"), Column("flags", "flags"), Column("data", "bytes"))
+            Column("slot", "slot"), Column("channel", "channel"), Column("flags", "flags"),
+            Column("data", "bytes", "bytes"))
 
 
 def is_selected(call: Call, selection: Selection) -> bool:

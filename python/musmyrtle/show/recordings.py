@@ -3,10 +3,10 @@
 The program names the node that may send in a slot: in the line of each frame, or in the finding itself. So a finding is
 joined with the frame of its record, and only names and words are added here.
 """
-from collections import deque
 from collections.abc import Callable
 from dataclasses import dataclass
 
+from musmyrtle.findings import counted
 from musmyrtle.show.network import Network
 from musmyrtle.show.tables import Numbers, Row, decimal
 
@@ -31,7 +31,6 @@ WORDS = {
     "Channels": "one buffer sends on both channels, and the other channel had another frame",
     "Closed": "the slot opens at minislot {found}, and there are {expected}",
     "Late": "the slot opens at minislot {found}, and the latest one of {node} is {expected}",
-    "Gap": "no frame of {found} cycles was recorded",
     "Clock": "{found_us} us lie between the cycles, due are {expected_us} us",
     "Time": "the frame came {found_us} us after the cycle's last one, due are {expected_us} us",
     "Symbol": "the cluster has no symbol window",
@@ -53,7 +52,9 @@ MEANINGS = {
     "Nothing": "channels without a frame",
 }
 NANOSECONDS = ("Clock", "Time")
-FRAME, FINDING, BACK, FOUND = "frame", "finding", "back", "found"
+FRAME, FINDING, BACK, FOUND, OPENS = "frame", "finding", "back", "found", "opens"
+CYCLE = "Cycle"
+"""The finding of a frame that waited and opened no cycle."""
 NAMED = ("Missing", "NoBuffer")
 """The findings that have the node as the expected word."""
 
@@ -92,31 +93,54 @@ def microseconds(word: str) -> float | None:
 class Senders:
     """The nodes that may send in the slots of the last frames, by the lines of `fr_monitor --frames`.
 
-    A finding is about the last frame of its channel, or about one that waited for it. At most two frames of a channel
-    wait, of which the older one ends with the line of the younger one.
+    A finding is about the last frame of its channel, or about one that waited for a later one. A frame waits until a
+    line `opens` or a finding `Cycle` names it, or a frame of an open cycle comes. Findings that the wait shows are
+    printed before the second line of a frame after that.
     """
 
     def __init__(self) -> None:
         self.last: dict[str, tuple[int, int | None]] = {}
-        self.waiting: dict[str, deque[tuple[int, int | None]]] = {it: deque(maxlen=2) for it in "AB"}
+        self.waiting: dict[str, dict[int, int | None]] = {it: {} for it in "AB"}
+        self.ended: dict[str, list[dict[int, int | None]]] = {it: [{}, {}] for it in "AB"}
+        """The frames whose wait ended since the last line of a frame, and before."""
 
     def add(self, words: list[str]) -> None:
         """Adds the line of a frame."""
         record, channel, node = int(words[1]), words[4], number(words[9])
         self.last[channel] = record, node
+        is_open, is_frame = words[6] != "-", words[10] != "-"
+        self.ended[channel] = [{}, self.ended[channel][0]]
         # A frame that waits has no cycle yet, and a broken record has no indicators.
-        if words[6] == "-" and words[10] != "-":
-            self.waiting[channel].append((record, node))
+        if is_frame and is_open:
+            self.ended[channel][0] = self.waiting[channel]
+            self.waiting[channel] = {}
+        elif is_frame:
+            self.waiting[channel][record] = node
+
+    def end(self, record: int | None) -> None:
+        """Notes that a frame doesn't wait any more, if it did."""
+        for channel, frames in self.waiting.items():
+            if record is not None and record in frames:
+                self.ended[channel][0][record] = frames.pop(record)
 
     def of(self, words: list[str]) -> int | None:
         """Returns the node of a line `finding`, if there is one."""
         place, name, expected = Place.of(words), words[6], words[7]
+        if name == CYCLE:
+            self.end(place.record)
         if name in NAMED:
             return number(expected)
         if place.slot is None or place.channel not in self.last:
             return None
-        known = dict([*self.waiting[place.channel], self.last[place.channel]])
-        return None if place.record is None else known.get(place.record)
+        return self.node_of(place)
+
+    def node_of(self, place: Place) -> int | None:
+        """Returns the node of the frame at a place, whose channel had a frame."""
+        record, node = self.last[place.channel]
+        if place.record is None or place.record == record:
+            return None if place.record is None else node
+        known = (self.waiting[place.channel], *self.ended[place.channel])
+        return next((frames[place.record] for frames in known if place.record in frames), None)
 
 
 def length_why(expected: str, found: str) -> str:
@@ -139,6 +163,11 @@ def missing_why(found: str) -> str:
     return f"no frame of {{node}}{broken}"
 
 
+def gap_why(found: str) -> str:
+    """Returns the reason of a gap of so many cycles."""
+    return f"no frame of {counted(int(found), 'cycle')} was recorded"
+
+
 def silent_why(expected: str, found: str) -> str:
     """Returns the reason of a channel that fell silent."""
     last = "it had no cycle" if found == "-" else f"its last cycle was {found}"
@@ -146,7 +175,8 @@ def silent_why(expected: str, found: str) -> str:
 
 
 SPECIAL: dict[str, Callable[[str, str], str]] = {
-    "Length": length_why, "Cycle": cycle_why, "Silent": silent_why, "Missing": lambda _, found: missing_why(found)}
+    "Length": length_why, "Cycle": cycle_why, "Silent": silent_why, "Missing": lambda _, found: missing_why(found),
+    "Gap": lambda _, found: gap_why(found)}
 """The reasons that depend on whether a word is known."""
 
 

@@ -43,7 +43,7 @@ def missed(facts: Facts) -> Section:
                  "buffer": network.buffer_if_any(it.node, it.buffer), "found": it.found, "others": it.others}, True)
             for it in facts.inputs.misses]
     columns = (Column("line", "line"), Column("node", "node", "name"), Column("buffer", "buffer", "name"),
-               Column("cycle", "cycle"), Column("expected", "expected"), Column("found", "found"),
+               Column("cycle", "cycle"), Column("expected", "expected", "bytes"), Column("found", "found", "bytes"),
                Column("others", "other cycles"))
     nothing = "Each expectation was met." if facts.scenario.expectations else ""
     return Section("missed", "Expectations that the run missed", columns, rows, nothing)
@@ -56,7 +56,7 @@ def undelivered(facts: Facts) -> Section:
                  "cycle": it.cycle, "data": it.data, "fate": it.fate, "why": why(facts, it)}, True)
             for it in facts.commits if not it.is_delivered]
     columns = (Column("node", "node", "name"), Column("buffer", "buffer", "name"), Column("task", ""),
-               Column("cycle", "cycle"), Column("data", "bytes"), Column("fate", ""), Column("why", "why"))
+               Column("cycle", "cycle"), Column("data", "bytes", "bytes"), Column("fate", ""), Column("why", "why"))
     return Section("undelivered", "Commits that no node received", columns, rows, "Each commit was received.")
 
 

@@ -14,6 +14,9 @@ Plain = int | float | str | bool | None | Sequence[int] | Sequence[Mapping[str, 
 BOLD, RED, USUAL = "\x1b[1m", "\x1b[31m", "\x1b[0m"
 ABSENT = "-"
 LONGEST_TEXT = 120
+MOST_BYTES, FIRST_BYTES = 16, 8
+"""The bytes that a text shows whole. Of more it shows the first ones and the last one."""
+BYTES = re.compile("x(?:[0-9a-f]{2})*")
 NUMERIC = re.compile(r"[0-9.]+|-")
 
 
@@ -105,8 +108,8 @@ def decimal(number: float) -> str:
 class Column:
     """A column: its key in JSON and CSV, its heading in a text, and the kind of its values.
 
-    The kind `name` has two keys, KEY and KEY_name, and `time` has KEY_mt and KEY_us; all other values are `plain`. A
-    heading that is empty leaves the column out of texts.
+    The kind `name` has two keys, KEY and KEY_name, and `time` has KEY_mt and KEY_us. Values of the kind `bytes` are cut
+    in texts, and all others are `plain`. A heading that is empty leaves the column out of texts.
     """
 
     key: str
@@ -145,7 +148,15 @@ class Column:
     def text(self, value: Value) -> str:
         """Returns the value for people, in one line."""
         text = "" if value is None else spelled(value)
+        if self.kind == "bytes":
+            text = shortened(text)
         return visible(cut(self.words.get(text, text) or ABSENT, LONGEST_TEXT))
+
+
+def shortened(text: str) -> str:
+    """Returns `x0123456789abcdef..cd` for many bytes, and other texts as they are."""
+    is_long = len(text) > 1 + 2 * MOST_BYTES and BYTES.fullmatch(text)
+    return f"{text[:1 + 2 * FIRST_BYTES]}..{text[-2:]}" if is_long else text
 
 
 def spelled(value: object) -> str:

@@ -1,80 +1,55 @@
 """A capture of all that was on the bus of a world, for Wireshark.
 
-The traces of two nodes have what was on the bus: a node that doesn't send itself observes all bytes. From them this
-module writes the trace of a node that only listens, and `fr_view capture` reads it.
+The program `fr_world` writes it. A second world, which keeps no history, is asked the requests of the session again.
 """
-import os
 import subprocess
-from collections.abc import Callable, Iterator
-from functools import partial
-from itertools import zip_longest
+from pathlib import Path
+from tempfile import TemporaryDirectory
 
-from musmyrtle.program import places, usual_program
-from musmyrtle.world.refusals import NotStarted, SessionOver
-from musmyrtle.world.replies import Channel, Record
-from musmyrtle.world.session import FileName
+from musmyrtle.world.refusals import SessionOver
+from musmyrtle.world.session import VERSION, Change, shown
+from musmyrtle.world.world_program import not_started
 
-VIEW = "fr_view"
-CHANNELS: tuple[Channel, Channel] = ("A", "B")
-SILENCE, OWN, COLLIDED = "-", "own", "noise"
-CONFLICTS = ("conflict", COLLIDED)
+NUMBERED = ("commit", "withdraw")
+"""Requests whose reply has the number of an entry, which also counts the calls that aren't asked again."""
 MOST_TOLD = 300
-OwnBytes = Callable[[int, Channel], str]
-"""Returns the bytes of the only transmission of a window on a channel, for a cluster without another node."""
 
 
-def windows(trace: list[str]) -> Iterator[tuple[str, list[str]]]:
-    """Yields each window that a node has observed: its words as in a line `fetch`, and the two observations."""
-    fetched = ""
-    for line in trace[trace.index("begin") + 1:]:
-        if line.startswith("fetch "):
-            fetched = " ".join(line.split(" ")[1:6])
-        elif line.startswith("see "):
-            yield fetched, line.split(" ")[2:]
+def captured(program: str, cluster: bytes, cycles: int, changes: list[Change]) -> bytes:
+    """Returns the capture of the world of a cluster file in which these changes were made.
+
+    PROGRAM is the `fr_world` to run, and CYCLES are those of the world, 1 to 1024. Raises `NotStarted` where the
+    program can't be started, `OSError` where there is no room for temporary files, and `SessionOver` where the program
+    fails or a reply isn't that of the session.
+    """
+    with TemporaryDirectory() as name:
+        folder = Path(name)
+        file, capture = folder / "cluster.toml", folder / "bus.pcap"
+        file.write_bytes(cluster)
+        command = [program, str(file), "--endless", "--cycles", str(cycles), f"--capture={capture}"]
+        requests = "".join(f"{change.request}\n" for change in changes)
+        try:
+            ran = subprocess.run(command, input=requests.encode(), capture_output=True)
+        except OSError as error:
+            raise not_started(program, error) from None
+        if ran.returncode:
+            told = ran.stderr.decode(errors="replace").strip()[-MOST_TOLD:]
+            raise SessionOver(f"{program} --capture ended with status {ran.returncode}: {told}")
+        check(changes, ran.stdout.decode(errors="replace"))
+        return capture.read_bytes()
 
 
-def heard(seen: str, other: str | None, own: Callable[[], str]) -> str:
-    """Returns what a node that only listens observes, where one node observes SEEN and the next one OTHER."""
-    if seen == OWN:
-        return own() if other is None else COLLIDED if other in CONFLICTS else other
-    return COLLIDED if seen in CONFLICTS else seen
+def check(changes: list[Change], output: str) -> None:
+    """Raises `SessionOver` where a reply of the second world isn't that of the session."""
+    version, *replies = output.split("\n")[:-1] or [""]
+    if version != VERSION or len(replies) != len(changes):
+        raise SessionOver(f"the session can't be replayed: {len(replies)} replies to {len(changes)} requests")
+    for change, reply in zip(changes, replies):
+        if compared(change.request, reply) != compared(change.request, change.reply):
+            raise SessionOver(f"the session can't be replayed: the reply to `{shown(change.request)}` was "
+                              f"`{shown(change.reply)}`, and is `{shown(reply)}` now")
 
 
-def listener(first: list[str], second: list[str] | None, own: OwnBytes) -> str:
-    """Returns the trace of a node that only listens, from the traces of two nodes, or of the only one."""
-    parameters = next(line for line in first if line.startswith("params "))
-    lines = []
-    others: Iterator[tuple[str, list[str]]] = iter(()) if second is None else windows(second)
-    for window, other in zip_longest(windows(first), others):
-        if window is None or second is not None and other is None:
-            # One of the two nodes hasn't observed the last window yet.
-            break
-        (fetched, seen), number = window, int(window[0].split(" ")[0])
-        pair: list[str | None] = [None, None] if other is None else list(other[1])
-        a, b = (heard(it, at, partial(own, number, channel)) for it, at, channel in zip(seen, pair, CHANNELS))
-        lines += [f"fetch {fetched} - -", f"see {number} {a} {b}"]
-    head = ["frtrace 3", parameters, f"node 0 0 0 1 {max(2, len(lines))}", "begin"]
-    return "".join(f"{line}\n" for line in [*head, *lines, "end"])
-
-
-def only_bytes(record: Record, channel: Channel) -> str:
-    """Returns the bytes of the only transmission that passed on a channel, with the bit that a fault flipped."""
-    data = next(bytearray(it.data) for it in record.sent if it.channel == channel and it.fate == "passed")
-    place, bit = divmod(record.corrupt.get(channel, 8 * len(data)), 8)
-    if place < len(data):
-        data[place] ^= 0x80 >> bit
-    return f"x{data.hex()}"
-
-
-def captured(trace: str, program: FileName | None) -> bytes:
-    """Returns the capture of a trace. Raises `NotStarted` without `fr_view`, and `SessionOver` where that fails."""
-    name = os.fspath(program or usual_program(VIEW) or VIEW)
-    try:
-        ran = subprocess.run([name, "capture"], input=trace.encode(), capture_output=True)
-    except OSError as error:
-        reason = f"{error.strerror}. {VIEW} is looked for in this order: the argument `program`; {places(VIEW)}"
-        raise NotStarted(error.errno or 0, reason, name) from None
-    if ran.returncode:
-        told = ran.stderr.decode(errors="replace").strip()[-MOST_TOLD:]
-        raise SessionOver(f"{name} capture ended with status {ran.returncode}: {told}")
-    return ran.stdout
+def compared(request: str, reply: str) -> str:
+    """Returns the part of a reply that must be the same."""
+    return reply.split(" ")[0] if request.split(" ")[0] in NUMBERED else reply

@@ -18,6 +18,18 @@ CLOSE_SECONDS = 1.0
 MOST_ASKED = 10_000
 """The requests that a session without history remembers."""
 FileName = str | os.PathLike[str]
+MOVES = ("window", "cycle", "run")
+"""Requests that may have executed events when they are refused."""
+READS = ("now", "at", "status", "origin", "read", "pop", "receive", "next")
+"""Requests with a reply of one line that change nothing on the bus."""
+
+
+@dataclass(frozen=True, slots=True)
+class Change:
+    """A request that may have changed what is on the bus, and its reply."""
+
+    request: str
+    reply: str
 
 
 @dataclass(frozen=True)
@@ -56,8 +68,9 @@ class Session:
 
     Threads can share a session: each waits until the reply to the request before is read. `lock` keeps several
     requests together. A session whose reply wasn't read to its end is broken: every later request raises `SessionOver`.
-    `asked` has all requests so far, to be asked again without Python, or without history the last ones. `kept` has the
-    fault lines that the program has.
+    `asked` has all requests so far, to be asked again without Python, or without history the last ones. `changes` has
+    those that may have changed what is on the bus, or none without history. `kept` has the fault lines that the program
+    has.
     """
 
     def __init__(self, program: FileName, cluster: FileName, cycles: int | None, timeout: float | None = None, *,
@@ -74,6 +87,8 @@ class Session:
         self.lock = threading.RLock()
         self.asked: deque[str] = deque(maxlen=MOST_ASKED if endless else None)
         self.kept: list[str] = []
+        self.changes: list[Change] = []
+        self._is_endless = endless
         self._outputs = outputs
         self._timeout = timeout
         self._over: str | None = None
@@ -129,8 +144,7 @@ class Session:
         data = encoded(line, 1)
         with self.lock:
             reply = self._talk([line], 1, data, self._timeout if timeout is None else timeout)[0]
-            if reply == "done":
-                self._keep(line)
+            self._note(line, reply)
         if reply.startswith("refused "):
             raise refusal(reply, line)
         return reply
@@ -159,12 +173,15 @@ class Session:
         with self.lock:
             replies = self._talk(asked, len(asked), data, self._timeout if timeout is None else timeout)
             for line, reply in zip(asked, replies):
-                if reply == "done":
-                    self._keep(line)
+                self._note(line, reply)
         return replies
 
-    def _keep(self, line: str) -> None:
-        """Notes the change of the fault lines by a request that was done."""
+    def _note(self, line: str, reply: str) -> None:
+        """Notes the change of the fault lines and of the bus by a request."""
+        if not self._is_endless and is_change(line, reply):
+            self.changes.append(Change(line, reply))
+        if reply != "done":
+            return
         if line == "forget":
             self.kept.clear()
         elif is_fault_line(line):
@@ -242,6 +259,14 @@ def _leave_all() -> None:
 # A forked process has the same pipes. If it used them, each process would read replies of the other. If it only held
 # them, the program wouldn't see that its input ends.
 os.register_at_fork(after_in_child=_leave_all)
+
+
+def is_change(line: str, reply: str) -> bool:
+    """Returns whether a request with this reply may have changed what is on the bus."""
+    kind = next(iter(line.split()), "")
+    if reply.startswith("refused "):
+        return kind in MOVES
+    return not reply.startswith("lines ") and kind not in READS
 
 
 def encoded(text: str, count: int) -> bytes:

@@ -15,11 +15,10 @@ from musmyrtle.texts import FILE_LIMIT
 from musmyrtle.world.bounds import (
     MOST_CYCLES, MOST_ENDLESS, endless_cycles, kept_cycles, run_cycles, some_cycles, traced_nodes, window_number,
 )
-from musmyrtle.world.capture import captured, listener, only_bytes
 from musmyrtle.world.faults import Fault, fault_line
 from musmyrtle.world.node import Buffer, Node
 from musmyrtle.world.playing import Host, Play
-from musmyrtle.world.refusals import BadCycles, BadName, TooManyFaults, UnknownNode, WrongLength, refusal
+from musmyrtle.world.refusals import BadCycles, BadName, NoHistory, TooManyFaults, WrongLength, refusal
 from musmyrtle.world.replies import Channel, Counters, Moment, Received, Record, Window, record_of, window_of
 from musmyrtle.world.session import CLOSE_SECONDS, FileName, Outputs, Session
 from musmyrtle.world.stepping import requests_of
@@ -87,8 +86,8 @@ class World:
         self._faults: list[tuple[Fault, Callable[[Window], bool]]] = []
         self._unread = ""
         self._read_clock: Clock | None = None
-        self._session = Session(program or usual_world(), cluster, cycles, timeout, endless=self._is_endless,
-                                outputs=outputs)
+        self._program, self._cycles = program or usual_world(), cycles
+        self._session = Session(self._program, cluster, cycles, timeout, endless=self._is_endless, outputs=outputs)
         try:
             self._names = self._read_names(self._data)
         except BaseException:
@@ -257,22 +256,26 @@ class World:
         """
         return record_of(self.block(f"record {window_number(number)}"))
 
-    def capture(self, path: FileName, *, program: FileName | None = None) -> None:
+    def capture(self, path: FileName) -> None:
         """Writes a capture of all that was on the bus so far, which Wireshark opens.
 
-        It has the records of `fr_view bus`: each transmission that passed alone and wasn't too long. A window counts
-        once nodes 0 and 1 have observed it. PROGRAM is the `fr_view` to run, which is otherwise looked for. Raises
-        `NoHistory` in a world without history, `NotStarted` where the program can't be started, `OSError` where the
-        file can't be written, and `SessionOver`.
+        It has the records of `fr_view bus`: each transmission that passed alone and wasn't too long, from each window
+        that is sealed. The program of the world writes it: it is started anew, and is asked again the requests that
+        changed the bus. Raises `NoHistory` in a world without history, and `ValueError` for a cluster file that was no
+        regular file, since the program can't read it twice. Raises `NotStarted` where the program can't be started,
+        `OSError` where a file can't be written, and `SessionOver`, also where a request now has another reply, as after
+        a refusal because of memory.
         """
+        from musmyrtle.world.capture import captured
+        if self._is_endless or self._cycles is None:
+            raise NoHistory(("NoHistory",), "capture")
+        if self._data is None:
+            raise ValueError("the capture needs a cluster file that is a regular file")
         with self._session.lock:
-            first = self.block("trace 0")
-            try:
-                second: list[str] | None = self.block("trace 1")
-            except UnknownNode:
-                second = None
-            trace = listener(first, second, lambda number, channel: only_bytes(self.record(number), channel))
-        data = captured(trace, program)
+            # It raises `SessionOver` where the session is over.
+            self.ask("now")
+            changes = list(self._session.changes)
+        data = captured(os.fspath(self._program), self._data, self._cycles, changes)
         with open(path, "wb") as file:
             file.write(data)
 

@@ -110,7 +110,7 @@ function showMissed(place, run, choose) {
 function showFaults(place, run, choose) {
   const rows = run.header.faults.map((it, fault) => [
     {text: faultText(run, fault), choice: {kind: "fault", number: fault}},
-    run.header.idle.includes(it.line) ? "no effect" : counted(effectsOf(run, fault).length, "window")]);
+    run.header.idle.includes(it.line) ? "no effect" : effectText(run, fault)]);
   place.replaceChildren(rows.length ? tableElement({caption: "Fault lines", head: ["fault", "effect"], rows}, choose)
     : element("p", {}, "The scenario has no fault lines."));
 }

@@ -155,12 +155,15 @@ function detailsOfSlot(run, slot) {
       }
     });
   }
-  details.facts.push(openedText(run, slot, details.lit.places));
+  if (!run.isRecording) {
+    // A recording doesn't say whether a slot opened in a cycle without records.
+    details.facts.push(openedText(run, slot, details.lit.places));
+  }
   details.tables = [carriedTable(run, "What it carried", lines)];
   return details;
 }
 
-/** Returns in how many cycles a slot opened on each channel, as far as the page knows. */
+/** Returns in how many cycles a slot opened on each channel of a run. */
 function openedText(run, slot, places) {
   const counts = CHANNELS.map((_, channel) => places.filter((it) => (it & 1) === channel).length);
   return `It opened in ${counted(counts[0], "cycle")} on A and in ${counted(counts[1], "cycle")} on B, of `
@@ -193,6 +196,12 @@ function hasEffect(run, line) {
     .some((it) => run.word("record_end", it) === "turned");
 }
 
+/** Returns the number of windows in which a fault line took effect. One on both channels is one window. */
+function effectText(run, fault) {
+  const windows = new Set(effectsOf(run, fault).map((it) => run.columns.record_window[it]));
+  return counted(windows.size, "window");
+}
+
 /** Returns the text of a fault line with the names of its node. */
 function faultText(run, fault) {
   const {line, words} = run.header.faults[fault];
@@ -207,7 +216,7 @@ function detailsOfFault(run, fault) {
   const lines = effectsOf(run, fault);
   const isIdle = run.header.idle.includes(run.header.faults[fault].line);
   details.facts = [isIdle ? "It had no effect in the whole run."
-    : `It took effect in ${counted(lines.length, "window")}.`];
+    : `It took effect in ${effectText(run, fault)}.`];
   details.tables = [carriedTable(run, "Where it took effect", lines)];
   details.lit.places = lines.map((it) => 2 * run.columns.record_window[it] + run.channelOf(it));
   const [kind, node] = run.header.faults[fault].words;
