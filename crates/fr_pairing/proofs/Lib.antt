@@ -6,4 +6,4 @@ mod JointLemmas
 mod FinishLemmas
 mod WindowLemmas
 mod WalkLemmas
-mod PairLaws
+pub mod PairLaws

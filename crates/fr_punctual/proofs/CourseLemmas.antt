@@ -23,7 +23,7 @@ use Rattle.fr_judging.specs.Rules.{judges, other_channel}
 use Rattle.fr_judging.specs.declared.lane.Lane.{Lane}
 use Rattle.fr_judging.specs.declared.line.At.{At}
 use Rattle.fr_judging.specs.declared.rules.Rules.{Rules}
-use Rattle.fr_punctual.specs.Alarms.{is_on, Spells, judged}
+use Rattle.fr_hearing.specs.Alarms.{is_on, Spells, judged}
 use Rattle.fr_punctual.proofs.CalmLemmas.{untimed, untimed_rules, Hand, hand, Watch, watch, IsCalm, tell_end_calm}
 use Rattle.fr_punctual.proofs.WalkLemmas.{Keeps, line, Stands, IsFresh, IsAt, IsOpen, good_at, settled_end}
 use Rattle.fr_punctual.specs.Schedule.{Timeline, IsTimeline, Timed, IsPunctual, Continue, ArePunctual, AreAt}

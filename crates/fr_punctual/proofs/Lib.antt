@@ -1,6 +1,9 @@
-pub mod CountLemmas
 pub mod CalmLemmas
 pub mod StepLemmas
 pub mod TimeLemmas
 pub mod WalkLemmas
 pub mod CourseLemmas
+pub mod WindowLemmas
+pub mod RunLaws
+pub mod FileLaws
+pub mod TogetherLaws

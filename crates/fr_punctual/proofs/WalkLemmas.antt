@@ -4,7 +4,7 @@ use Rattle.std.proofs.Common.{Option, Some, None, refl, sym, ap, subst, ◌∙�
 use Rattle.std.proofs.lemmas.Bool.{cond-true, cond-false, eq-eqb, ne_eqb, leb-true, leb-false, le-ltb, lt-ltb}
 use Rattle.std.specs.Prelude.{◌-ℤ◌, nat_le, nat_lt, ◌==◌}
 use Rattle.fr_frame.specs.Fields.{Fields}
-use Rattle.fr_punctual.proofs.CountLemmas.{opens_same, opens_first, opens_next, one_step, not_same}
+use Rattle.fr_hearing.proofs.CountLemmas.{opens_same, opens_first, opens_next, one_step, not_same}
 use Rattle.fr_logged.specs.declared.finding.Finding.{Finding}
 use Rattle.fr_judging.specs.Distances.{by_times, by_counts, steps_from, steps_of, distance_by, time_between, anew_by}
 use Rattle.fr_judging.specs.Distances.{is_long, time_from, time_by, fixed_at}

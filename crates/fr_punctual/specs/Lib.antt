@@ -1,2 +1,3 @@
-pub mod Alarms
 pub mod Schedule
+pub mod Runs
+pub mod Together

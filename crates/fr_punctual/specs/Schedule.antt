@@ -3,7 +3,7 @@
 use Rattle.std.specs.Prelude.{◌≡◌, ℕ, pos, ◌+◌, ◌-◌, ◌*◌, ◌%◌, ◌<◌, ◌≤◌, nat_le, Bool, true, false, List, [], ◌∷◌, ◌⊎◌}
 use Rattle.std.specs.Prelude.{Some}
 use Rattle.fr_frame.specs.Fields.{Fields}
-use Rattle.fr_punctual.specs.Alarms.{is_on, Spells}
+use Rattle.fr_hearing.specs.Alarms.{is_on, Spells}
 use Rattle.fr_logged.specs.Logged.{kind_of}
 use Rattle.fr_recording.specs.Records.{Record}
 use Rattle.fr_slots.specs.declared.channel.Channel.{Channel}
