@@ -1,6 +1,6 @@
 -- The steps of the judgement that don't look at times: they are the same without times, and leave alone what later
 -- steps know of times.
-use Rattle.std.proofs.Common.{◌≡◌, ℕ, zero, suc, ◌+◌, ◌-◌, ◌%◌, Bool, true, false, cond, List, refl, ap, ◌∙◌}
+use Rattle.std.proofs.Common.{◌≡◌, ℕ, zero, suc, ◌+◌, ◌-◌, ◌%◌, Bool, true, false, cond, refl, ap, ◌∙◌}
 use Rattle.std.specs.Prelude.{Option, Some, None, ℤ, min, nat_le, nat_lt, ◌==◌, ◌&&◌, slice_index, not}
 use Rattle.std.specs.Option.{is_some}
 use Rattle.fr_frame.specs.Fields.{Fields}
@@ -11,13 +11,12 @@ use Rattle.fr_logged.specs.declared.finding.Finding.{Finding}
 use Rattle.fr_logged.specs.declared.finding.Name.{Name}
 use Rattle.fr_logged.specs.declared.finding.Name.TheVariants as name
 use Rattle.fr_logged.specs.declared.finding.Place.{Place}
-use Rattle.fr_logged.specs.declared.finding.Word.TheVariants.{Absent, Number}
 use Rattle.fr_recording.specs.Numbers.{counted}
 use Rattle.fr_slots.specs.declared.channel.Channel.{Channel}
-use Rattle.fr_judging.specs.Judging.{State, add_line, count_name, count_other, count_place, tell_line, find, find_some}
+use Rattle.fr_judging.specs.Judging.{State, add_line, count_name, count_place, tell_line, find, find_some}
 use Rattle.fr_judging.specs.Judging.{tell_missing, miss_of, miss_due, miss, skipped, skip_to, away_at, skip_before}
 use Rattle.fr_judging.specs.Judging.{end_in, end_cycle, static_end, slot_place, count_missing, with_away, back_line}
-use Rattle.fr_judging.specs.Judging.{add_back, back_of, back, show, show_frame, keep_plain, keep_frame, count_frame}
+use Rattle.fr_judging.specs.Judging.{add_back, back_of, back, show, keep_frame, count_frame}
 use Rattle.fr_judging.specs.Judging.{with_time, with_frame, span_since, quiet, tally_at, with_tally}
 use Rattle.fr_judging.specs.Judging.{leave, tell_silent, with_alone, listen, tell_gap, disturb, mark_odd}
 use Rattle.fr_judging.specs.Judging.{says_nothing, tell_nothing, tell_end, symbol_place, silent_place, count_word, silence}
@@ -272,10 +271,14 @@ disturb_calm : (s : State) → IsCalm s (disturb (untimed s)) (disturb s)
 disturb_calm s = by (is_some s.mine.held)
   where
     by : (b : Bool) → IsCalm s
-        (record (untimed s) { mine = cond b (record (untimed s).mine { ill_held = counted s.mine.ill_held 1 })
-        (record (untimed s).mine { ill = counted s.mine.ill 1 }) })
-        (record s { mine = cond b (record s.mine { ill_held = counted s.mine.ill_held 1 })
-        (record s.mine { ill = counted s.mine.ill 1 }) })
+        (record (untimed s) {
+          mine = cond b (record (untimed s).mine { ill_held = counted s.mine.ill_held 1 })
+              (record (untimed s).mine { ill = counted s.mine.ill 1 });
+        })
+        (record s {
+          mine = cond b (record s.mine { ill_held = counted s.mine.ill_held 1 })
+              (record s.mine { ill = counted s.mine.ill 1 });
+        })
     by true = record { same = refl; still = refl }
     by false = record { same = refl; still = refl }
 

@@ -1,8 +1,8 @@
 -- Record by record: a recording whose frames are in time is judged as without times.
-use Rattle.std.proofs.Common.{◌≡◌, ℕ, ◌≤◌, Bool, true, false, cond, List, [], ◌∷◌, ℤ, pos, Option, Some, None}
+use Rattle.std.proofs.Common.{◌≡◌, ℕ, Bool, true, false, cond, List, [], ◌∷◌, pos, Some, None}
 use Rattle.std.proofs.Common.{refl, sym, ap, subst, ◌∙◌, arith, ◌⊎◌, inl, inr}
 use Rattle.std.proofs.lemmas.Bool.{cond-true, cond-false, le-ltb, leb-true, ne_eqb, and_left, and_right}
-use Rattle.std.specs.Prelude.{nat_le, nat_lt, ◌==◌, ◌&&◌, Ok}
+use Rattle.std.specs.Prelude.{nat_le, nat_lt, ◌==◌, ◌&&◌}
 use Rattle.fr_frame.specs.Fields.{Fields}
 use Rattle.fr_logged.specs.Findings.{number_word}
 use Rattle.fr_logged.specs.Logged.{kind_of, spelled, place_of as frame_place}
@@ -24,9 +24,9 @@ use Rattle.fr_judging.specs.declared.lane.Lane.{Lane}
 use Rattle.fr_judging.specs.declared.line.At.{At}
 use Rattle.fr_judging.specs.declared.rules.Rules.{Rules}
 use Rattle.fr_hearing.specs.Alarms.{is_on, Spells, judged}
-use Rattle.fr_punctual.proofs.CalmLemmas.{untimed, untimed_rules, Hand, hand, Watch, watch, IsCalm, tell_end_calm}
-use Rattle.fr_punctual.proofs.WalkLemmas.{Keeps, line, Stands, IsFresh, IsAt, IsOpen, good_at, settled_end}
-use Rattle.fr_punctual.specs.Schedule.{Timeline, IsTimeline, Timed, IsPunctual, Continue, ArePunctual, AreAt}
+use Rattle.fr_punctual.proofs.CalmLemmas.{untimed, Hand, hand, Watch, watch, IsCalm, tell_end_calm}
+use Rattle.fr_punctual.proofs.WalkLemmas.{Keeps, line, Stands, good_at, settled_end}
+use Rattle.fr_punctual.specs.Schedule.{Timeline, IsTimeline, Timed, IsPunctual, ArePunctual, AreAt}
 
 -- ---- the channel that stands first
 
@@ -179,12 +179,12 @@ counted_turned s channel =
     let c = is_turned (next_record s) channel in
     record { rules_are = c.rules_are; channel_is = c.channel_is; mine_is = c.mine_is; other_is = c.other_is }
 
-module _ (r : Rules) (start slack : ℕ) (lawful : IsParameters r.cluster.params)
-    (is : IsTimeline r.cluster.params (line r start slack)) where
+module _ (r : Rules) (starts : ℕ → ℕ) (slack drift : ℕ) (lawful : IsParameters r.cluster.params)
+    (is : IsTimeline r.cluster.params (line r starts slack drift)) where
   own_record : (channel : Channel) (s : State) (rec : Record) (x : Timed) (rest : List Timed) → s.rules ≡ r
       → judges r channel ≡ true → Spells channel rec x.frame → rec.time ≡ Some (pos x.time)
-      → has_no_slot r.cluster.params x.frame.id ≡ false → Stands r start slack (x ∷ rest) (hand_on s channel)
-      → Passes channel (Stands r start slack rest) s (judge (untimed s) rec) (judge s rec)
+      → has_no_slot r.cluster.params x.frame.id ≡ false → Stands r starts slack drift (x ∷ rest) (hand_on s channel)
+      → Passes channel (Stands r starts slack drift rest) s (judge (untimed s) rec) (judge s rec)
   own_record channel s rec x rest rules_are mine spells time_is some here =
       let t : State = counted_on s channel in
       let turned_is : IsTurned s (counted_on s channel) channel = counted_turned s channel in
@@ -196,23 +196,23 @@ module _ (r : Rules) (start slack : ℕ) (lawful : IsParameters r.cluster.params
       let untimed_is : judge (untimed s) rec ≡ good (untimed (counted_on s channel)) x.frame (at_record s rec) =
       judge_is (untimed s) rec channel x.frame mine_s spells some_s
       ∙ ap (λ (u : State). good (count_record u) x.frame (at_record s rec)) (turn_same (next_record s) channel) in
-      let k : Keeps (Stands r start slack rest) (watch (counted_on s channel))
+      let k : Keeps (Stands r starts slack drift rest) (watch (counted_on s channel))
       (good (untimed (counted_on s channel)) x.frame (at_record s rec))
       (good (counted_on s channel) x.frame (at_record s rec)) =
-      good_at r start slack lawful is x rest (counted_on s channel) (at_record s rec)
+      good_at r starts slack drift lawful is x rest (counted_on s channel) (at_record s rec)
       (turned_is.rules_are ∙ rules_are) time_is
-      (subst (Stands r start slack (x ∷ rest)) (sym turned_is.mine_is) here) in
-      passes channel (Stands r start slack rest) s (counted_on s channel) (judge (untimed s) rec) (judge s rec)
+      (subst (Stands r starts slack drift (x ∷ rest)) (sym turned_is.mine_is) here) in
+      passes channel (Stands r starts slack drift rest) s (counted_on s channel) (judge (untimed s) rec) (judge s rec)
       turned_is
-      (subst (λ (v : State). Keeps (Stands r start slack rest) (watch (counted_on s channel)) v (judge s rec))
+      (subst (λ (v : State). Keeps (Stands r starts slack drift rest) (watch (counted_on s channel)) v (judge s rec))
       (sym untimed_is)
-      (subst (λ (v : State). Keeps (Stands r start slack rest) (watch (counted_on s channel))
+      (subst (λ (v : State). Keeps (Stands r starts slack drift rest) (watch (counted_on s channel))
       (good (untimed (counted_on s channel)) x.frame (at_record s rec)) v) (sym timed_is) k))
 
   -- ---- each record
 
-  first_punctual : (x : Timed) (rest : List Timed) (h : Hand) → Stands r start slack (x ∷ rest) h
-      → IsPunctual r.cluster.params (line r start slack) x
+  first_punctual : (x : Timed) (rest : List Timed) (h : Hand) → Stands r starts slack drift (x ∷ rest) h
+      → IsPunctual r.cluster.params (line r starts slack drift) x
   first_punctual x rest h (inl fresh) = fresh.1.0
   first_punctual x rest h (inr here) = here.3.1
 
@@ -220,7 +220,7 @@ module _ (r : Rules) (start slack : ℕ) (lawful : IsParameters r.cluster.params
   record IsOnCourse (channel : Channel) (s : State) (rs : List Record) : Type 0 where
     frames : List Timed
     are_at : AreAt channel rs frames
-    stands : Stands r start slack frames (hand_on s channel)
+    stands : Stands r starts slack drift frames (hand_on s channel)
 
   abbrev AllOnCourse : State → List Record → Type 0
   AllOnCourse s rs = (channel : Channel) → judges r channel ≡ true → IsOnCourse channel s rs
@@ -240,7 +240,7 @@ module _ (r : Rules) (start slack : ℕ) (lawful : IsParameters r.cluster.params
       by (inl here) = record {
         frames = c.frames;
         are_at = here.1;
-        stands = subst (Stands r start slack c.frames) (sym same) c.stands;
+        stands = subst (Stands r starts slack drift c.frames) (sym same) c.stands;
       }
       by (inr own) = absurd (let on : is_on channel (kind_of rec.link rec.bytes) ≡ true =
           ap (is_on channel) own.3.is_frame ∙ same_channel channel in
@@ -281,11 +281,11 @@ module _ (r : Rules) (start slack : ℕ) (lawful : IsParameters r.cluster.params
           let off : is_on channel (kind_of rec.link rec.bytes) ≡ false = here.0 in
           let none : ⊥ = cc in none)
       by c (inr own) =
-          let here : Stands r start slack (own.0 ∷ own.1) (hand_on s channel) =
-          subst (λ (xs : List Timed). Stands r start slack xs (hand_on s channel)) own.2 c.stands in
-          let p : Passes channel (Stands r start slack own.1) s (judge (untimed s) rec) (judge s rec) =
+          let here : Stands r starts slack drift (own.0 ∷ own.1) (hand_on s channel) =
+          subst (λ (xs : List Timed). Stands r starts slack drift xs (hand_on s channel)) own.2 c.stands in
+          let p : Passes channel (Stands r starts slack drift own.1) s (judge (untimed s) rec) (judge s rec) =
           own_record channel s rec own.0 own.1 rules_are mine own.3 own.4
-          (some_slot r.cluster.params (line r start slack) own.0 (first_punctual own.0 own.1 (hand_on s channel) here))
+          (some_slot r.cluster.params (line r starts slack drift) own.0 (first_punctual own.0 own.1 (hand_on s channel) here))
           here in
           record {
             same = p.same;
@@ -401,14 +401,14 @@ module _ (r : Rules) (start slack : ℕ) (lawful : IsParameters r.cluster.params
 
   -- ---- the end
 
-  last_stands : (channel : Channel) (s : State) → IsOnCourse channel s [] → Stands r start slack [] (hand_on s channel)
-  last_stands channel s c = subst (λ (xs : List Timed). Stands r start slack xs (hand_on s channel)) c.are_at c.stands
+  last_stands : (channel : Channel) (s : State) → IsOnCourse channel s [] → Stands r starts slack drift [] (hand_on s channel)
+  last_stands channel s c = subst (λ (xs : List Timed). Stands r starts slack drift xs (hand_on s channel)) c.are_at c.stands
 
   abbrev Nothing : Hand → Type 0
   Nothing h = Unit {0}
 
   channel_end : (channel : Channel) (s : State) → s.rules ≡ r → judges r channel ≡ true
-      → Stands r start slack [] (hand_on s channel)
+      → Stands r starts slack drift [] (hand_on s channel)
       → Passes channel Nothing s (finish_on (untimed s) channel true) (finish_on s channel true)
   unfolding finish_on
   channel_end channel s rules_are mine here =
@@ -416,8 +416,8 @@ module _ (r : Rules) (start slack : ℕ) (lawful : IsParameters r.cluster.params
       let turned_is : IsTurned s (turn s channel) channel = is_turned s channel in
       let settled_is : Keeps Nothing (watch (turn s channel)) (settle (untimed (turn s channel)) None)
       (settle (turn s channel) None) =
-      settled_end r start slack lawful is (turn s channel) (turned_is.rules_are ∙ rules_are)
-      (subst (Stands r start slack []) (sym turned_is.mine_is) here) in
+      settled_end r starts slack drift lawful is (turn s channel) (turned_is.rules_are ∙ rules_are)
+      (subst (Stands r starts slack drift []) (sym turned_is.mine_is) here) in
       let told : IsCalm (settle (turn s channel) None) (tell_end (untimed (settle (turn s channel) None)))
       (tell_end (settle (turn s channel) None)) = tell_end_calm (settle (turn s channel) None) in
       let v : State = finish_channel (turn s channel) true in
@@ -445,7 +445,7 @@ module _ (r : Rules) (start slack : ℕ) (lawful : IsParameters r.cluster.params
     other_is : hand_on v (other_channel channel) ≡ hand_on s (other_channel channel)
 
   either_end : (channel : Channel) (s : State) → s.rules ≡ r
-      → (judges r channel ≡ true → Stands r start slack [] (hand_on s channel))
+      → (judges r channel ≡ true → Stands r starts slack drift [] (hand_on s channel))
       → Ends channel s (finish_on (untimed s) channel true) (finish_on s channel true)
   unfolding finish_on
   either_end channel s rules_are here = by (judges r channel) refl
@@ -468,7 +468,7 @@ module _ (r : Rules) (start slack : ℕ) (lawful : IsParameters r.cluster.params
           }
 
   finish_same : (s : State) → s.rules ≡ r
-      → ((channel : Channel) → judges r channel ≡ true → Stands r start slack [] (hand_on s channel))
+      → ((channel : Channel) → judges r channel ≡ true → Stands r starts slack drift [] (hand_on s channel))
       → finish (untimed s) true ≡ untimed (finish s true)
   unfolding finish
   finish_same s rules_are here =
@@ -477,13 +477,13 @@ module _ (r : Rules) (start slack : ℕ) (lawful : IsParameters r.cluster.params
       let u : State = finish_on t A true in
       let b : Ends B u (finish_on (untimed u) B true) (finish_on u B true) =
       either_end B u (a.rules_are ∙ rules_are)
-      (λ mine. subst (Stands r start slack []) (sym a.other_is) (here B mine)) in
+      (λ mine. subst (Stands r starts slack drift []) (sym a.other_is) (here B mine)) in
       ap (λ (v : State). finish_on v B true) a.same ∙ b.same
 
   -- ---- the whole recording
 
-  fresh_stands : (channel : Channel) (xs : List Timed) → ArePunctual r.cluster.params (line r start slack) xs
-      → Stands r start slack xs (hand_on (fresh r) channel)
+  fresh_stands : (channel : Channel) (xs : List Timed) → ArePunctual r.cluster.params (line r starts slack drift) xs
+      → Stands r starts slack drift xs (hand_on (fresh r) channel)
   unfolding fresh
   fresh_stands A xs punctual =
       inl (record { none_held = refl; shut = record { none_open = refl; none_begun = refl } }, punctual)
@@ -494,7 +494,7 @@ module _ (r : Rules) (start slack : ℕ) (lawful : IsParameters r.cluster.params
   pub record IsInTimeOn (channel : Channel) (rs : List Record) : Type 0 where
     pub frames : List Timed
     pub are_at : AreAt channel rs frames
-    pub punctual : ArePunctual r.cluster.params (line r start slack) frames
+    pub punctual : ArePunctual r.cluster.params (line r starts slack drift) frames
 
   pub same_finding : (rs : List Record) → ((channel : Channel) → judges r channel ≡ true → IsInTimeOn channel rs)
       → has_finding (finish (judged (untimed (fresh r)) rs) true) ≡ has_finding (finish (judged (fresh r) rs) true)

@@ -1,6 +1,6 @@
 -- A capture of the bus of a run without faults, with a clock that keeps the schedule, has no finding with times.
 use Rattle.std.proofs.Common.{◌≡◌, ℕ, ◌+◌, ◌-◌, ◌*◌, ◌^◌, ◌<◌, ◌≤◌, Bool, true, false, cond, List, [], ◌∷◌, ◌++◌, length}
-use Rattle.std.proofs.Common.{Option, Some, None, refl, sym, ap, subst, ◌∙◌, arith, ◌⊎◌, inl, inr, slice_get}
+use Rattle.std.proofs.Common.{Option, Some, refl, sym, ap, subst, ◌∙◌, arith, inl, inr}
 use Rattle.std.proofs.lemmas.List.{append_assoc, append-nil}
 use Rattle.std.proofs.lemmas.Nat.{mul-le}
 use Rattle.arrayvec.specs.ArrayVec.{ArrayVec}
@@ -22,7 +22,6 @@ use Rattle.fr_hearing.proofs.HearingLemmas.{window_heard}
 use Rattle.fr_hearing.proofs.OwnersLaws.{length-frame}
 use Rattle.fr_hearing.proofs.PassageLemmas.{IsHeardAt}
 use Rattle.fr_hearing.proofs.ReadBackLaws.{is_read_back, time_is_kept}
-use Rattle.fr_hearing.proofs.RunLaws.{no_alarm_in_run}
 use Rattle.fr_hearing.specs.Alarms.{is_on}
 use Rattle.fr_hearing.specs.Files.{Clock, capture_of}
 use Rattle.fr_hearing.specs.ReadBack.{read_seen, read_window, AreShort}
@@ -31,7 +30,6 @@ use Rattle.fr_logged.specs.Logged.{kind_of}
 use Rattle.fr_recording.specs.Records.{Record}
 use Rattle.fr_recording.specs.Stream.{records_in}
 use Rattle.fr_schedule.specs.Descriptions.{Description}
-use Rattle.fr_slots.proofs.PlaceLemmas.{AllAfter-cut}
 use Rattle.fr_slots.specs.Admission.{is_channel}
 use Rattle.fr_slots.specs.declared.channel.Channel.{Channel}
 use Rattle.fr_slots.specs.declared.channel.Channel.TheVariants.{A, B}
@@ -41,11 +39,12 @@ use Rattle.fr_slots.specs.Windows.{opens_cycle}
 use Rattle.fr_status.specs.Forms.{Seen}
 use Rattle.fr_status.specs.declared.seen.Seen.TheVariants.{Silence, Own, Conflict, Noise, Overrun, Bytes}
 use Rattle.fr_punctual.proofs.RunLaws.{times_add_nothing, no_alarm_in_time}
+use Rattle.fr_punctual.proofs.TimeLemmas.{even_is_timeline}
 use Rattle.fr_punctual.proofs.WindowLemmas.{start_within}
-use Rattle.fr_punctual.specs.Runs.{window_begins, due_at, Packet, packets_at, packets_after, AreLoggedAt, KeepsTime}
-use Rattle.fr_punctual.specs.Runs.{NoAlarmInTimelyFile, TimesAddNothingInFile, whole_microseconds, WindowsKeepTime}
+use Rattle.fr_punctual.specs.Runs.{due_at, Packet, packets_at, packets_after, AreLoggedAt, KeepsTime}
+use Rattle.fr_punctual.specs.Runs.{NoAlarmInTimelyFile, TimesAddNothingInFile, WindowsKeepTime}
 use Rattle.fr_punctual.specs.Runs.{RoundedKeepsTime}
-use Rattle.fr_punctual.specs.Schedule.{Timeline, IsTimeline, AreNear}
+use Rattle.fr_punctual.specs.Schedule.{Timeline, AreNear}
 
 -- ---- the records of a capture
 
@@ -220,23 +219,26 @@ few_microseconds begun cycles opportunities cycle_mt start fit few some most wit
     mul-le (begun - 1) cycle_mt cycles 20000 (omega (arith, fit)) most in
     omega (arith, many, time, few, most, within)
 
+exact_time : (n c so : ℕ) → AreNear 0 ((n * c + so) * 1000) (0 + n * (c * 1000) + so * 1000)
+exact_time n c so = record { not_late = omega arith; not_early = omega arith }
+
 pub windows_keep_time : (w : WorldState) → Headline w → WindowsKeepTime w
 windows_keep_time w head = (
-  record { some_length = omega arith; tolerable = omega arith },
+  even_is_timeline w.bus.cluster.params 1000 0 0 head.run.lawful.params_are (omega arith) (omega arith),
   λ before r rest e.
-  let d : Description = w.bus.cluster in
-  let lawful : IsParameters w.bus.cluster.params = head.run.lawful.params_are in
-  let course : IsCourse (course_of w.bus.cluster.params w.bus.cycles (before ++ r ∷ [])) =
-  course_at w.bus.cluster w.bus.cycles [] before r rest
-  (course_none w.bus.cluster.params w.bus.cycles lawful head.run.few_windows)
-  (subst (AllAfter (IsRecorded w.bus.cluster w.bus.cycles) []) e head.run.recorded) in
-  let two : 2 ≤ w.bus.cluster.params.static_slots = lawful.static_slots_fit.from_least in
-  (
-    few_microseconds (cycles_begun (before ++ r ∷ [])) w.bus.cycles (opportunities w.bus.cluster.params)
-        w.bus.cluster.params.cycle_mt (start_of w.bus.cluster.params r.window) course.begun_fit head.run.few_windows
-        (omega (arith, two)) lawful.cycle_mt_fit.at_most (start_within w.bus.cluster.params lawful r.window),
-    record { not_late = omega arith; not_early = omega arith },
-  ),
+      let d : Description = w.bus.cluster in
+      let lawful : IsParameters w.bus.cluster.params = head.run.lawful.params_are in
+      let course : IsCourse (course_of w.bus.cluster.params w.bus.cycles (before ++ r ∷ [])) =
+      course_at w.bus.cluster w.bus.cycles [] before r rest
+      (course_none w.bus.cluster.params w.bus.cycles lawful head.run.few_windows)
+      (subst (AllAfter (IsRecorded w.bus.cluster w.bus.cycles) []) e head.run.recorded) in
+      let two : 2 ≤ w.bus.cluster.params.static_slots = lawful.static_slots_fit.from_least in (
+        few_microseconds (cycles_begun (before ++ r ∷ [])) w.bus.cycles (opportunities w.bus.cluster.params)
+            w.bus.cluster.params.cycle_mt (start_of w.bus.cluster.params r.window) course.begun_fit head.run.few_windows
+            (omega (arith, two)) lawful.cycle_mt_fit.at_most (start_within w.bus.cluster.params lawful r.window),
+        exact_time (cycles_begun (before ++ r ∷ []) - 1) w.bus.cluster.params.cycle_mt
+            (start_of w.bus.cluster.params r.window),
+      ),
 )
 
 pub rounded_keeps_time : RoundedKeepsTime

@@ -1,24 +1,21 @@
 -- A recording of a run without faults at the times of its schedule has no finding, with times.
-use Rattle.std.proofs.Common.{◌≡◌, ℕ, ℤ, pos, ◌+◌, ◌*◌, ◌%◌, ◌<◌, ◌≤◌, Bool, true, false, cond, List, [], ◌∷◌, ◌++◌, map}
-use Rattle.std.proofs.Common.{Option, Some, None, refl, sym, ap, subst, ◌∙◌, arith, ◌⊎◌, inl, inr}
-use Rattle.arrayvec.specs.ArrayVec.{ArrayVec}
+use Rattle.std.proofs.Common.{◌≡◌, ℕ, pos, ◌+◌, ◌%◌, ◌<◌, ◌≤◌, Bool, true, false, List, [], ◌∷◌, ◌++◌, map}
+use Rattle.std.proofs.Common.{Option, Some, refl, sym, ap, subst, ◌∙◌, arith, inl, inr}
 use Rattle.fr_bus.specs.Record.{Recorded, heard}
-use Rattle.fr_capture.specs.Pcap.{packet}
 use Rattle.fr_core.specs.Headline.{Headline}
 use Rattle.fr_core.specs.Worlds.{WorldState}
 use Rattle.fr_frame.specs.Fields.{Fields, IsFrame}
-use Rattle.fr_frame.specs.Refusal.{refusal}
 use Rattle.fr_hearing.proofs.CaptureLaws.{reads_back}
 use Rattle.fr_hearing.proofs.CycleLemmas.{AreHeardAt, frames_of, Begins, from_start}
 use Rattle.fr_hearing.proofs.HearingLemmas.{window_heard, each_heard}
 use Rattle.fr_hearing.proofs.PassageLemmas.{IsHeardAt, with_frame}
 use Rattle.fr_hearing.proofs.RunLaws.{packet_for, packet_seen, is_frame, no_alarm_in_run}
 use Rattle.fr_hearing.proofs.SilenceLaws.{nothing_due}
-use Rattle.fr_hearing.specs.Alarms.{is_on, Spells, judged}
+use Rattle.fr_hearing.specs.Alarms.{Spells, judged}
 use Rattle.fr_hearing.specs.Heard.{Spot, after_frame, cycle_start, FollowOn}
 use Rattle.fr_hearing.specs.Runs.{IsHealthy, packets_seen, packets_of, logged, AreLogged}
 use Rattle.fr_judging.specs.Judging.{State, fresh, finish, has_finding}
-use Rattle.fr_judging.specs.Rules.{rules_of, judged_by, has_sender, is_clocked}
+use Rattle.fr_judging.specs.Rules.{rules_of, has_sender}
 use Rattle.fr_judging.specs.declared.rules.Rules.{Rules}
 use Rattle.fr_recording.specs.Records.{Record}
 use Rattle.fr_schedule.specs.Clusters.{IsCluster}
@@ -31,11 +28,11 @@ use Rattle.fr_slots.specs.Plans.{Each}
 use Rattle.fr_status.specs.Forms.{Seen}
 use Rattle.fr_status.specs.declared.seen.Seen.TheVariants.{Silence, Own, Conflict, Noise, Overrun, Bytes}
 use Rattle.fr_punctual.proofs.CalmLemmas.{untimed}
-use Rattle.fr_punctual.proofs.CourseLemmas.{IsInTimeOn, same_finding}
+use Rattle.fr_punctual.proofs.CourseLemmas.{same_finding}
 use Rattle.fr_punctual.proofs.WindowLemmas.{exact, with_timed, timed_frames, frames_in_time}
 use Rattle.fr_punctual.specs.Runs.{due_at, Packet, packets_at, packets_after, packets_on, AreLoggedAt}
-use Rattle.fr_punctual.specs.Runs.{AreRecordedInTime, TimesAddNothing, NoAlarmInTime}
-use Rattle.fr_punctual.specs.Schedule.{Timeline, IsTimeline, AreNear, IsInCycle, IsTimely, IsTimelyAs, Timed, IsPunctual}
+use Rattle.fr_punctual.specs.Runs.{TimesAddNothing, NoAlarmInTime}
+use Rattle.fr_punctual.specs.Schedule.{Timeline, AreNear, IsTimely, IsTimelyAs, Timed, IsPunctual}
 use Rattle.fr_punctual.specs.Schedule.{IsAfter, Continue, ArePunctual, AreAt}
 use Rattle.std.specs.Prelude.{nat_le}
 
@@ -326,7 +323,7 @@ pub times_add_nothing : (w : WorldState) → Headline w → TimesAddNothing w
 unfolding rules_of
 times_add_nothing w head most whole only t records is recorded =
     let r : Rules = rules_of w.bus.cluster most whole only t.macrotick in
-    sym (same_finding r t.start t.slack head.run.lawful.params_are is records
+    sym (same_finding r t.starts t.slack t.drift head.run.lawful.params_are is records
     (λ channel mine.
     let c = recorded_in_time w head channel t records (recorded channel mine).0 (recorded channel mine).1 in
     record { frames = c.frames; are_at = c.are_at; punctual = c.punctual }))

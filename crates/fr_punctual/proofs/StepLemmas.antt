@@ -11,14 +11,14 @@ use Rattle.fr_logged.specs.declared.due.Due.{Due}
 use Rattle.fr_logged.specs.declared.finding.Finding.{Finding}
 use Rattle.fr_logged.specs.declared.finding.Name.TheVariants as name
 use Rattle.fr_recording.specs.Numbers.{counted}
-use Rattle.fr_judging.specs.Distances.{by_times, by_counts, steps_from, distance_to, is_anew, anew_by, time_finding}
-use Rattle.fr_judging.specs.Distances.{time_from, fixed_at, fixed_after}
+use Rattle.fr_judging.specs.Distances.{by_times, by_counts, steps_from, is_anew, anew_by, time_finding}
+use Rattle.fr_judging.specs.Distances.{time_from, fixed_at}
 use Rattle.fr_judging.specs.Judging.{State, back, show, fix, keep_frame, static_came, static_found, static_with}
-use Rattle.fr_judging.specs.Judging.{channels_finding, placed_finding, dynamic_came, came_with, came, skip_before}
-use Rattle.fr_judging.specs.Judging.{leave, listen, tell_gap, enter, find_some, find, open_first, open_after, open_closed}
-use Rattle.fr_judging.specs.Judging.{open_next, open_cycle, end_cycle, member, mark_odd, disturb, hold, place_frame}
+use Rattle.fr_judging.specs.Judging.{channels_finding, placed_finding, dynamic_came, came, skip_before}
+use Rattle.fr_judging.specs.Judging.{leave, listen, tell_gap, enter, find_some, open_first, open_after, open_closed}
+use Rattle.fr_judging.specs.Judging.{open_next, open_cycle, end_cycle, member, hold, place_frame}
 use Rattle.fr_judging.specs.Judging.{next_of, decide, wrong_count, settle, settle_with, add_ill, speak, good}
-use Rattle.fr_judging.specs.Lanes.{begun, passed, opens, same_open, after_dynamic}
+use Rattle.fr_judging.specs.Lanes.{begun, opens, same_open, after_dynamic}
 use Rattle.fr_judging.specs.Rules.{due_at, slot_time}
 use Rattle.fr_judging.specs.Tallies.{long_counted, span_between}
 use Rattle.fr_judging.specs.declared.distance.Distance.{Distance}
@@ -28,7 +28,7 @@ use Rattle.fr_judging.specs.declared.lane.Lane.{Lane}
 use Rattle.fr_judging.specs.declared.lane.Next.{Next}
 use Rattle.fr_judging.specs.declared.line.At.{At}
 use Rattle.fr_judging.specs.declared.rules.Rules.{Rules}
-use Rattle.fr_punctual.proofs.CalmLemmas.{untimed, untimed_rules, untimed_lane, Hand, hand, Watch, watch, IsCalm}
+use Rattle.fr_punctual.proofs.CalmLemmas.{untimed, untimed_rules, untimed_lane, Watch, watch, IsCalm}
 use Rattle.fr_punctual.proofs.CalmLemmas.{calm_none, calm_if, calm_then, find_some_calm, before_calm, end_calm}
 use Rattle.fr_punctual.proofs.CalmLemmas.{back_calm, show_calm, keep_calm, leave_calm, listen_calm, gap_calm, order_calm}
 
@@ -213,8 +213,10 @@ enter_leads : (s : State) (f : Fields) (at : At) (past : ℕ)
 enter_leads s f at past = by (past == 1)
   where
     by : (b : Bool) → Leads
-        (record (untimed s) { mine = begun s.rules.cluster.params (cond b (next_lane at past (untimed_lane s.mine))
-        (gap_lane past (untimed_lane s.mine))) f at })
+        (record (untimed s) {
+          mine = begun s.rules.cluster.params (cond b (next_lane at past (untimed_lane s.mine))
+              (gap_lane past (untimed_lane s.mine))) f at;
+        })
         (record s { mine = begun s.rules.cluster.params (cond b (next_lane at past s.mine) (gap_lane past s.mine)) f at })
         (begun_watch (watch s) f at)
     by true = record { same = refl; seen = refl }

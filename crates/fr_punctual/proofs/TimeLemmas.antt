@@ -1,19 +1,15 @@
 -- Frames in time have no finding of times: the numbers.
-use Rattle.std.proofs.Common.{◌≡◌, ℕ, ℤ, pos, ◌+◌, ◌-◌, ◌*◌, ◌<◌, ◌≤◌, Bool, true, false, cond, Option, Some, None}
-use Rattle.std.proofs.Common.{refl, sym, ap, subst, ◌∙◌, arith}
+use Rattle.std.proofs.Common.{◌≡◌, ℕ, ℤ, pos, ◌+◌, ◌-◌, ◌*◌, ◌<◌, ◌≤◌, Bool, true, false, None}
+use Rattle.std.proofs.Common.{refl, ap, ◌∙◌, arith}
 use Rattle.std.proofs.lemmas.Bool.{cond-true, cond-false, le-leb, le-ltb, leb-true}
 use Rattle.std.proofs.lemmas.Int.{ints}
 use Rattle.std.proofs.lemmas.Nat.{mul-le}
-use Rattle.std.specs.Prelude.{◌+ℤ◌, ◌-ℤ◌, int_lt, unsigned_abs, nat_lt, nat_le, ◌==◌}
-use Rattle.fr_logged.specs.declared.finding.Finding.{Finding}
-use Rattle.fr_logged.specs.declared.finding.Name.TheVariants.{Time}
-use Rattle.fr_logged.specs.declared.finding.Word.TheVariants.{Number}
+use Rattle.std.specs.Prelude.{◌-ℤ◌, int_lt, unsigned_abs, nat_lt, nat_le}
 use Rattle.fr_judging.specs.Distances.{time_between, rounds_by, rounds_of, due_time, agrees, distance_with, distance_by}
 use Rattle.fr_judging.specs.Distances.{by_counts, is_long, time_off}
-use Rattle.fr_judging.specs.declared.distance.Distance.{Distance}
 use Rattle.fr_slots.specs.Parameters.{Parameters, IsParameters, macroticks_of}
-use Rattle.fr_punctual.specs.Schedule.{Timeline, IsTimeline, slot_length, cycle_length, cycle_begins, slot_begins, AreNear}
-use Rattle.fr_punctual.specs.Schedule.{IsInCycle, IsTimelyAs, IsTimely}
+use Rattle.fr_punctual.specs.Schedule.{Timeline, IsTimeline, slot_length, cycle_length, slot_begins, AreNear}
+use Rattle.fr_punctual.specs.Schedule.{IsInCycle, IsTimelyAs, IsTimely, EvenIsTimeline}
 
 -- ---- whole numbers of slots
 
@@ -69,29 +65,51 @@ one_cycle c e x few some near =
     ap (distance_with c 1 x) rounds
     ∙ cond-true (agrees c x (due_time c 1 0)) (by_counts 1) _ close
 
+-- ---- the sizes of slots and cycles
+
+record Sizes (p : Parameters) (tick : ℕ) : Type 0 where
+  some_slot : 1 ≤ p.static_mt * tick
+  two_slots : 2 * (p.static_mt * tick) ≤ p.cycle_mt * tick
+  all_slots : p.static_slots * (p.static_mt * tick) ≤ p.cycle_mt * tick
+
+sizes_of : (p : Parameters) (tick : ℕ) → IsParameters p → 1 ≤ tick → Sizes p tick
+sizes_of p tick lawful some_tick =
+    let some_mt : 1 ≤ p.static_mt = lawful.static_mt_fit.from_least in
+    let two : 2 ≤ p.static_slots = lawful.static_slots_fit.from_least in
+    let fills : macroticks_of p ≡ p.cycle_mt = lawful.fills_the_cycle in
+    let some : 1 * 1 ≤ p.static_mt * tick = mul-le 1 1 p.static_mt tick some_mt some_tick in
+    let static : p.static_slots * p.static_mt ≤ p.cycle_mt = omega (arith, fills) in
+    let least : 2 * p.static_mt ≤ p.static_slots * p.static_mt =
+    mul-le 2 p.static_mt p.static_slots p.static_mt two (omega arith) in
+    record {
+      some_slot = some;
+      two_slots = by_tick 2 p.static_mt p.cycle_mt tick (omega (arith, static, least));
+      all_slots = by_tick p.static_slots p.static_mt p.cycle_mt tick static;
+    }
+
+next_start : (start cycle c : ℕ) → start + (cycle + 1) * c ≡ start + cycle * c + c
+next_start start cycle c = omega arith
+
+pub even_is_timeline : EvenIsTimeline
+even_is_timeline p macrotick start slack lawful some few =
+    let size = sizes_of p macrotick lawful some in
+    let two = size.two_slots in
+    record {
+      some_length = some;
+      tolerable = few;
+      steady = λ cycle. (let next = next_start start cycle (p.cycle_mt * macrotick) in
+          let near : AreNear 0 (start + (cycle + 1) * (p.cycle_mt * macrotick))
+          (start + cycle * (p.cycle_mt * macrotick) + p.cycle_mt * macrotick) =
+          record { not_late = omega (arith, next); not_early = omega (arith, next) } in
+          near);
+      little_drift = omega (arith, few, two);
+    }
+
 -- ---- the schedule
 
 module _ (p : Parameters) (t : Timeline) (lawful : IsParameters p) (is : IsTimeline p t) where
-  pub record Sizes : Type 0 where
-    pub some_slot : 1 ≤ slot_length p t
-    pub two_slots : 2 * slot_length p t ≤ cycle_length p t
-    pub all_slots : p.static_slots * slot_length p t ≤ cycle_length p t
-
-  sizes : Sizes
-  sizes =
-      let some_mt : 1 ≤ p.static_mt = lawful.static_mt_fit.from_least in
-      let two : 2 ≤ p.static_slots = lawful.static_slots_fit.from_least in
-      let fills : macroticks_of p ≡ p.cycle_mt = lawful.fills_the_cycle in
-      let tick : 1 ≤ t.macrotick = is.some_length in
-      let some : 1 * 1 ≤ p.static_mt * t.macrotick = mul-le 1 1 p.static_mt t.macrotick some_mt tick in
-      let static : p.static_slots * p.static_mt ≤ p.cycle_mt = omega (arith, fills) in
-      let least : 2 * p.static_mt ≤ p.static_slots * p.static_mt =
-      mul-le 2 p.static_mt p.static_slots p.static_mt two (omega arith) in
-      record {
-        some_slot = some;
-        two_slots = by_tick 2 p.static_mt p.cycle_mt t.macrotick (omega (arith, static, least));
-        all_slots = by_tick p.static_slots p.static_mt p.cycle_mt t.macrotick static;
-      }
+  sizes : Sizes p t.macrotick
+  sizes = sizes_of p t.macrotick lawful is.some_length
 
   -- a static frame comes in its cycle, too
   pub in_cycle : (cycle slot time : ℕ) → IsTimely p t cycle slot time → IsInCycle p t cycle time
@@ -146,16 +164,18 @@ module _ (p : Parameters) (t : Timeline) (lawful : IsParameters p) (is : IsTimel
       let c : ℕ = cycle_length p t in
       let before_a = slot_before a (slot_length p t) some_a in
       let before_b = slot_before b (slot_length p t) some_b in
-      let few = is.tolerable in
+      let few = is.little_drift in
       let some = sizes.some_slot in
       let two = sizes.two_slots in
+      let slower = (is.steady cycle).not_late in
+      let faster = (is.steady cycle).not_early in
       let from_late = x.not_late in
       let from_early = x.not_early in
       let to_late = y.not_late in
       let to_early = y.not_early in
-      one_cycle (cycle_length p t) (2 * t.slack)
+      one_cycle (cycle_length p t) (2 * t.slack + t.drift)
       (time_between (slot_length p t) a b (pos from) (pos to))
-      (omega (arith, two, few)) (omega (arith, some, two))
-      (between_of (slot_length p t) a b (cycle_length p t) (2 * t.slack) from to
-      (omega (arith, before_a, before_b, from_early, to_late))
-      (omega (arith, before_a, before_b, from_late, to_early)))
+      is.little_drift (omega (arith, some, two))
+      (between_of (slot_length p t) a b (cycle_length p t) (2 * t.slack + t.drift) from to
+      (omega (arith, before_a, before_b, from_early, to_late, slower))
+      (omega (arith, before_a, before_b, from_late, to_early, faster)))

@@ -1,6 +1,6 @@
 -- Both channels of a run without faults at the times of its schedule have no finding, judged together and with times.
 use Rattle.std.proofs.Common.{◌≡◌, ℕ, pos, Bool, true, false, cond, List, [], ◌∷◌, ◌++◌, map, Option, Some, None}
-use Rattle.std.proofs.Common.{refl, sym, ap, subst, ◌∙◌, ◌⊎◌, inl, inr}
+use Rattle.std.proofs.Common.{refl, sym, ap, subst, ◌∙◌, inl, inr}
 use Rattle.std.proofs.lemmas.Bool.{cond-true, cond-false}
 use Rattle.std.specs.List.{filter}
 use Rattle.fr_bus.specs.Record.{Recorded, heard}
@@ -10,16 +10,12 @@ use Rattle.fr_core.specs.Worlds.{WorldState}
 use Rattle.fr_frame.specs.declared.decode.DecodeError.{DecodeError}
 use Rattle.fr_frame.specs.Refusal.{refusal}
 use Rattle.fr_hearing.specs.Alarms.{is_on}
-use Rattle.fr_hearing.specs.Files.{Clock, capture_of}
-use Rattle.fr_hearing.specs.Runs.{IsHealthy, packets_seen, logged}
-use Rattle.fr_judging.specs.Rules.{judged_by}
+use Rattle.fr_hearing.specs.Runs.{IsHealthy, packets_seen}
 use Rattle.fr_logged.specs.Logged.{kind_of}
-use Rattle.fr_logged.specs.declared.record.Kind.{Kind}
-use Rattle.fr_logged.specs.declared.record.Kind.TheVariants.{Foreign, Frame}
+use Rattle.fr_logged.specs.declared.record.Kind.TheVariants.{Frame}
 use Rattle.fr_pairing.proofs.PairLaws.{no_alarm_together, no_alarm_in_file_together}
 use Rattle.fr_pairing.specs.Pairs.{packets_of_both, AreInOrder}
 use Rattle.fr_recording.specs.Records.{Record}
-use Rattle.fr_recording.specs.Stream.{records_in}
 use Rattle.fr_slots.specs.Admission.{is_channel}
 use Rattle.fr_slots.specs.declared.channel.Channel.{Channel}
 use Rattle.fr_slots.specs.declared.channel.Channel.TheVariants.{A, B}
@@ -30,7 +26,7 @@ use Rattle.fr_status.specs.declared.seen.Seen.TheVariants.{Silence, Own, Conflic
 use Rattle.fr_punctual.proofs.FileLaws.{times_add_nothing_in_file}
 use Rattle.fr_punctual.proofs.RunLaws.{times_add_nothing, bytes_at}
 use Rattle.fr_punctual.specs.Runs.{due_at, Packet, packets_at, packets_after, AreLoggedAt}
-use Rattle.fr_punctual.specs.Schedule.{Timeline, AreNear}
+use Rattle.fr_punctual.specs.Schedule.{Timeline}
 use Rattle.fr_punctual.specs.Together.{packets_of_both_after, timely_packets, AreInOrderAt, NoAlarmTogetherInTime}
 use Rattle.fr_punctual.specs.Together.{NoAlarmInTimelyFileTogether}
 

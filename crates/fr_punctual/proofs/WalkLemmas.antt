@@ -1,12 +1,11 @@
 -- Frame by frame: what a channel keeps of times is on the schedule, so that each further frame is in time.
-use Rattle.std.proofs.Common.{◌≡◌, ℕ, ℤ, pos, ◌+◌, ◌-◌, ◌*◌, ◌%◌, ◌<◌, ◌≤◌, Bool, true, false, cond, List, [], ◌∷◌}
+use Rattle.std.proofs.Common.{◌≡◌, ℕ, ℤ, pos, ◌+◌, ◌%◌, ◌<◌, ◌≤◌, Bool, true, false, cond, List, [], ◌∷◌}
 use Rattle.std.proofs.Common.{Option, Some, None, refl, sym, ap, subst, ◌∙◌, arith, ◌⊎◌, inl, inr}
-use Rattle.std.proofs.lemmas.Bool.{cond-true, cond-false, eq-eqb, ne_eqb, leb-true, leb-false, le-ltb, lt-ltb}
+use Rattle.std.proofs.lemmas.Bool.{cond-true, cond-false, eq-eqb, ne_eqb}
 use Rattle.std.specs.Prelude.{◌-ℤ◌, nat_le, nat_lt, ◌==◌}
 use Rattle.fr_frame.specs.Fields.{Fields}
 use Rattle.fr_hearing.proofs.CountLemmas.{opens_same, opens_first, opens_next, one_step, not_same}
-use Rattle.fr_logged.specs.declared.finding.Finding.{Finding}
-use Rattle.fr_judging.specs.Distances.{by_times, by_counts, steps_from, steps_of, distance_by, time_between, anew_by}
+use Rattle.fr_judging.specs.Distances.{by_times, by_counts, steps_from, distance_by, time_between, anew_by}
 use Rattle.fr_judging.specs.Distances.{is_long, time_from, time_by, fixed_at}
 use Rattle.fr_judging.specs.Judging.{State, settle, place_frame, speak, good, next_of}
 use Rattle.fr_judging.specs.Lanes.{opens, same_open}
@@ -17,12 +16,11 @@ use Rattle.fr_judging.specs.declared.lane.Held.{Held}
 use Rattle.fr_judging.specs.declared.lane.Next.{Next}
 use Rattle.fr_judging.specs.declared.line.At.{At}
 use Rattle.fr_judging.specs.declared.rules.Rules.{Rules}
-use Rattle.fr_slots.specs.declared.channel.Channel.{Channel}
 use Rattle.fr_slots.specs.Parameters.{Parameters, IsParameters}
 use Rattle.fr_punctual.proofs.CalmLemmas.{untimed, Hand, hand, Watch, watch}
-use Rattle.fr_punctual.proofs.StepLemmas.{Leads, MayLead, fixed_next, fixed_by, off, IsInTime, IsInStep, opened_watch}
+use Rattle.fr_punctual.proofs.StepLemmas.{Leads, MayLead, fixed_next, off, IsInStep, opened_watch}
 use Rattle.fr_punctual.proofs.StepLemmas.{free_watch, came_watch, held_watch, settle_leads, settle_still, place_other}
-use Rattle.fr_punctual.proofs.StepLemmas.{place_same, speak_leads, good_is}
+use Rattle.fr_punctual.proofs.StepLemmas.{place_same, good_is}
 use Rattle.fr_punctual.proofs.TimeLemmas.{in_cycle, soon, in_time, in_step}
 use Rattle.fr_punctual.specs.Schedule.{Timeline, IsTimeline, slot_begins, AreNear, IsTimely, IsTimelyAs, Timed}
 use Rattle.fr_punctual.specs.Schedule.{IsPunctual, IsAfter, Continue, ArePunctual}
@@ -75,9 +73,9 @@ good_keeps P s f at k =
 
 -- ---- what a lane keeps of times
 
-module _ (r : Rules) (start slack : ℕ) where
+module _ (r : Rules) (starts : ℕ → ℕ) (slack drift : ℕ) where
   abbrev pub line : Timeline
-  line = record { macrotick = r.macrotick; start = start; slack = slack }
+  line = record { macrotick = r.macrotick; starts = starts; slack = slack; drift = drift }
 
   abbrev pub params : Parameters
   params = r.cluster.params

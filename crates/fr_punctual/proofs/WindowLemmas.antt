@@ -1,29 +1,27 @@
 -- Window by window: the frames that a listener receives in a run without faults are on its schedule.
-use Rattle.std.proofs.Common.{◌≡◌, ℕ, zero, suc, ◌+◌, ◌-◌, ◌*◌, ◌%◌, ◌<◌, ◌≤◌, Bool, true, false, cond, ◌&&◌, List, []}
-use Rattle.std.proofs.Common.{◌∷◌, ◌++◌, length, Option, Some, None, refl, sym, ap, subst, ◌∙◌, arith, ◌⊎◌, inl, inr}
+use Rattle.std.proofs.Common.{◌≡◌, ℕ, ◌+◌, ◌-◌, ◌*◌, ◌%◌, ◌<◌, ◌≤◌, Bool, true, false, cond, ◌&&◌, List, []}
+use Rattle.std.proofs.Common.{◌∷◌, ◌++◌, Option, Some, None, refl, sym, ap, subst, ◌∙◌, arith, ◌⊎◌, inl, inr}
 use Rattle.std.specs.Prelude.{nat_le, nat_lt, unwrap_or}
-use Rattle.std.proofs.lemmas.Bool.{cond-true, cond-false, le-leb, lt-leb, lt-ltb, leb-true, ne_eqb}
+use Rattle.std.proofs.lemmas.Bool.{cond-true, le-leb, lt-leb, lt-ltb, leb-true, ne_eqb}
 use Rattle.std.proofs.lemmas.Nat.{mul-le, mod_below}
 use Rattle.fr_bus.specs.Courses.{Standpoint, first_passed, course_of, cycle_of, opening}
 use Rattle.fr_bus.specs.Outcome.{longest}
 use Rattle.fr_bus.specs.Record.{Recorded}
 use Rattle.fr_bus.specs.States.{IsRecorded}
 use Rattle.fr_bus.specs.Windows.{cycles_begun}
-use Rattle.fr_capture.specs.Moments.{start_of, place_of}
+use Rattle.fr_capture.specs.Moments.{start_of}
 use Rattle.fr_core.proofs.CaseLemmas.{both, both_first, both_rest}
 use Rattle.fr_frame.specs.Fields.{Fields}
-use Rattle.fr_hearing.proofs.CourseLemmas.{same_cycle_after}
 use Rattle.fr_hearing.proofs.CycleLemmas.{AreHeardAt, has_owner, not_free}
 use Rattle.fr_hearing.proofs.NextLemmas.{IsNextOf, next_window, after_first, after_static, after_dynamic, some_minislot}
 use Rattle.fr_hearing.proofs.NextLemmas.{static_passed, dynamic_passed, lane_of, slot_opened, IsOpened, opened_is}
-use Rattle.fr_hearing.proofs.PassageLemmas.{IsHeardAt, IsQuiet, IsLoud, IsAt, IsStaticFrame, static_frame, static_none}
+use Rattle.fr_hearing.proofs.PassageLemmas.{IsHeardAt, IsLoud, IsAt, IsStaticFrame, static_frame, static_none}
 use Rattle.fr_hearing.proofs.PassageLemmas.{static_loud, static_quiet, first_at, dynamic_quiet, dynamic_loud}
 use Rattle.fr_hearing.proofs.PassageLemmas.{further_dynamic}
-use Rattle.fr_hearing.specs.Heard.{Spot, cycle_start, after_frame, after_dynamic as dynamic_spot, IsFurther, AreFree}
+use Rattle.fr_hearing.specs.Heard.{Spot, cycle_start, after_frame, after_dynamic as dynamic_spot, IsFurther}
 use Rattle.fr_hearing.specs.Listening.{IsThere}
 use Rattle.fr_hearing.specs.Offering.{IsDueThere}
 use Rattle.fr_judging.specs.Rules.{due_at as frame_due, is_clocked}
-use Rattle.fr_minislot.specs.Lanes.{opened_in}
 use Rattle.fr_schedule.specs.Clusters.{IsCluster}
 use Rattle.fr_schedule.specs.Descriptions.{Description}
 use Rattle.fr_slots.specs.declared.channel.Channel.{Channel}
@@ -31,13 +29,12 @@ use Rattle.fr_slots.specs.declared.channel.Channel.TheVariants.{A, B}
 use Rattle.fr_slots.specs.History.{AllAfter}
 use Rattle.fr_slots.specs.Parameters.{Parameters, IsParameters}
 use Rattle.fr_slots.specs.Windows.{Opportunity, slot_of, is_static, static_window}
-use Rattle.fr_timing.specs.declared.place.Place.{Place}
 use Rattle.fr_timing.specs.declared.place.Place.TheVariants.{Static, Minislot}
 use Rattle.fr_timing.specs.Division.{start_in_row, start_at}
 use Rattle.fr_timing.specs.Segments.{dynamic_start}
-use Rattle.fr_punctual.specs.Schedule.{Timeline, AreNear, IsInCycle, IsTimely, IsTimelyAs, Timed, IsPunctual, IsAfter}
-use Rattle.fr_punctual.specs.Schedule.{Continue, ArePunctual, cycle_begins, cycle_length, slot_begins}
-use Rattle.fr_punctual.specs.Runs.{window_begins, due_at}
+use Rattle.fr_punctual.specs.Schedule.{Timeline, IsTimelyAs, Timed, IsPunctual, IsAfter}
+use Rattle.fr_punctual.specs.Schedule.{Continue, ArePunctual, slot_begins}
+use Rattle.fr_punctual.specs.Runs.{due_at}
 
 -- ---- the start of a window
 
@@ -162,11 +159,10 @@ module _ (d : Description) (channel : Channel) (t : Timeline) (cluster : IsClust
       → IsPunctual d.params (exact t) (timed_of d.params t before r f)
   static_punctual before r f number cycle slot n is id count from most begun at =
       let due : due_at d.params t before r ≡ slot_begins d.params t (cycles_begun (before ++ r ∷ []) - 1) f.id =
-      ap (λ (k : ℕ). t.start + ((cycles_begun (before ++ r ∷ []) - 1) * d.params.cycle_mt + k) * t.macrotick)
+      ap (λ (k : ℕ). t.starts (cycles_begun (before ++ r ∷ []) - 1) + k * t.macrotick)
       (ap (start_of d.params) is ∙ static_start d.params cluster.params_are number cycle slot from most
       ∙ ap (λ (k : ℕ). (k - 1) * d.params.static_mt) (sym id))
-      ∙ spread t.start (cycles_begun (before ++ r ∷ []) - 1) d.params.cycle_mt (f.id - 1) d.params.static_mt
-      t.macrotick in
+      ∙ spread (t.starts (cycles_begun (before ++ r ∷ []) - 1)) (f.id - 1) d.params.static_mt t.macrotick in
       let static : nat_le f.id d.params.static_slots ≡ true =
       le-leb f.id d.params.static_slots (omega (arith, id, most)) in
       record {
@@ -178,9 +174,8 @@ module _ (d : Description) (channel : Channel) (t : Timeline) (cluster : IsClust
             (record { not_late = omega (arith, due); not_early = omega (arith, due) });
       }
     where
-      spread : (start n c k s tick : ℕ)
-          → start + (n * c + k * s) * tick ≡ start + n * (c * tick) + k * (s * tick)
-      spread start n c k s tick = omega arith
+      spread : (start k s tick : ℕ) → start + (k * s) * tick ≡ start + k * (s * tick)
+      spread start k s tick = omega arith
 
   dynamic_punctual : (before : List Recorded) (r : Recorded) (f : Fields) (n : ℕ)
       → nat_le f.id d.params.static_slots ≡ false → 1 ≤ f.id → 1 ≤ d.params.minislots
@@ -192,21 +187,14 @@ module _ (d : Description) (channel : Channel) (t : Timeline) (cluster : IsClust
       let few : start_of d.params r.window * t.macrotick ≤ d.params.cycle_mt * t.macrotick =
       mul-le (start_of d.params r.window) t.macrotick d.params.cycle_mt t.macrotick
       (start_within d.params cluster.params_are r.window) (omega arith) in
-      let due : due_at d.params t before r ≡ cycle_begins d.params t (cycles_begun (before ++ r ∷ []) - 1)
-      + start_of d.params r.window * t.macrotick =
-      spread t.start (cycles_begun (before ++ r ∷ []) - 1) d.params.cycle_mt (start_of d.params r.window)
-      t.macrotick in
       record {
         count_is = count ∙ ap (λ (k : ℕ). k % 64) (sym begun);
         from_one = from;
         some_minislot = λ e. some;
         timely = subst (IsTimelyAs d.params (exact t) (cycles_begun (before ++ r ∷ []) - 1) f.id
             (due_at d.params t before r)) (sym dynamic)
-            (record { not_early = omega (arith, due); not_late = omega (arith, due, few) });
+            (record { not_early = omega arith; not_late = omega (arith, few) });
       }
-    where
-      spread : (start n c so tick : ℕ) → start + (n * c + so) * tick ≡ start + n * (c * tick) + so * tick
-      spread start n c so tick = omega arith
 
   -- ---- each window
 
@@ -275,8 +263,11 @@ module _ (d : Description) (channel : Channel) (t : Timeline) (cluster : IsClust
         { last = 1 })) (sym e)
         (first_at d channel cluster (course before) 1 refl (omega arith)
         (λ k low high. absurd (let none : ⊥ = omega (arith, low, high) in none))))
-        (inl ((let same : (course (before ++ r ∷ [])).begun - 1 + 1 ≡ (course (before ++ r ∷ [])).begun =
-        omega (arith, begun) in same), sym frame.id_is)))
+        (inl (
+          (let same : (course (before ++ r ∷ [])).begun - 1 + 1 ≡ (course (before ++ r ∷ [])).begun =
+              omega (arith, begun) in same),
+          sym frame.id_is,
+        )))
 
     static_next : (before : List Recorded) (r : Recorded) (heard_is : IsHeardAt d channel r) (xs : List Timed)
         (last : Option Timed) (s : Spot) → IsAt d channel (course before) s
@@ -317,8 +308,11 @@ module _ (d : Description) (channel : Channel) (t : Timeline) (cluster : IsClust
         (rest (Some y) (record s { last = (course before).statics + 1 })
         (subst (λ (q : Standpoint). IsAt d channel q (record s { last = (course before).statics + 1 })) (sym e)
         (static_loud d channel cluster (course before) s at further))
-        (inl ((let same : (course (before ++ r ∷ [])).begun - 1 + 1 ≡ (course (before ++ r ∷ [])).begun =
-        omega (arith, begun, some) in same), sym frame.id_is)))
+        (inl (
+          (let same : (course (before ++ r ∷ [])).begun - 1 + 1 ≡ (course (before ++ r ∷ [])).begun =
+              omega (arith, begun, some) in same),
+          sym frame.id_is,
+        )))
 
     -- the row that a window opens
     row_of : (before : List Recorded) (r : Recorded) (l : IsLoud d channel r) (m : ℕ)
@@ -383,8 +377,11 @@ module _ (d : Description) (channel : Channel) (t : Timeline) (cluster : IsClust
         (rest (Some y) (after_frame d.params s loud.frame)
         (subst (λ (q : Standpoint). IsAt d channel q (after_frame d.params s loud.frame)) (sym e)
         (dynamic_loud d channel cluster (course before) m r is some over s at loud))
-        (inl ((let same : (course (before ++ r ∷ [])).begun - 1 + 1 ≡ (course (before ++ r ∷ [])).begun =
-        omega (arith, begun, one) in same), last_after_frame d.params s loud.frame)))
+        (inl (
+          (let same : (course (before ++ r ∷ [])).begun - 1 + 1 ≡ (course (before ++ r ∷ [])).begun =
+              omega (arith, begun, one) in same),
+          last_after_frame d.params s loud.frame,
+        )))
 
     -- ---- all windows
 

@@ -1,6 +1,6 @@
 -- Recordings of a run at the times of its schedule, and the laws that times add no finding (project-defined).
 use Rattle.std.specs.Prelude.{◌≡◌, ℕ, pos, ◌+◌, ◌-◌, ◌*◌, ◌/◌, ◌^◌, ◌<◌, ◌≤◌, Bool, true, false, List, [], ◌∷◌, ◌++◌, ◌⊎◌, Option}
-use Rattle.std.specs.Prelude.{Some, None}
+use Rattle.std.specs.Prelude.{Some}
 use Rattle.fr_bus.specs.Record.{Recorded, heard}
 use Rattle.fr_bus.specs.Windows.{cycles_begun}
 use Rattle.fr_capture.specs.Moments.{start_of}
@@ -19,7 +19,7 @@ use Rattle.fr_slots.specs.declared.channel.Channel.{Channel}
 use Rattle.fr_slots.specs.Parameters.{Parameters}
 use Rattle.fr_status.specs.Forms.{Seen}
 use Rattle.fr_status.specs.declared.seen.Seen.TheVariants.{Silence, Own, Conflict, Noise, Overrun, Bytes}
-use Rattle.fr_punctual.specs.Schedule.{Timeline, IsTimeline, AreNear}
+use Rattle.fr_punctual.specs.Schedule.{Timeline, IsTimeline, AreNear, even_timeline}
 
 -- ---- the times of windows
 
@@ -27,9 +27,9 @@ use Rattle.fr_punctual.specs.Schedule.{Timeline, IsTimeline, AreNear}
 abbrev pub window_begins : Parameters → List Recorded → Recorded → ℕ
 window_begins p before r = (cycles_begun (before ++ r ∷ []) - 1) * p.cycle_mt + start_of p r.window
 
--- its nanosecond
+-- the time that is due, in nanoseconds
 abbrev pub due_at : Parameters → Timeline → List Recorded → Recorded → ℕ
-due_at p t before r = t.start + window_begins p before r * t.macrotick
+due_at p t before r = t.starts (cycles_begun (before ++ r ∷ []) - 1) + start_of p r.window * t.macrotick
 
 -- ---- recordings
 
@@ -116,13 +116,13 @@ TimesAddNothingInFile w = (most : ℕ) (whole : Bool) (only : Option Channel) (t
     (records_in (capture_of time w.bus.cluster.params w.bus.sealed))) true)
 
 -- A macrotick of a microsecond, a run that starts at time 0, and exact times: those of `fr_view bus`.
-abbrev pub whole_microseconds : Timeline
-whole_microseconds = record { macrotick = 1000; start = 0; slack = 0 }
+abbrev pub whole_microseconds : Parameters → Timeline
+whole_microseconds p = even_timeline p 1000 0 0
 
 -- The clock of windows keeps them in each run.
 abbrev pub WindowsKeepTime : WorldState → Type 0
-WindowsKeepTime w = IsTimeline w.bus.cluster.params whole_microseconds
-    × KeepsTime w.bus.cluster.params whole_microseconds (window_begins w.bus.cluster.params) w.bus.sealed
+WindowsKeepTime w = IsTimeline w.bus.cluster.params (whole_microseconds w.bus.cluster.params)
+    × KeepsTime w.bus.cluster.params (whole_microseconds w.bus.cluster.params) (window_begins w.bus.cluster.params) w.bus.sealed
 
 -- A clock that rounds down to a microsecond keeps each schedule for which a microsecond is a small difference.
 abbrev pub rounded_down : Parameters → Timeline → Clock

@@ -7,20 +7,21 @@ use Rattle.fr_hearing.specs.Alarms.{is_on, Spells}
 use Rattle.fr_logged.specs.Logged.{kind_of}
 use Rattle.fr_recording.specs.Records.{Record}
 use Rattle.fr_slots.specs.declared.channel.Channel.{Channel}
-use Rattle.fr_slots.specs.Parameters.{Parameters}
+use Rattle.fr_slots.specs.Parameters.{Parameters, IsParameters}
 
 -- ---- the schedule
 
--- the length of a macrotick, the start of the run, and the most by which a time may differ from the schedule
+-- The length of a macrotick, and the time at which each cycle of the run begins by the clock of the logger. Within the
+-- cycle times may differ from the schedule by the slack, and the cycle itself from its length by the drift.
 pub record Timeline : Type 0 where
   pub macrotick : ℕ
-  pub start : ℕ
+  pub starts : ℕ → ℕ
   pub slack : ℕ
+  pub drift : ℕ
 
--- A macrotick has a length. Two times that are off in different directions differ by at most half a static slot.
-pub record IsTimeline (p : Parameters) (t : Timeline) : Type 0 where
-  pub some_length : 1 ≤ t.macrotick
-  pub tolerable : 4 * t.slack ≤ p.static_mt * t.macrotick
+pub record AreNear (slack x y : ℕ) : Type 0 where
+  pub not_late : x ≤ y + slack
+  pub not_early : y ≤ x + slack
 
 abbrev pub slot_length : Parameters → Timeline → ℕ
 slot_length p t = p.static_mt * t.macrotick
@@ -28,24 +29,38 @@ slot_length p t = p.static_mt * t.macrotick
 abbrev pub cycle_length : Parameters → Timeline → ℕ
 cycle_length p t = p.cycle_mt * t.macrotick
 
--- a cycle of the run begins, counted from 0
-abbrev pub cycle_begins : Parameters → Timeline → ℕ → ℕ
-cycle_begins p t cycle = t.start + cycle * cycle_length p t
+-- A macrotick has a length. Two times that are off in different directions are off by at most half a static slot in a
+-- cycle, and by at most a quarter of a cycle in neighbouring ones.
+pub record IsTimeline (p : Parameters) (t : Timeline) : Type 0 where
+  pub some_length : 1 ≤ t.macrotick
+  pub tolerable : 4 * t.slack ≤ slot_length p t
+  pub steady : (cycle : ℕ) → AreNear t.drift (t.starts (cycle + 1)) (t.starts cycle + cycle_length p t)
+  pub little_drift : 4 * (2 * t.slack + t.drift) ≤ cycle_length p t
 
--- a static slot of this cycle begins
+-- a static slot of this cycle of the run begins
 abbrev pub slot_begins : Parameters → Timeline → ℕ → ℕ → ℕ
-slot_begins p t cycle slot = cycle_begins p t cycle + (slot - 1) * slot_length p t
+slot_begins p t cycle slot = t.starts cycle + (slot - 1) * slot_length p t
+
+-- a clock without drift
+abbrev pub even_timeline : Parameters → ℕ → ℕ → ℕ → Timeline
+even_timeline p macrotick start slack = record {
+  macrotick = macrotick;
+  starts = λ cycle. start + cycle * (p.cycle_mt * macrotick);
+  slack = slack;
+  drift = 0;
+}
+
+-- A quarter of a static slot is little enough.
+abbrev pub EvenIsTimeline : Type 0
+EvenIsTimeline = (p : Parameters) (macrotick start slack : ℕ) → IsParameters p → 1 ≤ macrotick
+    → 4 * slack ≤ p.static_mt * macrotick → IsTimeline p (even_timeline p macrotick start slack)
 
 -- ---- frames in time
 
-pub record AreNear (slack x y : ℕ) : Type 0 where
-  pub not_late : x ≤ y + slack
-  pub not_early : y ≤ x + slack
-
 -- in the cycle, or a little before or after
 pub record IsInCycle (p : Parameters) (t : Timeline) (cycle time : ℕ) : Type 0 where
-  pub not_early : cycle_begins p t cycle ≤ time + t.slack
-  pub not_late : time ≤ cycle_begins p t cycle + cycle_length p t + t.slack
+  pub not_early : t.starts cycle ≤ time + t.slack
+  pub not_late : time ≤ t.starts cycle + cycle_length p t + t.slack
 
 -- a static frame comes at the start of its slot, and a dynamic one in its cycle
 abbrev pub IsTimelyAs : Parameters → Timeline → ℕ → ℕ → ℕ → Bool → Type 0
