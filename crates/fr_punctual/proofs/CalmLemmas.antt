@@ -19,7 +19,8 @@ use Rattle.fr_judging.specs.Judging.{end_in, end_cycle, static_end, slot_place, 
 use Rattle.fr_judging.specs.Judging.{add_back, back_of, back, show, keep_frame, count_frame}
 use Rattle.fr_judging.specs.Judging.{with_time, with_frame, span_since, quiet, tally_at, with_tally}
 use Rattle.fr_judging.specs.Judging.{leave, tell_silent, with_alone, listen, tell_gap, disturb, mark_odd}
-use Rattle.fr_judging.specs.Judging.{says_nothing, tell_nothing, tell_end, symbol_place, silent_place, count_word, silence}
+use Rattle.fr_judging.specs.Judging.{says_nothing, tell_nothing, tell_end, symbol_place, silent_place, count_word}
+use Rattle.fr_judging.specs.Judging.{silence}
 use Rattle.fr_judging.specs.Rules.{due_at, are_both, has_sender_in, is_sent}
 use Rattle.fr_judging.specs.Names.{index_of, is_missing}
 use Rattle.fr_judging.specs.Tallies.{span_between}
@@ -33,18 +34,7 @@ use Rattle.fr_judging.specs.declared.rules.Rules.{Rules}
 use Rattle.fr_judging.specs.declared.tally.Came.{Came}
 use Rattle.fr_judging.specs.declared.tally.SlotTally.{SlotTally}
 use Rattle.fr_judging.specs.declared.tally.Span.{Span}
-
--- ---- without times
-
-abbrev pub untimed_rules : Rules → Rules
-untimed_rules r = record r { macrotick = 0 }
-
-abbrev pub untimed_lane : Lane → Lane
-untimed_lane l = record l { fixed = None }
-
--- the same state under rules without times, which keep no reference
-abbrev pub untimed : State → State
-untimed s = record s { rules = untimed_rules s.rules; mine = untimed_lane s.mine; other = untimed_lane s.other }
+use Rattle.fr_punctual.specs.Untimed.{untimed}
 
 -- ---- what later steps know of times
 

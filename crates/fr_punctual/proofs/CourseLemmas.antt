@@ -18,15 +18,16 @@ use Rattle.fr_slots.specs.declared.channel.Channel.TheVariants.{A, B}
 use Rattle.fr_slots.specs.Parameters.{Parameters, IsParameters}
 use Rattle.fr_judging.specs.Judging.{State, turn, turned, judge, take_kind, next_record, frame_on, take_frame, good}
 use Rattle.fr_judging.specs.Judging.{count_record, spelled_frame, is_lawless, ill, settle, tell_end, finish_channel}
-use Rattle.fr_judging.specs.Judging.{finish_on, finish, fresh, has_finding, lane_on, symbol_on, count_symbol}
+use Rattle.fr_judging.specs.Judging.{finish_on, finish, fresh, lane_on, symbol_on, count_symbol}
 use Rattle.fr_judging.specs.Rules.{judges, other_channel}
 use Rattle.fr_judging.specs.declared.lane.Lane.{Lane}
 use Rattle.fr_judging.specs.declared.line.At.{At}
 use Rattle.fr_judging.specs.declared.rules.Rules.{Rules}
 use Rattle.fr_hearing.specs.Alarms.{is_on, Spells, judged}
-use Rattle.fr_punctual.proofs.CalmLemmas.{untimed, Hand, hand, Watch, watch, IsCalm, tell_end_calm}
+use Rattle.fr_punctual.proofs.CalmLemmas.{Hand, hand, Watch, watch, IsCalm, tell_end_calm}
 use Rattle.fr_punctual.proofs.WalkLemmas.{Keeps, line, Stands, good_at, settled_end}
 use Rattle.fr_punctual.specs.Schedule.{Timeline, IsTimeline, Timed, IsPunctual, ArePunctual, AreAt}
+use Rattle.fr_punctual.specs.Untimed.{untimed}
 
 -- ---- the channel that stands first
 
@@ -285,7 +286,8 @@ module _ (r : Rules) (starts : ℕ → ℕ) (slack drift : ℕ) (lawful : IsPara
           subst (λ (xs : List Timed). Stands r starts slack drift xs (hand_on s channel)) own.2 c.stands in
           let p : Passes channel (Stands r starts slack drift own.1) s (judge (untimed s) rec) (judge s rec) =
           own_record channel s rec own.0 own.1 rules_are mine own.3 own.4
-          (some_slot r.cluster.params (line r starts slack drift) own.0 (first_punctual own.0 own.1 (hand_on s channel) here))
+          (some_slot r.cluster.params (line r starts slack drift) own.0
+          (first_punctual own.0 own.1 (hand_on s channel) here))
           here in
           record {
             same = p.same;
@@ -401,8 +403,10 @@ module _ (r : Rules) (starts : ℕ → ℕ) (slack drift : ℕ) (lawful : IsPara
 
   -- ---- the end
 
-  last_stands : (channel : Channel) (s : State) → IsOnCourse channel s [] → Stands r starts slack drift [] (hand_on s channel)
-  last_stands channel s c = subst (λ (xs : List Timed). Stands r starts slack drift xs (hand_on s channel)) c.are_at c.stands
+  last_stands : (channel : Channel) (s : State) → IsOnCourse channel s []
+      → Stands r starts slack drift [] (hand_on s channel)
+  last_stands channel s c =
+      subst (λ (xs : List Timed). Stands r starts slack drift xs (hand_on s channel)) c.are_at c.stands
 
   abbrev Nothing : Hand → Type 0
   Nothing h = Unit {0}
@@ -490,20 +494,16 @@ module _ (r : Rules) (starts : ℕ → ℕ) (slack drift : ℕ) (lawful : IsPara
   fresh_stands B xs punctual =
       inl (record { none_held = refl; shut = record { none_open = refl; none_begun = refl } }, punctual)
 
-  -- the records of a channel are those of frames in time
-  pub record IsInTimeOn (channel : Channel) (rs : List Record) : Type 0 where
-    pub frames : List Timed
-    pub are_at : AreAt channel rs frames
-    pub punctual : ArePunctual r.cluster.params (line r starts slack drift) frames
-
-  pub same_finding : (rs : List Record) → ((channel : Channel) → judges r channel ≡ true → IsInTimeOn channel rs)
-      → has_finding (finish (judged (untimed (fresh r)) rs) true) ≡ has_finding (finish (judged (fresh r) rs) true)
+  pub same_state : (rs : List Record)
+      → ((channel : Channel) → judges r channel ≡ true
+      → (xs : List Timed) × AreAt channel rs xs × ArePunctual r.cluster.params (line r starts slack drift) xs)
+      → finish (judged (untimed (fresh r)) rs) true ≡ untimed (finish (judged (fresh r) rs) true)
   unfolding fresh
-  same_finding rs in_time =
+  same_state rs in_time =
       let all : Judged (fresh r) (judged (untimed (fresh r)) rs) (judged (fresh r) rs) [] =
       all_judged rs (fresh r) refl (λ channel mine.
       let c = in_time channel mine in
-      record { frames = c.frames; are_at = c.are_at; stands = fresh_stands channel c.frames c.punctual }) in
-      ap (λ (t : State). has_finding (finish t true)) all.same
-      ∙ ap has_finding (finish_same (judged (fresh r) rs) all.rules_are
-      (λ channel mine. last_stands channel (judged (fresh r) rs) (all.course channel mine)))
+      record { frames = c.0; are_at = c.1; stands = fresh_stands channel c.0 c.2 }) in
+      ap (λ (t : State). finish t true) all.same
+      ∙ finish_same (judged (fresh r) rs) all.rules_are
+      (λ channel mine. last_stands channel (judged (fresh r) rs) (all.course channel mine))

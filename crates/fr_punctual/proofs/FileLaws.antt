@@ -1,5 +1,6 @@
 -- A capture of the bus of a run without faults, with a clock that keeps the schedule, has no finding with times.
-use Rattle.std.proofs.Common.{◌≡◌, ℕ, ◌+◌, ◌-◌, ◌*◌, ◌^◌, ◌<◌, ◌≤◌, Bool, true, false, cond, List, [], ◌∷◌, ◌++◌, length}
+use Rattle.std.proofs.Common.{◌≡◌, ℕ, ◌+◌, ◌-◌, ◌*◌, ◌^◌, ◌<◌, ◌≤◌, Bool, true, false, cond, List, [], ◌∷◌, ◌++◌}
+use Rattle.std.proofs.Common.{length}
 use Rattle.std.proofs.Common.{Option, Some, refl, sym, ap, subst, ◌∙◌, arith, inl, inr}
 use Rattle.std.proofs.lemmas.List.{append_assoc, append-nil}
 use Rattle.std.proofs.lemmas.Nat.{mul-le}
@@ -43,7 +44,7 @@ use Rattle.fr_punctual.proofs.TimeLemmas.{even_is_timeline}
 use Rattle.fr_punctual.proofs.WindowLemmas.{start_within}
 use Rattle.fr_punctual.specs.Runs.{due_at, Packet, packets_at, packets_after, AreLoggedAt, KeepsTime}
 use Rattle.fr_punctual.specs.Runs.{NoAlarmInTimelyFile, TimesAddNothingInFile, WindowsKeepTime}
-use Rattle.fr_punctual.specs.Runs.{RoundedKeepsTime}
+use Rattle.fr_punctual.specs.Runs.{RoundedKeepsTime, NoAlarmInExactFile, whole_microseconds, window_begins}
 use Rattle.fr_punctual.specs.Schedule.{Timeline, AreNear}
 
 -- ---- the records of a capture
@@ -240,6 +241,12 @@ windows_keep_time w head = (
             (start_of w.bus.cluster.params r.window),
       ),
 )
+
+pub no_alarm_in_exact_file : (w : WorldState) → Headline w → NoAlarmInExactFile w
+no_alarm_in_exact_file w head most whole channel healthy =
+    let exact = windows_keep_time w head in
+    no_alarm_in_timely_file w head most whole channel (whole_microseconds w.bus.cluster.params)
+    (window_begins w.bus.cluster.params) exact.0 healthy exact.1
 
 pub rounded_keeps_time : RoundedKeepsTime
 rounded_keeps_time p t rs slack few before r rest e =

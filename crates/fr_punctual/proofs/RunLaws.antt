@@ -1,6 +1,6 @@
 -- A recording of a run without faults at the times of its schedule has no finding, with times.
 use Rattle.std.proofs.Common.{◌≡◌, ℕ, pos, ◌+◌, ◌%◌, ◌<◌, ◌≤◌, Bool, true, false, List, [], ◌∷◌, ◌++◌, map}
-use Rattle.std.proofs.Common.{Option, Some, refl, sym, ap, subst, ◌∙◌, arith, inl, inr}
+use Rattle.std.proofs.Common.{Some, refl, sym, ap, subst, ◌∙◌, arith, inl, inr}
 use Rattle.fr_bus.specs.Record.{Recorded, heard}
 use Rattle.fr_core.specs.Headline.{Headline}
 use Rattle.fr_core.specs.Worlds.{WorldState}
@@ -11,12 +11,11 @@ use Rattle.fr_hearing.proofs.HearingLemmas.{window_heard, each_heard}
 use Rattle.fr_hearing.proofs.PassageLemmas.{IsHeardAt, with_frame}
 use Rattle.fr_hearing.proofs.RunLaws.{packet_for, packet_seen, is_frame, no_alarm_in_run}
 use Rattle.fr_hearing.proofs.SilenceLaws.{nothing_due}
-use Rattle.fr_hearing.specs.Alarms.{Spells, judged}
+use Rattle.fr_hearing.specs.Alarms.{Spells}
 use Rattle.fr_hearing.specs.Heard.{Spot, after_frame, cycle_start, FollowOn}
 use Rattle.fr_hearing.specs.Runs.{IsHealthy, packets_seen, packets_of, logged, AreLogged}
-use Rattle.fr_judging.specs.Judging.{State, fresh, finish, has_finding}
-use Rattle.fr_judging.specs.Rules.{rules_of, has_sender}
-use Rattle.fr_judging.specs.declared.rules.Rules.{Rules}
+use Rattle.fr_judging.specs.Judging.{has_finding}
+use Rattle.fr_judging.specs.Rules.{has_sender}
 use Rattle.fr_recording.specs.Records.{Record}
 use Rattle.fr_schedule.specs.Clusters.{IsCluster}
 use Rattle.fr_schedule.specs.Descriptions.{Description}
@@ -27,8 +26,7 @@ use Rattle.fr_slots.specs.Parameters.{Parameters}
 use Rattle.fr_slots.specs.Plans.{Each}
 use Rattle.fr_status.specs.Forms.{Seen}
 use Rattle.fr_status.specs.declared.seen.Seen.TheVariants.{Silence, Own, Conflict, Noise, Overrun, Bytes}
-use Rattle.fr_punctual.proofs.CalmLemmas.{untimed}
-use Rattle.fr_punctual.proofs.CourseLemmas.{same_finding}
+use Rattle.fr_punctual.proofs.PunctualLaws.{in_time_is_untimed}
 use Rattle.fr_punctual.proofs.WindowLemmas.{exact, with_timed, timed_frames, frames_in_time}
 use Rattle.fr_punctual.specs.Runs.{due_at, Packet, packets_at, packets_after, packets_on, AreLoggedAt}
 use Rattle.fr_punctual.specs.Runs.{TimesAddNothing, NoAlarmInTime}
@@ -294,41 +292,21 @@ on_schedule w head channel t healthy = by (has_sender w.bus.cluster channel) ref
 
 -- ---- the laws
 
--- the records of a channel are those of frames in time
-pub record IsRecordedInTime (w : WorldState) (t : Timeline) (channel : Channel) (records : List Record) : Type 0 where
-  pub frames : List Timed
-  pub are_at : AreAt channel records frames
-  pub punctual : ArePunctual w.bus.cluster.params t frames
-
 recorded_in_time : (w : WorldState) → Headline w → (channel : Channel) (t : Timeline) (records : List Record)
     → IsHealthy w channel
     → AreLoggedAt t.slack channel records (packets_on w.bus.cluster.params t channel w.bus.sealed)
-    → IsRecordedInTime w t channel records
+    → (xs : List Timed) × AreAt channel records xs × ArePunctual w.bus.cluster.params t xs
 recorded_in_time w head channel t records healthy logged_are =
     let s = on_schedule w head channel t healthy in
     let m = timings t.slack channel records (packets_on w.bus.cluster.params t channel w.bus.sealed) s.frames logged_are
     s.packets_are s.each in
-    record {
-      frames = m.frames;
-      are_at = m.are_at;
-      punctual = moved_frames w.bus.cluster.params t s.frames m.frames s.punctual m.moved;
-    }
-
-untimed_fresh : (d : Description) (most : ℕ) (whole : Bool) (only : Option Channel) (macrotick : ℕ)
-    → untimed (fresh (rules_of d most whole only macrotick)) ≡ fresh (rules_of d most whole only 0)
-unfolding fresh rules_of
-untimed_fresh d most whole only macrotick = refl
+    (m.frames, m.are_at, moved_frames w.bus.cluster.params t s.frames m.frames s.punctual m.moved)
 
 pub times_add_nothing : (w : WorldState) → Headline w → TimesAddNothing w
-unfolding rules_of
 times_add_nothing w head most whole only t records is recorded =
-    let r : Rules = rules_of w.bus.cluster most whole only t.macrotick in
-    sym (same_finding r t.starts t.slack t.drift head.run.lawful.params_are is records
-    (λ channel mine.
-    let c = recorded_in_time w head channel t records (recorded channel mine).0 (recorded channel mine).1 in
-    record { frames = c.frames; are_at = c.are_at; punctual = c.punctual }))
-    ∙ ap (λ (s : State). has_finding (finish (judged s records) true))
-    (untimed_fresh w.bus.cluster most whole only t.macrotick)
+    sym (ap has_finding (in_time_is_untimed w.bus.cluster most whole only t records head.run.lawful.params_are is
+    (λ channel mine. let here = recorded channel mine in
+    recorded_in_time w head channel t records here.0 here.1)))
 
 -- ---- each channel by itself
 

@@ -1,5 +1,6 @@
--- The steps of the judgement that look at times, where the times are those that are due: they do the same without times.
-use Rattle.std.proofs.Common.{◌≡◌, ℕ, ◌-◌, ◌/◌, Bool, true, false, cond, length, refl, sym, ap, subst, ◌∙◌, ◌⊎◌, inl, inr}
+-- The steps of the judgement that look at times, where the times are right: they do the same without times.
+use Rattle.std.proofs.Common.{◌≡◌, ℕ, ◌-◌, ◌/◌, Bool, true, false, cond, length, refl, sym, ap, subst, ◌∙◌}
+use Rattle.std.proofs.Common.{◌⊎◌, inl, inr}
 use Rattle.std.proofs.lemmas.Bool.{cond-true, cond-false}
 use Rattle.std.specs.Prelude.{Option, Some, None, ℤ, nat_le, ◌==◌}
 use Rattle.std.specs.Option.{is_none, option_or}
@@ -28,9 +29,11 @@ use Rattle.fr_judging.specs.declared.lane.Lane.{Lane}
 use Rattle.fr_judging.specs.declared.lane.Next.{Next}
 use Rattle.fr_judging.specs.declared.line.At.{At}
 use Rattle.fr_judging.specs.declared.rules.Rules.{Rules}
-use Rattle.fr_punctual.proofs.CalmLemmas.{untimed, untimed_rules, untimed_lane, Watch, watch, IsCalm}
+use Rattle.fr_punctual.proofs.CalmLemmas.{Watch, watch, IsCalm}
 use Rattle.fr_punctual.proofs.CalmLemmas.{calm_none, calm_if, calm_then, find_some_calm, before_calm, end_calm}
-use Rattle.fr_punctual.proofs.CalmLemmas.{back_calm, show_calm, keep_calm, leave_calm, listen_calm, gap_calm, order_calm}
+use Rattle.fr_punctual.proofs.CalmLemmas.{back_calm, show_calm, keep_calm, leave_calm, listen_calm, gap_calm}
+use Rattle.fr_punctual.proofs.CalmLemmas.{order_calm}
+use Rattle.fr_punctual.specs.Untimed.{untimed, untimed_rules, untimed_lane}
 
 -- A step leads from a state to one that is watched so, and from the same without times to the first one.
 pub record Leads (x y : State) (w : Watch) : Type 0 where
@@ -217,7 +220,9 @@ enter_leads s f at past = by (past == 1)
           mine = begun s.rules.cluster.params (cond b (next_lane at past (untimed_lane s.mine))
               (gap_lane past (untimed_lane s.mine))) f at;
         })
-        (record s { mine = begun s.rules.cluster.params (cond b (next_lane at past s.mine) (gap_lane past s.mine)) f at })
+        (record s {
+          mine = begun s.rules.cluster.params (cond b (next_lane at past s.mine) (gap_lane past s.mine)) f at;
+        })
         (begun_watch (watch s) f at)
     by true = record { same = refl; seen = refl }
     by false = record { same = refl; seen = refl }
@@ -234,7 +239,8 @@ after_leads s f at d =
     record { same = c.same; seen = c.seen ∙ ap (λ (v : Watch). begun_watch v f at) e }) in
     let u : State = tell_gap (skip_before t f at) f at d.past in
     let told : IsCalm t (tell_gap (skip_before (untimed t) f at) f at d.past) u =
-    calm_then (λ (v : State). tell_gap v f at d.past) (before_calm t f at) (gap_calm (skip_before t f at) f at d.past) in
+    calm_then (λ (v : State). tell_gap v f at d.past) (before_calm t f at)
+    (gap_calm (skip_before t f at) f at d.past) in
     let x : State = find_some u (Some at) (frame_place s.channel f) d.clock in
     let clocked : IsCalm t (find_some (tell_gap (skip_before (untimed t) f at) f at d.past) (Some at)
     (frame_place s.channel f) d.clock) x =

@@ -23,12 +23,12 @@ use Rattle.fr_slots.specs.Parameters.{Parameters}
 use Rattle.fr_slots.specs.Plans.{Each}
 use Rattle.fr_status.specs.Forms.{Seen}
 use Rattle.fr_status.specs.declared.seen.Seen.TheVariants.{Silence, Own, Conflict, Noise, Overrun, Bytes}
-use Rattle.fr_punctual.proofs.FileLaws.{times_add_nothing_in_file}
+use Rattle.fr_punctual.proofs.FileLaws.{times_add_nothing_in_file, windows_keep_time}
 use Rattle.fr_punctual.proofs.RunLaws.{times_add_nothing, bytes_at}
-use Rattle.fr_punctual.specs.Runs.{due_at, Packet, packets_at, packets_after, AreLoggedAt}
+use Rattle.fr_punctual.specs.Runs.{due_at, Packet, packets_at, packets_after, AreLoggedAt, window_begins, whole_microseconds}
 use Rattle.fr_punctual.specs.Schedule.{Timeline}
 use Rattle.fr_punctual.specs.Together.{packets_of_both_after, timely_packets, AreInOrderAt, NoAlarmTogetherInTime}
-use Rattle.fr_punctual.specs.Together.{NoAlarmInTimelyFileTogether}
+use Rattle.fr_punctual.specs.Together.{NoAlarmInTimelyFileTogether, NoAlarmInExactFileTogether}
 
 -- ---- the packets of one channel
 
@@ -176,3 +176,9 @@ no_alarm_in_timely_file_together w head most whole t time is healthy_a healthy_b
     both : (channel : Channel) → IsHealthy w channel
     both A = healthy_a
     both B = healthy_b
+
+pub no_alarm_in_exact_file_together : (w : WorldState) → Headline w → NoAlarmInExactFileTogether w
+no_alarm_in_exact_file_together w head most whole healthy_a healthy_b some_a some_b none =
+    let exact = windows_keep_time w head in
+    no_alarm_in_timely_file_together w head most whole (whole_microseconds w.bus.cluster.params)
+    (window_begins w.bus.cluster.params) exact.0 healthy_a healthy_b some_a some_b none exact.1

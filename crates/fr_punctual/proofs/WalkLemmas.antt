@@ -17,13 +17,14 @@ use Rattle.fr_judging.specs.declared.lane.Next.{Next}
 use Rattle.fr_judging.specs.declared.line.At.{At}
 use Rattle.fr_judging.specs.declared.rules.Rules.{Rules}
 use Rattle.fr_slots.specs.Parameters.{Parameters, IsParameters}
-use Rattle.fr_punctual.proofs.CalmLemmas.{untimed, Hand, hand, Watch, watch}
+use Rattle.fr_punctual.proofs.CalmLemmas.{Hand, hand, Watch, watch}
 use Rattle.fr_punctual.proofs.StepLemmas.{Leads, MayLead, fixed_next, off, IsInStep, opened_watch}
 use Rattle.fr_punctual.proofs.StepLemmas.{free_watch, came_watch, held_watch, settle_leads, settle_still, place_other}
 use Rattle.fr_punctual.proofs.StepLemmas.{place_same, good_is}
 use Rattle.fr_punctual.proofs.TimeLemmas.{in_cycle, soon, in_time, in_step}
 use Rattle.fr_punctual.specs.Schedule.{Timeline, IsTimeline, slot_begins, AreNear, IsTimely, IsTimelyAs, Timed}
 use Rattle.fr_punctual.specs.Schedule.{IsPunctual, IsAfter, Continue, ArePunctual}
+use Rattle.fr_punctual.specs.Untimed.{untimed}
 
 -- ---- a step of the judgement
 

@@ -1,6 +1,6 @@
 -- Recordings of a run at the times of its schedule, and the laws that times add no finding (project-defined).
-use Rattle.std.specs.Prelude.{◌≡◌, ℕ, pos, ◌+◌, ◌-◌, ◌*◌, ◌/◌, ◌^◌, ◌<◌, ◌≤◌, Bool, true, false, List, [], ◌∷◌, ◌++◌, ◌⊎◌, Option}
-use Rattle.std.specs.Prelude.{Some}
+use Rattle.std.specs.Prelude.{◌≡◌, ℕ, pos, ◌+◌, ◌-◌, ◌*◌, ◌/◌, ◌^◌, ◌<◌, ◌≤◌, Bool, true, false, List, [], ◌∷◌}
+use Rattle.std.specs.Prelude.{◌++◌, ◌⊎◌, Option, Some}
 use Rattle.fr_bus.specs.Record.{Recorded, heard}
 use Rattle.fr_bus.specs.Windows.{cycles_begun}
 use Rattle.fr_capture.specs.Moments.{start_of}
@@ -122,7 +122,14 @@ whole_microseconds p = even_timeline p 1000 0 0
 -- The clock of windows keeps them in each run.
 abbrev pub WindowsKeepTime : WorldState → Type 0
 WindowsKeepTime w = IsTimeline w.bus.cluster.params (whole_microseconds w.bus.cluster.params)
-    × KeepsTime w.bus.cluster.params (whole_microseconds w.bus.cluster.params) (window_begins w.bus.cluster.params) w.bus.sealed
+    × KeepsTime w.bus.cluster.params (whole_microseconds w.bus.cluster.params)
+    (window_begins w.bus.cluster.params) w.bus.sealed
+
+-- So a capture with these times has no finding on a channel by itself, with a macrotick of 1000 nanoseconds.
+abbrev pub NoAlarmInExactFile : WorldState → Type 0
+NoAlarmInExactFile w = (most : ℕ) (whole : Bool) (channel : Channel) → ((on : Channel) → IsHealthy w on)
+    → has_finding (finish (judged (fresh (rules_of w.bus.cluster most whole (Some channel) 1000))
+    (records_in (capture_of (window_begins w.bus.cluster.params) w.bus.cluster.params w.bus.sealed))) true) ≡ false
 
 -- A clock that rounds down to a microsecond keeps each schedule for which a microsecond is a small difference.
 abbrev pub rounded_down : Parameters → Timeline → Clock

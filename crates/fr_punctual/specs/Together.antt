@@ -15,7 +15,7 @@ use Rattle.fr_recording.specs.Records.{Record}
 use Rattle.fr_recording.specs.Stream.{records_in}
 use Rattle.fr_slots.specs.declared.channel.Channel.TheVariants.{A, B}
 use Rattle.fr_slots.specs.Parameters.{Parameters}
-use Rattle.fr_punctual.specs.Runs.{due_at, Packet, packets_at, KeepsTime}
+use Rattle.fr_punctual.specs.Runs.{window_begins, due_at, Packet, packets_at, KeepsTime}
 use Rattle.fr_punctual.specs.Schedule.{Timeline, IsTimeline, AreNear}
 
 -- the packets of all that a listener receives on both channels after some windows, window by window, channel A before B
@@ -53,3 +53,10 @@ NoAlarmInTimelyFileTogether w = (most : ℕ) (whole : Bool) (t : Timeline) (time
     → KeepsTime w.bus.cluster.params t time w.bus.sealed
     → has_finding (finish (judged (fresh (rules_of w.bus.cluster most whole None t.macrotick))
     (records_in (capture_of time w.bus.cluster.params w.bus.sealed))) true) ≡ false
+
+-- A capture with the times of windows in microseconds has none with a macrotick of 1000 nanoseconds.
+abbrev pub NoAlarmInExactFileTogether : WorldState → Type 0
+NoAlarmInExactFileTogether w = (most : ℕ) (whole : Bool) → IsHealthy w A → IsHealthy w B
+    → has_sender w.bus.cluster A ≡ true → has_sender w.bus.cluster B ≡ true → HasNoneForBoth w.bus.cluster
+    → has_finding (finish (judged (fresh (rules_of w.bus.cluster most whole None 1000))
+    (records_in (capture_of (window_begins w.bus.cluster.params) w.bus.cluster.params w.bus.sealed))) true) ≡ false
