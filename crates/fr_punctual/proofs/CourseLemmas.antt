@@ -1,7 +1,8 @@
 -- Record by record: a recording whose frames are in time is judged as without times.
-use Rattle.std.proofs.Common.{◌≡◌, ℕ, Bool, true, false, cond, List, [], ◌∷◌, pos, Some, None}
+use Rattle.std.proofs.Common.{◌≡◌, ℕ, Bool, true, false, cond, List, [], ◌∷◌, ◌++◌, pos, Some, None}
 use Rattle.std.proofs.Common.{refl, sym, ap, subst, ◌∙◌, arith, ◌⊎◌, inl, inr}
 use Rattle.std.proofs.lemmas.Bool.{cond-true, cond-false, le-ltb, leb-true, ne_eqb, and_left, and_right}
+use Rattle.std.proofs.lemmas.List.{append-nil}
 use Rattle.std.specs.Prelude.{nat_le, nat_lt, ◌==◌, ◌&&◌}
 use Rattle.fr_frame.specs.Fields.{Fields}
 use Rattle.fr_logged.specs.Findings.{number_word}
@@ -388,13 +389,15 @@ module _ (r : Rules) (starts : ℕ → ℕ) (slack drift : ℕ) (lawful : IsPara
           either true mine = framed on s rec rs rules_are mine e course
           either false none = ignored s rec rs (Frame on) rules_are e on (inr refl) none course
 
-  all_judged : (rs : List Record) (s : State) → s.rules ≡ r → AllOnCourse s rs
-      → Judged s (judged (untimed s) rs) (judged s rs) []
-  all_judged [] s rules_are course = record { same = refl; rules_are = rules_are; course = course }
-  all_judged (rec ∷ rs) s rules_are course =
-      let one : Judged s (judge (untimed s) rec) (judge s rec) rs = each s rec rs rules_are course in
-      let rest : Judged (judge s rec) (judged (untimed (judge s rec)) rs) (judged (judge s rec) rs) [] =
-      all_judged rs (judge s rec) one.rules_are one.course in
+  -- some records, and those that follow
+  all_judged : (rs more : List Record) (s : State) → s.rules ≡ r → AllOnCourse s (rs ++ more)
+      → Judged s (judged (untimed s) rs) (judged s rs) more
+  all_judged [] more s rules_are course = record { same = refl; rules_are = rules_are; course = course }
+  all_judged (rec ∷ rs) more s rules_are course =
+      let one : Judged s (judge (untimed s) rec) (judge s rec) (rs ++ more) =
+      each s rec (rs ++ more) rules_are course in
+      let rest : Judged (judge s rec) (judged (untimed (judge s rec)) rs) (judged (judge s rec) rs) more =
+      all_judged rs more (judge s rec) one.rules_are one.course in
       record {
         same = ap (λ (t : State). judged t rs) one.same ∙ rest.same;
         rules_are = rest.rules_are;
@@ -494,16 +497,33 @@ module _ (r : Rules) (starts : ℕ → ℕ) (slack drift : ℕ) (lawful : IsPara
   fresh_stands B xs punctual =
       inl (record { none_held = refl; shut = record { none_open = refl; none_begun = refl } }, punctual)
 
+  -- the records of a channel are those of frames in time
+  abbrev InTime : List Record → Type 0
+  InTime rs = (channel : Channel) → judges r channel ≡ true
+      → (xs : List Timed) × AreAt channel rs xs × ArePunctual r.cluster.params (line r starts slack drift) xs
+
+  from_fresh : (rs more : List Record) → InTime (rs ++ more)
+      → Judged (fresh r) (judged (untimed (fresh r)) rs) (judged (fresh r) rs) more
+  unfolding fresh
+  from_fresh rs more in_time =
+      all_judged rs more (fresh r) refl (λ channel mine.
+      let c = in_time channel mine in
+      record { frames = c.0; are_at = c.1; stands = fresh_stands channel c.0 c.2 })
+
+  pub same_front : (rs more : List Record)
+      → ((channel : Channel) → judges r channel ≡ true
+      → (xs : List Timed) × AreAt channel (rs ++ more) xs
+      × ArePunctual r.cluster.params (line r starts slack drift) xs)
+      → judged (untimed (fresh r)) rs ≡ untimed (judged (fresh r) rs)
+  same_front rs more in_time = (from_fresh rs more in_time).same
+
   pub same_state : (rs : List Record)
       → ((channel : Channel) → judges r channel ≡ true
       → (xs : List Timed) × AreAt channel rs xs × ArePunctual r.cluster.params (line r starts slack drift) xs)
       → finish (judged (untimed (fresh r)) rs) true ≡ untimed (finish (judged (fresh r) rs) true)
-  unfolding fresh
   same_state rs in_time =
       let all : Judged (fresh r) (judged (untimed (fresh r)) rs) (judged (fresh r) rs) [] =
-      all_judged rs (fresh r) refl (λ channel mine.
-      let c = in_time channel mine in
-      record { frames = c.0; are_at = c.1; stands = fresh_stands channel c.0 c.2 }) in
+      from_fresh rs [] (subst InTime (sym (append-nil rs)) in_time) in
       ap (λ (t : State). finish t true) all.same
       ∙ finish_same (judged (fresh r) rs) all.rules_are
       (λ channel mine. last_stands channel (judged (fresh r) rs) (all.course channel mine))

@@ -1,6 +1,6 @@
 -- The judgement without times beside that with times, and the law that frames in time make no difference
 -- (project-defined).
-use Rattle.std.specs.Prelude.{◌≡◌, ℕ, Bool, true, List, Option, None}
+use Rattle.std.specs.Prelude.{◌≡◌, ℕ, Bool, true, List, ◌++◌, Option, None}
 use Rattle.fr_hearing.specs.Alarms.{judged}
 use Rattle.fr_judging.specs.Judging.{State, fresh, finish}
 use Rattle.fr_judging.specs.Rules.{rules_of, judged_by}
@@ -27,8 +27,16 @@ abbrev pub AreInTime : Parameters → Timeline → Option Channel → List Recor
 AreInTime p t only records = (channel : Channel) → judged_by only channel ≡ true
     → (xs : List Timed) × AreAt channel records xs × ArePunctual p t xs
 
--- Of such records the judgement has the same findings, counts and lines with times and without. There may be findings
--- of other names, but no cycle without a frame.
+-- Of such records the judgement has the same findings, counts and lines with times and without, after each record.
+-- There may be findings of other names, but no cycle without a frame.
+abbrev pub EachIsUntimed : Type 0
+EachIsUntimed = (d : Description) (most : ℕ) (whole : Bool) (only : Option Channel) (t : Timeline)
+    (records more : List Record) → IsParameters d.params → IsTimeline d.params t
+    → AreInTime d.params t only (records ++ more)
+    → judged (fresh (rules_of d most whole only 0)) records
+    ≡ untimed (judged (fresh (rules_of d most whole only t.macrotick)) records)
+
+-- The same at the end.
 abbrev pub InTimeIsUntimed : Type 0
 InTimeIsUntimed = (d : Description) (most : ℕ) (whole : Bool) (only : Option Channel) (t : Timeline)
     (records : List Record) → IsParameters d.params → IsTimeline d.params t → AreInTime d.params t only records
