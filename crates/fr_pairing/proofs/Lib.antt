@@ -6,4 +6,7 @@ mod JointLemmas
 mod FinishLemmas
 mod WindowLemmas
 mod WalkLemmas
+mod OnceLemmas
+mod BothLemmas
+mod TwinLemmas
 mod PairLaws

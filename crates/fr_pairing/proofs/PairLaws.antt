@@ -18,9 +18,9 @@ use Rattle.fr_hearing.specs.Files.{Clock, capture_of}
 use Rattle.fr_hearing.specs.ReadBack.{read_time, read_seen, read_window, AreShort}
 use Rattle.fr_hearing.specs.Runs.{IsHealthy, packets_seen}
 use Rattle.fr_judging.specs.Rules.{rules_of, judges, is_clocked}
-use Rattle.fr_pairing.proofs.SideLemmas.{FrameMap, AreAlike}
-use Rattle.fr_pairing.proofs.WalkLemmas.{all_mapped, none_found_in}
-use Rattle.fr_pairing.specs.Pairs.{packets_of_both, AreInOrder, HasNoneForBoth, NoAlarmTogether, NoAlarmInFileTogether}
+use Rattle.fr_pairing.proofs.TwinLemmas.{IsInRun, each_in_run, are_alike}
+use Rattle.fr_pairing.proofs.WalkLemmas.{none_found_in}
+use Rattle.fr_pairing.specs.Pairs.{packets_of_both, AreInOrder, NoAlarmTogether, NoAlarmInFileTogether}
 use Rattle.fr_recording.specs.Numbers.{most_counted}
 use Rattle.fr_recording.specs.Records.{Record}
 use Rattle.fr_recording.specs.Stream.{records_in}
@@ -41,18 +41,9 @@ some_product cycles (suc slots) some = omega arith
 few_cycles : (cycles slots product : ℕ) → cycles ≤ product → product < 2 ^ 32 → cycles + 2 ≤ most_counted
 few_cycles cycles slots product low high = omega (arith, low, high)
 
--- nothing is asked of the frames
-any_frame : FrameMap
-any_frame channel cycle slot f = Unit {0}
-
-none_alike : (d : Description) → HasNoneForBoth d → AreAlike d any_frame
-none_alike d none channel cycle slot f g x here there due both =
-    let single = none slot channel f.cycle x due in
-    absurd (let no : ⊥ = cc (sym both ∙ single) in no)
-
 pub no_alarm_together : (w : WorldState) → Headline w → NoAlarmTogether w
-unfolding rules_of any_frame
-no_alarm_together w head most whole records healthy_a healthy_b some_a some_b none in_order =
+unfolding rules_of
+no_alarm_together w head most whole records healthy_a healthy_b some_a some_b in_order =
     let d : Description = w.bus.cluster in
     let slots = head.run.lawful.params_are.static_slots_fit in
     let least : 2 ≤ d.params.static_slots = slots.from_least in
@@ -60,15 +51,17 @@ no_alarm_together w head most whole records healthy_a healthy_b some_a some_b no
     let product = some_product w.bus.cycles (opportunities d.params) (omega (arith, least)) in
     let few = few_cycles w.bus.cycles (opportunities d.params) (w.bus.cycles * opportunities d.params) product
     head.run.few_windows in
-    none_found_in (rules_of w.bus.cluster most whole None 0) (record { untimed = refl }) greatest any_frame
-    (none_alike w.bus.cluster none) head.run.lawful all w.bus.cycles few clocked w.bus.sealed head.run.recorded
+    none_found_in (rules_of w.bus.cluster most whole None 0) (record { untimed = refl }) greatest (IsInRun w)
+    (are_alike w head healthy) head.run.lawful all w.bus.cycles few clocked w.bus.sealed head.run.recorded
     (each_heard w.bus.cluster A w.bus.sealed (window_heard w head A healthy_a))
     (each_heard w.bus.cluster B w.bus.sealed (window_heard w head B healthy_b))
-    (all_mapped (rules_of w.bus.cluster most whole None 0) (record { untimed = refl }) greatest any_frame
-    (none_alike w.bus.cluster none) head.run.lawful all w.bus.cycles few clocked (λ channel x l cycle. tt) []
-    w.bus.sealed)
-    healthy_a.complete.some_window healthy_a.complete.static_over head.run.some_cycles records in_order
+    (each_in_run w [] w.bus.sealed refl) healthy_a.complete.some_window healthy_a.complete.static_over
+    head.run.some_cycles records in_order
   where
+    healthy : (channel : Channel) → IsHealthy w channel
+    healthy A = healthy_a
+    healthy B = healthy_b
+
     all : (channel : Channel) → judges (rules_of w.bus.cluster most whole None 0) channel ≡ true
     all A = refl
     all B = refl
@@ -132,9 +125,9 @@ short_both w head healthy_a healthy_b k r at channel bytes is = by channel is (h
         omega (arith, size, few)
 
 pub no_alarm_in_file_together : (w : WorldState) → Headline w → NoAlarmInFileTogether w
-no_alarm_in_file_together w head most whole time healthy_a healthy_b some_a some_b none =
+no_alarm_in_file_together w head most whole time healthy_a healthy_b some_a some_b =
     let read = (is_read_back time w.bus.cluster.params w.bus.sealed (short_both w head healthy_a healthy_b)).1 in
     no_alarm_together w head most whole (records_in (capture_of time w.bus.cluster.params w.bus.sealed)) healthy_a
-    healthy_b some_a some_b none
+    healthy_b some_a some_b
     (subst (λ (l : List Record). AreInOrder l (packets_of_both w.bus.cluster.params w.bus.sealed)) (sym read)
     (read_order time w.bus.cluster.params [] w.bus.sealed))
