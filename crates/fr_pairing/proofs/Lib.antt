@@ -9,4 +9,5 @@ mod WalkLemmas
 mod OnceLemmas
 mod BothLemmas
 mod TwinLemmas
+mod QuietLemmas
 mod PairLaws

@@ -6,7 +6,7 @@ use Rattle.fr_hearing.specs.Alarms.{judged}
 use Rattle.fr_hearing.specs.Files.{Clock, capture_of}
 use Rattle.fr_hearing.specs.Runs.{IsHealthy, packets_seen, logged}
 use Rattle.fr_judging.specs.Judging.{fresh, finish, has_finding}
-use Rattle.fr_judging.specs.Rules.{rules_of, has_sender}
+use Rattle.fr_judging.specs.Rules.{rules_of}
 use Rattle.fr_logged.specs.Logged.{kind_of}
 use Rattle.fr_logged.specs.declared.record.Kind.TheVariants.{Foreign}
 use Rattle.fr_recording.specs.Records.{Record}
@@ -27,17 +27,15 @@ AreInOrder (r ∷ rs) packets =
     ⊎ ((time : Option ℤ) × (bytes : List ℕ) × (rest : List (List ℕ)) × (packets ≡ bytes ∷ rest)
     × (r ≡ logged time bytes) × AreInOrder rs rest)
 
--- Both channels have a sender. In a run without faults on either channel, both have no finding, judged together and
--- without times.
+-- In a run without faults on either channel, both have no finding, judged together and without times. Both channels have
+-- a sender, or one of them, or none.
 abbrev pub NoAlarmTogether : WorldState → Type 0
 NoAlarmTogether w = (most : ℕ) (whole : Bool) (records : List Record) → IsHealthy w A → IsHealthy w B
-    → has_sender w.bus.cluster A ≡ true → has_sender w.bus.cluster B ≡ true
     → AreInOrder records (packets_of_both w.bus.cluster.params w.bus.sealed)
     → has_finding (finish (judged (fresh (rules_of w.bus.cluster most whole None 0)) records) true) ≡ false
 
 -- The same of the capture of such a run's bus, with any times.
 abbrev pub NoAlarmInFileTogether : WorldState → Type 0
 NoAlarmInFileTogether w = (most : ℕ) (whole : Bool) (time : Clock) → IsHealthy w A → IsHealthy w B
-    → has_sender w.bus.cluster A ≡ true → has_sender w.bus.cluster B ≡ true
     → has_finding (finish (judged (fresh (rules_of w.bus.cluster most whole None 0))
     (records_in (capture_of time w.bus.cluster.params w.bus.sealed))) true) ≡ false
