@@ -89,7 +89,7 @@ class TestContent(CampaignCases):
     def test_not_comparable(self):
         """If the content of a FIFO can't be read, a fault that may reach it counts as a loss."""
         program = self.folder / "viewer"
-        program.write_text(f"#!/bin/sh\n[ \"$1\" = frames ] && exit 3\nexec '{PROGRAM}' \"$@\"\n")
+        program.write_text(f"#!/bin/sh\n[ \"$1\" = fifo ] && exit 3\nexec '{PROGRAM}' \"$@\"\n")
         program.chmod(0o755)
         campaign = self.campaign(two(), SCENE, 2, str(program))
         faults = campaign.listing(Selection(frozenset(["lost"]), frozenset([0]))).faults()
