@@ -36,7 +36,7 @@ find_command() {
     flags=
     input=
     case $name-$1 in
-    fr_bench-audit | fr_view-why) input=TRACE ;;
+    fr_bench-audit | fr_view-why | fr_view-fifo) input=TRACE ;;
     fr_bench-midpoint) input=NUMBERS ;;
     fr_bench-check | fr_bench-plan | fr_view-links) places=FILE ;;
     fr_bench-run) places='FILE SCENARIO' options=--cycles flags=--free ;;

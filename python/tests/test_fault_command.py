@@ -289,7 +289,7 @@ class TestSignals(Command):
     def test_in_the_reading_of_a_receive_fifo(self):
         queue = '[[node]]\nqueue = {capacity = 2, first = 1, last = 2, channels = "AB"}\n'
         (self.folder / "cluster").write_text(queue.join(TWO_NODES.rsplit("[[node]]\n", 1)))
-        self.broken_off(signal.SIGTERM, '[ "$1" != frames ] || { WAIT; }')
+        self.broken_off(signal.SIGTERM, '[ "$1" != fifo ] || { WAIT; }')
 
     def test_in_a_job_of_parallel(self):
         file = self.folder / "parallel"

@@ -4,7 +4,7 @@ import unittest
 
 from musmyrtle.faults.campaign import Campaign
 from musmyrtle.faults.fifo_costs import fifo_effects
-from musmyrtle.faults.fifos import Fifo, StoredFrame
+from musmyrtle.faults.fifos import Fifo, StoredFrame, Unread, read_fifo
 from musmyrtle.faults.listing import Selection
 from musmyrtle.faults.table import Results, has_effect, summary, verdict
 from musmyrtle.named_windows import RunCycles
@@ -89,7 +89,7 @@ class TestContent(CampaignCases):
     def test_not_comparable(self):
         """If the content of a FIFO can't be read, a fault that may reach it counts as a loss."""
         program = self.folder / "viewer"
-        program.write_text(f"#!/bin/sh\n[ \"$1\" = frames ] && exit 3\nexec '{PROGRAM}' \"$@\"\n")
+        program.write_text(f"#!/bin/sh\n[ \"$1\" = fifo ] && exit 3\nexec '{PROGRAM}' \"$@\"\n")
         program.chmod(0o755)
         campaign = self.campaign(two(), SCENE, 2, str(program))
         faults = campaign.listing(Selection(frozenset(["lost"]), frozenset([0]))).faults()
@@ -117,6 +117,23 @@ class TestContent(CampaignCases):
         told = "".join(summary(Results([], campaign.cluster, 2, overwritten=campaign.overwritten())))
         wanted = "node 1: FIFO not emptied by the scenario: 1 frame overwritten without any fault\n"
         self.assertEqual(told.count(wanted), 1)
+
+
+class TestLines(unittest.TestCase):
+    def test_fates(self) -> None:
+        """The lines of `fr_view fifo` name a frame by its number."""
+        fifo = read_fifo(["stored 0 3 2 A ---- x0a0b", "stored 1 3 2 B p--- x0a0b", "overwritten 0 3", "popped 1 4 0",
+                          "stored 2 5 9 A --s- x", "waiting 2"])
+        self.assertEqual(fifo.overwritten, [StoredFrame(3, 2, "----", "x0a0b", "A")])
+        self.assertEqual(fifo.popped, [StoredFrame(3, 2, "p---", "x0a0b", "B")])
+        self.assertEqual(fifo.waiting, [StoredFrame(5, 9, "--s-", "x", "A")])
+
+    def test_other_lines(self) -> None:
+        for line in ("", "stored", "stored 0 3 2 A ----", "stored 0 x 2 A ---- x0a0b", "waiting 0", "waiting", "held 0",
+                     "popped x"):
+            with self.assertRaises(Unread) as raised:
+                read_fifo([line])
+            self.assertEqual(str(raised.exception), f"`{line}` is no line of fr_view fifo")
 
 
 def frames(text: str) -> list[StoredFrame]:

@@ -62,6 +62,14 @@ class TestNoProgram(Folders):
     def test_none_anywhere(self) -> None:
         self.missing("fr_world", "No such file or directory")
 
+    def test_an_installed_package(self) -> None:
+        """A package outside a checkout has no launcher beside it."""
+        with patch.object(world_program, "is_checkout", lambda: False), self.assertRaises(NotStarted) as raised:
+            World(THREE_NODES, 4)
+        self.assertEqual(str(raised.exception), (
+            "fr_world can't be started: No such file or directory. fr_world is looked for in this order: the argument "
+            "`program`; the variable MUSMYRTLE_WORLD (not set); fr_world on PATH (not there)"))
+
     def test_the_argument(self) -> None:
         for program, why in ((self.folder / "none", "No such file or directory"), (self.folder, "Permission denied"),
                              (self.written("", "no_run_bit"), "Permission denied")):

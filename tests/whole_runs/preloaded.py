@@ -99,6 +99,7 @@ def views():
         "frames": (["frames"], trace()),
         "frames until the fault": (["frames", "--until-fault"], trace()[:-4]),
         "why": (["why"], trace().replace(b"2:A", b"2:B")),
+        "fifo": (["fifo"], (EXAMPLES / "several-buffers" / "trace").read_bytes()),
         "outcome": (["outcome", *run], b""),
         "outcome, expected": (["outcome", CLUSTER, str(FOLDER / "expectations"), "--cycles", "4"], b""),
         "answers": (["answers", *run], b""),

@@ -64,6 +64,7 @@ SLIPS: list[tuple[str, Words, str]] = [
     ("fr_view", ("matrix", *RUN, "--endless"), "matrix has no option --endless"),
     ("fr_view", ("run", *RUN), "./fr_bench run"),
     ("fr_view", ("why", "node.trace"), "why reads TRACE on standard input: < node.trace"),
+    ("fr_view", ("fifo", "node.trace"), "fifo reads TRACE on standard input: < node.trace"),
     ("fr_world", (CLUSTER,), "missing: --cycles N"),
     ("fr_world", (CLUSTER, "4"), "--cycles is missing in front of 4"),
     ("fr_world", (CLUSTER, "--cycles"), "--cycles has no value"),

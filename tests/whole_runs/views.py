@@ -199,7 +199,7 @@ class Views:
                  receive.replace(b"fetch 1", b"fetch 0"): "Refused 10",
                  b"frtrace 1\n" + b"x" * 1201: "LineTooLong 2"}
         for text, error in texts.items():
-            for command in ("capture", "frames"):
+            for command in ("capture", "frames", "fifo"):
                 self.runs.check(f"{command} of {text[:20]}", [command], refused(error), given=text)
         long = self.folder / "long.toml"
         long.write_bytes(b"#" * 1_048_577)
@@ -210,8 +210,8 @@ class Views:
 
     def words(self):
         lists = [[], ["audit"], ["plan", "a"], ["help"], ["-h"], ["-V"], ["--help", "--help"], ["capture", "--help"],
-                 ["capture", "a"], ["frames", "a"], ["Capture"], [""], [b"\xff"], ["schedule"], ["schedule", "a", "b"],
-                 ["schedule", "a", "--cycle"],
+                 ["capture", "a"], ["frames", "a"], ["fifo", "a"], ["fifo", "--until-fault"], ["Capture"], [""], [b"\xff"],
+                 ["schedule"], ["schedule", "a", "b"], ["schedule", "a", "--cycle"],
                  *(["schedule", "a", "--cycle", number] for number in ("64", "00", "04", "+4", "-1", "x", "", "4 ")),
                  ["schedule", "a", "--cycle", "1", "--cycle", "1"], ["schedule", "a", "--free"],
                  ["schedule", "--cycle", "1"], ["latency"], ["latency", "a", "b"], ["latency", "a", "--slot"],

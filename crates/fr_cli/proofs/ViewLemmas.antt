@@ -64,6 +64,7 @@ schedule_alike : (f g : Text → Option Text) → ((id : Text) → f id ≡ g id
 schedule_alike f g same (the_order.Capture until_fault own) is = is
 schedule_alike f g same (the_order.Frames until_fault all) is = is
 schedule_alike f g same the_order.Why is = is
+schedule_alike f g same the_order.Fifo is = is
 schedule_alike f g same the_order.Help is = is
 schedule_alike f g same (the_order.Latency file way) is = is
 schedule_alike f g same (the_order.Links file) is = is
@@ -82,6 +83,7 @@ schedule_told entered look (Some o) named same told = by o (schedule_alike look 
     by (the_order.Capture until_fault own) is = absurd is
     by (the_order.Frames until_fault all) is = absurd is
     by the_order.Why is = absurd is
+    by the_order.Fifo is = absurd is
     by the_order.Help is = absurd is
     by (the_order.Latency file way) is = absurd is
     by (the_order.Links file) is = absurd is
@@ -100,7 +102,7 @@ asks_nothing None named lacks = cc named
 asks_nothing (Some (name, rows)) named lacks =
     let is : name ≡ codes "schedule" = cc named in
     subst (λ (n : Text). asks (Some (n, rows)) ≡ false) (sym is)
-    (ap₂ (λ shows asked. (shows || false || false || false || asked) || false || false)
+    (ap₂ (λ shows asked. (shows || false || false || false || false || asked) || false || false)
     (picks_none (is_endless (λ id. first_of id rows))) lacks)
 
 pub schedule_lacks : (entered : Option (Text × List Row)) (look : Text → Option Text) (found : Option ViewOrder)
@@ -124,6 +126,7 @@ latency_alike : (f g : Text → Option Text) → ((id : Text) → f id ≡ g id)
 latency_alike f g same (the_order.Capture until_fault own) is = is
 latency_alike f g same (the_order.Frames until_fault all) is = is
 latency_alike f g same the_order.Why is = is
+latency_alike f g same the_order.Fifo is = is
 latency_alike f g same the_order.Help is = is
 latency_alike f g same (the_order.Links file) is = is
 latency_alike f g same (the_order.Schedule file cycle) is = is
@@ -144,6 +147,7 @@ latency_told entered look (Some o) named same told = by o (latency_alike look (w
     by (the_order.Capture until_fault own) is = absurd is
     by (the_order.Frames until_fault all) is = absurd is
     by the_order.Why is = absurd is
+    by the_order.Fifo is = absurd is
     by the_order.Help is = absurd is
     by (the_order.Links file) is = absurd is
     by (the_order.Schedule file cycle) is = absurd is
@@ -157,7 +161,7 @@ asks_no_latency None named lacks = cc named
 asks_no_latency (Some (name, rows)) named lacks =
     let is : name ≡ codes "latency" = cc named in
     subst (λ (n : Text). asks (Some (n, rows)) ≡ false) (sym is)
-    (ap₂ (λ shows asked. (shows || false || false || false || false) || asked || false)
+    (ap₂ (λ shows asked. (shows || false || false || false || false || false) || asked || false)
     (picks_none (is_endless (λ id. first_of id rows))) lacks)
 
 pub latency_lacks : (entered : Option (Text × List Row)) (look : Text → Option Text) (found : Option ViewOrder)
@@ -175,6 +179,7 @@ links_alike : (f g : Text → Option Text) → ((id : Text) → f id ≡ g id) �
 links_alike f g same (the_order.Capture until_fault own) is = is
 links_alike f g same (the_order.Frames until_fault all) is = is
 links_alike f g same the_order.Why is = is
+links_alike f g same the_order.Fifo is = is
 links_alike f g same the_order.Help is = is
 links_alike f g same (the_order.Latency file way) is = is
 links_alike f g same (the_order.Schedule file cycle) is = is
@@ -192,6 +197,7 @@ links_told entered look (Some o) named same told = by o (links_alike look (word_
     by (the_order.Capture until_fault own) is = absurd is
     by (the_order.Frames until_fault all) is = absurd is
     by the_order.Why is = absurd is
+    by the_order.Fifo is = absurd is
     by the_order.Help is = absurd is
     by (the_order.Latency file way) is = absurd is
     by (the_order.Schedule file cycle) is = absurd is
@@ -205,7 +211,7 @@ asks_no_links None named lacks = cc named
 asks_no_links (Some (name, rows)) named lacks =
     let is : name ≡ codes "links" = cc named in
     subst (λ (n : Text). asks (Some (n, rows)) ≡ false) (sym is)
-    (ap₂ (λ shows asked. (shows || false || false || false || false) || false || asked)
+    (ap₂ (λ shows asked. (shows || false || false || false || false || false) || false || asked)
     (picks_none (is_endless (λ id. first_of id rows))) lacks)
 
 pub links_lacks : (entered : Option (Text × List Row)) (look : Text → Option Text) (found : Option ViewOrder)
@@ -254,6 +260,7 @@ kept_alike : (name : Text) (f g : Text → Option Text) → ((id : Text) → f i
 kept_alike name f g same (the_order.Capture until_fault own) is = is
 kept_alike name f g same (the_order.Frames until_fault all) is = is
 kept_alike name f g same the_order.Why is = is
+kept_alike name f g same the_order.Fifo is = is
 kept_alike name f g same the_order.Help is = is
 kept_alike name f g same (the_order.Latency file way) is = is
 kept_alike name f g same (the_order.Links file) is = is
@@ -271,6 +278,7 @@ stream_alike : (name : Text) (f g : Text → Option Text) → ((id : Text) → f
 stream_alike name f g same (the_order.Capture until_fault own) is = is
 stream_alike name f g same (the_order.Frames until_fault all) is = is
 stream_alike name f g same the_order.Why is = is
+stream_alike name f g same the_order.Fifo is = is
 stream_alike name f g same the_order.Help is = is
 stream_alike name f g same (the_order.Latency file way) is = is
 stream_alike name f g same (the_order.Links file) is = is
@@ -301,6 +309,7 @@ show_is_order : (endless : Bool) (entered : Text) (rows : List Row) (o : ViewOrd
 show_is_order true entered rows (the_order.Capture until_fault own) flag is = absurd is
 show_is_order true entered rows (the_order.Frames until_fault all) flag is = absurd is
 show_is_order true entered rows the_order.Why flag is = absurd is
+show_is_order true entered rows the_order.Fifo flag is = absurd is
 show_is_order true entered rows the_order.Help flag is = absurd is
 show_is_order true entered rows (the_order.Latency file way) flag is = absurd is
 show_is_order true entered rows (the_order.Links file) flag is = absurd is
@@ -312,6 +321,7 @@ show_is_order true entered rows (the_order.Stream asked cluster scenario cycles)
 show_is_order false entered rows (the_order.Capture until_fault own) flag is = absurd is
 show_is_order false entered rows (the_order.Frames until_fault all) flag is = absurd is
 show_is_order false entered rows the_order.Why flag is = absurd is
+show_is_order false entered rows the_order.Fifo flag is = absurd is
 show_is_order false entered rows the_order.Help flag is = absurd is
 show_is_order false entered rows (the_order.Latency file way) flag is = absurd is
 show_is_order false entered rows (the_order.Links file) flag is = absurd is
@@ -345,20 +355,20 @@ has_show_alike name f g same =
 pub show_lacks : (entered : Option (Text × List Row)) (name : Text) (look : Text → Option Text)
     (found : Option ViewOrder) → IsNamed name entered
     → bytes_eq name (codes "capture") ≡ false → bytes_eq name (codes "frames") ≡ false
-    → bytes_eq name (codes "why") ≡ false
+    → bytes_eq name (codes "why") ≡ false → bytes_eq name (codes "fifo") ≡ false
     → bytes_eq name (codes "schedule") ≡ false → bytes_eq name (codes "latency") ≡ false
     → bytes_eq name (codes "links") ≡ false
     → ((id : Text) → look id ≡ word_in entered id) → IfNone found (has_show_by name look ≡ false)
     → IfNone found (asks entered ≡ false)
-show_lacks entered name look (Some o) named capture frames why schedule latency links same lacks = tt
-show_lacks None name look None named capture frames why schedule latency links same lacks = cc named
-show_lacks (Some (entered, rows)) name look None named capture frames why schedule latency links same lacks =
+show_lacks entered name look (Some o) named capture frames why fifo schedule latency links same lacks = tt
+show_lacks None name look None named capture frames why fifo schedule latency links same lacks = cc named
+show_lacks (Some (entered, rows)) name look None named capture frames why fifo schedule latency links same lacks =
     let is : entered ≡ name = cc named in
     let words = λ (id : Text). first_of id rows in
     let alike : has_show_by name look ≡ has_show_by name words = has_show_alike name look words same in
     subst (λ (n : Text). asks (Some (n, rows)) ≡ false) (sym is)
-    (ap₂ (λ a b. a || b) (ap₂ (λ a b. a || b) (ap₂ (λ a b. a || b)
-    (ap₂ (λ a b. a || b) (ap₂ (λ a b. a || b) (ap₂ (λ a b. a || b) (sym alike ∙ lacks) capture) frames) why)
+    (ap₂ (λ a b. a || b) (ap₂ (λ a b. a || b) (ap₂ (λ a b. a || b) (ap₂ (λ a b. a || b)
+    (ap₂ (λ a b. a || b) (ap₂ (λ a b. a || b) (ap₂ (λ a b. a || b) (sym alike ∙ lacks) capture) frames) why) fifo)
     (ap (λ b. b && has_schedule_by (word_in (Some (name, rows)))) schedule))
     (ap (λ b. b && has_latency_by (word_in (Some (name, rows)))) latency))
     (ap (λ b. b && has_links_by (word_in (Some (name, rows)))) links))

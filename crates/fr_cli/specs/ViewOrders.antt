@@ -61,8 +61,11 @@ four_commands = with_subcommand three_commands schedule_command.top
 abbrev pub five_commands : App
 five_commands = with_subcommand four_commands latency_command.top
 
+abbrev pub six_commands : App
+six_commands = with_subcommand five_commands (with_file (codes "links")).top
+
 abbrev pub file_commands : App
-file_commands = with_subcommand five_commands (with_file (codes "links")).top
+file_commands = with_subcommand six_commands (named (codes "fifo"))
 
 -- a command of a run, with its two files and its number of cycles
 abbrev pub with_run : App → App
@@ -147,6 +150,7 @@ abbrev pub IsScheduleBy : (Text → Option Text) → ViewOrder → Type 0
 IsScheduleBy first_word (the_order.Capture until_fault own) = ⊥
 IsScheduleBy first_word (the_order.Frames until_fault all) = ⊥
 IsScheduleBy first_word the_order.Why = ⊥
+IsScheduleBy first_word the_order.Fifo = ⊥
 IsScheduleBy first_word the_order.Help = ⊥
 IsScheduleBy first_word (the_order.Latency file way) = ⊥
 IsScheduleBy first_word (the_order.Links file) = ⊥
@@ -220,6 +224,7 @@ abbrev pub IsKeptBy : Text → (Text → Option Text) → ViewOrder → Type 0
 IsKeptBy name first_word (the_order.Capture until_fault own) = ⊥
 IsKeptBy name first_word (the_order.Frames until_fault all) = ⊥
 IsKeptBy name first_word the_order.Why = ⊥
+IsKeptBy name first_word the_order.Fifo = ⊥
 IsKeptBy name first_word the_order.Help = ⊥
 IsKeptBy name first_word (the_order.Latency file way) = ⊥
 IsKeptBy name first_word (the_order.Links file) = ⊥
@@ -254,6 +259,7 @@ abbrev pub IsStreamBy : Text → (Text → Option Text) → ViewOrder → Type 0
 IsStreamBy name first_word (the_order.Capture until_fault own) = ⊥
 IsStreamBy name first_word (the_order.Frames until_fault all) = ⊥
 IsStreamBy name first_word the_order.Why = ⊥
+IsStreamBy name first_word the_order.Fifo = ⊥
 IsStreamBy name first_word the_order.Help = ⊥
 IsStreamBy name first_word (the_order.Latency file way) = ⊥
 IsStreamBy name first_word (the_order.Links file) = ⊥
@@ -317,6 +323,7 @@ abbrev pub IsLatencyBy : (Text → Option Text) → ViewOrder → Type 0
 IsLatencyBy first_word (the_order.Capture until_fault own) = ⊥
 IsLatencyBy first_word (the_order.Frames until_fault all) = ⊥
 IsLatencyBy first_word the_order.Why = ⊥
+IsLatencyBy first_word the_order.Fifo = ⊥
 IsLatencyBy first_word the_order.Help = ⊥
 IsLatencyBy first_word (the_order.Links file) = ⊥
 IsLatencyBy first_word (the_order.Schedule file cycle) = ⊥
@@ -337,6 +344,7 @@ abbrev pub IsLinksBy : (Text → Option Text) → ViewOrder → Type 0
 IsLinksBy first_word (the_order.Capture until_fault own) = ⊥
 IsLinksBy first_word (the_order.Frames until_fault all) = ⊥
 IsLinksBy first_word the_order.Why = ⊥
+IsLinksBy first_word the_order.Fifo = ⊥
 IsLinksBy first_word the_order.Help = ⊥
 IsLinksBy first_word (the_order.Latency file way) = ⊥
 IsLinksBy first_word (the_order.Schedule file cycle) = ⊥
@@ -362,7 +370,8 @@ IsTraced name more entered until_fault shows_more =
 abbrev pub asks : Option (Text × List Row) → Bool
 asks entered =
     has_show entered || is_named (codes "capture") entered || is_named (codes "frames") entered
-    || is_named (codes "why") entered || (is_named (codes "schedule") entered && has_schedule_by (word_in entered))
+    || is_named (codes "why") entered || is_named (codes "fifo") entered
+    || (is_named (codes "schedule") entered && has_schedule_by (word_in entered))
     || (is_named (codes "latency") entered && has_latency_by (word_in entered))
     || (is_named (codes "links") entered && has_links_by (word_in entered))
 
@@ -371,6 +380,7 @@ abbrev pub IsOrder : Option (Text × List Row) → ViewOrder → Type 0
 IsOrder entered (the_order.Capture until_fault own) = IsTraced (codes "capture") (codes "own") entered until_fault own
 IsOrder entered (the_order.Frames until_fault all) = IsTraced (codes "frames") (codes "all") entered until_fault all
 IsOrder entered the_order.Why = IsNamed (codes "why") entered
+IsOrder entered the_order.Fifo = IsNamed (codes "fifo") entered
 IsOrder entered the_order.Help = ⊥
 IsOrder entered (the_order.Schedule file cycle) =
     IsNamed (codes "schedule") entered × IsScheduleBy (word_in entered) (the_order.Schedule file cycle)

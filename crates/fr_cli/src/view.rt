@@ -128,6 +128,8 @@ pub enum ViewOrder<'a> {
     },
     /// Read such a trace and print the reason why an audit rejects it.
     Why,
+    /// Read such a trace and print what becomes of each frame of its receive FIFO.
+    Fifo,
     /// Run the cluster with a scenario in one thread, and print a view of the run.
     Show {
         /// The view.
@@ -246,7 +248,8 @@ fn file_commands<'a>(alloc: Global) -> Result<Command<'a>, AllocError>
     let third = second.subcommand(Command::new(alloc, "why"))?;
     let fourth = third.subcommand(schedule_command(alloc)?)?;
     let fifth = fourth.subcommand(latency_command(alloc)?)?;
-    fifth.subcommand(of_file(alloc, "links")?)
+    let sixth = fifth.subcommand(of_file(alloc, "links")?)?;
+    sixth.subcommand(Command::new(alloc, "fifo"))
 }
 
 /// Adds the commands that show a run as lines.
@@ -545,6 +548,7 @@ fn order_in<'a>(matches: &ArgMatches<'a>) -> Option<ViewOrder<'a>>
             Some(ViewOrder::Frames { until_fault, all })
         }
         "why" => Some(ViewOrder::Why),
+        "fifo" => Some(ViewOrder::Fifo),
         name => show_in(name, arguments),
     }
 }

@@ -6,4 +6,8 @@ mod JointLemmas
 mod FinishLemmas
 mod WindowLemmas
 mod WalkLemmas
+mod OnceLemmas
+mod BothLemmas
+mod TwinLemmas
+mod QuietLemmas
 pub mod PairLaws

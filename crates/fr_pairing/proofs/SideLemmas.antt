@@ -49,7 +49,7 @@ dynamic_single p slot channel cycle (q ∷ qs) start x e =
     by None f more = more f
     by (Some b) f more = due b (q.tasks == 0) f
 
-both_static : (d : Description) (slot : ℕ) (channel : Channel) (cycle : ℕ) (x : Due)
+pub both_static : (d : Description) (slot : ℕ) (channel : Channel) (cycle : ℕ) (x : Due)
     → due_of d slot channel cycle ≡ Some x → x.both ≡ true → slot ≤ d.params.static_slots
 both_static d slot channel cycle x e both = by (is_static_slot d.params slot) refl
   where
@@ -61,11 +61,11 @@ both_static d slot channel cycle x e both = by (is_static_slot d.params slot) re
         (sender_from d.params slot channel cycle 0 d.plans) dynamic) ∙ e) in
         absurd (let none : ⊥ = cc (sym both ∙ single) in none)
 
-record IsInRange (slot : ℕ) (d : Description) (channel : Channel) (cycle : ℕ) (x : Due) : Type 0 where
-  some : 1 ≤ slot
-  due_is : due_of d slot channel cycle ≡ Some x
+pub record IsInRange (slot : ℕ) (d : Description) (channel : Channel) (cycle : ℕ) (x : Due) : Type 0 where
+  pub some : 1 ≤ slot
+  pub due_is : due_of d slot channel cycle ≡ Some x
 
-in_range : (d : Description) (slot : ℕ) (channel : Channel) (cycle : ℕ) (x : Due)
+pub in_range : (d : Description) (slot : ℕ) (channel : Channel) (cycle : ℕ) (x : Due)
     → due_at d slot channel cycle ≡ Some x → IsInRange slot d channel cycle x
 in_range d slot channel cycle x e = by (nat_le 1 slot) refl (nat_le slot last_slot) e
   where

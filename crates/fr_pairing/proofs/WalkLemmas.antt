@@ -38,6 +38,7 @@ use Rattle.fr_pairing.specs.Pairs.{AreInOrder, packets_of_both}
 use Rattle.fr_recording.specs.Numbers.{most_counted}
 use Rattle.fr_recording.specs.Records.{Record}
 use Rattle.fr_schedule.specs.Clusters.{IsCluster}
+use Rattle.fr_schedule.specs.Descriptions.{Description}
 use Rattle.fr_slots.proofs.PlaceLemmas.{same_some}
 use Rattle.fr_slots.specs.Admission.{is_channel}
 use Rattle.fr_slots.specs.declared.channel.Channel.{Channel}
@@ -97,6 +98,17 @@ left_by c w a b some opens e = by (nat_lt c.begun c.cycles) refl (c.windows == 0
         above zero g = absurd (let no : ⊥ = cc in no)
         above (suc n) g = omega arith
 
+-- ---- the frames of the run
+
+-- the frames that a listener receives in a window after these are those of the map
+abbrev pub IsMapped : Description → FrameMap → List Recorded → Recorded → Type 0
+IsMapped d m before x = (channel : Channel) (l : IsLoud d channel x) → 1 ≤ cycles_begun (before ++ x ∷ [])
+    → m channel (cycles_begun (before ++ x ∷ []) - 1) l.frame.id l.frame
+
+abbrev pub AreMapped : Description → FrameMap → List Recorded → List Recorded → Type 0
+AreMapped d m before [] = Unit {0}
+AreMapped d m before (x ∷ rs) = IsMapped d m before x × AreMapped d m (before ++ x ∷ []) rs
+
 module _ (r : Rules) (pair : IsPair r) (static_few : r.cluster.params.static_slots ≤ 1023) (m : FrameMap)
     (alike : AreAlike r.cluster m) (lawful : IsCluster r.cluster)
     (all : (channel : Channel) → judges r channel ≡ true) (cycles : ℕ) (few : cycles + 2 ≤ most_counted)
@@ -140,34 +152,18 @@ module _ (r : Rules) (pair : IsPair r) (static_few : r.cluster.params.static_slo
     in_order : AreInOrder rest packets
     stands : Stands before state first second
 
-  -- the frames of these windows are those of the map
-  abbrev pub Maps : List Recorded → List Recorded → Type 0
-  Maps before [] = Unit {0}
-  Maps before (x ∷ rs) =
-      ((channel : Channel) (l : IsLoud r.cluster channel x)
-      → m channel (cycles_begun (before ++ x ∷ []) - 1) l.frame.id l.frame)
-      × Maps (before ++ x ∷ []) rs
-
-  pub all_mapped : ((channel : Channel) (x : Recorded) (l : IsLoud r.cluster channel x) (cycle : ℕ)
-      → m channel cycle l.frame.id l.frame) → (before rs : List Recorded) → Maps before rs
-  all_mapped every before [] = tt
-  all_mapped every before (x ∷ rs) =
-      (λ channel l. every channel x l (cycles_begun (before ++ x ∷ []) - 1), all_mapped every (before ++ x ∷ []) rs)
-
   goes_by : (before : List Recorded) (x : Recorded) (c : Standpoint) (n : ℕ) → course (before ++ x ∷ []) ≡ c
-      → c.begun ≡ n
-      → 1 ≤ n → n ≤ cycles
-      → ((channel : Channel) (l : IsLoud r.cluster channel x)
-      → m channel (cycles_begun (before ++ x ∷ []) - 1) l.frame.id l.frame)
-      → (t u : Spot) (a : Moves r pair static_few m alike lawful all A c t x)
+      → c.begun ≡ n → 1 ≤ n → n ≤ cycles → IsMapped r.cluster m before x → (t u : Spot)
+      → (a : Moves r pair static_few m alike lawful all A c t x)
       → (b : Moves r pair static_few m alike lawful all B c u x) → (s : State) (records : List Record)
       → (packets : List (List ℕ)) → AreInOrder records (packets_of_both r.cluster.params (x ∷ []) ++ packets)
       → IsBetween s t u n → Goes (before ++ x ∷ []) s records packets
   goes_by before x c n is begun some low maps t u a b s records packets in_order between =
       let number : cycles_begun (before ++ x ∷ []) ≡ n = ap (λ (y : Standpoint). y.begun) is ∙ begun in
       let done = window_both r pair static_few m alike lawful all x c n some (omega (arith, low, few)) begun
-      (λ channel l. subst (λ (k : ℕ). m channel (k - 1) l.frame.id l.frame) number (maps channel l)) t u a b records
-      packets s (subst (AreInOrder records) same_packets in_order) between in
+      (λ channel l. subst (λ (k : ℕ). m channel (k - 1) l.frame.id l.frame) number
+      (maps channel l (omega (arith, number, some)))) t u a b records packets s
+      (subst (AreInOrder records) same_packets in_order) between in
       record {
         state = done.state;
         first = moved r pair static_few m alike lawful all A c t x a;
@@ -198,10 +194,8 @@ module _ (r : Rules) (pair : IsPair r) (static_few : r.cluster.params.static_slo
   -- the first window of a cycle
   goes_first : (before : List Recorded) (x : Recorded) → IsHeardAt r.cluster A x → IsHeardAt r.cluster B x
       → x.window ≡ static_window (course before).windows ((course before).begun % 64) 1
-      → cycles_begun before + 1 ≤ cycles
-      → ((channel : Channel) (l : IsLoud r.cluster channel x)
-      → m channel (cycles_begun (before ++ x ∷ []) - 1) l.frame.id l.frame)
-      → (s : State) (records : List Record) (packets : List (List ℕ))
+      → cycles_begun before + 1 ≤ cycles → IsMapped r.cluster m before x → (s : State) (records : List Record)
+      (packets : List (List ℕ))
       → AreInOrder records (packets_of_both r.cluster.params (x ∷ []) ++ packets) → (t u : Spot)
       → (j : IsBetween s t u (cycles_begun before))
       → ((cycles_begun before ≡ 0) ⊎ (IsOver r.cluster A t × (t ≡ cycle_start r.cluster.params t.cycle → ⊥)))
@@ -226,9 +220,7 @@ module _ (r : Rules) (pair : IsPair r) (static_few : r.cluster.params.static_slo
 
   goes : (before : List Recorded) (x : Recorded) → IsHeardAt r.cluster A x → IsHeardAt r.cluster B x
       → following r.cluster.params cycles before ≡ Some x.window → IsNextOf (course before) x.window
-      → ((channel : Channel) (l : IsLoud r.cluster channel x)
-      → m channel (cycles_begun (before ++ x ∷ []) - 1) l.frame.id l.frame)
-      → (s : State) (records : List Record) (packets : List (List ℕ))
+      → IsMapped r.cluster m before x → (s : State) (records : List Record) (packets : List (List ℕ))
       → AreInOrder records (packets_of_both r.cluster.params (x ∷ []) ++ packets) → (t u : Spot) → Stands before s t u
       → Goes (before ++ x ∷ []) s records packets
   goes before x a b follows (inl first) maps s records packets in_order t u is =
@@ -270,9 +262,9 @@ module _ (r : Rules) (pair : IsPair r) (static_few : r.cluster.params.static_slo
       sym (append_assoc a (b ++ []) more ∙ ap (λ (l : List (List ℕ)). a ++ l) (append_assoc b [] more))
 
   walk : (before rs : List Recorded) → AllAfter (IsRecorded r.cluster cycles) before rs
-      → AreHeardAt r.cluster A rs → AreHeardAt r.cluster B rs → Maps before rs → (s : State) (records : List Record)
-      → AreInOrder records (packets_of_both r.cluster.params rs) → (t u : Spot) → Stands before s t u
-      → Goes (before ++ rs) s records []
+      → AreHeardAt r.cluster A rs → AreHeardAt r.cluster B rs → AreMapped r.cluster m before rs → (s : State)
+      (records : List Record) → AreInOrder records (packets_of_both r.cluster.params rs) → (t u : Spot)
+      → Stands before s t u → Goes (before ++ rs) s records []
   unfolding AllAfter
   walk before [] recorded a b maps s records in_order t u is =
       subst (λ (l : List Recorded). Goes l s records []) (sym (append-nil before)) (record {
@@ -395,7 +387,7 @@ module _ (r : Rules) (pair : IsPair r) (static_few : r.cluster.params.static_slo
   -- ---- the whole run
 
   pub none_found_in : (rs : List Recorded) → AllAfter (IsRecorded r.cluster cycles) [] rs → AreHeardAt r.cluster A rs
-      → AreHeardAt r.cluster B rs → Maps [] rs → 1 ≤ length rs
+      → AreHeardAt r.cluster B rs → AreMapped r.cluster m [] rs → 1 ≤ length rs
       → r.cluster.params.static_slots ≤ statics_of (this_cycle rs) → 1 ≤ cycles → (records : List Record)
       → AreInOrder records (packets_of_both r.cluster.params rs)
       → has_finding (finish (judged (fresh r) records) true) ≡ false

@@ -1,19 +1,16 @@
 -- Recordings of both channels of a run without faults, and the law that these have no finding (project-defined).
-use Rattle.std.specs.Prelude.{◌≡◌, ℕ, ℤ, Bool, true, false, List, [], ◌∷◌, ◌++◌, ◌⊎◌, Option, None, Some}
+use Rattle.std.specs.Prelude.{◌≡◌, ℕ, ℤ, Bool, true, false, List, [], ◌∷◌, ◌++◌, ◌⊎◌, Option, None}
 use Rattle.fr_bus.specs.Record.{Recorded, heard}
 use Rattle.fr_core.specs.Worlds.{WorldState}
 use Rattle.fr_hearing.specs.Alarms.{judged}
 use Rattle.fr_hearing.specs.Files.{Clock, capture_of}
 use Rattle.fr_hearing.specs.Runs.{IsHealthy, packets_seen, logged}
 use Rattle.fr_judging.specs.Judging.{fresh, finish, has_finding}
-use Rattle.fr_judging.specs.Rules.{rules_of, has_sender, due_at}
+use Rattle.fr_judging.specs.Rules.{rules_of}
 use Rattle.fr_logged.specs.Logged.{kind_of}
-use Rattle.fr_logged.specs.declared.due.Due.{Due}
 use Rattle.fr_logged.specs.declared.record.Kind.TheVariants.{Foreign}
 use Rattle.fr_recording.specs.Records.{Record}
 use Rattle.fr_recording.specs.Stream.{records_in}
-use Rattle.fr_schedule.specs.Descriptions.{Description}
-use Rattle.fr_slots.specs.declared.channel.Channel.{Channel}
 use Rattle.fr_slots.specs.declared.channel.Channel.TheVariants.{A, B}
 use Rattle.fr_slots.specs.Parameters.{Parameters}
 
@@ -30,22 +27,15 @@ AreInOrder (r ∷ rs) packets =
     ⊎ ((time : Option ℤ) × (bytes : List ℕ) × (rest : List (List ℕ)) × (packets ≡ bytes ∷ rest)
     × (r ≡ logged time bytes) × AreInOrder rs rest)
 
--- No transmit buffer for both channels sends in a static slot.
-abbrev pub HasNoneForBoth : Description → Type 0
-HasNoneForBoth d = (slot : ℕ) (channel : Channel) (cycle : ℕ) (x : Due) → due_at d slot channel cycle ≡ Some x
-    → x.both ≡ false
-
--- Both channels have a sender, and no transmit buffer for both channels sends in a static slot. In a run without faults
--- on either channel, both have no finding, judged together and without times.
+-- In a run without faults on either channel, both have no finding, judged together and without times. Both channels have
+-- a sender, or one of them, or none.
 abbrev pub NoAlarmTogether : WorldState → Type 0
 NoAlarmTogether w = (most : ℕ) (whole : Bool) (records : List Record) → IsHealthy w A → IsHealthy w B
-    → has_sender w.bus.cluster A ≡ true → has_sender w.bus.cluster B ≡ true → HasNoneForBoth w.bus.cluster
     → AreInOrder records (packets_of_both w.bus.cluster.params w.bus.sealed)
     → has_finding (finish (judged (fresh (rules_of w.bus.cluster most whole None 0)) records) true) ≡ false
 
 -- The same of the capture of such a run's bus, with any times.
 abbrev pub NoAlarmInFileTogether : WorldState → Type 0
 NoAlarmInFileTogether w = (most : ℕ) (whole : Bool) (time : Clock) → IsHealthy w A → IsHealthy w B
-    → has_sender w.bus.cluster A ≡ true → has_sender w.bus.cluster B ≡ true → HasNoneForBoth w.bus.cluster
     → has_finding (finish (judged (fresh (rules_of w.bus.cluster most whole None 0))
     (records_in (capture_of time w.bus.cluster.params w.bus.sealed))) true) ≡ false

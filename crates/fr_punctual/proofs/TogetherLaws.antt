@@ -25,7 +25,8 @@ use Rattle.fr_status.specs.Forms.{Seen}
 use Rattle.fr_status.specs.declared.seen.Seen.TheVariants.{Silence, Own, Conflict, Noise, Overrun, Bytes}
 use Rattle.fr_punctual.proofs.FileLaws.{times_add_nothing_in_file, windows_keep_time}
 use Rattle.fr_punctual.proofs.RunLaws.{times_add_nothing, bytes_at}
-use Rattle.fr_punctual.specs.Runs.{due_at, Packet, packets_at, packets_after, AreLoggedAt, window_begins, whole_microseconds}
+use Rattle.fr_punctual.specs.Runs.{due_at, Packet, packets_at, packets_after, AreLoggedAt, window_begins}
+use Rattle.fr_punctual.specs.Runs.{whole_microseconds}
 use Rattle.fr_punctual.specs.Schedule.{Timeline}
 use Rattle.fr_punctual.specs.Together.{packets_of_both_after, timely_packets, AreInOrderAt, NoAlarmTogetherInTime}
 use Rattle.fr_punctual.specs.Together.{NoAlarmInTimelyFileTogether, NoAlarmInExactFileTogether}
@@ -150,9 +151,9 @@ order_any slack (r ∷ rs) packets (inr own) = inr (
 -- ---- the laws
 
 pub no_alarm_together_in_time : (w : WorldState) → Headline w → NoAlarmTogetherInTime w
-no_alarm_together_in_time w head most whole t records is healthy_a healthy_b some_a some_b none order =
+no_alarm_together_in_time w head most whole t records is healthy_a healthy_b order =
     times_add_nothing w head most whole None t records is (λ channel mine. both channel)
-    ∙ no_alarm_together w head most whole records healthy_a healthy_b some_a some_b none
+    ∙ no_alarm_together w head most whole records healthy_a healthy_b
     (subst (AreInOrder records) (bytes_of_both w.bus.cluster.params t [] w.bus.sealed)
     (order_any t.slack records (timely_packets w.bus.cluster.params t w.bus.sealed) order))
   where
@@ -169,16 +170,16 @@ no_alarm_together_in_time w head most whole t records is healthy_a healthy_b som
     both B = (healthy_b, logged_on B)
 
 pub no_alarm_in_timely_file_together : (w : WorldState) → Headline w → NoAlarmInTimelyFileTogether w
-no_alarm_in_timely_file_together w head most whole t time is healthy_a healthy_b some_a some_b none keeps =
+no_alarm_in_timely_file_together w head most whole t time is healthy_a healthy_b keeps =
     times_add_nothing_in_file w head most whole None t time is both keeps
-    ∙ no_alarm_in_file_together w head most whole time healthy_a healthy_b some_a some_b none
+    ∙ no_alarm_in_file_together w head most whole time healthy_a healthy_b
   where
     both : (channel : Channel) → IsHealthy w channel
     both A = healthy_a
     both B = healthy_b
 
 pub no_alarm_in_exact_file_together : (w : WorldState) → Headline w → NoAlarmInExactFileTogether w
-no_alarm_in_exact_file_together w head most whole healthy_a healthy_b some_a some_b none =
+no_alarm_in_exact_file_together w head most whole healthy_a healthy_b =
     let exact = windows_keep_time w head in
     no_alarm_in_timely_file_together w head most whole (whole_microseconds w.bus.cluster.params)
-    (window_begins w.bus.cluster.params) exact.0 healthy_a healthy_b some_a some_b none exact.1
+    (window_begins w.bus.cluster.params) exact.0 healthy_a healthy_b exact.1

@@ -7,10 +7,9 @@ use Rattle.fr_hearing.specs.Alarms.{judged}
 use Rattle.fr_hearing.specs.Files.{Clock, capture_of}
 use Rattle.fr_hearing.specs.Runs.{IsHealthy, logged}
 use Rattle.fr_judging.specs.Judging.{fresh, finish, has_finding}
-use Rattle.fr_judging.specs.Rules.{rules_of, has_sender}
+use Rattle.fr_judging.specs.Rules.{rules_of}
 use Rattle.fr_logged.specs.Logged.{kind_of}
 use Rattle.fr_logged.specs.declared.record.Kind.TheVariants.{Foreign}
-use Rattle.fr_pairing.specs.Pairs.{HasNoneForBoth}
 use Rattle.fr_recording.specs.Records.{Record}
 use Rattle.fr_recording.specs.Stream.{records_in}
 use Rattle.fr_slots.specs.declared.channel.Channel.TheVariants.{A, B}
@@ -41,7 +40,6 @@ AreInOrderAt slack (r ∷ rs) packets =
 abbrev pub NoAlarmTogetherInTime : WorldState → Type 0
 NoAlarmTogetherInTime w = (most : ℕ) (whole : Bool) (t : Timeline) (records : List Record)
     → IsTimeline w.bus.cluster.params t → IsHealthy w A → IsHealthy w B
-    → has_sender w.bus.cluster A ≡ true → has_sender w.bus.cluster B ≡ true → HasNoneForBoth w.bus.cluster
     → AreInOrderAt t.slack records (timely_packets w.bus.cluster.params t w.bus.sealed)
     → has_finding (finish (judged (fresh (rules_of w.bus.cluster most whole None t.macrotick)) records) true) ≡ false
 
@@ -49,7 +47,6 @@ NoAlarmTogetherInTime w = (most : ℕ) (whole : Bool) (t : Timeline) (records : 
 abbrev pub NoAlarmInTimelyFileTogether : WorldState → Type 0
 NoAlarmInTimelyFileTogether w = (most : ℕ) (whole : Bool) (t : Timeline) (time : Clock)
     → IsTimeline w.bus.cluster.params t → IsHealthy w A → IsHealthy w B
-    → has_sender w.bus.cluster A ≡ true → has_sender w.bus.cluster B ≡ true → HasNoneForBoth w.bus.cluster
     → KeepsTime w.bus.cluster.params t time w.bus.sealed
     → has_finding (finish (judged (fresh (rules_of w.bus.cluster most whole None t.macrotick))
     (records_in (capture_of time w.bus.cluster.params w.bus.sealed))) true) ≡ false
@@ -57,6 +54,5 @@ NoAlarmInTimelyFileTogether w = (most : ℕ) (whole : Bool) (t : Timeline) (time
 -- A capture with the times of windows in microseconds has none with a macrotick of 1000 nanoseconds.
 abbrev pub NoAlarmInExactFileTogether : WorldState → Type 0
 NoAlarmInExactFileTogether w = (most : ℕ) (whole : Bool) → IsHealthy w A → IsHealthy w B
-    → has_sender w.bus.cluster A ≡ true → has_sender w.bus.cluster B ≡ true → HasNoneForBoth w.bus.cluster
     → has_finding (finish (judged (fresh (rules_of w.bus.cluster most whole None 1000))
     (records_in (capture_of (window_begins w.bus.cluster.params) w.bus.cluster.params w.bus.sealed))) true) ≡ false

@@ -12,8 +12,8 @@
 //! # Laws
 //!
 //! - `PunctualLaws`: of frames in time, the judgement has the same findings and counts with times and without.
-//! - `RunLaws`: so it has, of records of a run without faults near the times of its schedule. Each channel by itself has
-//!   no finding.
+//! - `RunLaws`: so it has, of records of a run without faults near the times of its schedule. Each channel by itself
+//!   has no finding.
 //! - `FileLaws`: the same of a capture of the bus. The exact times of windows in microseconds keep the schedule, and so
 //!   do times that are rounded down to a microsecond.
 //! - `TogetherLaws`: both channels together have no finding with times.

@@ -65,6 +65,7 @@ task_of (order.Links file) = Some (task.Links file)
 task_of (order.Capture until_fault own) = Some (task.Seen (Capture own) until_fault)
 task_of (order.Frames until_fault all) = Some (task.Seen (Table all) until_fault)
 task_of order.Why = Some task.Why
+task_of order.Fifo = Some task.Fifo
 task_of (order.Show asked.Reasons cluster scenario cycles) =
     Some (task.Stream streamed.Reasons cluster scenario cycles)
 task_of (order.Show asked.Origins cluster scenario cycles) =

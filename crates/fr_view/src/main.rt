@@ -12,6 +12,7 @@
 //! fr_view capture < node.trace > node.pcap           the observations of a controller, as a capture for Wireshark
 //! fr_view frames < node.trace                        the same as a table
 //! fr_view why < node.trace                           the line of a trace at fault, and the reason
+//! fr_view fifo < node.trace                          what becomes of each frame of the receive FIFO
 //! fr_view outcome cluster.toml scenario --cycles 8   the output of `fr_bench run`
 //! fr_view answers cluster.toml scenario --cycles 8   the answer to each line of the scenario
 //! fr_view commits cluster.toml scenario --cycles 8   the fate of each commit
@@ -46,6 +47,7 @@ use fr_cli::view::order;
 use fr_cli::waiting::{WaitingReader, WaitingWriter};
 use fr_cli::words::{texts_of, words_given};
 use fr_expecting::missed::{Missed, write_missed};
+use fr_fifo::show::show_fifo;
 use fr_files::named::file_named;
 use fr_latency::text::show_latencies;
 use fr_latency::way_text::show_way;
@@ -79,6 +81,8 @@ fr_view frames [--all] [--until-fault] < TRACE
     --until-fault, of both: what was seen before the line at fault, and then the refusal
 fr_view why < TRACE
     why an audit refuses a trace: the line at fault, the reason, and the line as it would be right
+fr_view fifo < TRACE
+    a line for each thing that happens to a frame of the receive FIFO: stored, popped, overwritten, waiting
 fr_view outcome FILE SCENARIO --cycles N [--endless]
     what `fr_bench run` prints of a run of the cluster
 fr_view answers FILE SCENARIO --cycles N [--endless]
@@ -237,6 +241,15 @@ fn explain<R: Input + Print + AllocGlobal + Clock>(rt: &R) -> Result<ExitCode, V
     Ok(ExitCode::from(status_told(verdict)))
 }
 
+/// Writes what becomes of the frames of a receive FIFO, from its node's trace on standard input.
+fn show_frames<R: Input + Print + AllocGlobal + Clock>(rt: &R) -> Result<(), ViewFailure> {
+    Ok(show_fifo(
+        rt.alloc(),
+        &mut WaitingReader::new(rt, rt.reader()),
+        &mut WaitingWriter::new(rt, io::writer(rt)),
+    )?)
+}
+
 /// Writes the picture of a cycle of the cluster in the file.
 fn show_cycle<R: Files + Print + AllocGlobal + Clock>(
     rt: &R,
@@ -304,6 +317,7 @@ fn carry_out<R: Files + Input + Print + Eprint + AllocGlobal + Clock>(
         Task::Links { file } => show_receivers(rt, file)?,
         Task::Seen { form, until_fault } => show_seen(rt, *form, *until_fault)?,
         Task::Why => return explain(rt),
+        Task::Fifo => show_frames(rt)?,
         Task::Run {
             shown,
             cluster,

@@ -50,6 +50,8 @@ pub enum Task<'a> {
     },
     /// Print the reason why an audit rejects a trace.
     Why,
+    /// Print what becomes of the frames of a receive FIFO, from its node's trace.
+    Fifo,
     /// Run a cluster with a scenario, and print a view of the run.
     Run {
         /// The view.
@@ -160,6 +162,7 @@ pub fn task_of(order: ViewOrder<'_>) -> Option<Task<'_>>
             until_fault,
         }),
         ViewOrder::Why => Some(Task::Why),
+        ViewOrder::Fifo => Some(Task::Fifo),
         ViewOrder::Show {
             asked: Asked::Reasons,
             cluster,

@@ -9,7 +9,7 @@ from dataclasses import dataclass, field
 from musmyrtle.cluster import Cluster
 from musmyrtle.faults.answers import NO_REFUSALS
 from musmyrtle.faults.children import Children
-from musmyrtle.faults.fifos import Fifo, Unread, counts_in, read_fifo, table_of
+from musmyrtle.faults.fifos import Fifo, Unread, fifo_of
 from musmyrtle.faults.played import REQUEST_SECONDS, Begun, Occasion, Played, forged_babble, slot_of
 from musmyrtle.faults.traces import fetched
 from musmyrtle.world.faults import Mute
@@ -191,7 +191,7 @@ def observed(job: HostJob, world: World, slots: dict[Occasion, int]) -> HostRan:
                          for channel, slot in it.slots.items() if slot != "-"}
     for node in job.cluster.nodes:
         if node.queue:
-            played.fifos[node.number] = fifo(job, traces[node.number], starts, reports[node.number])
+            played.fifos[node.number] = fifo(job, traces[node.number])
     return HostRan(f"{outcome}windows {len(windows)}\nsettled\n", played,
                    {node: begins(trace) for node, trace in traces.items()}, committed(traces))
 
@@ -232,9 +232,9 @@ def begun(world: World, windows: list[list[str]]) -> list[Begun]:
     return found
 
 
-def fifo(job: HostJob, trace: list[str], starts: list[int], report: list[str]) -> Fifo | str:
+def fifo(job: HostJob, trace: list[str]) -> Fifo | str:
     """Returns the frames of a receive FIFO, or why they can't be read."""
     try:
-        return read_fifo(table_of(job.viewer, trace, Children()), trace, starts, counts_in(report))
+        return fifo_of(job.viewer, trace, Children())
     except Unread as error:
         return str(error)

@@ -8,7 +8,7 @@ from contextlib import closing
 from dataclasses import dataclass, field
 
 from musmyrtle.cluster import CYCLES, Cluster
-from musmyrtle.faults.fifos import Fifo, Unread, counts_in, read_fifo, table_of
+from musmyrtle.faults.fifos import Fifo, Unread, fifo_of
 from musmyrtle.faults.frames import data_frame
 from musmyrtle.faults.runs import Folder
 from musmyrtle.faults.traces import fetched
@@ -213,8 +213,6 @@ class Play:
 
     def read_fifo(self, node: int) -> Fifo | str:
         try:
-            trace = self.session.block(f"trace {node}")
-            table = table_of(self.player.viewer, trace, self.player.folder.children)
-            return read_fifo(table, trace, self.played.starts, counts_in(self.session.block(f"report {node}")))
+            return fifo_of(self.player.viewer, self.session.block(f"trace {node}"), self.player.folder.children)
         except (Unread, Refused) as error:
             return str(error)

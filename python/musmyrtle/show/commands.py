@@ -46,7 +46,7 @@ def selection_of(given: argparse.Namespace, inputs: Inputs) -> Selection:
     """Returns the rows that the words select."""
     channels = None if given.channel is None else frozenset(given.channel)
     cycles, is_errors = getattr(given, "in_cycles", None), getattr(given, "errors", False)
-    nodes, slots = numbers_of_nodes(given.node, inputs.network), known_slots(given.slot, inputs.network)
+    nodes, slots = numbers_of_nodes(given.node, inputs.network), known_slots(given.slot, inputs)
     return Selection(nodes, slots, channels, cycles, is_errors)
 
 

@@ -14,7 +14,6 @@ from musmyrtle.show.engines import Inputs
 from musmyrtle.show.network import Network
 from musmyrtle.show.received import errors_in
 from musmyrtle.show.windows import Windows
-from musmyrtle.world.replies import Queue
 
 ARRIVED = "alone"
 """The end of a transmission that arrived as it was sent."""
@@ -143,7 +142,6 @@ class Facts:
     def __init__(self, inputs: Inputs) -> None:
         self.inputs = inputs
         self.trace = cache(self.read_trace)
-        self.frames = cache(self.read_frames)
 
     @property
     def network(self) -> Network:
@@ -221,18 +219,10 @@ class Facts:
         """Returns the lines of the trace of a node."""
         return self.inputs.of_run("trace", str(node)).lines
 
-    def read_frames(self, node: int) -> list[list[str]]:
-        """Returns the words of each row of the table of frames of a node, with all observations."""
+    def fifo(self, node: int) -> Fifo:
+        """Returns the frames of a node's receive FIFO by their fates. Raises `Stop` where they can't be read."""
         data = "".join(f"{line}\n" for line in self.trace(node)).encode()
-        return [line.split(" ") for line in self.inputs.ask("fr_view", ["frames", "--all"], data).lines[1:]]
-
-    def fifo(self, node: int, counts: Queue) -> Fifo:
-        """Returns the frames of a node's receive FIFO by their fates.
-
-        COUNTS are those of its report. Raises `Stop` where the frames can't be read.
-        """
-        table = [" ".join(words) for words in self.frames(node)]
         try:
-            return read_fifo(table, self.trace(node), list(self.windows.starts), counts)
+            return read_fifo(self.inputs.ask("fr_view", ["fifo"], data).lines)
         except Unread as error:
             raise Stop(USAGE, f"the FIFO of node {node} can't be read: {error}") from None

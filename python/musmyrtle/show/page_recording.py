@@ -9,16 +9,14 @@ import re
 from array import array
 from collections import Counter
 from collections.abc import Iterable, Iterator
-from pathlib import Path
-from tempfile import TemporaryDirectory
 from typing import IO, Any
 
 from musmyrtle.findings import counted
 from musmyrtle.lint.command import USAGE
-from musmyrtle.lint.lint import Task
 from musmyrtle.output import Stop
 from musmyrtle.show.engines import Inputs
 from musmyrtle.show.facts import ARRIVED, Transmission
+from musmyrtle.show.idle_cycle import IdleCycle, idle_cycle_of
 from musmyrtle.show.monitor import STANDARD_INPUT, judged
 from musmyrtle.show.network import Network
 from musmyrtle.show.page_columns import NOTHING, Columns, Words
@@ -32,7 +30,6 @@ from musmyrtle.show.windows import CHANNELS, Windows
 from musmyrtle.version import version
 from musmyrtle.visible import visible
 
-IDLE_RUN = "a run in which nothing is done"
 MOST_WINDOWS, MOST_TIME = 4_000_000, 2**32 - 1
 """The most static slots and frames of a recording with a page, and the most macroticks from its first cycle on."""
 MISSING, BROKEN = "missing", "broken"
@@ -48,29 +45,6 @@ HEADERS = ("A broken record is drawn in the slot that its header names, if that 
 NO_FRAMES = "The recording has no frame."
 CUT_OFF = "The recording couldn't be read to its end: {}."
 NARROWED = "Only the cycles {} of the recording are shown; it has {}."
-
-
-class Cycle:
-    """The windows of a cycle without a frame: where each static slot and each minislot begins, and where it ends."""
-
-    def __init__(self, its: Windows) -> None:
-        self.length, self.dynamic_begin = its.begin_of_cycle(1), its.dynamic_begin
-        windows = range(its.starts[1])
-        statics = [it for it in windows if its.minislots[it] == 0]
-        self.slots = [(its.begins[it], its.slots["A"][it], its.lengths["A"][it]) for it in statics]
-        self.of_slot = {slot: (begin, length) for begin, slot, length in self.slots}
-        self.minislots = {its.begins[it]: its.minislots[it] for it in windows if its.minislots[it]}
-
-
-def cycle_of(inputs: Inputs) -> Cycle:
-    """Returns the windows of a cycle, from a run of two cycles in which nothing is done."""
-    task = inputs.task
-    with TemporaryDirectory(prefix="musmyrtle-") as folder:
-        scenario = Path(folder, "scenario")
-        scenario.write_text("frscenario 2\nend\n", encoding="ascii")
-        idle = Inputs(Task(task.cluster, IDLE_RUN, 2, {**task.files, IDLE_RUN: str(scenario)}))
-        idle.programs = inputs.programs
-        return Cycle(Windows(idle.of_run("windows").lines))
 
 
 def recorded(inputs: Inputs, given: argparse.Namespace, source: IO[bytes]) -> tuple[Recorded, int, list[str]]:
@@ -102,7 +76,7 @@ def range_of(word: str) -> range:
 class Shown:
     """The part of a recording that a page shows: its frames by their cycles, and the frames without a place."""
 
-    def __init__(self, found: Recorded, cycle: Cycle, wanted: range | None) -> None:
+    def __init__(self, found: Recorded, cycle: IdleCycle, wanted: range | None) -> None:
         self.found, self.cycle = found, cycle
         numbers = [found.on_axis(it.channel, it.cycle) for it in found.frames.values()]
         self.all = max((it for it in numbers if it is not None), default=0) + 1
@@ -216,7 +190,7 @@ class Bus:
 
 def packed_recording(inputs: Inputs, given: argparse.Namespace, found: Recorded, cut_off: str) -> bytes:
     """Returns the packed data of a recording. CUT_OFF is the reason why it wasn't read to its end, or nothing."""
-    cycle = cycle_of(inputs)
+    cycle = idle_cycle_of(inputs)
     part = Shown(found, cycle, given.cycles)
     part.check_length()
     bus, columns = Bus(part, inputs.network), Columns()

@@ -1,7 +1,7 @@
 """The command `reads`: what tasks read and popped, what each FIFO holds at the end, and what it lost."""
 from collections.abc import Iterator
 
-from musmyrtle.faults.fifos import Fifo, StoredFrame
+from musmyrtle.faults.fifos import StoredFrame
 from musmyrtle.show.facts import Call, Facts
 from musmyrtle.show.network import Network
 from musmyrtle.show.selection import Selection
@@ -72,8 +72,7 @@ def row_of(facts: Facts, call: Call, source: Source | None) -> Row:
 
 def fifo_rows(facts: Facts, node: int, selection: Selection) -> Iterator[Row]:
     """Yields the frames that a FIFO overwrote, and those that it holds at the end, the oldest first."""
-    counts = facts.ended[0].nodes[node].queue
-    fifo = Fifo() if counts is None else facts.fifo(node, counts)
+    fifo = facts.fifo(node)
     states = [("overwritten", fifo.overwritten), *([] if selection.is_errors else [("waiting", fifo.waiting)])]
     for state, frames in states:
         for frame in frames:

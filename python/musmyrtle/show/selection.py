@@ -2,9 +2,10 @@
 from collections.abc import Iterable
 from dataclasses import dataclass
 
-from musmyrtle.cluster import LAST_SLOT
 from musmyrtle.lint.command import USAGE
 from musmyrtle.output import Stop
+from musmyrtle.show.engines import Inputs
+from musmyrtle.show.idle_cycle import idle_cycle_of
 from musmyrtle.show.network import Network
 
 
@@ -51,16 +52,17 @@ def number_of(word: str, network: Network) -> int:
     raise Stop(USAGE, f"the cluster has {len(network.cluster.nodes)} nodes, and none is {word}; names: {names}")
 
 
-def known_slots(slots: frozenset[int] | None, network: Network) -> frozenset[int] | None:
+def known_slots(slots: frozenset[int] | None, inputs: Inputs) -> frozenset[int] | None:
     """Returns slots that are given, or None. Raises `Stop` if the cluster doesn't have one of them.
 
-    Its last slot is the one that opens at the last minislot of a cycle without dynamic frames. A slot that never opens
-    can be given too if a buffer is for it.
+    Its last slot is the last one that opens in a cycle in which nothing is sent. A slot that never opens can be given
+    too if a buffer is for it.
     """
-    parameters = network.cluster.parameters
-    last = min(LAST_SLOT, parameters.static_slots + parameters.minislots)
-    known = {*range(1, last + 1), *(buffer.slot for node in network.cluster.nodes for buffer in node.buffers)}
-    missing = (slots or frozenset()) - known
+    if slots is None:
+        return None
+    last = idle_cycle_of(inputs).last_slot
+    known = {*range(1, last + 1), *(buffer.slot for node in inputs.network.cluster.nodes for buffer in node.buffers)}
+    missing = slots - known
     if missing:
         raise Stop(USAGE, f"the cluster has no slot {min(missing)}: its slots are 1 to {last}")
     return slots

@@ -5,7 +5,7 @@ import shutil
 from collections.abc import Iterator
 from pathlib import Path
 
-from musmyrtle.program import CHECKOUT
+from musmyrtle.program import CHECKOUT, is_checkout
 from musmyrtle.world.refusals import NotStarted
 
 NAME = "fr_world"
@@ -30,8 +30,8 @@ def usual_world() -> str:
 
 
 def in_checkout() -> tuple[Path, ...]:
-    """Returns the files of the checkout that may be the program, in their order."""
-    return CHECKOUT / NAME, CHECKOUT / "dist" / NAME
+    """Returns the files of the checkout that may be the program, in their order. An installed package has none."""
+    return (CHECKOUT / NAME, CHECKOUT / "dist" / NAME) if is_checkout() else ()
 
 
 def not_started(program: str, error: OSError) -> NotStarted:

@@ -52,6 +52,10 @@ test("a view of some macroticks, and one in which a time is in the middle", () =
   assert.equal(viewAt(close, 500, 520).from, 460);
 });
 
+test("the numbers of narrow cycles have room", () => {
+  assert.deepEqual([500, 71, 70, 36, 35, 6].map(cyclesApart), [1, 1, 2, 2, 4, 16]);
+});
+
 test("ticks are round in the unit of the axis", () => {
   const ticks = ticksOf({from: 0, span: 1000, width: 450, length: 1000}, 1);
   assert.deepEqual(ticks.map((it) => it.text), ["0", "200", "400", "600", "800", "1,000"]);

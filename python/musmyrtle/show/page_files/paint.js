@@ -5,6 +5,8 @@ const COLOURS = ["#e69f00", "#56b4e9", "#009e73", "#f0e442", "#0072b2", "#d55e00
 const DARK = [4, 7];
 const GUTTER = 130;
 const FONT = "12px sans-serif";
+/** The pixels that the number of a cycle takes at most. */
+const NUMBER_ROOM = 70;
 /** The colours of the picture by name. The style of the page has them, light and dark. */
 const THEME = ["ink", "paper", "grid", "silent", "dynamic", "error", "collision", "lit"];
 const PAPER = {ink: "#000", paper: "#fff", grid: "#bbb", silent: "#eee", dynamic: "#f4f4f4", error: "#b3261e",
@@ -36,6 +38,15 @@ function paint(context, picture) {
   paintLabels(context, picture);
 }
 
+/** Returns how far apart cycles of this width with a number are: 1, or a power of 2, as their counts have. */
+function cyclesApart(width) {
+  let apart = 1;
+  while (apart * width <= NUMBER_ROOM) {
+    apart *= 2;
+  }
+  return apart;
+}
+
 /** Paints the dynamic segments, and the borders of cycles with their numbers. */
 function paintCycles(context, {run, view, theme, height, lanes}) {
   const {minislots, minislot_mt} = run.header.params;
@@ -44,6 +55,7 @@ function paintCycles(context, {run, view, theme, height, lanes}) {
   if (width < 6) {
     return;
   }
+  const apart = cyclesApart(width);
   for (let cycle = cycleAt(run, view.from); cycle < run.header.cycles; cycle += 1) {
     const start = run.beginOf(cycle);
     const x = pixelOf(view, start);
@@ -54,10 +66,12 @@ function paintCycles(context, {run, view, theme, height, lanes}) {
     const end = pixelOf(view, start + dynamicBegin + minislots * minislot_mt);
     context.fillStyle = theme.dynamic;
     context.fillRect(begin, AXIS, end - begin, height - AXIS);
+    // The borders of cycles without a number would cross the numbers.
+    const top = cycle % apart === 0 ? 0 : AXIS;
     context.fillStyle = theme.grid;
-    context.fillRect(x, 0, 1, height);
+    context.fillRect(x, top, 1, height - top);
     lanes.forEach((it) => paintMinislots(context, it, begin, end, minislots));
-    if (width > 70) {
+    if (cycle % apart === 0) {
       context.fillStyle = theme.ink;
       context.fillText(`cycle ${cycleText(run, cycle)}`, Math.max(x, 0) + 4, 10);
     }

@@ -3,7 +3,7 @@ use Rattle.std.proofs.lemmas.Result.{IfOk-weaker}
 use Rattle.clap.specs.Words.{App, app_of, with_subcommand}
 use Rattle.fr_cli.specs.Commands.{with_file}
 use Rattle.fr_cli.specs.ViewOrders.{five_commands, four_commands, latency_command, of_trace, one_command}
-use Rattle.fr_cli.specs.ViewOrders.{schedule_command, three_commands, two_commands}
+use Rattle.fr_cli.specs.ViewOrders.{schedule_command, six_commands, three_commands, two_commands}
 use Rattle.fr_cli.proofs.view.file_commands.Goals as goal
 
 pub returns : goal.returns
@@ -30,6 +30,8 @@ returns c =
     c.in_ok-fifth.ensures.shape c.in_ok-latency_command.ensures.local
     ∙ ap₂ with_subcommand fourth (ap top latency_is) in
     let links_is : app_of c.in_ok-of_file.field-0 ≡ with_file (codes "links") = c.in_ok-of_file.ensures.app in
-    IfOk-weaker c.subcommand-6.result _ _
-    (λ m h. h.shape c.in_ok-of_file.ensures.local ∙ ap₂ with_subcommand fifth (ap top links_is))
-    c.subcommand-6.ensures
+    let sixth : app_of c.in_ok-sixth.sixth ≡ six_commands =
+    c.in_ok-sixth.ensures.shape c.in_ok-of_file.ensures.local ∙ ap₂ with_subcommand fifth (ap top links_is) in
+    IfOk-weaker c.subcommand-7.result _ _
+    (λ m h. h.shape (search rules) ∙ ap₂ with_subcommand sixth (ap top c.new-2.ensures.app))
+    c.subcommand-7.ensures

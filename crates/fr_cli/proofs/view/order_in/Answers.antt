@@ -102,5 +102,5 @@ returns-in_default-clause-nothing c =
     let words : (id : Text) → first_value found id ≡ word_in entered id =
     λ id. first_value-rows found id ∙ sym (word_of_rows entered (rows_of found) id (search rules)) in
     show_lacks entered c.in_ok-name.name.now (first_value found) c.show_in.result named (search rules) (search rules)
-    (search rules) (search rules) (search rules) (search rules)
+    (search rules) (search rules) (search rules) (search rules) (search rules)
     words c.show_in.ensures.nothing

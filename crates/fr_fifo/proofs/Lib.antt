@@ -1,0 +1,2 @@
+pub mod FifoLemmas
+pub mod TextLemmas

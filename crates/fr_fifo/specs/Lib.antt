@@ -1,0 +1,2 @@
+pub mod FifoText
+pub mod FifoSteps
