@@ -1,9 +1,9 @@
 -- What `fr_view bus` writes is read back as what a listener received.
-use Rattle.std.proofs.Common.{◌≡◌, ℕ, ◌-◌, true, false, List, [], ◌∷◌, ◌++◌, Some, None, refl, ap, ◌∙◌}
+use Rattle.std.proofs.Common.{◌≡◌, ℕ, ◌-◌, true, false, List, [], ◌∷◌, ◌++◌, Option, Some, None, refl, ap, ◌∙◌}
 use Rattle.fr_bus.specs.Record.{Recorded, heard}
 use Rattle.fr_bus.specs.Windows.{cycles_begun}
 use Rattle.fr_capture.specs.Pcap.{file_header, record_seen}
-use Rattle.fr_concord.specs.Recordings.{window_time, IsSameCapture, IsReadAgain, HasNoAlarm}
+use Rattle.fr_concord.specs.Recordings.{window_time, IsSameCapture, IsReadAgain, HasNoAlarm, HasNoAlarmInTime}
 use Rattle.fr_core.specs.Headline.{Headline}
 use Rattle.fr_core.specs.Worlds.{WorldState}
 use Rattle.fr_hearing.proofs.FileLaws.{no_alarm_in_file}
@@ -12,6 +12,8 @@ use Rattle.fr_hearing.specs.Alarms.{judged}
 use Rattle.fr_hearing.specs.Files.{window_seen, capture_of as capture_at}
 use Rattle.fr_judging.specs.Judging.{fresh, finish, has_finding}
 use Rattle.fr_judging.specs.Rules.{rules_of}
+use Rattle.fr_punctual.proofs.FileLaws.{no_alarm_in_exact_file}
+use Rattle.fr_punctual.proofs.TogetherLaws.{no_alarm_in_exact_file_together}
 use Rattle.fr_recording.specs.Stream.{records_in, refusal_in}
 use Rattle.fr_showing.specs.Listening.{heard_record, window_records, capture_of}
 use Rattle.fr_slots.specs.declared.channel.Channel.{Channel}
@@ -49,3 +51,13 @@ has_no_alarm w head most whole channel healthy =
     ap (λ (bytes : List ℕ). has_finding (finish (judged (fresh (rules_of w.bus.cluster most whole (Some channel) 0))
     (records_in bytes)) true)) (is_same_capture w.bus.cluster.params w.bus.sealed)
     ∙ (no_alarm_in_file w head most whole channel (window_time w.bus.cluster.params) healthy).1
+
+pub has_no_alarm_in_time : (w : WorldState) → Headline w → HasNoAlarmInTime w
+has_no_alarm_in_time w head most whole only healthy =
+    ap (λ (bytes : List ℕ). has_finding (finish (judged (fresh (rules_of w.bus.cluster most whole only 1000))
+    (records_in bytes)) true)) (is_same_capture w.bus.cluster.params w.bus.sealed) ∙ by only
+  where
+    by : (o : Option Channel) → has_finding (finish (judged (fresh (rules_of w.bus.cluster most whole o 1000))
+        (records_in (capture_at (window_time w.bus.cluster.params) w.bus.cluster.params w.bus.sealed))) true) ≡ false
+    by None = no_alarm_in_exact_file_together w head most whole (healthy A) (healthy B)
+    by (Some channel) = no_alarm_in_exact_file w head most whole channel healthy

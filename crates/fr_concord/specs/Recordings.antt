@@ -1,5 +1,5 @@
 -- The capture of a bus as `fr_view bus` writes it, read back as a recording (project-defined).
-use Rattle.std.specs.Prelude.{◌≡◌, ℕ, ◌-◌, Bool, true, false, List, [], ◌∷◌, ◌++◌, Some, None}
+use Rattle.std.specs.Prelude.{◌≡◌, ℕ, ◌-◌, Bool, true, false, List, [], ◌∷◌, ◌++◌, Option, Some, None}
 use Rattle.fr_bus.specs.Record.{Recorded}
 use Rattle.fr_bus.specs.Windows.{cycles_begun}
 use Rattle.fr_core.specs.Worlds.{WorldState}
@@ -32,4 +32,10 @@ IsReadAgain = (p : Parameters) (rs : List Recorded) → AreShort p rs
 abbrev pub HasNoAlarm : WorldState → Type 0
 HasNoAlarm w = (most : ℕ) (whole : Bool) (channel : Channel) → ((on : Channel) → IsHealthy w on)
     → has_finding (finish (judged (fresh (rules_of w.bus.cluster most whole (Some channel) 0))
+    (records_in (capture_of w.bus.cluster.params w.bus.sealed))) true) ≡ false
+
+-- Nor have they any with times, at a macrotick of 1000 nanoseconds, on either channel by itself or on both together.
+abbrev pub HasNoAlarmInTime : WorldState → Type 0
+HasNoAlarmInTime w = (most : ℕ) (whole : Bool) (only : Option Channel) → ((on : Channel) → IsHealthy w on)
+    → has_finding (finish (judged (fresh (rules_of w.bus.cluster most whole only 1000))
     (records_in (capture_of w.bus.cluster.params w.bus.sealed))) true) ≡ false
