@@ -10,4 +10,4 @@ mod OnceLemmas
 mod BothLemmas
 mod TwinLemmas
 mod QuietLemmas
-mod PairLaws
+pub mod PairLaws

@@ -1,0 +1,11 @@
+pub mod CalmLemmas
+pub mod StepLemmas
+pub mod TimeLemmas
+pub mod WalkLemmas
+pub mod CourseLemmas
+pub mod PunctualLaws
+pub mod WindowLemmas
+pub mod RunLaws
+pub mod FileLaws
+pub mod TogetherLaws
+pub mod WorkedLemmas

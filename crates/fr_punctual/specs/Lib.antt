@@ -1,0 +1,4 @@
+pub mod Schedule
+pub mod Untimed
+pub mod Runs
+pub mod Together
