@@ -21,7 +21,8 @@ REST = rf"[ \t]*+(?:{COMMENT})?"
 LINE_END = re.compile(rf"{REST}(?:\r?\n|\Z)")
 BARE = re.compile(r"([-_0-9A-Za-z]++)[ \t]*+(\.)?[ \t]*+")
 """A part of a key without quotes, and the point after it."""
-DOTTED = re.compile(rf"([-_0-9A-Za-z]++(?:\.[-_0-9A-Za-z]++){{0,{DEEPEST - 1}}}+)[ \t]*+(?=[\]=])")
+# Python 3.11.2 misreads `{0,9}+` behind a group: it takes the dot of `a. = 1` for a part of the key.
+DOTTED = re.compile(rf"([-_0-9A-Za-z]++(?:\.[-_0-9A-Za-z]++){{0,{DEEPEST - 1}}})[ \t]*+(?=[\]=])")
 """A whole key of parts without quotes, with points alone between them. In a long key, each part is read much faster."""
 SIMPLE = re.compile(r"([-_0-9A-Za-z]++)[ \t]*+=[ \t]*+")
 """A key of one part without quotes, as most are, and what comes between it and its value."""
