@@ -14,8 +14,8 @@
 //!
 //! # Inner workings
 //!
-//! A slot that doesn't open in a cycle has no window there. So its buffer has a line `closed` in the window in which the
-//! channel opens its last slot of the cycle.
+//! A slot that doesn't open in a cycle has no window there. So its buffer has a line `closed` in the window in which
+//! the channel opens its last slot of the cycle.
 #![tactic(auto)]
 
 pub mod openings;

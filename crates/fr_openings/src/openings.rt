@@ -323,7 +323,8 @@ fn is_silent(window: &Window) -> bool
 /// is due and whose slot is above has a line `closed` with the words of `due`. Without minislots it follows `due`. The
 /// lines are in the order of the nodes and of their buffers, channel A before B.
 ///
-/// `last` tells of each channel whether the slot that it opens in the window is its last one of the cycle. `cycle` is the cycle of the run in which the window lies, counted from 0.
+/// `last` tells of each channel whether the slot that it opens in the window is its last one of the cycle. `cycle` is
+/// the cycle of the run in which the window lies, counted from 0.
 ///
 /// Fails if the writer fails, which may have written a part of the lines by then.
 pub fn write_openings<W: Write>(

@@ -148,10 +148,11 @@ fn last_in(params: &Params, sealed: &Sealed) -> LastSlots
 
 /// Writes the facts of a window for which commits weren't sent or weren't received (project-defined).
 ///
-/// First come the lines of `write_openings`: the transmit buffers of the dynamic segment that are due, whose slots open,
-/// or whose slots don't open in the cycle. Then the window has a line for each line of the scenario that babbles one of its transmissions, mutes it, or
-/// flips one of its bits: `effect`, or `stopped` if a bus guardian stops the babble, the cycle of the run, the slot,
-/// the channel, the end of the transmission (`End`), its node, and the number of the scenario's line.
+/// First come the lines of `write_openings`: the transmit buffers of the dynamic segment that are due, and those whose
+/// slots open, or don't open in the cycle. Then the window has a line for each line of the scenario that babbles one of
+/// its transmissions, mutes it, or flips one of its bits: `effect`, or `stopped` if a bus guardian stops the babble,
+/// the cycle of the run, the slot, the channel, the end of the transmission (`End`), its node, and the number of the
+/// scenario's line.
 ///
 /// `cycle` is the cycle of the run in which the window lies, counted from 0.
 ///
