@@ -14,16 +14,24 @@ def reasons_of(cluster: Tables, windows: str, record: str) -> str:
     sent: dict[str, list[list[str]]] = {}
     for line in record.splitlines():
         sent.setdefault(line.split(" ")[0], []).append(line.split(" "))
-    lines = []
-    for words in (line.split(" ") for line in windows.splitlines()):
-        lines += slots_of(cluster, words)
+    lines, all_windows = [], [line.split(" ") for line in windows.splitlines()]
+    last = last_slots(all_windows)
+    for words in all_windows:
+        lines += slots_of(cluster, words, last)
         lines += effects_of(sent.get(words[0], []))
     return "".join(f"{it}\n" for it in lines)
 
 
-def slots_of(cluster: Tables, window: list[str]) -> Iterator[str]:
+def last_slots(windows: list[list[str]]) -> dict[tuple[str, str], tuple[str, int]]:
+    """Returns the last window of each cycle and channel in which the dynamic segment opens a slot, and this slot."""
+    return {(cycle, channel): (number, int(slot))
+            for number, cycle, minislot, _, slot_a, _, slot_b, _ in windows if minislot != "-"
+            for channel, slot in (("A", slot_a), ("B", slot_b)) if slot != "-"}
+
+
+def slots_of(cluster: Tables, window: list[str], last: dict[tuple[str, str], tuple[str, int]]) -> Iterator[str]:
     """Yields the lines of the dynamic transmit buffers in a window."""
-    _, cycle, minislot, _, slot_a, _, slot_b, _ = window
+    window_number, cycle, minislot, _, slot_a, _, slot_b, _ = window
     is_first = minislot == "-" and slot_a == "1"
     for number, node in enumerate(cluster["node"]):
         for place, buffer in enumerate(node.get("buffer", [])):
@@ -35,10 +43,15 @@ def slots_of(cluster: Tables, window: list[str]) -> Iterator[str]:
                 latest = node.get(f"latest_{channel.lower()}", 0)
                 words = f"{cycle} {number} {place} {slot} {channel} {latest}"
                 if channel in buffer.get("channels", "AB"):
+                    end, last_slot = last.get((cycle, channel), ("", 0))
                     if is_first:
                         yield f"due {words}"
+                        if cluster["params"]["minislots"] == 0:
+                            yield f"closed {words}"
                     elif minislot != "-" and open_slot == str(slot):
                         yield f"{'late' if int(minislot) > latest else 'open'} {words} {minislot}"
+                    elif end == window_number and last_slot < slot:
+                        yield f"closed {words}"
 
 
 def effects_of(sent: list[list[str]]) -> Iterator[str]:

@@ -239,6 +239,24 @@ REASONS = "".join(
 LATE = "".join(f"due {cycle} 2 0 4 A 0\nlate {cycle} 2 0 4 A 0 1\n" for cycle in range(4))
 """The reasons without faults and without a latest minislot of node 2."""
 
+SLOT_4 = '{kind = "event", slot = 4, channels = "A", words = 1},'
+CLOSED = {
+    # Slots 4 to 7 open at the four minislots, and slot 9 never does.
+    (1, 9, 4): "".join(
+        f"due {cycle} 2 0 4 A 4\ndue {cycle} 2 1 9 A 4\nopen {cycle} 2 0 4 A 4 1\nclosed {cycle} 2 1 9 A 4\n"
+        for cycle in range(4)),
+    # A frame of 11 words takes three minislots, so slot 5 is the last one in cycle 0. Later slot 6 opens at minislot 3.
+    (11, 6, 2): "due 0 2 0 4 A 2\ndue 0 2 1 6 A 2\nopen 0 2 0 4 A 2 1\nclosed 0 2 1 6 A 2\n" + "".join(
+        f"due {cycle} 2 0 4 A 2\ndue {cycle} 2 1 6 A 2\nopen {cycle} 2 0 4 A 2 1\nlate {cycle} 2 1 6 A 2 3\n"
+        for cycle in range(1, 4)),
+    # A frame of 16 words takes all four, so no slot follows slot 4.
+    (16, 5, 1): "due 0 2 0 4 A 1\ndue 0 2 1 5 A 1\nopen 0 2 0 4 A 1 1\nclosed 0 2 1 5 A 1\n" + "".join(
+        f"due {cycle} 2 0 4 A 1\ndue {cycle} 2 1 5 A 1\nopen {cycle} 2 0 4 A 1 1\nlate {cycle} 2 1 5 A 1 2\n"
+        for cycle in range(1, 4)),
+}
+"""The words of node 2's buffer for slot 4, the slot of a further buffer and pLatestTx, with the reasons. The buffer for
+slot 4 sends in cycle 0 alone. An idle slot takes one minislot."""
+
 AFTER_70 = "frscenario 1\ncommit 1 0 0 0 x1111\nread 0 1 70 1\nend\n"
 ORIGINS_AFTER_70 = b"1 0 0 commit 0 x1111 = 0\n0 1 70 read 1 = 5 2 A x1111 69\n"
 """The state buffer of node 1 sends in each cycle, and cycle 69 of the run has count 5."""
@@ -336,6 +354,12 @@ class Plays:
                             (RECEIVED.encode(), b"", 0))
         words = self.given(cluster.replace("latest_a = 4\n", ""), "frscenario 1\nend\n")
         self.runs.check("reasons of a node that begins no frame", ["reasons", *words], (LATE.encode(), b"", 0))
+        for (length, slot, latest), told in CLOSED.items():
+            further = f'{{kind = "event", slot = {slot}, channels = "A", words = 1}},'
+            given = cluster.replace("latest_a = 4", f"latest_a = {latest}").replace(
+                SLOT_4, SLOT_4.replace("words = 1", f"words = {length}") + further)
+            words = self.given(given, f"frscenario 1\ncommit 2 0 0 0 x{'0000' * length}\nend\n")
+            self.runs.check(f"reasons where slot {slot} doesn't open", ["reasons", *words], (told.encode(), b"", 0))
         words = [*self.given(cluster, AFTER_70)[:2], "--cycles", "71"]
         self.runs.check("origins after 64 cycles", ["origins", *words], (ORIGINS_AFTER_70, b"", 0))
 

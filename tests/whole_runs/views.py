@@ -210,8 +210,8 @@ class Views:
 
     def words(self):
         lists = [[], ["audit"], ["plan", "a"], ["help"], ["-h"], ["-V"], ["--help", "--help"], ["capture", "--help"],
-                 ["capture", "a"], ["frames", "a"], ["fifo", "a"], ["fifo", "--until-fault"], ["Capture"], [""], [b"\xff"],
-                 ["schedule"], ["schedule", "a", "b"], ["schedule", "a", "--cycle"],
+                 ["capture", "a"], ["frames", "a"], ["fifo", "a"], ["fifo", "--until-fault"], ["Capture"], [""],
+                 [b"\xff"], ["schedule"], ["schedule", "a", "b"], ["schedule", "a", "--cycle"],
                  *(["schedule", "a", "--cycle", number] for number in ("64", "00", "04", "+4", "-1", "x", "", "4 ")),
                  ["schedule", "a", "--cycle", "1", "--cycle", "1"], ["schedule", "a", "--free"],
                  ["schedule", "--cycle", "1"], ["latency"], ["latency", "a", "b"], ["latency", "a", "--slot"],

@@ -2,7 +2,7 @@
 //! minislots at which their slots open.
 //!
 //! ```text
-//! write_openings(&mut text, &cluster, 3, &window)?; // slot 9 opened at minislot 54, after pLatestTx
+//! write_openings(&mut text, &cluster, 3, &window, last)?; // slot 9 opened at minislot 54, after pLatestTx
 //! ```
 //!
 //! A chapter in parentheses is one of the FlexRay Protocol Specification 2.1, revision A.
@@ -14,8 +14,8 @@
 //!
 //! # Inner workings
 //!
-//! A slot that doesn't open in a cycle has no window there, so its buffer has a line `due` in the first window of the
-//! cycle, and no further line.
+//! A slot that doesn't open in a cycle has no window there. So its buffer has a line `closed` in the window in which
+//! the channel opens its last slot of the cycle.
 #![tactic(auto)]
 
 pub mod openings;

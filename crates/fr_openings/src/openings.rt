@@ -3,12 +3,12 @@ ghost use Rattle.std.specs.Prelude.{◌≡◌};
 ghost use Rattle.fr_files.specs.NodeTexts.{of_nodes};
 ghost use Rattle.fr_openings.specs.Openings.{both_text, channel_text, due_line, due_text, is_due, is_open, is_silent};
 ghost use Rattle.fr_openings.specs.Openings.{node_text, opening_line, opening_text, opening_word, openings_text};
-ghost use Rattle.fr_openings.specs.Openings.{place_text};
+ghost use Rattle.fr_openings.specs.Openings.{closed_line, closed_text, is_above, is_closed, place_text, unopened_text};
 ghost use Rattle.fr_text.specs.Writing.{Writes};
 
 use fr_schedule::cluster::Cluster;
 use fr_slots::channel::Channel;
-use fr_slots::numbers::Cycle;
+use fr_slots::numbers::{Cycle, SlotId};
 use fr_slots::params::Params;
 use fr_slots::plan::{Buffer, NodePlan};
 use fr_slots::window::{Window, opens_cycle};
@@ -39,6 +39,39 @@ fn is_open(params: &Params, window: &Window, channel: Channel, buffer: &Buffer) 
     ensures { result ≡ is_open params.now window.now channel buffer.now }
 {
     buffer.transmits_dynamic(params) && buffer.filter.admits_window(window, channel)
+}
+
+/// For each channel, whether the slot that it opens in a window is its last one of the cycle.
+#[derive(Clone, Copy)]
+pub struct LastSlots {
+    /// On channel A.
+    pub a: bool,
+    /// On channel B.
+    pub b: bool,
+}
+
+/// Returns whether the slot is above the one that the channel opens.
+fn is_above(opened: Option<SlotId>, slot: SlotId) -> bool
+    ensures { result ≡ is_above opened slot }
+{
+    match opened {
+        Some(opened) => opened.number() < slot.number(),
+        None => false,
+    }
+}
+
+/// Returns whether the buffer is due, and the channel opens its last slot in the window, which is below the buffer's.
+fn is_closed(
+    params: &Params,
+    window: &Window,
+    ends: bool,
+    channel: Channel,
+    buffer: &Buffer,
+) -> bool
+    ensures { result ≡ is_closed params.now window.now ends channel buffer.now }
+{
+    ends && (is_due(params, window.cycle, channel, buffer)
+        && is_above(window.slot(channel), buffer.filter.slot))
 }
 
 /// Returns the word for a slot that opens at the minislot.
@@ -78,6 +111,40 @@ fn write_due_line<W: Write>(
     writer.write_all(b"\n")
 }
 
+/// Writes the line of a buffer whose slot doesn't open in the cycle.
+fn write_closed_line<W: Write>(
+    writer: &mut W,
+    place: BufferPlace,
+    buffer: &Buffer,
+    channel: Channel,
+    latest: u16,
+) -> io::Result<()>
+    ensures { Writes W.contents writer.old writer.new result (closed_line place buffer.now channel latest) }
+{
+    writer.write_all(b"closed ")?;
+    write_place(writer, place, buffer, channel, latest)?;
+    writer.write_all(b"\n")
+}
+
+/// Writes the line of a buffer of the dynamic segment in a cycle without minislots.
+fn write_unopened<W: Write>(
+    writer: &mut W,
+    params: &Params,
+    place: BufferPlace,
+    plan: &NodePlan,
+    buffer: &Buffer,
+    channel: Channel,
+) -> io::Result<()>
+    ensures { Writes W.contents writer.old writer.new result
+        (unopened_text params.now place plan.now buffer.now channel) }
+{
+    if params.minislots == 0 {
+        write_closed_line(writer, place, buffer, channel, plan.latest(channel))
+    } else {
+        Ok(())
+    }
+}
+
 /// Writes the line of a buffer whose slot opens at the minislot.
 fn write_opening_line<W: Write>(
     writer: &mut W,
@@ -109,30 +176,53 @@ fn write_due<W: Write>(
         (due_text params.now window.now place plan.now buffer.now channel) }
 {
     if is_due(params, window.cycle, channel, buffer) {
-        write_due_line(writer, place, buffer, channel, plan.latest(channel))
+        write_due_line(writer, place, buffer, channel, plan.latest(channel))?;
+        write_unopened(writer, params, place, plan, buffer, channel)
     } else {
         Ok(())
     }
 }
 
-/// Writes the line of the buffer, if the channel opens its slot in the window.
-fn write_opening<W: Write>(
+/// Writes the line of the buffer, if the channel opens no further slot in the cycle, and so not its own.
+fn write_closed<W: Write>(
     writer: &mut W,
     params: &Params,
     window: &Window,
+    ends: bool,
     place: BufferPlace,
     plan: &NodePlan,
     buffer: &Buffer,
     channel: Channel,
 ) -> io::Result<()>
     ensures { Writes W.contents writer.old writer.new result
-        (opening_text params.now window.now place plan.now buffer.now channel) }
+        (closed_text params.now window.now ends place plan.now buffer.now channel) }
+{
+    if is_closed(params, window, ends, channel, buffer) {
+        write_closed_line(writer, place, buffer, channel, plan.latest(channel))
+    } else {
+        Ok(())
+    }
+}
+
+/// Writes the line of the buffer, if the channel opens its slot in the window, or no further slot in the cycle.
+fn write_opening<W: Write>(
+    writer: &mut W,
+    params: &Params,
+    window: &Window,
+    ends: bool,
+    place: BufferPlace,
+    plan: &NodePlan,
+    buffer: &Buffer,
+    channel: Channel,
+) -> io::Result<()>
+    ensures { Writes W.contents writer.old writer.new result
+        (opening_text params.now window.now ends place plan.now buffer.now channel) }
 {
     if is_open(params, window, channel, buffer) {
         let latest = plan.latest(channel);
         write_opening_line(writer, place, buffer, channel, latest, window.minislot)
     } else {
-        Ok(())
+        write_closed(writer, params, window, ends, place, plan, buffer, channel)
     }
 }
 
@@ -141,18 +231,19 @@ fn write_channel<W: Write>(
     writer: &mut W,
     params: &Params,
     window: &Window,
+    ends: bool,
     place: BufferPlace,
     plan: &NodePlan,
     buffer: &Buffer,
     channel: Channel,
 ) -> io::Result<()>
     ensures { Writes W.contents writer.old writer.new result
-        (channel_text params.now window.now place plan.now buffer.now channel) }
+        (channel_text params.now window.now ends place plan.now buffer.now channel) }
 {
     if opens_cycle(window) {
         write_due(writer, params, window, place, plan, buffer, channel)
     } else {
-        write_opening(writer, params, window, place, plan, buffer, channel)
+        write_opening(writer, params, window, ends, place, plan, buffer, channel)
     }
 }
 
@@ -161,15 +252,17 @@ fn write_buffer<W: Write>(
     writer: &mut W,
     params: &Params,
     window: &Window,
+    last: LastSlots,
     place: BufferPlace,
     plan: &NodePlan,
     buffer: &Buffer,
 ) -> io::Result<()>
     ensures { Writes W.contents writer.old writer.new result
-        (both_text params.now window.now place plan.now buffer.now) }
+        (both_text params.now window.now last place plan.now buffer.now) }
 {
-    write_channel(writer, params, window, place, plan, buffer, Channel::A)?;
-    write_channel(writer, params, window, place, plan, buffer, Channel::B)
+    let LastSlots { a, b } = last;
+    write_channel(writer, params, window, a, place, plan, buffer, Channel::A)?;
+    write_channel(writer, params, window, b, place, plan, buffer, Channel::B)
 }
 
 /// Writes what the window has of a node's buffers.
@@ -178,11 +271,12 @@ fn write_node<W: Write>(
     params: &Params,
     cycle: usize,
     window: &Window,
+    last: LastSlots,
     node: usize,
     plan: &NodePlan,
 ) -> io::Result<()>
     ensures { Writes W.contents writer.old writer.new result
-        (node_text params.now cycle window.now node plan.now) }
+        (node_text params.now cycle window.now last node plan.now) }
 {
     for (number, buffer) in plan.buffers().iter().enumerate() {
         let place = BufferPlace {
@@ -190,7 +284,7 @@ fn write_node<W: Write>(
             node,
             number,
         };
-        write_buffer(writer, params, window, place, plan, buffer)?;
+        write_buffer(writer, params, window, last, place, plan, buffer)?;
     }
     Ok(())
 }
@@ -201,12 +295,13 @@ fn write_nodes<W: Write>(
     cluster: &Cluster,
     cycle: usize,
     window: &Window,
+    last: LastSlots,
 ) -> io::Result<()>
     ensures { Writes W.contents writer.old writer.new result
-        (of_nodes (node_text cluster.now.params cycle window.now) 0 cluster.now.plans) }
+        (of_nodes (node_text cluster.now.params cycle window.now last) 0 cluster.now.plans) }
 {
     for (node, plan) in cluster.plans().iter().enumerate() {
-        write_node(writer, cluster.params(), cycle, window, node, plan)?;
+        write_node(writer, cluster.params(), cycle, window, last, node, plan)?;
     }
     Ok(())
 }
@@ -224,9 +319,12 @@ fn is_silent(window: &Window) -> bool
 /// The first window of a cycle has a line for each such buffer that is due in the cycle: `due`, the cycle of the run,
 /// the node, the buffer, its slot, the channel, and the node's pLatestTx there in minislots. A window of the dynamic
 /// segment has a line for each of them whose slot opens there: `open`, or `late` if this is after pLatestTx, then the
-/// same words, and the minislot. The lines are in the order of the nodes and of their buffers, channel A before B.
+/// same words, and the minislot. If the slot that a channel opens there is its last one of the cycle, each buffer that
+/// is due and whose slot is above has a line `closed` with the words of `due`. Without minislots it follows `due`. The
+/// lines are in the order of the nodes and of their buffers, channel A before B.
 ///
-/// `cycle` is the cycle of the run in which the window lies, counted from 0.
+/// `last` tells of each channel whether the slot that it opens in the window is its last one of the cycle. `cycle` is
+/// the cycle of the run in which the window lies, counted from 0.
 ///
 /// Fails if the writer fails, which may have written a part of the lines by then.
 pub fn write_openings<W: Write>(
@@ -234,13 +332,14 @@ pub fn write_openings<W: Write>(
     cluster: &Cluster,
     cycle: usize,
     window: &Window,
+    last: LastSlots,
 ) -> io::Result<()>
     ensures { Writes W.contents writer.old writer.new result
-        (openings_text cluster.now cycle window.now) }
+        (openings_text cluster.now cycle window.now last) }
 {
     if is_silent(window) {
         Ok(())
     } else {
-        write_nodes(writer, cluster, cycle, window)
+        write_nodes(writer, cluster, cycle, window, last)
     }
 }

@@ -1,13 +1,17 @@
 -- The facts for which the commits of a run weren't sent or weren't received, window by window: the transmit buffers of
 -- the dynamic segment that are due, the openings of their slots, the faults that had an effect on the bus, and the
 -- babbles that a bus guardian stopped (project-defined).
-use Rattle.std.specs.Prelude.{ℕ, List, [], ◌∷◌, ◌++◌, codes, Option, Some, None, if◌then◌else◌}
+use Rattle.std.specs.Prelude.{ℕ, ◌+◌, ◌-◌, nat_le, Bool, List, [], ◌∷◌, ◌++◌, codes, Option, Some, None}
+use Rattle.std.specs.Prelude.{if◌then◌else◌}
 use Rattle.std.specs.Fmt.{decimal}
 use Rattle.std.specs.List.{flat_map}
 use Rattle.fr_bus.specs.declared.outcome.Sent.{Sent}
+use Rattle.fr_bus.specs.Outcome.{longest}
 use Rattle.fr_bus.specs.Record.{Recorded}
 use Rattle.fr_lines.specs.Parts.{optional_number}
 use Rattle.fr_lines.specs.Spelling.{line_text}
+use Rattle.fr_minislot.specs.DynamicRows.{row_length}
+use Rattle.fr_openings.specs.declared.openings.LastSlots.{LastSlots}
 use Rattle.fr_openings.specs.Openings.{openings_text}
 use Rattle.fr_scenario.specs.Contents.{Contents}
 use Rattle.fr_schedule.specs.Descriptions.{Description}
@@ -18,6 +22,8 @@ use Rattle.fr_showing.specs.Ends.{end_of, end_word}
 use Rattle.fr_showing.specs.Idle.{is_turned_end}
 use Rattle.fr_showing.specs.Origins.{origin_of_bit, origin_of_sent}
 use Rattle.fr_slots.specs.Admission.{letter_of}
+use Rattle.fr_slots.specs.declared.channel.Channel.{Channel}
+use Rattle.fr_slots.specs.declared.channel.Channel.TheVariants.{A, B}
 use Rattle.fr_slots.specs.Parameters.{Parameters}
 use Rattle.fr_slots.specs.Windows.{slot_of}
 
@@ -58,9 +64,17 @@ effects_of s p cycle r t =
 
 -- ---- a window, and all of them
 
+-- The slot that the channel opens in the window takes the rest of the dynamic segment, so no slot follows in the cycle.
+abbrev pub is_last_on : Parameters → Recorded → Channel → Bool
+is_last_on p r channel = nat_le (p.minislots + 1 - r.window.minislot) (row_length p (longest channel r.sent))
+
+abbrev pub last_in : Parameters → Recorded → LastSlots
+last_in p r = record { a = is_last_on p r A; b = is_last_on p r B }
+
 -- the buffers, and then the effects that its transmissions show
 abbrev pub reasons_in : Contents → Description → ℕ → Recorded → List ℕ
-reasons_in s d cycle r = openings_text d cycle r.window ++ flat_map (effects_of s d.params cycle r) r.sent
+reasons_in s d cycle r =
+    openings_text d cycle r.window (last_in d.params r) ++ flat_map (effects_of s d.params cycle r) r.sent
 
 -- all windows of the record of a run with a scenario, in their order
 abbrev pub reasons_text : Contents → Description → List Recorded → List ℕ

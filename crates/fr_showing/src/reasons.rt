@@ -1,7 +1,8 @@
 //! The facts for which the commits of a run weren't sent or weren't received, window by window.
 ghost use Rattle.std.specs.Prelude.{◌≡◌};
 ghost use Rattle.std.specs.List.{flat_map};
-ghost use Rattle.fr_showing.specs.Reasons.{effect_if, effect_line, effect_word, effects_of, flipped_by, reasons_in};
+ghost use Rattle.fr_showing.specs.Reasons.{effect_if, effect_line, effect_word, effects_of, flipped_by, is_last_on};
+ghost use Rattle.fr_showing.specs.Reasons.{last_in, reasons_in};
 ghost use Rattle.fr_showing.specs.Origins.{origin_of_sent};
 ghost use Rattle.fr_text.specs.Writing.{Writes};
 
@@ -10,9 +11,11 @@ use crate::idle::is_turned_end;
 use crate::origins::{origin_of_bit, origin_of_sent};
 use fr_bus::outcome::{Sealed, Sent};
 use fr_lines::writing::write_slot;
-use fr_openings::openings::write_openings;
+use fr_minislot::lane::row_length;
+use fr_openings::openings::{LastSlots, write_openings};
 use fr_scenario::scenario::Scenario;
 use fr_schedule::cluster::Cluster;
+use fr_slots::channel::Channel;
 use fr_slots::params::Params;
 use std::io;
 use std::io::Write;
@@ -125,12 +128,31 @@ fn write_all_effects<W: Write>(
     Ok(())
 }
 
+/// Returns whether the slot that the channel opens in the window takes the rest of the dynamic segment.
+fn is_last_on(params: &Params, sealed: &Sealed, channel: Channel) -> bool
+    ensures { result ≡ is_last_on params.now sealed.now channel }
+{
+    let left = (params.minislots + 1).saturating_sub(sealed.window.minislot);
+    left <= row_length(params, sealed.longest(channel))
+}
+
+/// Returns for each channel whether no slot follows in the cycle.
+fn last_in(params: &Params, sealed: &Sealed) -> LastSlots
+    ensures { result ≡ last_in params.now sealed.now }
+{
+    LastSlots {
+        a: is_last_on(params, sealed, Channel::A),
+        b: is_last_on(params, sealed, Channel::B),
+    }
+}
+
 /// Writes the facts of a window for which commits weren't sent or weren't received (project-defined).
 ///
-/// First come the lines of `write_openings`: the transmit buffers of the dynamic segment that are due, or whose slots
-/// open. Then the window has a line for each line of the scenario that babbles one of its transmissions, mutes it, or
-/// flips one of its bits: `effect`, or `stopped` if a bus guardian stops the babble, the cycle of the run, the slot,
-/// the channel, the end of the transmission (`End`), its node, and the number of the scenario's line.
+/// First come the lines of `write_openings`: the transmit buffers of the dynamic segment that are due, and those whose
+/// slots open, or don't open in the cycle. Then the window has a line for each line of the scenario that babbles one of
+/// its transmissions, mutes it, or flips one of its bits: `effect`, or `stopped` if a bus guardian stops the babble,
+/// the cycle of the run, the slot, the channel, the end of the transmission (`End`), its node, and the number of the
+/// scenario's line.
 ///
 /// `cycle` is the cycle of the run in which the window lies, counted from 0.
 ///
@@ -145,6 +167,7 @@ pub fn write_window<W: Write>(
     ensures { Writes W.contents writer.old writer.new result
         (reasons_in scenario.now cluster.now cycle sealed.now) }
 {
-    write_openings(writer, cluster, cycle, window_of(sealed))?;
+    let last = last_in(cluster.params(), sealed);
+    write_openings(writer, cluster, cycle, window_of(sealed), last)?;
     write_all_effects(writer, scenario, cluster.params(), cycle, sealed)
 }

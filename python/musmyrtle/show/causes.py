@@ -4,12 +4,12 @@ from dataclasses import dataclass
 
 from musmyrtle.show.windows import number_of
 
-DUE, OPEN, LATE, STOPPED = "due", "open", "late", "stopped"
+DUE, OPEN, LATE, CLOSED, STOPPED = "due", "open", "late", "closed", "stopped"
 Place = tuple[int, int, str]
 """A cycle of the run, a slot and a channel."""
 
 
-@dataclass(slots=True)
+@dataclass(frozen=True, slots=True)
 class Turn:
     """A cycle of the run in which a transmit buffer is due, but its slot can't be used.
 
@@ -19,7 +19,7 @@ class Turn:
     cycle: int
     slot: int
     latest: int
-    minislot: int | None = None
+    minislot: int | None
 
 
 @dataclass(frozen=True, slots=True)
@@ -46,24 +46,16 @@ class Causes:
 
     def add(self, words: list[str]) -> None:
         """Adds a line by its words."""
-        if words[0] in (DUE, OPEN, LATE):
+        if words[0] in (LATE, CLOSED):
             cycle, node, buffer, slot = map(int, words[1:5])
             if self.wanted is None or (node, buffer) in self.wanted:
-                self.turn(words, self.turns.setdefault((node, buffer), []), cycle, slot)
-        else:
+                minislot = int(words[7]) if words[0] == LATE else None
+                self.turns.setdefault((node, buffer), []).append(Turn(cycle, slot, int(words[6]), minislot))
+        elif words[0] not in (DUE, OPEN):
             self.lines.add(int(words[6]))
             if words[0] != STOPPED:
                 place = int(words[1]), number_of(words[2]), words[3]
                 self.effects.setdefault(place, []).append(Effect(words[4], int(words[5]), int(words[6])))
-
-    def turn(self, words: list[str], turns: list[Turn], cycle: int, slot: int) -> None:
-        """Adds a turn, or the minislot at which its slot opened. One that could be used isn't kept."""
-        if words[0] == DUE:
-            turns.append(Turn(cycle, slot, int(words[6])))
-        elif words[0] == LATE:
-            turns[-1].minislot = int(words[7])
-        else:
-            turns.pop()
 
     def of(self, place: Place) -> list[Effect]:
         """Returns the effects of faults in a slot."""

@@ -7,13 +7,13 @@ use Rattle.fr_openings.proofs.openings.write_node.Goals as goal
 
 pub loop-number-init : goal.loop-number-init
 loop-number-init g c =
-    no_node (buffer_text c.args.params.now c.args.cycle c.args.window.now c.args.plan.now c.args.node)
+    no_node (buffer_text c.args.params.now c.args.cycle c.args.window.now c.args.last c.args.plan.now c.args.node)
     c.args.plan.now.buffers (g.W.Write.contents c.args.writer.now)
 
 pub loop-number-preserved : goal.loop-number-preserved
 loop-number-preserved g c =
     let number = c.loop-number.number in
-    one_node (buffer_text c.args.params.now c.args.cycle c.args.window.now c.args.plan.now c.args.node)
+    one_node (buffer_text c.args.params.now c.args.cycle c.args.window.now c.args.last c.args.plan.now c.args.node)
     c.args.plan.now.buffers number c.buffer-item.result (g.W.Write.contents c.args.writer.now)
     (g.W.Write.contents c.loop-number.writer) (g.W.Write.contents c.write_buffer.new.writer)
     (subst (λ (bs : List Buffer). slice_get bs number ≡ Some c.buffer-item.result)

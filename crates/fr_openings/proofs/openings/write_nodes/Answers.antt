@@ -9,7 +9,7 @@ use Rattle.fr_openings.proofs.openings.write_nodes.Goals as goal
 
 pub loop-node-init : goal.loop-node-init
 loop-node-init g c =
-    no_node (node_text c.args.cluster.now.params c.args.cycle c.args.window.now) c.args.cluster.now.plans
+    no_node (node_text c.args.cluster.now.params c.args.cycle c.args.window.now c.args.last) c.args.cluster.now.plans
     (g.W.Write.contents c.args.writer.now)
 
 pub loop-node-preserved : goal.loop-node-preserved
@@ -19,10 +19,10 @@ loop-node-preserved g c =
     let plan = c.plan-item.result in
     let before = g.W.Write.contents c.loop-node.writer in
     let after = g.W.Write.contents c.write_node.new.writer in
-    one_node (node_text d.params c.args.cycle c.args.window.now) d.plans node plan
+    one_node (node_text d.params c.args.cycle c.args.window.now c.args.last) d.plans node plan
     (g.W.Write.contents c.args.writer.now) before after
     (subst (λ (plans : List Plan). slice_get plans node ≡ Some plan) c.plans-plan-items.ensures.value
     (slice_get_read c.plans-plan-items.result.now _ node plan refl c.loop-node-test.true c.plan-item.is))
     c.loop-node.invariant
-    (subst (λ (p : Parameters). Appends before after (node_text p c.args.cycle c.args.window.now node plan))
+    (subst (λ (p : Parameters). Appends before after (node_text p c.args.cycle c.args.window.now c.args.last node plan))
     c.params.ensures.value c.in_ok-write_node.ensures)
