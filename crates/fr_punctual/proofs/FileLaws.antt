@@ -59,8 +59,8 @@ not_on channel B error bytes is_other = is_other
 abbrev IsKept : ℕ → ℕ → Bounds → Type 0
 IsKept slack time bounds = (time < 2 ^ 32 * 1000000) × IsWithin slack (time * 1000) bounds
 
-own_read : (slack time : ℕ) (bounds : Bounds) (channel : Channel) (o : Seen) (more : List Record) (packets : List Packet)
-    → IsKept slack time bounds → AreLoggedAt slack channel more packets
+own_read : (slack time : ℕ) (bounds : Bounds) (channel : Channel) (o : Seen) (more : List Record)
+    (packets : List Packet) → IsKept slack time bounds → AreLoggedAt slack channel more packets
     → AreLoggedAt slack channel (read_seen time channel o ++ more) (packets_at bounds channel o ++ packets)
 own_read slack time bounds channel Silence more packets kept rest = rest
 own_read slack time bounds channel Own more packets kept rest = rest

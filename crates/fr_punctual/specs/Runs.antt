@@ -111,7 +111,8 @@ NoAlarmInTime w = (most : ℕ) (whole : Bool) (channel : Channel) (t : Timeline)
 
 -- ---- the laws for captures
 
--- The clock of a capture, in microseconds, is within the bounds in each window. A record has four bytes for the seconds.
+-- The clock of a capture, in microseconds, is within the bounds in each window. A record has four bytes for the
+-- seconds.
 abbrev pub KeepsTime : Parameters → Timeline → Clock → List Recorded → Type 0
 KeepsTime p t time rs = (before : List Recorded) (r : Recorded) (rest : List Recorded) → rs ≡ before ++ r ∷ rest
     → (time before r < 2 ^ 32 * 1000000) × IsWithin t.slack (time before r * 1000) (bounds_of p t before r)

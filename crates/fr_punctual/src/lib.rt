@@ -14,8 +14,8 @@
 //! - `PunctualLaws`: of frames in time, the judgement has the same findings and counts with times and without.
 //! - `RunLaws`: so it has, of records of a run without faults within the bounds of its schedule. Each channel by itself
 //!   has no finding.
-//! - `FileLaws`: the same of a capture of the bus. Times near the starts of windows keep the schedule: the exact ones in
-//!   microseconds, and those rounded down to a microsecond.
+//! - `FileLaws`: the same of a capture of the bus. Times near the starts of windows keep the schedule: the exact ones
+//!   in microseconds, and those rounded down to a microsecond.
 //! - `TogetherLaws`: both channels together have no finding with times.
 //! - `CalmLemmas`, `StepLemmas`: each step of the judgement does the same without times where the times are right.
 //! - `WalkLemmas`, `CourseLemmas`: the references of a channel are on the schedule, frame by frame, record by record.
