@@ -41,7 +41,7 @@ use Rattle.fr_status.specs.Forms.{Seen}
 use Rattle.fr_status.specs.declared.seen.Seen.TheVariants.{Silence, Own, Conflict, Noise, Overrun, Bytes}
 use Rattle.fr_punctual.proofs.RunLaws.{times_add_nothing, no_alarm_in_time}
 use Rattle.fr_punctual.proofs.TimeLemmas.{even_is_timeline}
-use Rattle.fr_punctual.proofs.WindowLemmas.{start_within, near_within}
+use Rattle.fr_punctual.proofs.WindowLemmas.{start_within, near_is_within}
 use Rattle.fr_punctual.specs.Runs.{Bounds, IsWithin, bounds_of, Packet, packets_at, packets_after, AreLoggedAt}
 use Rattle.fr_punctual.specs.Runs.{KeepsTime, NearKeepsTime, RoundedKeepsTime, WindowsKeepTime, NoAlarmInTimelyFile}
 use Rattle.fr_punctual.specs.Runs.{TimesAddNothingInFile, NoAlarmInExactFile, whole_microseconds, window_begins}
@@ -238,8 +238,8 @@ windows_keep_time w head = (
         few_microseconds (cycles_begun (before ++ r ∷ [])) w.bus.cycles (opportunities w.bus.cluster.params)
             w.bus.cluster.params.cycle_mt (start_of w.bus.cluster.params r.window) course.begun_fit head.run.few_windows
             (omega (arith, two)) lawful.cycle_mt_fit.at_most (start_within w.bus.cluster.params lawful r.window),
-        near_within w.bus.cluster.params lawful (whole_microseconds w.bus.cluster.params) before r
-            (window_begins w.bus.cluster.params before r * 1000)
+        near_is_within w.bus.cluster.params (whole_microseconds w.bus.cluster.params) before r
+            (window_begins w.bus.cluster.params before r * 1000) lawful
             (exact_time (cycles_begun (before ++ r ∷ []) - 1) w.bus.cluster.params.cycle_mt
             (start_of w.bus.cluster.params r.window)),
       ),
@@ -254,7 +254,7 @@ no_alarm_in_exact_file w head most whole channel healthy =
 pub near_keeps_time : NearKeepsTime
 near_keeps_time p t time rs lawful near before r rest e =
     let here = near before r rest e in
-    (here.0, near_within p lawful t before r (time before r * 1000) here.1)
+    (here.0, near_is_within p t before r (time before r * 1000) lawful here.1)
 
 pub rounded_keeps_time : RoundedKeepsTime
 rounded_keeps_time p t rs lawful slack few =

@@ -32,8 +32,8 @@ use Rattle.fr_slots.specs.Windows.{Opportunity, slot_of, is_static, static_windo
 use Rattle.fr_timing.specs.declared.place.Place.TheVariants.{Static, Minislot}
 use Rattle.fr_timing.specs.Division.{start_in_row, start_at}
 use Rattle.fr_timing.specs.Segments.{dynamic_start}
-use Rattle.fr_punctual.specs.Runs.{Bounds, IsWithin, bounds_as, bounds_of, time_due}
-use Rattle.fr_punctual.specs.Schedule.{Timeline, IsTimelyAs, AreNear, Timed, IsPunctual, IsAfter}
+use Rattle.fr_punctual.specs.Runs.{Bounds, IsWithin, bounds_as, bounds_of, time_due, NearIsWithin}
+use Rattle.fr_punctual.specs.Schedule.{Timeline, IsTimelyAs, Timed, IsPunctual, IsAfter}
 use Rattle.fr_punctual.specs.Schedule.{cycle_length, slot_begins}
 
 -- ---- the start of a window
@@ -78,20 +78,19 @@ module _ (p : Parameters) (lawful : IsParameters p) where
       (lt-ltb 0 p.static_mt (omega (arith, some)))))
       ∙ (let none : 0 + (slot - 1) * p.static_mt + 0 ≡ (slot - 1) * p.static_mt = omega arith in none)
 
-  -- near the start of the window is within the bounds
-  pub near_within : (t : Timeline) (before : List Recorded) (r : Recorded) (time : ℕ)
-      → AreNear t.slack time (time_due p t before r) → IsWithin t.slack time (bounds_of p t before r)
-  near_within t before r time near = by (is_static r.window)
-    where
-      by : (b : Bool) → IsWithin t.slack time
-          (bounds_as p t (cycles_begun (before ++ r ∷ []) - 1) (time_due p t before r) b)
-      by true = record { not_early = near.not_early; not_late = near.not_late }
-      by false =
-          let few : start_of p r.window * t.macrotick ≤ p.cycle_mt * t.macrotick =
-          mul-le (start_of p r.window) t.macrotick p.cycle_mt t.macrotick (start_within r.window) (omega arith) in
-          let early = near.not_early in
-          let late = near.not_late in
-          record { not_early = omega (arith, early); not_late = omega (arith, few, late) }
+pub near_is_within : NearIsWithin
+near_is_within p t before r time lawful near = by (is_static r.window)
+  where
+    by : (b : Bool) → IsWithin t.slack time
+        (bounds_as p t (cycles_begun (before ++ r ∷ []) - 1) (time_due p t before r) b)
+    by true = record { not_early = near.not_early; not_late = near.not_late }
+    by false =
+        let few : start_of p r.window * t.macrotick ≤ p.cycle_mt * t.macrotick =
+        mul-le (start_of p r.window) t.macrotick p.cycle_mt t.macrotick (start_within p lawful r.window)
+        (omega arith) in
+        let early = near.not_early in
+        let late = near.not_late in
+        record { not_early = omega (arith, early); not_late = omega (arith, few, late) }
 
 -- ---- the frames of the schedule
 
@@ -185,9 +184,6 @@ module _ (d : Description) (channel : Channel) (t : Timeline) (cluster : IsClust
   p = d.params
 
   -- ---- each frame is in time
-
-  cycle_times : (n so tick : ℕ) → so ≤ p.cycle_mt → so * tick ≤ p.cycle_mt * tick
-  cycle_times n so tick few = mul-le so tick p.cycle_mt tick few (omega arith)
 
   static_placed : (before : List Recorded) (r : Recorded) (f : Fields) (number cycle slot n : ℕ)
       → r.window ≡ static_window number cycle slot → f.id ≡ slot → f.cycle ≡ cycle → 1 ≤ slot

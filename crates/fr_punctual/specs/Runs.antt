@@ -51,6 +51,11 @@ abbrev pub bounds_of : Parameters → Timeline → List Recorded → Recorded �
 bounds_of p t before r =
     bounds_as p t (cycles_begun (before ++ r ∷ []) - 1) (time_due p t before r) (is_static r.window)
 
+-- A time near the start of any window is within them.
+abbrev pub NearIsWithin : Type 0
+NearIsWithin = (p : Parameters) (t : Timeline) (before : List Recorded) (r : Recorded) (time : ℕ) → IsParameters p
+    → AreNear t.slack time (time_due p t before r) → IsWithin t.slack time (bounds_of p t before r)
+
 -- ---- recordings
 
 -- the bytes of a packet with its channel, and the bounds of its time
@@ -117,7 +122,7 @@ abbrev pub KeepsTime : Parameters → Timeline → Clock → List Recorded → T
 KeepsTime p t time rs = (before : List Recorded) (r : Recorded) (rest : List Recorded) → rs ≡ before ++ r ∷ rest
     → (time before r < 2 ^ 32 * 1000000) × IsWithin t.slack (time before r * 1000) (bounds_of p t before r)
 
--- A clock that is near the start of each window keeps them, too.
+-- So a clock that is near the start of each window keeps time.
 abbrev pub NearKeepsTime : Type 0
 NearKeepsTime = (p : Parameters) (t : Timeline) (time : Clock) (rs : List Recorded) → IsParameters p
     → ((before : List Recorded) (r : Recorded) (rest : List Recorded) → rs ≡ before ++ r ∷ rest
