@@ -41,10 +41,11 @@ use Rattle.fr_status.specs.Forms.{Seen}
 use Rattle.fr_status.specs.declared.seen.Seen.TheVariants.{Silence, Own, Conflict, Noise, Overrun, Bytes}
 use Rattle.fr_punctual.proofs.RunLaws.{times_add_nothing, no_alarm_in_time}
 use Rattle.fr_punctual.proofs.TimeLemmas.{even_is_timeline}
-use Rattle.fr_punctual.proofs.WindowLemmas.{start_within}
-use Rattle.fr_punctual.specs.Runs.{due_at, Packet, packets_at, packets_after, AreLoggedAt, KeepsTime}
-use Rattle.fr_punctual.specs.Runs.{NoAlarmInTimelyFile, TimesAddNothingInFile, WindowsKeepTime}
-use Rattle.fr_punctual.specs.Runs.{RoundedKeepsTime, NoAlarmInExactFile, whole_microseconds, window_begins}
+use Rattle.fr_punctual.proofs.WindowLemmas.{start_within, near_is_within}
+use Rattle.fr_punctual.specs.Runs.{Bounds, IsWithin, bounds_of, Packet, packets_at, packets_after, AreLoggedAt}
+use Rattle.fr_punctual.specs.Runs.{KeepsTime, NearKeepsTime, RoundedKeepsTime, WindowsKeepTime, NoAlarmInTimelyFile}
+use Rattle.fr_punctual.specs.Runs.{TimesAddNothingInFile, NoAlarmInExactFile, whole_microseconds, window_begins}
+use Rattle.fr_punctual.specs.Runs.{rounded_down}
 use Rattle.fr_punctual.specs.Schedule.{Timeline, AreNear}
 
 -- ---- the records of a capture
@@ -54,21 +55,21 @@ not_on : (channel other : Channel) (error : Option DecodeError) (bytes : List �
 not_on channel A error bytes is_other = is_other
 not_on channel B error bytes is_other = is_other
 
--- the time in microseconds fits, and is near the time that is due
-abbrev IsKept : ℕ → ℕ → ℕ → Type 0
-IsKept slack time due = (time < 2 ^ 32 * 1000000) × AreNear slack (time * 1000) due
+-- the time in microseconds fits, and is within the bounds
+abbrev IsKept : ℕ → ℕ → Bounds → Type 0
+IsKept slack time bounds = (time < 2 ^ 32 * 1000000) × IsWithin slack (time * 1000) bounds
 
-own_read : (slack time due : ℕ) (channel : Channel) (o : Seen) (more : List Record) (packets : List Packet)
-    → IsKept slack time due → AreLoggedAt slack channel more packets
-    → AreLoggedAt slack channel (read_seen time channel o ++ more) (packets_at due channel o ++ packets)
-own_read slack time due channel Silence more packets kept rest = rest
-own_read slack time due channel Own more packets kept rest = rest
-own_read slack time due channel Conflict more packets kept rest = rest
-own_read slack time due channel Noise more packets kept rest = rest
-own_read slack time due channel Overrun more packets kept rest = rest
-own_read slack time due channel (Bytes bytes) more packets kept rest = inr (
+own_read : (slack time : ℕ) (bounds : Bounds) (channel : Channel) (o : Seen) (more : List Record)
+    (packets : List Packet) → IsKept slack time bounds → AreLoggedAt slack channel more packets
+    → AreLoggedAt slack channel (read_seen time channel o ++ more) (packets_at bounds channel o ++ packets)
+own_read slack time bounds channel Silence more packets kept rest = rest
+own_read slack time bounds channel Own more packets kept rest = rest
+own_read slack time bounds channel Conflict more packets kept rest = rest
+own_read slack time bounds channel Noise more packets kept rest = rest
+own_read slack time bounds channel Overrun more packets kept rest = rest
+own_read slack time bounds channel (Bytes bytes) more packets kept rest = inr (
   time * 1000,
-  record { channel = channel; due = due; bytes = packet channel (refusal channel bytes.items) bytes.items },
+  record { channel = channel; bounds = bounds; bytes = packet channel (refusal channel bytes.items) bytes.items },
   packets,
   refl,
   kept.1,
@@ -91,26 +92,26 @@ module _ (p : Parameters) (t : Timeline) (time : Clock) where
   -- the clock keeps the times of the windows that follow
   abbrev Keeps : List Recorded → List Recorded → Type 0
   Keeps before rs = (inner : List Recorded) (r : Recorded) (rest : List Recorded) → rs ≡ inner ++ r ∷ rest
-      → IsKept t.slack (time (before ++ inner) r) (due_at p t (before ++ inner) r)
+      → IsKept t.slack (time (before ++ inner) r) (bounds_of p t (before ++ inner) r)
 
   window_read : (channel : Channel) (before : List Recorded) (r : Recorded) (more : List Record)
-      (packets : List Packet) → IsKept t.slack (time before r) (due_at p t before r)
+      (packets : List Packet) → IsKept t.slack (time before r) (bounds_of p t before r)
       → AreLoggedAt t.slack channel more packets
       → AreLoggedAt t.slack channel (read_seen (time before r) A (heard p r A)
       ++ (read_seen (time before r) B (heard p r B) ++ more))
-      (packets_at (due_at p t before r) channel (heard p r channel) ++ packets)
+      (packets_at (bounds_of p t before r) channel (heard p r channel) ++ packets)
   window_read A before r more packets kept rest =
-      own_read t.slack (time before r) (due_at p t before r) A (heard p r A)
+      own_read t.slack (time before r) (bounds_of p t before r) A (heard p r A)
       (read_seen (time before r) B (heard p r B) ++ more) packets kept
       (other_read t.slack (time before r) A B (heard p r B) more packets refl rest)
   window_read B before r more packets kept rest =
       other_read t.slack (time before r) B A (heard p r A) (read_seen (time before r) B (heard p r B) ++ more)
-      (packets_at (due_at p t before r) B (heard p r B) ++ packets) refl
-      (own_read t.slack (time before r) (due_at p t before r) B (heard p r B) more packets kept rest)
+      (packets_at (bounds_of p t before r) B (heard p r B) ++ packets) refl
+      (own_read t.slack (time before r) (bounds_of p t before r) B (heard p r B) more packets kept rest)
 
   read_logged : (channel : Channel) (before rs : List Recorded)
       → ((inner : List Recorded) (r : Recorded) (rest : List Recorded) → rs ≡ inner ++ r ∷ rest
-      → IsKept t.slack (time (before ++ inner) r) (due_at p t (before ++ inner) r))
+      → IsKept t.slack (time (before ++ inner) r) (bounds_of p t (before ++ inner) r))
       → AreLoggedAt t.slack channel
       (each_after (λ (b : List Recorded) (r : Recorded). read_window p (time b r) r) before rs)
       (packets_after p t channel before rs)
@@ -121,14 +122,14 @@ module _ (p : Parameters) (t : Timeline) (time : Clock) where
       let b : List Record = read_seen (time before r) B (heard p r B) in
       let more : List Record = each_after (λ (b : List Recorded) (r : Recorded). read_window p (time b r) r)
       (before ++ r ∷ []) rs in
-      let kept : IsKept t.slack (time before r) (due_at p t before r) =
-      subst (λ (l : List Recorded). IsKept t.slack (time l r) (due_at p t l r)) (append-nil before)
+      let kept : IsKept t.slack (time before r) (bounds_of p t before r) =
+      subst (λ (l : List Recorded). IsKept t.slack (time l r) (bounds_of p t l r)) (append-nil before)
       (keeps [] r rs refl) in
       subst (λ (l : List Record). AreLoggedAt t.slack channel l (packets_after p t channel before (r ∷ rs)))
       (sym (append_assoc a b more))
       (window_read channel before r more (packets_after p t channel (before ++ r ∷ []) rs) kept
       (read_logged channel (before ++ r ∷ []) rs
-      (λ inner x rest e. subst (λ (l : List Recorded). IsKept t.slack (time l x) (due_at p t l x))
+      (λ inner x rest e. subst (λ (l : List Recorded). IsKept t.slack (time l x) (bounds_of p t l x))
       (sym (append_assoc before (r ∷ []) inner)) (keeps (r ∷ inner) x rest (ap (λ (l : List Recorded). r ∷ l) e)))))
 
 -- ---- the file
@@ -237,8 +238,10 @@ windows_keep_time w head = (
         few_microseconds (cycles_begun (before ++ r ∷ [])) w.bus.cycles (opportunities w.bus.cluster.params)
             w.bus.cluster.params.cycle_mt (start_of w.bus.cluster.params r.window) course.begun_fit head.run.few_windows
             (omega (arith, two)) lawful.cycle_mt_fit.at_most (start_within w.bus.cluster.params lawful r.window),
-        exact_time (cycles_begun (before ++ r ∷ []) - 1) w.bus.cluster.params.cycle_mt
-            (start_of w.bus.cluster.params r.window),
+        near_is_within w.bus.cluster.params (whole_microseconds w.bus.cluster.params) before r
+            (window_begins w.bus.cluster.params before r * 1000) lawful
+            (exact_time (cycles_begun (before ++ r ∷ []) - 1) w.bus.cluster.params.cycle_mt
+            (start_of w.bus.cluster.params r.window)),
       ),
 )
 
@@ -248,7 +251,13 @@ no_alarm_in_exact_file w head most whole channel healthy =
     no_alarm_in_timely_file w head most whole channel (whole_microseconds w.bus.cluster.params)
     (window_begins w.bus.cluster.params) exact.0 healthy exact.1
 
+pub near_keeps_time : NearKeepsTime
+near_keeps_time p t time rs lawful near before r rest e =
+    let here = near before r rest e in
+    (here.0, near_is_within p t before r (time before r * 1000) lawful here.1)
+
 pub rounded_keeps_time : RoundedKeepsTime
-rounded_keeps_time p t rs slack few before r rest e =
-    let within = few before r rest e in
-    (omega (arith, within), record { not_late = omega (arith, slack); not_early = omega (arith, slack) })
+rounded_keeps_time p t rs lawful slack few =
+    near_keeps_time p t (rounded_down p t) rs lawful
+    (λ before r rest e. let within = few before r rest e in
+    (omega (arith, within), record { not_late = omega (arith, slack); not_early = omega (arith, slack) }))

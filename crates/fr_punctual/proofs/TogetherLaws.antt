@@ -25,7 +25,7 @@ use Rattle.fr_status.specs.Forms.{Seen}
 use Rattle.fr_status.specs.declared.seen.Seen.TheVariants.{Silence, Own, Conflict, Noise, Overrun, Bytes}
 use Rattle.fr_punctual.proofs.FileLaws.{times_add_nothing_in_file, windows_keep_time}
 use Rattle.fr_punctual.proofs.RunLaws.{times_add_nothing, bytes_at}
-use Rattle.fr_punctual.specs.Runs.{due_at, Packet, packets_at, packets_after, AreLoggedAt, window_begins}
+use Rattle.fr_punctual.specs.Runs.{Bounds, bounds_of, Packet, packets_at, packets_after, AreLoggedAt, window_begins}
 use Rattle.fr_punctual.specs.Runs.{whole_microseconds}
 use Rattle.fr_punctual.specs.Schedule.{Timeline}
 use Rattle.fr_punctual.specs.Together.{packets_of_both_after, timely_packets, AreInOrderAt, NoAlarmTogetherInTime}
@@ -45,44 +45,44 @@ marked : (channel : Channel) (error : Option DecodeError) (bytes : List ℕ)
 marked A error bytes = refl
 marked B error bytes = refl
 
-mark_each : (due : ℕ) (channel : Channel) (o : Seen) (l : List Packet) → Each IsMarked l
-    → Each IsMarked (packets_at due channel o ++ l)
-mark_each due channel Silence l each = each
-mark_each due channel Own l each = each
-mark_each due channel Conflict l each = each
-mark_each due channel Noise l each = each
-mark_each due channel Overrun l each = each
-mark_each due channel (Bytes bytes) l each = (marked channel (refusal channel bytes.items) bytes.items, each)
+mark_each : (bounds : Bounds) (channel : Channel) (o : Seen) (l : List Packet) → Each IsMarked l
+    → Each IsMarked (packets_at bounds channel o ++ l)
+mark_each bounds channel Silence l each = each
+mark_each bounds channel Own l each = each
+mark_each bounds channel Conflict l each = each
+mark_each bounds channel Noise l each = each
+mark_each bounds channel Overrun l each = each
+mark_each bounds channel (Bytes bytes) l each = (marked channel (refusal channel bytes.items) bytes.items, each)
 
 all_marked : (p : Parameters) (t : Timeline) (before rs : List Recorded)
     → Each IsMarked (packets_of_both_after p t before rs)
 all_marked p t before [] = tt
 all_marked p t before (r ∷ rs) =
-    mark_each (due_at p t before r) A (heard p r A) (packets_at (due_at p t before r) B (heard p r B)
+    mark_each (bounds_of p t before r) A (heard p r A) (packets_at (bounds_of p t before r) B (heard p r B)
     ++ packets_of_both_after p t (before ++ r ∷ []) rs)
-    (mark_each (due_at p t before r) B (heard p r B) (packets_of_both_after p t (before ++ r ∷ []) rs)
+    (mark_each (bounds_of p t before r) B (heard p r B) (packets_of_both_after p t (before ++ r ∷ []) rs)
     (all_marked p t (before ++ r ∷ []) rs))
 
-kept_by : (channel on : Channel) (due : ℕ) (o : Seen) (l : List Packet) → is_channel channel on ≡ true
-    → filter (is_of channel) (packets_at due on o ++ l) ≡ packets_at due on o ++ filter (is_of channel) l
-kept_by channel on due Silence l e = refl
-kept_by channel on due Own l e = refl
-kept_by channel on due Conflict l e = refl
-kept_by channel on due Noise l e = refl
-kept_by channel on due Overrun l e = refl
-kept_by channel on due (Bytes bytes) l e =
-    cond-true (is_channel channel on) (packets_at due on (Bytes bytes) ++ filter (is_of channel) l)
+kept_by : (channel on : Channel) (bounds : Bounds) (o : Seen) (l : List Packet) → is_channel channel on ≡ true
+    → filter (is_of channel) (packets_at bounds on o ++ l) ≡ packets_at bounds on o ++ filter (is_of channel) l
+kept_by channel on bounds Silence l e = refl
+kept_by channel on bounds Own l e = refl
+kept_by channel on bounds Conflict l e = refl
+kept_by channel on bounds Noise l e = refl
+kept_by channel on bounds Overrun l e = refl
+kept_by channel on bounds (Bytes bytes) l e =
+    cond-true (is_channel channel on) (packets_at bounds on (Bytes bytes) ++ filter (is_of channel) l)
     (filter (is_of channel) l) e
 
-dropped_by : (channel on : Channel) (due : ℕ) (o : Seen) (l : List Packet) → is_channel channel on ≡ false
-    → filter (is_of channel) (packets_at due on o ++ l) ≡ filter (is_of channel) l
-dropped_by channel on due Silence l e = refl
-dropped_by channel on due Own l e = refl
-dropped_by channel on due Conflict l e = refl
-dropped_by channel on due Noise l e = refl
-dropped_by channel on due Overrun l e = refl
-dropped_by channel on due (Bytes bytes) l e =
-    cond-false (is_channel channel on) (packets_at due on (Bytes bytes) ++ filter (is_of channel) l)
+dropped_by : (channel on : Channel) (bounds : Bounds) (o : Seen) (l : List Packet) → is_channel channel on ≡ false
+    → filter (is_of channel) (packets_at bounds on o ++ l) ≡ filter (is_of channel) l
+dropped_by channel on bounds Silence l e = refl
+dropped_by channel on bounds Own l e = refl
+dropped_by channel on bounds Conflict l e = refl
+dropped_by channel on bounds Noise l e = refl
+dropped_by channel on bounds Overrun l e = refl
+dropped_by channel on bounds (Bytes bytes) l e =
+    cond-false (is_channel channel on) (packets_at bounds on (Bytes bytes) ++ filter (is_of channel) l)
     (filter (is_of channel) l) e
 
 on_one : (p : Parameters) (t : Timeline) (channel : Channel) (before rs : List Recorded)
@@ -90,16 +90,16 @@ on_one : (p : Parameters) (t : Timeline) (channel : Channel) (before rs : List R
 on_one p t channel before [] = refl
 on_one p t A before (r ∷ rs) =
     let more : List Packet = packets_of_both_after p t (before ++ r ∷ []) rs in
-    kept_by A A (due_at p t before r) (heard p r A) (packets_at (due_at p t before r) B (heard p r B)
+    kept_by A A (bounds_of p t before r) (heard p r A) (packets_at (bounds_of p t before r) B (heard p r B)
     ++ packets_of_both_after p t (before ++ r ∷ []) rs) refl
-    ∙ ap (λ (l : List Packet). packets_at (due_at p t before r) A (heard p r A) ++ l)
-    (dropped_by A B (due_at p t before r) (heard p r B) (packets_of_both_after p t (before ++ r ∷ []) rs) refl
+    ∙ ap (λ (l : List Packet). packets_at (bounds_of p t before r) A (heard p r A) ++ l)
+    (dropped_by A B (bounds_of p t before r) (heard p r B) (packets_of_both_after p t (before ++ r ∷ []) rs) refl
     ∙ on_one p t A (before ++ r ∷ []) rs)
 on_one p t B before (r ∷ rs) =
-    dropped_by B A (due_at p t before r) (heard p r A) (packets_at (due_at p t before r) B (heard p r B)
+    dropped_by B A (bounds_of p t before r) (heard p r A) (packets_at (bounds_of p t before r) B (heard p r B)
     ++ packets_of_both_after p t (before ++ r ∷ []) rs) refl
-    ∙ kept_by B B (due_at p t before r) (heard p r B) (packets_of_both_after p t (before ++ r ∷ []) rs) refl
-    ∙ ap (λ (l : List Packet). packets_at (due_at p t before r) B (heard p r B) ++ l)
+    ∙ kept_by B B (bounds_of p t before r) (heard p r B) (packets_of_both_after p t (before ++ r ∷ []) rs) refl
+    ∙ ap (λ (l : List Packet). packets_at (bounds_of p t before r) B (heard p r B) ++ l)
     (on_one p t B (before ++ r ∷ []) rs)
 
 -- ---- records in order
@@ -129,10 +129,10 @@ bytes_of_both : (p : Parameters) (t : Timeline) (before rs : List Recorded)
     → map (λ (x : Packet). x.bytes) (packets_of_both_after p t before rs) ≡ packets_of_both p rs
 bytes_of_both p t before [] = refl
 bytes_of_both p t before (r ∷ rs) =
-    bytes_at (due_at p t before r) A (heard p r A) (packets_at (due_at p t before r) B (heard p r B)
+    bytes_at (bounds_of p t before r) A (heard p r A) (packets_at (bounds_of p t before r) B (heard p r B)
     ++ packets_of_both_after p t (before ++ r ∷ []) rs)
     ∙ ap (λ (l : List (List ℕ)). packets_seen A (heard p r A) ++ l)
-    (bytes_at (due_at p t before r) B (heard p r B) (packets_of_both_after p t (before ++ r ∷ []) rs)
+    (bytes_at (bounds_of p t before r) B (heard p r B) (packets_of_both_after p t (before ++ r ∷ []) rs)
     ∙ ap (λ (l : List (List ℕ)). packets_seen B (heard p r B) ++ l) (bytes_of_both p t (before ++ r ∷ []) rs))
 
 order_any : (slack : ℕ) (records : List Record) (packets : List Packet) → AreInOrderAt slack records packets

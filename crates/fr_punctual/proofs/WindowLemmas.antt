@@ -32,9 +32,9 @@ use Rattle.fr_slots.specs.Windows.{Opportunity, slot_of, is_static, static_windo
 use Rattle.fr_timing.specs.declared.place.Place.TheVariants.{Static, Minislot}
 use Rattle.fr_timing.specs.Division.{start_in_row, start_at}
 use Rattle.fr_timing.specs.Segments.{dynamic_start}
+use Rattle.fr_punctual.specs.Runs.{Bounds, IsWithin, bounds_as, bounds_of, time_due, NearIsWithin}
 use Rattle.fr_punctual.specs.Schedule.{Timeline, IsTimelyAs, Timed, IsPunctual, IsAfter}
-use Rattle.fr_punctual.specs.Schedule.{Continue, ArePunctual, slot_begins}
-use Rattle.fr_punctual.specs.Runs.{due_at}
+use Rattle.fr_punctual.specs.Schedule.{cycle_length, slot_begins}
 
 -- ---- the start of a window
 
@@ -78,49 +78,84 @@ module _ (p : Parameters) (lawful : IsParameters p) where
       (lt-ltb 0 p.static_mt (omega (arith, some)))))
       ∙ (let none : 0 + (slot - 1) * p.static_mt + 0 ≡ (slot - 1) * p.static_mt = omega arith in none)
 
+pub near_is_within : NearIsWithin
+near_is_within p t before r time lawful near = by (is_static r.window)
+  where
+    by : (b : Bool) → IsWithin t.slack time
+        (bounds_as p t (cycles_begun (before ++ r ∷ []) - 1) (time_due p t before r) b)
+    by true = record { not_early = near.not_early; not_late = near.not_late }
+    by false =
+        let few : start_of p r.window * t.macrotick ≤ p.cycle_mt * t.macrotick =
+        mul-le (start_of p r.window) t.macrotick p.cycle_mt t.macrotick (start_within p lawful r.window)
+        (omega arith) in
+        let early = near.not_early in
+        let late = near.not_late in
+        record { not_early = omega (arith, early); not_late = omega (arith, few, late) }
+
 -- ---- the frames of the schedule
 
-abbrev pub exact : Timeline → Timeline
-exact t = record t { slack = 0 }
+-- the frame of a window, with its cycle and the bounds of its time
+pub record Placed : Type 0 where
+  pub frame : Fields
+  pub cycle : ℕ
+  pub bounds : Bounds
 
--- the frame of a window, at the time that is due
-abbrev pub timed_of : Parameters → Timeline → List Recorded → Recorded → Fields → Timed
-timed_of p t before r f =
-    record { frame = f; cycle = cycles_begun (before ++ r ∷ []) - 1; time = due_at p t before r }
+abbrev pub at_time : Placed → ℕ → Timed
+at_time x time = record { frame = x.frame; cycle = x.cycle; time = time }
 
-abbrev pub with_timed : (d : Description) (t : Timeline) (channel : Channel) (before : List Recorded) (r : Recorded)
-    → IsHeardAt d channel r → List Timed → List Timed
-with_timed d t channel before r (inl quiet) xs = xs
-with_timed d t channel before r (inr loud) xs = timed_of d.params t before r loud.frame ∷ xs
+-- it is in time at each time within its bounds
+abbrev pub IsPlaced : Parameters → Timeline → Placed → Type 0
+IsPlaced p t x = (time : ℕ) → IsWithin t.slack time x.bounds → IsPunctual p t (at_time x time)
 
-abbrev pub timed_frames : (d : Description) (t : Timeline) (channel : Channel) (before rs : List Recorded)
-    → AreHeardAt d channel rs → List Timed
-timed_frames d t channel before [] h = []
-timed_frames d t channel before (r ∷ rs) h =
-    with_timed d t channel before r h.0 (timed_frames d t channel (before ++ r ∷ []) rs h.1)
+-- no time matters here
+abbrev pub Follows : Placed → Placed → Type 0
+Follows x y = IsAfter (at_time x 0) (at_time y 0)
+
+abbrev pub ContinueInPlace : Parameters → Timeline → Placed → List Placed → Type 0
+ContinueInPlace p t x [] = Unit {0}
+ContinueInPlace p t x (y ∷ ys) = Follows x y × IsPlaced p t y × ContinueInPlace p t y ys
+
+abbrev pub ArePlaced : Parameters → Timeline → List Placed → Type 0
+ArePlaced p t [] = Unit {0}
+ArePlaced p t (x ∷ xs) = IsPlaced p t x × ContinueInPlace p t x xs
+
+abbrev pub placed_of : Parameters → Timeline → List Recorded → Recorded → Fields → Placed
+placed_of p t before r f =
+    record { frame = f; cycle = cycles_begun (before ++ r ∷ []) - 1; bounds = bounds_of p t before r }
+
+abbrev pub with_placed : (d : Description) (t : Timeline) (channel : Channel) (before : List Recorded) (r : Recorded)
+    → IsHeardAt d channel r → List Placed → List Placed
+with_placed d t channel before r (inl quiet) xs = xs
+with_placed d t channel before r (inr loud) xs = placed_of d.params t before r loud.frame ∷ xs
+
+abbrev pub placed_frames : (d : Description) (t : Timeline) (channel : Channel) (before rs : List Recorded)
+    → AreHeardAt d channel rs → List Placed
+placed_frames d t channel before [] h = []
+placed_frames d t channel before (r ∷ rs) h =
+    with_placed d t channel before r h.0 (placed_frames d t channel (before ++ r ∷ []) rs h.1)
 
 -- the frames after the last one, if there is one
-abbrev NextTo : Option Timed → Timed → Type 0
+abbrev NextTo : Option Placed → Placed → Type 0
 NextTo None y = Unit {0}
-NextTo (Some x) y = IsAfter x y
+NextTo (Some x) y = Follows x y
 
-abbrev After : Parameters → Timeline → Option Timed → List Timed → Type 0
-After p t None xs = ArePunctual p t xs
-After p t (Some x) xs = Continue p t x xs
+abbrev After : Parameters → Timeline → Option Placed → List Placed → Type 0
+After p t None xs = ArePlaced p t xs
+After p t (Some x) xs = ContinueInPlace p t x xs
 
-after_one : (p : Parameters) (t : Timeline) (last : Option Timed) (y : Timed) (ys : List Timed) → NextTo last y
-    → IsPunctual p t y → Continue p t y ys → After p t last (y ∷ ys)
+after_one : (p : Parameters) (t : Timeline) (last : Option Placed) (y : Placed) (ys : List Placed) → NextTo last y
+    → IsPlaced p t y → ContinueInPlace p t y ys → After p t last (y ∷ ys)
 after_one p t None y ys next punctual more = (punctual, more)
 after_one p t (Some x) y ys next punctual more = (next, punctual, more)
 
-after_none : (p : Parameters) (t : Timeline) (last : Option Timed) → After p t last []
+after_none : (p : Parameters) (t : Timeline) (last : Option Placed) → After p t last []
 after_none p t None = tt
 after_none p t (Some x) = tt
 
 -- ---- a place in the course of a run
 
 -- The last frame was heard in the open cycle, or in the one before. If there is none, this is the first cycle.
-abbrev IsLast : Option Timed → Spot → ℕ → Type 0
+abbrev IsLast : Option Placed → Spot → ℕ → Type 0
 IsLast None s begun = (begun ≡ 1) × (s.last ≡ 0)
 IsLast (Some x) s begun =
     ((x.cycle + 1 ≡ begun) × (s.last ≡ x.frame.id)) ⊎ ((x.cycle + 2 ≡ begun) × (s.last ≡ 0))
@@ -133,7 +168,7 @@ last_after_frame p s f = by (nat_le f.id p.static_slots)
     by false = refl
 
 -- a frame of the open cycle
-within_cycle : (last : Option Timed) (s : Spot) (begun : ℕ) (y : Timed) → 1 ≤ begun → IsLast last s begun
+within_cycle : (last : Option Placed) (s : Spot) (begun : ℕ) (y : Placed) → 1 ≤ begun → IsLast last s begun
     → y.cycle ≡ begun - 1 → s.last < y.frame.id → NextTo last y
 within_cycle None s begun y some is cycle later = tt
 within_cycle (Some x) s begun y some (inl is) cycle later =
@@ -150,50 +185,54 @@ module _ (d : Description) (channel : Channel) (t : Timeline) (cluster : IsClust
 
   -- ---- each frame is in time
 
-  cycle_times : (n so tick : ℕ) → so ≤ p.cycle_mt → so * tick ≤ p.cycle_mt * tick
-  cycle_times n so tick few = mul-le so tick p.cycle_mt tick few (omega arith)
-
-  static_punctual : (before : List Recorded) (r : Recorded) (f : Fields) (number cycle slot n : ℕ)
+  static_placed : (before : List Recorded) (r : Recorded) (f : Fields) (number cycle slot n : ℕ)
       → r.window ≡ static_window number cycle slot → f.id ≡ slot → f.cycle ≡ cycle → 1 ≤ slot
       → slot ≤ d.params.static_slots → cycles_begun (before ++ r ∷ []) - 1 ≡ n → cycle ≡ n % 64
-      → IsPunctual d.params (exact t) (timed_of d.params t before r f)
-  static_punctual before r f number cycle slot n is id count from most begun at =
-      let due : due_at d.params t before r ≡ slot_begins d.params t (cycles_begun (before ++ r ∷ []) - 1) f.id =
+      → IsPlaced d.params t (placed_of d.params t before r f)
+  static_placed before r f number cycle slot n is id count from most begun at time within =
+      let due : time_due d.params t before r ≡ slot_begins d.params t (cycles_begun (before ++ r ∷ []) - 1) f.id =
       ap (λ (k : ℕ). t.starts (cycles_begun (before ++ r ∷ []) - 1) + k * t.macrotick)
       (ap (start_of d.params) is ∙ static_start d.params cluster.params_are number cycle slot from most
       ∙ ap (λ (k : ℕ). (k - 1) * d.params.static_mt) (sym id))
       ∙ spread (t.starts (cycles_begun (before ++ r ∷ []) - 1)) (f.id - 1) d.params.static_mt t.macrotick in
       let static : nat_le f.id d.params.static_slots ≡ true =
       le-leb f.id d.params.static_slots (omega (arith, id, most)) in
+      let near : IsWithin t.slack time (record {
+        earliest = time_due d.params t before r;
+        latest = time_due d.params t before r;
+      }) =
+      subst (λ (b : Bool). IsWithin t.slack time (bounds_as d.params t (cycles_begun (before ++ r ∷ []) - 1)
+      (time_due d.params t before r) b)) (ap is_static is) within in
+      let early = near.not_early in
+      let late = near.not_late in
       record {
         count_is = count ∙ at ∙ ap (λ (k : ℕ). k % 64) (sym begun);
         from_one = omega (arith, id, from);
         some_minislot = λ e. absurd (let both : true ≡ false = sym static ∙ e in let none : ⊥ = cc in none);
-        timely = subst (IsTimelyAs d.params (exact t) (cycles_begun (before ++ r ∷ []) - 1) f.id
-            (due_at d.params t before r)) (sym static)
-            (record { not_late = omega (arith, due); not_early = omega (arith, due) });
+        timely = subst (IsTimelyAs d.params t (cycles_begun (before ++ r ∷ []) - 1) f.id time) (sym static)
+            (record { not_late = omega (arith, due, late); not_early = omega (arith, due, early) });
       }
     where
       spread : (start k s tick : ℕ) → start + (k * s) * tick ≡ start + k * (s * tick)
       spread start k s tick = omega arith
 
-  dynamic_punctual : (before : List Recorded) (r : Recorded) (f : Fields) (n : ℕ)
+  dynamic_placed : (before : List Recorded) (r : Recorded) (f : Fields) (n : ℕ)
       → nat_le f.id d.params.static_slots ≡ false → 1 ≤ f.id → 1 ≤ d.params.minislots
-      → f.cycle ≡ n % 64 → cycles_begun (before ++ r ∷ []) - 1 ≡ n
-      → IsPunctual d.params (exact t) (timed_of d.params t before r f)
-  dynamic_punctual before r f n dynamic from some count begun =
-      let c : ℕ = cycles_begun (before ++ r ∷ []) - 1 in
-      let so : ℕ = start_of d.params r.window in
-      let few : start_of d.params r.window * t.macrotick ≤ d.params.cycle_mt * t.macrotick =
-      mul-le (start_of d.params r.window) t.macrotick d.params.cycle_mt t.macrotick
-      (start_within d.params cluster.params_are r.window) (omega arith) in
+      → f.cycle ≡ n % 64 → cycles_begun (before ++ r ∷ []) - 1 ≡ n → is_static r.window ≡ false
+      → IsPlaced d.params t (placed_of d.params t before r f)
+  dynamic_placed before r f n dynamic from some count begun is time within =
+      let inside : IsWithin t.slack time (record {
+        earliest = t.starts (cycles_begun (before ++ r ∷ []) - 1);
+        latest = t.starts (cycles_begun (before ++ r ∷ []) - 1) + cycle_length d.params t;
+      }) =
+      subst (λ (b : Bool). IsWithin t.slack time (bounds_as d.params t (cycles_begun (before ++ r ∷ []) - 1)
+      (time_due d.params t before r) b)) is within in
       record {
         count_is = count ∙ ap (λ (k : ℕ). k % 64) (sym begun);
         from_one = from;
         some_minislot = λ e. some;
-        timely = subst (IsTimelyAs d.params (exact t) (cycles_begun (before ++ r ∷ []) - 1) f.id
-            (due_at d.params t before r)) (sym dynamic)
-            (record { not_early = omega arith; not_late = omega (arith, few) });
+        timely = subst (IsTimelyAs d.params t (cycles_begun (before ++ r ∷ []) - 1) f.id time) (sym dynamic)
+            (record { not_early = inside.not_early; not_late = inside.not_late });
       }
 
   -- ---- each window
@@ -203,14 +242,14 @@ module _ (d : Description) (channel : Channel) (t : Timeline) (cluster : IsClust
     course before = course_of d.params cycles before
 
     -- what is known after a window leads on
-    abbrev LeadsOn : List Recorded → List Timed → Type 0
-    LeadsOn before xs = (last : Option Timed) (s : Spot) → IsAt d channel (course before) s
-        → IsLast last s (course before).begun → After d.params (exact t) last xs
+    abbrev LeadsOn : List Recorded → List Placed → Type 0
+    LeadsOn before xs = (last : Option Placed) (s : Spot) → IsAt d channel (course before) s
+        → IsLast last s (course before).begun → After d.params t last xs
 
     -- a cycle is over, so a frame was heard in it
-    was_heard : (before : List Recorded) (last : Option Timed) (s : Spot) → IsAt d channel (course before) s
+    was_heard : (before : List Recorded) (last : Option Placed) (s : Spot) → IsAt d channel (course before) s
         → d.params.static_slots ≤ (course before).statics → IsLast last s (course before).begun
-        → (x : Timed) × (last ≡ Some x) × (x.cycle + 1 ≡ (course before).begun)
+        → (x : Placed) × (last ≡ Some x) × (x.cycle + 1 ≡ (course before).begun)
     was_heard before last s at over is = by last is
       where
         free : s.last ≡ 0 → ⊥
@@ -220,18 +259,18 @@ module _ (d : Description) (channel : Channel) (t : Timeline) (cluster : IsClust
             not_free d channel s.cycle (has_owner d channel s.cycle cluster fits (clocked s.cycle fits))
             (λ k low high. at.free k (omega (arith, low, none)) (omega (arith, high, over)))
 
-        by : (o : Option Timed) → IsLast o s (course before).begun
-            → (x : Timed) × (o ≡ Some x) × (x.cycle + 1 ≡ (course before).begun)
+        by : (o : Option Placed) → IsLast o s (course before).begun
+            → (x : Placed) × (o ≡ Some x) × (x.cycle + 1 ≡ (course before).begun)
         by None e = absurd (free e.1)
         by (Some x) (inl e) = (x, refl, e.0)
         by (Some x) (inr e) = absurd (free e.1)
 
     -- the first window of a cycle, after this last frame or none
-    first_window : (before : List Recorded) (r : Recorded) (heard_is : IsHeardAt d channel r) (xs : List Timed)
-        (last : Option Timed) → r.window ≡ static_window (course before).windows ((course before).begun % 64) 1
-        → ((y : Timed) → y.cycle ≡ (course before).begun → NextTo last y)
+    first_window : (before : List Recorded) (r : Recorded) (heard_is : IsHeardAt d channel r) (xs : List Placed)
+        (last : Option Placed) → r.window ≡ static_window (course before).windows ((course before).begun % 64) 1
+        → ((y : Placed) → y.cycle ≡ (course before).begun → NextTo last y)
         → IsLast last (cycle_start d.params ((course before).begun % 64)) ((course before).begun + 1)
-        → LeadsOn (before ++ r ∷ []) xs → After d.params (exact t) last (with_timed d t channel before r heard_is xs)
+        → LeadsOn (before ++ r ∷ []) xs → After d.params t last (with_placed d t channel before r heard_is xs)
     first_window before r (inl quiet) xs last is next none rest =
         let c : Standpoint = course before in
         let e : course (before ++ r ∷ []) ≡ first_passed (course before) =
@@ -253,10 +292,10 @@ module _ (d : Description) (channel : Channel) (t : Timeline) (cluster : IsClust
         after_first d.params cycles before r (course before).windows ((course before).begun % 64) is in
         let begun : (course (before ++ r ∷ [])).begun ≡ (course before).begun + 1 =
         ap (λ (q : Standpoint). q.begun) e in
-        let y : Timed = timed_of d.params t before r loud.frame in
+        let y : Placed = placed_of d.params t before r loud.frame in
         let now : (course (before ++ r ∷ [])).begun - 1 ≡ (course before).begun = omega (arith, begun) in
-        after_one d.params (exact t) last y xs (next y now)
-        (static_punctual before r loud.frame (course before).windows ((course before).begun % 64) 1
+        after_one d.params t last y xs (next y now)
+        (static_placed before r loud.frame (course before).windows ((course before).begun % 64) 1
         (course before).begun is frame.id_is frame.cycle_is (omega arith) (omega (arith, some)) now refl)
         (rest (Some y) (record (cycle_start d.params ((course before).begun % 64)) { last = 1 })
         (subst (λ (q : Standpoint). IsAt d channel q (record (cycle_start d.params ((course before).begun % 64))
@@ -269,12 +308,12 @@ module _ (d : Description) (channel : Channel) (t : Timeline) (cluster : IsClust
           sym frame.id_is,
         )))
 
-    static_next : (before : List Recorded) (r : Recorded) (heard_is : IsHeardAt d channel r) (xs : List Timed)
-        (last : Option Timed) (s : Spot) → IsAt d channel (course before) s
+    static_next : (before : List Recorded) (r : Recorded) (heard_is : IsHeardAt d channel r) (xs : List Placed)
+        (last : Option Placed) (s : Spot) → IsAt d channel (course before) s
         → (course before).statics < d.params.static_slots
         → r.window ≡ static_window (course before).windows (cycle_of (course before)) ((course before).statics + 1)
         → IsLast last s (course before).begun
-        → LeadsOn (before ++ r ∷ []) xs → After d.params (exact t) last (with_timed d t channel before r heard_is xs)
+        → LeadsOn (before ++ r ∷ []) xs → After d.params t last (with_placed d t channel before r heard_is xs)
     static_next before r (inl quiet) xs last s at further is here rest =
         let e : course (before ++ r ∷ []) ≡ static_passed (course before) =
         after_static d.params cycles before r (course before).windows (cycle_of (course before))
@@ -295,14 +334,14 @@ module _ (d : Description) (channel : Channel) (t : Timeline) (cluster : IsClust
         (course before).statics at.some_static is in
         let begun : (course (before ++ r ∷ [])).begun ≡ (course before).begun =
         ap (λ (q : Standpoint). q.begun) e in
-        let y : Timed = timed_of d.params t before r loud.frame in
+        let y : Placed = placed_of d.params t before r loud.frame in
         let now : (course (before ++ r ∷ [])).begun - 1 ≡ (course before).begun - 1 = omega (arith, begun) in
         let some = at.some_cycle in
         let id = frame.id_is in
         let low = at.behind further in
-        after_one d.params (exact t) last y xs
+        after_one d.params t last y xs
         (within_cycle last s (course before).begun y at.some_cycle here now (omega (arith, id, low)))
-        (static_punctual before r loud.frame (course before).windows (cycle_of (course before))
+        (static_placed before r loud.frame (course before).windows (cycle_of (course before))
         ((course before).statics + 1) ((course before).begun - 1) is frame.id_is frame.cycle_is (omega arith)
         (omega (arith, further)) now refl)
         (rest (Some y) (record s { last = (course before).statics + 1 })
@@ -321,6 +360,11 @@ module _ (d : Description) (channel : Channel) (t : Timeline) (cluster : IsClust
         opened_is (lane_of channel (course before)) m l.slot (sym (slot_opened channel (course before) m)
         ∙ ap (λ (w : Opportunity). slot_of w channel) (sym is) ∙ l.slot_is)
 
+    not_static : (before : List Recorded) (r : Recorded) (m : ℕ) → 1 ≤ m → r.window ≡ opening (course before) m
+        → is_static r.window ≡ false
+    not_static before r m some is =
+        ap is_static is ∙ ne_eqb m 0 (λ same. let none : ⊥ = omega (arith, some, same) in none)
+
     -- its frame is a dynamic one
     dynamic_id : (before : List Recorded) (r : Recorded) (l : IsLoud d channel r) (s : Spot) (m : ℕ)
         → IsAt d channel (course before) s → 1 ≤ m → r.window ≡ opening (course before) m
@@ -329,7 +373,7 @@ module _ (d : Description) (channel : Channel) (t : Timeline) (cluster : IsClust
         let o : IsOpened (lane_of channel (course before)) m l.slot = row_of before r l m is in
         let due : IsDueThere d r.window channel l.slot l.frame =
         subst (λ (b : Bool). IsThere d r.window channel l.slot l.frame b)
-        (ap is_static is ∙ ne_eqb m 0 (λ same. let none : ⊥ = omega (arith, some, same) in none)) l.is_there in
+        (not_static before r m some is) l.is_there in
         let id = due.id_is in
         let slot = o.slot_is in
         let most = at.lane.dynamic_slot in
@@ -345,11 +389,11 @@ module _ (d : Description) (channel : Channel) (t : Timeline) (cluster : IsClust
         ap (λ (q : Parameters). q.minislots) at.lane.params_are in
         omega (arith, begins, within, segment, some)
 
-    dynamic_next : (before : List Recorded) (r : Recorded) (heard_is : IsHeardAt d channel r) (xs : List Timed)
-        (last : Option Timed) (s : Spot) (m : ℕ) → IsAt d channel (course before) s → 1 ≤ m
+    dynamic_next : (before : List Recorded) (r : Recorded) (heard_is : IsHeardAt d channel r) (xs : List Placed)
+        (last : Option Placed) (s : Spot) (m : ℕ) → IsAt d channel (course before) s → 1 ≤ m
         → d.params.static_slots ≤ (course before).statics → r.window ≡ opening (course before) m
         → IsLast last s (course before).begun
-        → LeadsOn (before ++ r ∷ []) xs → After d.params (exact t) last (with_timed d t channel before r heard_is xs)
+        → LeadsOn (before ++ r ∷ []) xs → After d.params t last (with_placed d t channel before r heard_is xs)
     dynamic_next before r (inl quiet) xs last s m at some over is here rest =
         let e : course (before ++ r ∷ [])
         ≡ dynamic_passed (course before) m (longest A r.sent) (longest B r.sent) =
@@ -366,14 +410,14 @@ module _ (d : Description) (channel : Channel) (t : Timeline) (cluster : IsClust
         ap (λ (q : Standpoint). q.begun) e in
         let further : IsFurther d channel s loud.frame =
         further_dynamic d channel cluster (course before) m r is some over s at loud in
-        let y : Timed = timed_of d.params t before r loud.frame in
+        let y : Placed = placed_of d.params t before r loud.frame in
         let now : (course (before ++ r ∷ [])).begun - 1 ≡ (course before).begun - 1 = omega (arith, begun) in
         let one = at.some_cycle in
-        after_one d.params (exact t) last y xs
+        after_one d.params t last y xs
         (within_cycle last s (course before).begun y at.some_cycle here now further.later)
-        (dynamic_punctual before r loud.frame ((course before).begun - 1) (dynamic_id before r loud s m at some is)
+        (dynamic_placed before r loud.frame ((course before).begun - 1) (dynamic_id before r loud s m at some is)
         further.allowed.slot_is (some_segment before r loud s m at some is)
-        (further.same_cycle ∙ at.cycle_is) now)
+        (further.same_cycle ∙ at.cycle_is) now (not_static before r m some is))
         (rest (Some y) (after_frame d.params s loud.frame)
         (subst (λ (q : Standpoint). IsAt d channel q (after_frame d.params s loud.frame)) (sym e)
         (dynamic_loud d channel cluster (course before) m r is some over s at loud))
@@ -385,17 +429,17 @@ module _ (d : Description) (channel : Channel) (t : Timeline) (cluster : IsClust
 
     -- ---- all windows
 
-    step : (before : List Recorded) (r : Recorded) (heard_is : IsHeardAt d channel r) (xs : List Timed)
-        (last : Option Timed) (s : Spot) → IsAt d channel (course before) s → IsLast last s (course before).begun
+    step : (before : List Recorded) (r : Recorded) (heard_is : IsHeardAt d channel r) (xs : List Placed)
+        (last : Option Placed) (s : Spot) → IsAt d channel (course before) s → IsLast last s (course before).begun
         → IsNextOf (course before) r.window
-        → LeadsOn (before ++ r ∷ []) xs → After d.params (exact t) last (with_timed d t channel before r heard_is xs)
+        → LeadsOn (before ++ r ∷ []) xs → After d.params t last (with_placed d t channel before r heard_is xs)
     step before r heard_is xs last s at here (inl first) rest =
         let heard = was_heard before last s at (first.over at.some_window) here in
         let next = heard.2 in
         first_window before r heard_is xs last first.is
-        (λ y cycle. subst (λ (o : Option Timed). NextTo o y) (sym heard.1)
+        (λ y cycle. subst (λ (o : Option Placed). NextTo o y) (sym heard.1)
         (inr (let e : y.cycle ≡ heard.0.cycle + 1 = omega (arith, next, cycle) in e)))
-        (subst (λ (o : Option Timed). IsLast o (cycle_start d.params ((course before).begun % 64))
+        (subst (λ (o : Option Placed). IsLast o (cycle_start d.params ((course before).begun % 64))
         ((course before).begun + 1)) (sym heard.1)
         (inr ((let e : heard.0.cycle + 2 ≡ (course before).begun + 1 = omega (arith, next) in e), refl)))
         rest
@@ -407,24 +451,24 @@ module _ (d : Description) (channel : Channel) (t : Timeline) (cluster : IsClust
         dynamic.1.is here rest
 
     follow : (before rs : List Recorded) (h : AreHeardAt d channel rs) → AllAfter (IsRecorded d cycles) before rs
-        → LeadsOn before (timed_frames d t channel before rs h)
+        → LeadsOn before (placed_frames d t channel before rs h)
     unfolding AllAfter
-    follow before [] h all last s at here = after_none d.params (exact t) last
+    follow before [] h all last s at here = after_none d.params t last
     follow before (r ∷ rs) h all last s at here =
-        step before r h.0 (timed_frames d t channel (before ++ r ∷ []) rs h.1) last s at here
+        step before r h.0 (placed_frames d t channel (before ++ r ∷ []) rs h.1) last s at here
         (next_window d.params cycles before r.window all.0.0) (follow (before ++ r ∷ []) rs h.1 all.1)
 
     -- the whole record
     pub frames_in_time : (rs : List Recorded) (h : AreHeardAt d channel rs) → AllAfter (IsRecorded d cycles) [] rs
-        → ArePunctual d.params (exact t) (timed_frames d t channel [] rs h)
+        → ArePlaced d.params t (placed_frames d t channel [] rs h)
     unfolding AllAfter
     frames_in_time [] h all = tt
     frames_in_time (r ∷ rs) h all = by (next_window d.params cycles [] r.window all.0.0)
       where
         by : IsNextOf (course []) r.window
-            → ArePunctual d.params (exact t) (timed_frames d t channel [] (r ∷ rs) h)
+            → ArePlaced d.params t (placed_frames d t channel [] (r ∷ rs) h)
         by (inl first) =
-            first_window [] r h.0 (timed_frames d t channel (r ∷ []) rs h.1) None first.is (λ y cycle. tt)
+            first_window [] r h.0 (placed_frames d t channel (r ∷ []) rs h.1) None first.is (λ y cycle. tt)
             (refl, refl) (follow (r ∷ []) rs h.1 all.1)
         by (inr (inl static)) = absurd (let one = static.0 in let none : ⊥ = omega (arith, one) in none)
         by (inr (inr dynamic)) = absurd (let one = dynamic.0 in let none : ⊥ = omega (arith, one) in none)

@@ -5,6 +5,7 @@ use Rattle.fr_logged.specs.declared.finding.Name.TheVariants.{Time}
 use Rattle.fr_logged.specs.declared.finding.Word.TheVariants.{Number}
 use Rattle.fr_judging.specs.Distances.{time_off, agrees}
 use Rattle.fr_slots.specs.Parameters.{Parameters}
+use Rattle.fr_punctual.specs.Runs.{bounds_as}
 use Rattle.fr_punctual.specs.Schedule.{slot_begins, even_timeline}
 
 abbrev small : Parameters
@@ -24,6 +25,11 @@ small = record {
 -- slot 2 of cycle 3 of a run that starts at 7: three cycles of 200,000 and a slot
 begins : slot_begins small (even_timeline small 1000 7 12500) 3 2 ≡ 650007
 begins = refl
+
+-- A record of a dynamic window may have any time of that cycle.
+any_time : bounds_as small (even_timeline small 1000 7 12500) 3 750007 false
+    ≡ record { earliest = 600007; latest = 800007 }
+any_time = refl
 
 -- Slot 1 is 12,500 early and slot 2 as late, which is half a slot together. A nanosecond more is too much.
 within : time_off 50000 50000 (pos 75000) ≡ None

@@ -12,7 +12,9 @@ use Rattle.fr_slots.specs.Parameters.{Parameters, IsParameters}
 -- ---- the schedule
 
 -- The length of a macrotick, and the time at which each cycle of the run begins by the clock of the logger. Within the
--- cycle times may differ from the schedule by the slack, and the cycle itself from its length by the drift.
+-- cycle times may differ from the schedule by the slack, and the cycle itself from its length by the drift. The slack
+-- counts from the start of the cycle, so a clock that drifts by more within a cycle is outside the laws. The judgement
+-- compares neighbouring frames, so it may have no finding there either.
 pub record Timeline : Type 0 where
   pub macrotick : ℕ
   pub starts : ℕ → ℕ

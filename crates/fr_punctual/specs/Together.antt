@@ -14,26 +14,26 @@ use Rattle.fr_recording.specs.Records.{Record}
 use Rattle.fr_recording.specs.Stream.{records_in}
 use Rattle.fr_slots.specs.declared.channel.Channel.TheVariants.{A, B}
 use Rattle.fr_slots.specs.Parameters.{Parameters}
-use Rattle.fr_punctual.specs.Runs.{window_begins, due_at, Packet, packets_at, KeepsTime}
-use Rattle.fr_punctual.specs.Schedule.{Timeline, IsTimeline, AreNear}
+use Rattle.fr_punctual.specs.Runs.{window_begins, bounds_of, IsWithin, Packet, packets_at, KeepsTime}
+use Rattle.fr_punctual.specs.Schedule.{Timeline, IsTimeline}
 
 -- the packets of all that a listener receives on both channels after some windows, window by window, channel A before B
 abbrev pub packets_of_both_after : Parameters → Timeline → List Recorded → List Recorded → List Packet
 packets_of_both_after p t before [] = []
 packets_of_both_after p t before (r ∷ rs) =
-    packets_at (due_at p t before r) A (heard p r A) ++ (packets_at (due_at p t before r) B (heard p r B)
+    packets_at (bounds_of p t before r) A (heard p r A) ++ (packets_at (bounds_of p t before r) B (heard p r B)
     ++ packets_of_both_after p t (before ++ r ∷ []) rs)
 
 abbrev pub timely_packets : Parameters → Timeline → List Recorded → List Packet
 timely_packets p t rs = packets_of_both_after p t [] rs
 
--- The records are those of these packets, in this order, near the times that are due. Foreign records may stand
+-- The records are those of these packets, in this order, within the bounds of their times. Foreign records may stand
 -- between, at any times.
 abbrev pub AreInOrderAt : ℕ → List Record → List Packet → Type 0
 AreInOrderAt slack [] packets = packets ≡ []
 AreInOrderAt slack (r ∷ rs) packets =
     ((kind_of r.link r.bytes ≡ Foreign) × AreInOrderAt slack rs packets)
-    ⊎ ((time : ℕ) × (x : Packet) × (rest : List Packet) × (packets ≡ x ∷ rest) × AreNear slack time x.due
+    ⊎ ((time : ℕ) × (x : Packet) × (rest : List Packet) × (packets ≡ x ∷ rest) × IsWithin slack time x.bounds
     × (r ≡ logged (Some (pos time)) x.bytes) × AreInOrderAt slack rs rest)
 
 -- In a run without faults on either channel, both have no finding, judged together and with times.
