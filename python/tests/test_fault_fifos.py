@@ -135,6 +135,19 @@ class TestLines(unittest.TestCase):
                 read_fifo([line])
             self.assertEqual(str(raised.exception), f"`{line}` is no line of fr_view fifo")
 
+    def test_lines_that_do_not_follow(self) -> None:
+        """Frames are numbered from 0, and each has one fate, in the words of its line."""
+        first = "stored 0 3 2 A ---- x0a0b"
+        for line in ("stored 2 3 2 A ---- x0a0b", "waiting -1", "waiting 0 1", "popped 0 4", "overwritten 0"):
+            with self.assertRaises(Unread) as raised:
+                read_fifo([first, line])
+            self.assertEqual(str(raised.exception), f"`{line}` is no line of fr_view fifo")
+        with self.assertRaises(Unread):
+            read_fifo([first, "waiting 0", "overwritten 0 3"])
+        with self.assertRaises(Unread) as raised:
+            read_fifo([first])
+        self.assertEqual(str(raised.exception), "fr_view fifo doesn't say what became of 1 frame")
+
 
 def frames(text: str) -> list[StoredFrame]:
     """Returns a frame for each word: a letter for the frame and its channel."""

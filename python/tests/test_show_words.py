@@ -175,6 +175,8 @@ class Statuses(Shows):
             (("log", *run[:2]), "musmyrtle log: the following arguments are required: --cycles"),
             (("log", *run, "--json", "--csv"), "musmyrtle log: argument --csv: not allowed with argument --json"),
             (("log", *run, "--node", "2"), "musmyrtle: the cluster has 2 nodes, and none is 2; names: pedal, brake"),
+            (("log", *run, "--node", "000001"),
+             "musmyrtle: the cluster has 2 nodes, and none is 000001; names: pedal, brake"),
             (("log", *run, "--slot", "0"), "musmyrtle: the cluster has no slot 0: its slots are 1 to 12"),
             (("commits", *run, "--slot", "13"), "musmyrtle: the cluster has no slot 13: its slots are 1 to 12"),
             (("reads", *run, "--slot", "1,3-5000"), "musmyrtle: the cluster has no slot 13: its slots are 1 to 12"),

@@ -134,8 +134,8 @@ ALONE: list[tuple[str, Words, str]] = [
 POOL = ["a", "4", "0", "1024", "1025", "04", "--cycles", "--cycles=4", "--cycles=", "--free", "--free=1", "--channel",
         "A", "--channel=B", "C", "--node=3", "--node", "16", "--from", "--from-window", "--cycle=5", "--cycle", "--own",
         "--all", "--endless", "--until-fault", "--whole", "--findings=5", "--macrotick", "--record", "--capture=c",
-        "--trace", "--keep=64", "--keep", "--trace-nodes=0,15", "--trace-nodes", "0,01", "15,", "--", "-", "-x", "--x", "",
-        " ", "\u00e9", "--=", "*", "--cycles --channel", "-4"]
+        "--trace", "--keep=64", "--keep", "--trace-nodes=0,15", "--trace-nodes", "0,01", "15,", "--", "-", "-x", "--x",
+        "", " ", "\u00e9", "--=", "*", "--cycles --channel", "-4"]
 SHAPES = {
     "fr_bench": [["audit"], ["check", "a"], ["midpoint"], ["run", "a", "b", "--cycles", "4"]],
     "fr_view": [["schedule", "a"], ["frames"], ["matrix", "a", "b", "--cycles", "4"],

@@ -1,4 +1,4 @@
--- The numbers of a receive FIFO after some entries, and the lines of the next one, as the code goes along a journal.
+-- The numbers of a receive FIFO after some entries, and the lines of the next entry, as the code goes along a journal.
 -- The proofs show that they agree with `FifoText`.
 use Rattle.std.specs.Prelude.{ℕ, ◌+◌, ◌-◌, min, List, [], ◌++◌, length, Option, Some, None, if◌then◌else◌}
 use Rattle.std.specs.List.{flat_map, range_with_len}

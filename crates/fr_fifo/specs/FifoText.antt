@@ -29,7 +29,8 @@ stored s q entries = arrived (moves s.params s.plan q entries)
 abbrev pub held_count : State → Queue → List Entry → ℕ
 held_count s q entries = queue_length q.capacity (moves s.params s.plan q entries)
 
--- The number of its oldest frame. Its content is the stored frames from this number on (`queue_content`).
+-- The number of its oldest frame, or of the next one if it is empty. Its content is the stored frames from this number
+-- on (`queue_content`).
 abbrev pub oldest_number : State → Queue → List Entry → ℕ
 oldest_number s q entries = length (stored s q entries) - held_count s q entries
 
@@ -37,7 +38,7 @@ oldest_number s q entries = length (stored s q entries) - held_count s q entries
 abbrev pub held_numbers : State → Queue → List Entry → List ℕ
 held_numbers s q entries = range_with_len (oldest_number s q entries) (held_count s q entries)
 
--- the numbers of the frames that it holds no longer after an entry: those below the oldest one then
+-- the numbers of the frames that it holds no longer after an entry: from its oldest one before up to that after it
 abbrev pub left_by : State → Queue → List Entry → Entry → List ℕ
 left_by s q before e =
     range_with_len (oldest_number s q before)
@@ -55,7 +56,7 @@ stored_line number cycle channel f =
 abbrev pub overwritten_line : ℕ → ℕ → List ℕ
 overwritten_line cycle number = line_text (codes "overwritten" ∷ decimal number ∷ decimal cycle ∷ [])
 
--- the number of a frame that a task popped in this cycle of the run
+-- the number of a frame that a task popped after so many cycles of the run began
 abbrev pub popped_line : ℕ → ℕ → ℕ → List ℕ
 popped_line cycle task number =
     line_text (codes "popped" ∷ decimal number ∷ decimal cycle ∷ decimal task ∷ [])

@@ -1,5 +1,5 @@
--- The transmit buffers of the dynamic segment in a run, window by window: those that are due in a cycle, and the
--- minislots at which their slots open (chapters 5 and 9; the lines are project-defined).
+-- The transmit buffers of the dynamic segment in a run, window by window: those that are due in a cycle, the minislots
+-- at which their slots open, and those whose slots don't open (chapters 5 and 9; the lines are project-defined).
 use Rattle.std.specs.Prelude.{ℕ, ◌==◌, nat_lt, not, Bool, false, ◌&&◌, List, [], ◌∷◌, ◌++◌, codes, Option, Some, None}
 use Rattle.std.specs.Prelude.{if◌then◌else◌}
 use Rattle.std.specs.Fmt.{decimal}

@@ -4,8 +4,8 @@ use Rattle.std.proofs.Common.{inl, inr, None}
 use Rattle.fr_bus.specs.Record.{Recorded, heard}
 use Rattle.fr_capture.specs.Pcap.{packet, link_type}
 use Rattle.fr_frame.specs.Refusal.{refusal}
-use Rattle.fr_hearing.proofs.AlarmLaws.{IsAlone, alone_of_both, core_fresh, fresh_core, turn_rules, aside_record, cleared}
-use Rattle.fr_hearing.proofs.AlarmLaws.{end_channel, silent_end, aside_end, lane_aside, found_none}
+use Rattle.fr_hearing.proofs.AlarmLaws.{IsAlone, alone_of_both, core_fresh, fresh_core, turn_rules, aside_record}
+use Rattle.fr_hearing.proofs.AlarmLaws.{cleared, end_channel, silent_end, aside_end, lane_aside, found_none}
 use Rattle.fr_hearing.proofs.CoreLemmas.{Core, core}
 use Rattle.fr_hearing.proofs.RecordLemmas.{turn_none}
 use Rattle.fr_hearing.specs.Alarms.{is_on, AreOn, judged}

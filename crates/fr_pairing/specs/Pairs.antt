@@ -27,8 +27,8 @@ AreInOrder (r ∷ rs) packets =
     ⊎ ((time : Option ℤ) × (bytes : List ℕ) × (rest : List (List ℕ)) × (packets ≡ bytes ∷ rest)
     × (r ≡ logged time bytes) × AreInOrder rs rest)
 
--- In a run without faults on either channel, both have no finding, judged together and without times. Both channels have
--- a sender, or one of them, or none.
+-- In a run without faults on either channel, both have no finding, judged together and without times. Both channels
+-- have a sender, or one of them, or none.
 abbrev pub NoAlarmTogether : WorldState → Type 0
 NoAlarmTogether w = (most : ℕ) (whole : Bool) (records : List Record) → IsHealthy w A → IsHealthy w B
     → AreInOrder records (packets_of_both w.bus.cluster.params w.bus.sealed)

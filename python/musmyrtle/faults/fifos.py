@@ -6,6 +6,7 @@ from collections.abc import Iterable
 from dataclasses import dataclass, field
 
 from musmyrtle.faults.children import Children
+from musmyrtle.findings import counted
 from musmyrtle.visible import visible
 
 STORED = "stored"
@@ -28,7 +29,7 @@ class StoredFrame:
 
     @property
     def frame(self) -> tuple[int, int, str, str]:
-        """Returns all but the channel: two frames with the same value are the same frame on both channels."""
+        """Returns all but the channel. Two frames with the same value count as one frame on both channels."""
         return self.cycle, self.slot, self.flags, self.payload
 
 
@@ -50,23 +51,34 @@ class Fifo:
 
     @property
     def stored(self) -> list[StoredFrame]:
+        """Returns all frames that the FIFO stored: first those that the host got or can get, then the others."""
         return self.kept + self.overwritten
 
 
 def read_fifo(lines: Iterable[str]) -> Fifo:
     """Returns the frames of the lines of `fr_view fifo`, by their fates. Raises `Unread` for other lines."""
-    fifo, frames = Fifo(), list[StoredFrame]()
-    fates = {"popped": fifo.popped, "waiting": fifo.waiting, "overwritten": fifo.overwritten}
+    fifo, frames = Fifo(), dict[str, StoredFrame]()
+    fates = {"popped": (fifo.popped, 2), "waiting": (fifo.waiting, 0), "overwritten": (fifo.overwritten, 1)}
+    stored = 0
     for line in lines:
         try:
             word, number, *words = line.split(" ")
             if word == STORED:
                 cycle, slot, channel, flags, payload = words
-                frames.append(StoredFrame(int(cycle), int(slot), flags, payload, channel))
+                if number != str(stored):
+                    raise ValueError
+                frames[number] = StoredFrame(int(cycle), int(slot), flags, payload, channel)
+                stored += 1
             else:
-                fates[word].append(frames[int(number)])
-        except (KeyError, IndexError, ValueError):
+                its, more = fates[word]
+                if len(words) != more:
+                    raise ValueError
+                # Each frame has one fate.
+                its.append(frames.pop(number))
+        except (KeyError, ValueError):
             raise Unread(f"`{visible(line[:60])}` is no line of fr_view fifo") from None
+    if frames:
+        raise Unread(f"fr_view fifo doesn't say what became of {counted(len(frames), 'frame')}")
     return fifo
 
 

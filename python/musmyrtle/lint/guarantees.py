@@ -166,13 +166,16 @@ def buffer_of(cluster: Cluster, text: Text, node: str, buffer: str) -> Buffer:
 
 
 def number_of(word: str, names: list[str | None], what: str, whose: str) -> int:
-    """Returns the number of the thing that a word names. Raises `Stop` if none or several have the name."""
+    """Returns the number of the thing that a word names, or is. Raises `Stop` if none or several have the name.
+
+    A word that is a number of such a thing is this number, also if another one has it as a name, as in scenarios.
+    """
+    if word.isascii() and word.isdecimal() and word in map(str, range(len(names))):
+        return int(word)
     named = [number for number, name in enumerate(names) if name == word]
     if len(named) == 1:
         return named[0]
     if named:
         raise Stop(CANNOT_BE_USED, f"several {what}s of {whose} have the name {cut(word)}; give the number")
-    if word.isascii() and word.isdecimal() and int(word[:5]) < len(names):
-        return int(word[:5])
     known = joined([cut(it) for it in names if it is not None]) or "none"
     raise Stop(CANNOT_BE_USED, f"{whose} has {counted(len(names), what)}, and none is {cut(word)}; names: {known}")

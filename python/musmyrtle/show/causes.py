@@ -4,7 +4,7 @@ from dataclasses import dataclass
 
 from musmyrtle.show.windows import number_of
 
-DUE, OPEN, LATE, CLOSED, STOPPED = "due", "open", "late", "closed", "stopped"
+LATE, CLOSED, EFFECT, STOPPED = "late", "closed", "effect", "stopped"
 Place = tuple[int, int, str]
 """A cycle of the run, a slot and a channel."""
 
@@ -51,7 +51,7 @@ class Causes:
             if self.wanted is None or (node, buffer) in self.wanted:
                 minislot = int(words[7]) if words[0] == LATE else None
                 self.turns.setdefault((node, buffer), []).append(Turn(cycle, slot, int(words[6]), minislot))
-        elif words[0] not in (DUE, OPEN):
+        elif words[0] in (EFFECT, STOPPED):
             self.lines.add(int(words[6]))
             if words[0] != STOPPED:
                 place = int(words[1]), number_of(words[2]), words[3]

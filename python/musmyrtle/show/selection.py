@@ -40,14 +40,17 @@ def numbers_of_nodes(words: Iterable[str], network: Network) -> frozenset[int] |
 
 
 def number_of(word: str, network: Network) -> int:
-    """Returns the number of a node. Raises `Stop` if no node has the name or the number, or several have the name."""
+    """Returns the number of a node. Raises `Stop` if no node has the number or the name, or several have the name.
+
+    A word that is the number of a node is this number, also if another node has it as a name, as in scenarios.
+    """
+    if word.isascii() and word.isdecimal() and word in map(str, range(len(network.cluster.nodes))):
+        return int(word)
     named = [number for number, name in enumerate(network.node_names) if name == word]
     if len(named) == 1:
         return named[0]
     if named:
         raise Stop(USAGE, f"several nodes have the name {word}; give the number")
-    if word.isascii() and word.isdecimal() and int(word[:5]) < len(network.cluster.nodes):
-        return int(word[:5])
     names = ", ".join(it for it in network.node_names if it is not None) or "none"
     raise Stop(USAGE, f"the cluster has {len(network.cluster.nodes)} nodes, and none is {word}; names: {names}")
 
