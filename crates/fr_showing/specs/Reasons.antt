@@ -1,6 +1,6 @@
 -- The facts for which the commits of a run weren't sent or weren't received, window by window: the transmit buffers of
--- the dynamic segment that are due, whether and when their slots open, the faults that had an effect on the bus, and the
--- babbles that a bus guardian stopped (project-defined).
+-- the dynamic segment that are due, whether and when their slots open, the faults that had an effect on the bus, and
+-- the babbles that a bus guardian stopped (project-defined).
 use Rattle.std.specs.Prelude.{ℕ, ◌+◌, ◌-◌, nat_le, Bool, List, [], ◌∷◌, ◌++◌, codes, Option, Some, None}
 use Rattle.std.specs.Prelude.{if◌then◌else◌}
 use Rattle.std.specs.Fmt.{decimal}
