@@ -29,6 +29,17 @@ def two(host: str = "", capacity: int = 4, sent: str = "A", kind: str = "event")
     return TWO.format(host=host, capacity=capacity, sent=sent, kind=kind)
 
 
+THREE = 'guard = "none"\n\n' + PARAMETERS + "".join(f"""
+[[node]]
+own = [{{slot = 1, channels = "{it}"}}]
+buffer = [{{kind = "event", slot = 1, channels = "{it}"}}]
+""" for it in "AB") + """
+[[node]]
+queue = {capacity = 4, first = 1, last = 2, channels = "AB"}
+"""
+"""Node 0 sends in slot 1 on A, node 1 on B, and node 2 has a FIFO for both."""
+EQUAL = SCENE.replace("end\n", "commit 1 0 0 0 x0001\ncommit 1 0 1 0 x0002\nend\n")
+"""Both nodes send the same payloads in the same cycles."""
 FORGED_AT_LAST = "forged 0 A {} s*"
 """Node 0 forges frames in slots 1 and 2. The one in slot 1 collides with its own frame, and the one in slot 2 arrives.
 So the FIFO has one frame less and another one more, and the same number as before."""
@@ -74,6 +85,12 @@ class TestContent(CampaignCases):
             differences = found[f"lost 0 {channels} * all"]
             queue = [(it.effect, it.amount, it.without, it.having) for it in differences if it.thing == "queue"]
             self.assertEqual((queue, verdict(differences)), ([row], "lost" if channels == "AB" else "harmless"))
+
+    def test_equal_frames_of_two_nodes(self):
+        """A frame of node 1 on B that never comes is lost, though node 0 sends the same payload on A."""
+        campaign = self.campaign(THREE, EQUAL, 2)
+        self.assertEqual(self.queue(campaign, "lost 1 B * all"), [("lost", 2, "4 0", "2 0")])
+        self.assertEqual(self.queue(campaign, "mute 0 A 1 s1"), [("lost", 1, "4 0", "3 0")])
 
     def test_the_other_channel_in_a_full_fifo(self):
         """The FIFO holds one frame: by the end the second one, as it came on B. Without B it is that of A."""

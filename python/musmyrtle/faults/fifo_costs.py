@@ -1,22 +1,21 @@
 """The costs of a fault to a receive FIFO: the frames of two runs, compared one by one."""
 from collections.abc import Iterator
 
-from musmyrtle.faults.fifos import Fifo, StoredFrame
-
-Frame = tuple[int, int, str, str]
+from musmyrtle.faults.fifos import Fifo, Frame, StoredFrame
 
 
 def fifo_effects(before: Fifo, after: Fifo) -> Iterator[tuple[str, int]]:
     """Yields each effect with its number of frames, the costs first. BEFORE is the FIFO without the fault.
 
-    The frames that the host got or can still get count, whichever channel they came by. If the FIFO overwrites frames
+    The frames that the host got or can still get count, whichever channel they came by. Equal frames of other buffers
+    are other frames. If the FIFO overwrites frames
     without any fault, the choice of the overwritten ones is random. Then a frame that no task popped is lost only if it
     never came with the fault, and a frame is another one only if it never came without it.
     """
-    one, other = by_frame(before.kept), by_frame(after.kept)
-    came = by_frame(before.stored if before.overwritten else before.kept)
-    has_to_be_kept = by_frame(before.popped if before.overwritten else before.kept)
-    came_then = by_frame(after.stored)
+    one, other = by_frame(before, before.kept), by_frame(after, after.kept)
+    came = by_frame(before, before.stored if before.overwritten else before.kept)
+    has_to_be_kept = by_frame(before, before.popped if before.overwritten else before.kept)
+    came_then = by_frame(after, after.stored)
     lost = [it for it in one if it not in (other if it in has_to_be_kept else came_then)]
     others = [it for it in other if it not in came]
     if lost:
@@ -32,11 +31,12 @@ def fifo_effects(before: Fifo, after: Fifo) -> Iterator[tuple[str, int]]:
         yield "counted", sum(abs(a - b) for a, b in zip(counts(before), counts(after)))
 
 
-def by_frame(frames: list[StoredFrame]) -> dict[Frame, str]:
-    """Returns the channels of each frame, the frames in the order in which they came first."""
+def by_frame(fifo: Fifo, copies: list[StoredFrame]) -> dict[Frame, str]:
+    """Returns the channels of each frame of some copies, the frames in the order in which they came first."""
     found: dict[Frame, str] = {}
-    for it in frames:
-        found[it.frame] = found.get(it.frame, "") + it.channel
+    for it in copies:
+        frame = fifo.frame(it)
+        found[frame] = found.get(frame, "") + it.channel
     return found
 
 

@@ -5,6 +5,7 @@ A trace costs no host entry, so this also works where no task can pop the FIFO.
 from collections.abc import Iterable
 from dataclasses import dataclass, field
 
+from musmyrtle.cluster import CYCLES, Cluster
 from musmyrtle.faults.children import Children
 from musmyrtle.findings import counted
 from musmyrtle.visible import visible
@@ -27,10 +28,9 @@ class StoredFrame:
     payload: str
     channel: str
 
-    @property
-    def frame(self) -> tuple[int, int, str, str]:
-        """Returns all but the channel. Two frames with the same value count as one frame on both channels."""
-        return self.cycle, self.slot, self.flags, self.payload
+
+Frame = tuple[int, int, str, str, frozenset[tuple[int, int]]]
+"""A frame on one channel or both: cycle, slot, flags, payload, and the nodes and buffers that may have sent it."""
 
 
 @dataclass
@@ -43,6 +43,13 @@ class Fifo:
     """The frames that are still in the FIFO at the end."""
     overwritten: list[StoredFrame] = field(default_factory=list)
     """The frames that made room for later ones."""
+
+    senders: dict[tuple[int, int, str], frozenset[tuple[int, int]]] = field(default_factory=dict)
+    """The nodes and buffers that may send, by cycle of the run, slot and channel."""
+
+    def frame(self, it: StoredFrame) -> Frame:
+        """Returns a frame without its channel. Two copies with the same value are one frame on both channels."""
+        return it.cycle, it.slot, it.flags, it.payload, self.senders.get((it.cycle, it.slot, it.channel), frozenset())
 
     @property
     def kept(self) -> list[StoredFrame]:
@@ -82,8 +89,11 @@ def read_fifo(lines: Iterable[str]) -> Fifo:
     return fifo
 
 
-def fifo_of(program: str, trace: Iterable[str], children: Children) -> Fifo:
-    """Returns the frames of the FIFO of a trace. PROGRAM is `fr_view`. Raises `Unread` where it prints no lines."""
+def fifo_of(program: str, trace: Iterable[str], children: Children, cluster: Cluster) -> Fifo:
+    """Returns the frames of the FIFO of a trace, and the buffers of the cluster that may have sent them.
+
+    PROGRAM is `fr_view`. Raises `Unread` where it prints no lines.
+    """
     try:
         status, output, told = children.ran([program, "fifo"], "".join(f"{line}\n" for line in trace).encode())
     except OSError as error:
@@ -91,4 +101,8 @@ def fifo_of(program: str, trace: Iterable[str], children: Children) -> Fifo:
     if status:
         why = told.decode(errors="replace").strip().split("\n")[-1] or f"status {status}"
         raise Unread(f"{visible(program)} fifo doesn't read a trace: {visible(why)}")
-    return read_fifo(output.decode(errors="replace").splitlines())
+    fifo = read_fifo(output.decode(errors="replace").splitlines())
+    for it in fifo.stored:
+        its = cluster.senders(it.slot, it.channel, it.cycle % len(CYCLES))
+        fifo.senders[it.cycle, it.slot, it.channel] = frozenset((buffer.node, buffer.number) for buffer in its)
+    return fifo

@@ -235,6 +235,6 @@ def begun(world: World, windows: list[list[str]]) -> list[Begun]:
 def fifo(job: HostJob, trace: list[str]) -> Fifo | str:
     """Returns the frames of a receive FIFO, or why they can't be read."""
     try:
-        return fifo_of(job.viewer, trace, Children())
+        return fifo_of(job.viewer, trace, Children(), job.cluster)
     except Unread as error:
         return str(error)

@@ -213,6 +213,7 @@ class Play:
 
     def read_fifo(self, node: int) -> Fifo | str:
         try:
-            return fifo_of(self.player.viewer, self.session.block(f"trace {node}"), self.player.folder.children)
+            return fifo_of(self.player.viewer, self.session.block(f"trace {node}"), self.player.folder.children,
+                           self.player.cluster)
         except (Unread, Refused) as error:
             return str(error)
