@@ -142,6 +142,7 @@ class Facts:
     def __init__(self, inputs: Inputs) -> None:
         self.inputs = inputs
         self.trace = cache(self.read_trace)
+        self.fifo = cache(self.read_fifo)
 
     @property
     def network(self) -> Network:
@@ -219,7 +220,7 @@ class Facts:
         """Returns the lines of the trace of a node."""
         return self.inputs.of_run("trace", str(node)).lines
 
-    def fifo(self, node: int) -> Fifo:
+    def read_fifo(self, node: int) -> Fifo:
         """Returns the frames of a node's receive FIFO by their fates. Raises `Stop` where they can't be read."""
         data = "".join(f"{line}\n" for line in self.trace(node)).encode()
         try:

@@ -10,11 +10,14 @@ IDLE_RUN = "a run in which nothing is done"
 
 
 class IdleCycle:
-    """The windows of a cycle without a frame: where each static slot and each minislot begins, and where it ends."""
+    """The windows of a cycle without a frame: where each static slot and each minislot begins, and where it ends.
+
+    No cycle of the cluster has more windows.
+    """
 
     def __init__(self, its: Windows) -> None:
-        self.length, self.dynamic_begin = its.begin_of_cycle(1), its.dynamic_begin
-        windows = range(its.starts[1])
+        self.length, self.dynamic_begin, self.windows = its.begin_of_cycle(1), its.dynamic_begin, its.starts[1]
+        windows = range(self.windows)
         statics = [it for it in windows if its.minislots[it] == 0]
         self.slots = [(its.begins[it], its.slots["A"][it], its.lengths["A"][it]) for it in statics]
         self.of_slot = {slot: (begin, length) for begin, slot, length in self.slots}

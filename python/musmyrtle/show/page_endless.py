@@ -10,6 +10,7 @@ from musmyrtle.show.causes import Causes
 from musmyrtle.show.commit_log import commits_in
 from musmyrtle.show.engines import Inputs
 from musmyrtle.show.facts import Facts, transmission_of
+from musmyrtle.show.idle_cycle import idle_cycle_of
 from musmyrtle.show.page_calls import Answers, add_commits
 from musmyrtle.show.page_columns import Columns
 from musmyrtle.show.page_data import header_of, outcomes_of, received_of
@@ -52,11 +53,9 @@ def packed_endless(inputs: Inputs) -> bytes:
 
 def check_length(inputs: Inputs) -> None:
     """Raises `Stop` where the cluster file is refused, or where a page has no room for the run."""
-    inputs.of_cluster("fr_bench", "check")
-    it = inputs.network.cluster.parameters
-    windows, time = inputs.cycles * (it.static_slots + it.minislots), inputs.cycles * it.cycle_mt
-    if windows > MOST_WINDOWS or time > MOST_TIME:
-        most = min(MOST_WINDOWS // (it.static_slots + it.minislots), MOST_TIME // it.cycle_mt)
+    idle = idle_cycle_of(inputs)
+    most = min(MOST_WINDOWS // idle.windows, MOST_TIME // idle.length)
+    if inputs.cycles > most:
         raise Stop(USAGE, f"a page has room for {counted(most, 'cycle')} of this cluster, which are at most "
                           f"{MOST_WINDOWS:,} static slots and minislots, and fewer than 2^32 macroticks")
 

@@ -21,7 +21,7 @@ def reads(facts: Facts, selection: Selection) -> list[Section]:
     nodes = [it.number for it in facts.network.cluster.nodes if it.queue and selection.has_node(it.number)]
     held = [row for node in nodes for row in fifo_rows(facts, node, selection)]
     return [Section("call", "Calls", call_columns(facts.network), rows, "No call is selected."),
-            Section("fifo", "Receive FIFOs at the end", fifo_columns(facts.network), held)]
+            Section("fifo", "Receive FIFOs: waiting and overwritten frames", fifo_columns(facts.network), held)]
 
 
 def call_columns(network: Network) -> tuple[Column, ...]:
