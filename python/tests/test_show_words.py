@@ -48,6 +48,14 @@ class Forms(unittest.TestCase):
             "pedal (0)      2.5  flipped  node 1 speed, fast (2), pedal (0) FIFO\n"
             "node 1          40  -        -\n"))
 
+    def test_values_that_are_whole(self) -> None:
+        """Of ten receivers each is named. Only a long name is cut, and other long texts."""
+        receivers = Receivers(tuple(Receiver(Name(it, "n" * 41, "node"), None) for it in range(10)))
+        columns = Column("all", "all", "whole"), Column("some", "some")
+        text = "".join(as_text([Section("row", "", columns, [Row({"all": receivers, "some": "s" * 121})])]))
+        expected = ", ".join(f"{'n' * 40}.. ({it}) FIFO" for it in range(10))
+        self.assertEqual(text.splitlines()[1], f"{expected}  {'s' * 120}..")
+
     def test_colours(self) -> None:
         lines = "".join(as_text([SECTION], True)).splitlines()
         self.assertEqual([line[:4] for line in lines], ["\x1b[1m", "\x1b[1m", "peda", "\x1b[31"])
