@@ -119,7 +119,9 @@ class Data(Pages):
 class Scripts(Pages):
     def test_logic(self) -> None:
         """Views, lanes, hits and searches; page/logic.js has the tests."""
-        self.ran("logic.js", self.page(*self.run_of()))
+        scene = f"frscenario 3\ncommit pedal 0 0 log {FIRST}\ncorrupt A 0 m* 0\nend\n"
+        bits = self.page(*self.run_of(scene=scene), name="bits.html")
+        self.ran("logic.js", self.page(*self.run_of()), bits)
 
     def test_all_that_can_be_chosen(self) -> None:
         """Each node, buffer, commit, slot and fault of some runs, and many windows, are shown and painted."""

@@ -1,11 +1,14 @@
 "use strict";
 
-/** Tests of views, lanes, hits and searches: `node logic.js PAGE`, the page of the run of tests/shows.py. */
+/**
+ * Tests of views, lanes, hits and searches: `node logic.js PAGE BITS`, the page of the run of tests/shows.py, and that of
+ * a run with a fault for a bit in each minislot of cycle 0 on A.
+ */
 const assert = require("node:assert/strict");
 const test = require("node:test");
 const {runOf} = require("./loaded.js");
 
-const PAGE = process.argv[2];
+const [PAGE, BITS] = process.argv.slice(2);
 
 /** Returns cells from begins, ends and marks; each has its own number as window. */
 function cellsFrom(begins, ends, marks, channel = 0) {
@@ -123,6 +126,15 @@ test("the cells of a run", async () => {
   assert.deepEqual(listed(b.begin), [0, 20, 80, 100, 120]);
   assert.deepEqual(listed(b.end), [20, 40, 85, 120, 140]);
   assert.deepEqual(listed(b.mark), [MARK.error | MARK.collision | MARK.babble | MARK.data, 2, MARK.silent, 2, 2]);
+});
+
+test("a fault for a bit without a slot is no cell", async () => {
+  const cells = cellsOf(await runOf(BITS), 0);
+  // Slot 3 has the minislots 1 to 4, up to macrotick 60. Nothing is sent in the slots that A opens at minislots 5 to 10.
+  assert.deepEqual(listed(cells.begin), [0, 20, 40, 60, 65, 70, 75, 80, 85, 100, 120]);
+  assert.deepEqual(listed(cells.end), [20, 40, 60, 65, 70, 75, 80, 85, 90, 120, 140]);
+  const {boxes} = laneOf(cells, {from: 58, span: 4, width: 100, length: 200});
+  assert.deepEqual(boxes.map((it) => cells.begin[it.cell]), [40, 60]);
 });
 
 test("what a node received", async () => {
