@@ -146,6 +146,21 @@ test("what a node received", async () => {
   assert.equal(run.storedBy(0, 2, 0), null);
 });
 
+test("lines in view, also those of slots that began before", async () => {
+  const run = await runOf(PAGE);
+  const placesAt = (from, span, most = 100) => {
+    const {count, lines} = inView(run, {from, span, width: 100, length: 200}, most);
+    return [count, lines.map((it) => run.slots[run.channelOf(it)][run.columns.record_window[it]])];
+  };
+  // Slot 3 takes the macroticks 40 to 60 of A. Slot 1 has a babble on B, and slot 2 a null frame.
+  assert.deepEqual(placesAt(45, 10), [1, [3]]);
+  assert.deepEqual(placesAt(60, 10), [0, []]);
+  assert.deepEqual(placesAt(10, 31), [6, [1, 1, 1, 2, 2, 3]]);
+  assert.deepEqual(placesAt(10, 31, 4), [6, [1, 1, 1, 2]]);
+  assert.deepEqual(placesAt(150, 9), [1, [3]]);
+  assert.deepEqual(placesAt(199, 1), [0, []]);
+});
+
 test("searches", async () => {
   const run = await runOf(PAGE);
   const texts = (kind, text) => found(run, kind, text).map((it) => TEXTS[it.kind](run, it));

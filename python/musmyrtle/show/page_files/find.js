@@ -156,11 +156,26 @@ function countOf(run, node, channel, error) {
   return count;
 }
 
-/** Returns the choices of the lines of the record in view, at most MOST, and their number. */
+/** Returns the lines of the record in view, at most MOST, and their number. */
 function inView(run, view, most) {
   const begin = below(run.columns.window_begin, view.from);
   const end = below(run.columns.window_begin, view.from + view.span);
   const first = run.firstOfWindow[begin];
   const last = run.firstOfWindow[end];
-  return {count: last - first, lines: Array.from({length: Math.min(most, last - first)}, (_, it) => first + it)};
+  const before = linesInto(run, view.from, first);
+  const count = before.length + last - first;
+  const others = Array.from({length: Math.min(most, last - first)}, (_, it) => first + it);
+  return {count, lines: [...before, ...others].slice(0, most)};
+}
+
+/** Returns the lines before LINE whose slot lasts beyond a time. No slot lasts beyond its cycle. */
+function linesInto(run, time, line) {
+  const found = [];
+  for (let it = run.firstOfWindow[run.firstOfCycle[cycleAt(run, time)]]; it < line; it += 1) {
+    const window = run.columns.record_window[it];
+    if (run.columns.window_begin[window] + run.lengths[run.channelOf(it)][window] > time) {
+      found.push(it);
+    }
+  }
+  return found;
 }
