@@ -173,6 +173,9 @@ test("searches", async () => {
   assert.deepEqual(texts("payload", "x2222"), ["brake (1) state (2), cycle 0: x2222"]);
   assert.deepEqual(texts("payload", "11 11"), ["brake (1) force (0), cycle 0: x1111", "Slot 2 on A in cycle 0",
                                                "Slot 2 on A in cycle 1"]);
+  // The commits of `log` have the bytes 01 01 and 02 02, and no frame has 10 10. An odd digit begins a byte.
+  assert.deepEqual(texts("payload", "1010"), []);
+  assert.deepEqual(texts("payload", "222"), ["brake (1) state (2), cycle 0: x2222"]);
   assert.deepEqual(texts("payload", "zz"), []);
 });
 

@@ -42,16 +42,25 @@ function usedSlots(run) {
   return run.usedSlots;
 }
 
+/** Returns whether bytes, spelled as `x0a0b`, have some digits from the start of a byte on. */
+function haveDigits(bytes, digits) {
+  let at = bytes.indexOf(digits, 1);
+  while (at >= 0 && at % 2 === 0) {
+    at = bytes.indexOf(digits, at + 1);
+  }
+  return at >= 0;
+}
+
 /** Returns the choices of commits with these digits in their bytes, and then of other transmissions with them. */
 function withPayload(run, digits) {
   if (!digits) {
     return [];
   }
   const commits = choicesOf(run.columns.commit_node.length, "commit",
-                            (it) => run.bytes("commit_data", it).includes(digits));
+                            (it) => haveDigits(run.bytes("commit_data", it), digits));
   const places = [];
   for (let line = 0; line < run.columns.record_window.length; line += 1) {
-    if (run.columns.record_data_size[line] && run.bytes("record_data", line).includes(digits)) {
+    if (run.columns.record_data_size[line] && haveDigits(run.bytes("record_data", line), digits)) {
       places.push({kind: "window", number: run.columns.record_window[line], channel: run.channelOf(line)});
     }
   }
