@@ -155,6 +155,12 @@ class Escapes(Shows):
         run = self.run_of(NETWORK.replace('"pedal"', f'"{"n" * 10000}\\u202e\\u001b\\u007f"'))
         self.assertEqual(self.values("node", "node_name", "check", run[0])[0], (f"{'n' * 10000}\u202e\x1b\x7f",))
 
+    def test_long_names_in_a_message(self) -> None:
+        run = self.run_of(NETWORK.replace('"pedal"', f'"{"p" * 10000}"'))
+        status, _, told = self.asked("log", *run, "--node", "w" * 10000)
+        self.assertEqual((status, told.splitlines()[-1]), (
+            2, f"musmyrtle: the cluster has 2 nodes, and none is {'w' * 40}..; names: {'p' * 40}.., brake"))
+
     def test_words(self) -> None:
         for words in (("\x1b[2J",), ("log", *THREE, "--node", "\x1b[2J\u202e"), ("check", "\x1b[2J"),
                       ("completion", "\x1b[2J")):
