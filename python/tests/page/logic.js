@@ -128,6 +128,26 @@ test("the cells of a run", async () => {
   assert.deepEqual(listed(b.mark), [MARK.error | MARK.collision | MARK.babble | MARK.data, 2, MARK.silent, 2, 2]);
 });
 
+/** Returns the texts that cycles have in a view. A sign is 7 pixels wide. */
+function cycleTextsIn(run, from, width) {
+  const texts = [];
+  const context = {fillRect() {}, fillText: (it) => texts.push(it), measureText: (it) => ({width: 7 * it.length})};
+  paintCycles(context, {run, view: {from, span: 100, width, length: 200}, theme: {}, height: 100, lanes: []});
+  return texts;
+}
+
+test("the numbers of cycles that have room", async () => {
+  const run = await runOf(PAGE);
+  // Cycle 1 begins 5 macroticks after the left edge, which are 10 pixels of the 200 of a cycle.
+  assert.deepEqual(cycleTextsIn(run, 95, 200), ["cycle 1"]);
+  assert.deepEqual(cycleTextsIn(run, 50, 200), ["cycle 0", "cycle 1"]);
+  const recorded = Object.assign(Object.create(run), {isRecording: true, number: () => 41,
+                                                      header: {...run.header, first_cycle: 40}});
+  // `cycle 40 (count 41)` has 19 signs, which are 133 pixels.
+  assert.deepEqual(cycleTextsIn(recorded, 0, 136), ["cycle 40", "cycle 41"]);
+  assert.deepEqual(cycleTextsIn(recorded, 0, 137), ["cycle 40 (count 41)", "cycle 41 (count 41)"]);
+});
+
 test("a fault for a bit without a slot is no cell", async () => {
   const cells = cellsOf(await runOf(BITS), 0);
   // Slot 3 has the minislots 1 to 4, up to macrotick 60. Nothing is sent in the slots that A opens at minislots 5 to 10.

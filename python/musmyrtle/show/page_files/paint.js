@@ -47,6 +47,11 @@ function cyclesApart(width) {
   return apart;
 }
 
+/** Returns texts for a cycle, the longest first: with its count, if a recording names it, or its number alone. */
+function cycleTexts(run, cycle) {
+  return [`cycle ${cycleText(run, cycle)}`, `cycle ${(run.header.first_cycle || 0) + cycle}`];
+}
+
 /** Paints the dynamic segments, and the borders of cycles with their numbers. */
 function paintCycles(context, {run, view, theme, height, lanes}) {
   const {minislots, minislot_mt} = run.header.params;
@@ -72,8 +77,8 @@ function paintCycles(context, {run, view, theme, height, lanes}) {
     context.fillRect(x, top, 1, height - top);
     lanes.forEach((it) => paintMinislots(context, it, begin, end, minislots));
     if (cycle % apart === 0) {
-      context.fillStyle = theme.ink;
-      context.fillText(`cycle ${cycleText(run, cycle)}`, Math.max(x, 0) + 4, 10);
+      const left = Math.max(x, 0) + 4;
+      paintText(context, theme.ink, cycleTexts(run, cycle), left, 10, x + apart * width - left);
     }
   }
 }
