@@ -148,6 +148,22 @@ test("the numbers of cycles that have room", async () => {
   assert.deepEqual(cycleTextsIn(recorded, 0, 137), ["cycle 40 (count 41)", "cycle 41 (count 41)"]);
 });
 
+test("the text of a faded box has the colour of texts beside boxes", async () => {
+  const run = await runOf(PAGE);
+  const lane = {cells: cellsOf(run, 0), top: 0, height: LANE};
+  const inkOf = (lit) => {
+    const inks = [];
+    const context = {fillRect() {}, strokeRect() {}, measureText: () => ({width: 1}),
+                     fillText() { inks.push(this.fillStyle); }};
+    paintBox(context, {run, view: {width: 1000}, theme: {ink: "ink"}, lit}, lane, {cell: 0, x: 0, width: 100});
+    return inks;
+  };
+  const chosen = new Uint8Array(2 * run.windows);
+  assert.deepEqual([inkOf(null), inkOf(chosen)], [["#000"], ["ink"]]);
+  chosen[0] = 1;
+  assert.deepEqual(inkOf(chosen), ["#000"]);
+});
+
 test("a fault for a bit without a slot is no cell", async () => {
   const cells = cellsOf(await runOf(BITS), 0);
   // Slot 3 has the minislots 1 to 4, up to macrotick 60. Nothing is sent in the slots that A opens at minislots 5 to 10.

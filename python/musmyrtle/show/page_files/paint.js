@@ -143,7 +143,8 @@ function paintBox(context, {run, view, theme, lit}, lane, {cell, x, width}) {
   const sender = cells.sender[cell];
   const isLit = lit !== null && lit[2 * cells.window[cell] + cells.channel] === 1;
   const inner = width > 3 ? width - 1 : width;
-  context.globalAlpha = lit === null || isLit ? 1 : 0.25;
+  const isFaded = lit !== null && !isLit;
+  context.globalAlpha = isFaded ? 0.25 : 1;
   const share = mark & MARK.silent ? 0.25 : mark & MARK.null ? 0.5 : 1;
   const room = (height - 10) * share;
   const isDrawn = !(mark & MARK.silent) && sender !== NO_NODE;
@@ -159,7 +160,8 @@ function paintBox(context, {run, view, theme, lit}, lane, {cell, x, width}) {
     context.strokeRect(x + 1, top + 1, Math.max(1, inner - 2), height - 2);
   }
   if (width > 22) {
-    const ink = isDrawn ? (DARK.includes(sender % 8) && sender < 8 ? "#fff" : "#000") : theme.ink;
+    // A faded colour is near that of the paper.
+    const ink = isDrawn && !isFaded ? (DARK.includes(sender % 8) && sender < 8 ? "#fff" : "#000") : theme.ink;
     const left = Math.max(x, 0) + 3;
     paintText(context, ink, boxTexts(run, cells, cell), left, top + height - 10,
               Math.min(x + inner, view.width) - left - 3);
