@@ -1,8 +1,8 @@
 "use strict";
 
 /**
- * Tests of views, lanes, hits and searches: `node logic.js PAGE BITS`, the page of the run of tests/shows.py, and that of
- * a run with a fault for a bit in each minislot of cycle 0 on A.
+ * Tests of views, lanes, hits and searches: `node logic.js PAGE BITS`, the page of the run of tests/shows.py, and that
+ * of a run with a fault for a bit in each minislot of cycle 0 on A.
  */
 const assert = require("node:assert/strict");
 const test = require("node:test");
@@ -166,7 +166,7 @@ test("the text of a faded box has the colour of texts beside boxes", async () =>
 
 test("a fault for a bit without a slot is no cell", async () => {
   const cells = cellsOf(await runOf(BITS), 0);
-  // Slot 3 has the minislots 1 to 4, up to macrotick 60. Nothing is sent in the slots that A opens at minislots 5 to 10.
+  // Slot 3 has the minislots 1 to 4, up to macrotick 60. A opens empty slots at the minislots 5 to 10.
   assert.deepEqual(listed(cells.begin), [0, 20, 40, 60, 65, 70, 75, 80, 85, 100, 120]);
   assert.deepEqual(listed(cells.end), [20, 40, 60, 65, 70, 75, 80, 85, 90, 120, 140]);
   const {boxes} = laneOf(cells, {from: 58, span: 4, width: 100, length: 200});
