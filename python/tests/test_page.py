@@ -119,7 +119,9 @@ class Data(Pages):
 class Scripts(Pages):
     def test_logic(self) -> None:
         """Views, lanes, hits and searches; page/logic.js has the tests."""
-        self.ran("logic.js", self.page(*self.run_of()))
+        scene = f"frscenario 3\ncommit pedal 0 0 log {FIRST}\ncorrupt A 0 m* 0\nend\n"
+        bits = self.page(*self.run_of(scene=scene), name="bits.html")
+        self.ran("logic.js", self.page(*self.run_of()), bits)
 
     def test_all_that_can_be_chosen(self) -> None:
         """Each node, buffer, commit, slot and fault of some runs, and many windows, are shown and painted."""
@@ -156,6 +158,12 @@ class Scripts(Pages):
         shown = self.walked(self.page(*self.run_of()), "click nodes brake")[-1]
         self.assertIn("force (0)x1111sent on A, and stored nowhere, in cycles 0-1", shown["details"])
         self.assertIn("state (2)x2222slot 4 opened at minislot 5, latest is 3, in cycles 0-1", shown["details"])
+
+    def test_what_buffers_hold(self) -> None:
+        """The brake's entries 0 and 1 are its commits, and 2 and 3 the fetch and the observation of slot 1."""
+        shown = self.walked(self.page(*self.run_of()), "click nodes brake")[-1]
+        self.assertIn("position (1)receive1ABevery cycleholds x0001, received on A (entry 3)", shown["details"])
+        self.assertIn("unused (3)receive5Bevery cycleholds nothing", shown["details"])
 
     def test_slots_and_windows(self) -> None:
         page = self.page(*self.run_of())

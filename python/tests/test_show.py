@@ -220,6 +220,17 @@ class Runs(Shows):
                 found = [it[0] for it in self.values("undelivered", "why", "run", *run)]
                 self.assertEqual(found[0].replace(" with brake (1)", ""), expected)
 
+    def test_a_reason_for_people_is_whole(self) -> None:
+        """With a long name the reasons for both channels have 172 characters, 85 each."""
+        run = self.run_of(NETWORK.replace('"brake"', f'"{"b" * 40}"'),
+                          "frscenario 1\ncommit 0 0 0 0 x0001\nbabble 1 A 0 s1 x00\nbabble 1 B 0 s1 x00\nend\n")
+        brake = f"{'b' * 40} (1)"
+        expected = (f"collided on A with {brake} in cycle 0, by line 3; "
+                    f"collided on B with {brake} in cycle 0, by line 4")
+        self.assertEqual(len(expected), 172)
+        for command in ("run", "commits"):
+            self.assertIn(f"  {expected}\n", self.printed(command, *run))
+
     def test_a_guardian_protects_a_commit(self) -> None:
         """A guardian stops the babble of line 9 in the slot of another node."""
         run = self.run_of(NETWORK.replace('"none"', '"AB"'))

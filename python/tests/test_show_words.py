@@ -48,6 +48,14 @@ class Forms(unittest.TestCase):
             "pedal (0)      2.5  flipped  node 1 speed, fast (2), pedal (0) FIFO\n"
             "node 1          40  -        -\n"))
 
+    def test_values_that_are_whole(self) -> None:
+        """Of ten receivers each is named. Only a long name is cut, and other long texts."""
+        receivers = Receivers(tuple(Receiver(Name(it, "n" * 41, "node"), None) for it in range(10)))
+        columns = Column("all", "all", "whole"), Column("some", "some")
+        text = "".join(as_text([Section("row", "", columns, [Row({"all": receivers, "some": "s" * 121})])]))
+        expected = ", ".join(f"{'n' * 40}.. ({it}) FIFO" for it in range(10))
+        self.assertEqual(text.splitlines()[1], f"{expected}  {'s' * 120}..")
+
     def test_colours(self) -> None:
         lines = "".join(as_text([SECTION], True)).splitlines()
         self.assertEqual([line[:4] for line in lines], ["\x1b[1m", "\x1b[1m", "peda", "\x1b[31"])
@@ -146,6 +154,12 @@ class Escapes(Shows):
     def test_a_name_in_json_is_whole(self) -> None:
         run = self.run_of(NETWORK.replace('"pedal"', f'"{"n" * 10000}\\u202e\\u001b\\u007f"'))
         self.assertEqual(self.values("node", "node_name", "check", run[0])[0], (f"{'n' * 10000}\u202e\x1b\x7f",))
+
+    def test_long_names_in_a_message(self) -> None:
+        run = self.run_of(NETWORK.replace('"pedal"', f'"{"p" * 10000}"'))
+        status, _, told = self.asked("log", *run, "--node", "w" * 10000)
+        self.assertEqual((status, told.splitlines()[-1]), (
+            2, f"musmyrtle: the cluster has 2 nodes, and none is {'w' * 40}..; names: {'p' * 40}.., brake"))
 
     def test_words(self) -> None:
         for words in (("\x1b[2J",), ("log", *THREE, "--node", "\x1b[2J\u202e"), ("check", "\x1b[2J"),

@@ -30,7 +30,8 @@ def columns(network: Network) -> tuple[Column, ...]:
             Column("cycle", "cycle"), Column("entry", ""), Column("data", "bytes", "bytes"), Column("fate", ""),
             Column("ended_cycle", ""), Column("sent_cycle", "sent in"), Column("slot", "slot"),
             Column("channel", "channel"), network.column("begin", "begin"), network.column("latency", "latency"),
-            Column("end", "end", words=FATES), Column("receivers", "receivers"), Column("why", "why"))
+            Column("end", "end", words=FATES), Column("receivers", "receivers", "whole"),
+            Column("why", "why", "whole"))
 
 
 def rows_of(facts: Facts, commit: Commit, selection: Selection) -> Iterator[Row]:

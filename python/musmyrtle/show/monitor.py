@@ -36,13 +36,14 @@ are no command, a program can't be run or fails, or the output can't be written,
 SIGHUP broke it off"""
 FINDINGS = (Column("record", "record"), Column("seconds", "at [s]"), Column("cycle", "cycle"),
             Column("channel", "channel"), Column("slot", "slot"), Column("node", "node", "name"),
-            Column("name", "finding"), Column("expected", ""), Column("found", ""), Column("why", "reason"))
+            Column("name", "finding"), Column("expected", ""), Column("found", ""),
+            Column("why", "reason", "whole"))
 TOTALS = (Column("records", "records"), Column("foreign", "foreign"), Column("symbols", "symbols"),
           Column("skipped", "skipped blocks"))
 SPANS = (Column("shortest_us", "shortest [us]"), Column("longest_us", "longest [us]"))
 CHANNELS = (Column("channel", "channel"), Column("frames", "frames"), Column("cycles", "cycles"),
             Column("gaps", "gaps"), Column("lost", "lost cycles"), *SPANS)
-SLOTS = (Column("slot", "slot"), Column("channel", "channel"), Column("nodes", ""), Column("names", "sender"),
+SLOTS = (Column("slot", "slot"), Column("channel", "channel"), Column("nodes", ""), Column("names", "sender", "whole"),
          Column("data", "data"), Column("null", "null"), Column("missing", "missing"),
          Column("other", "findings"), *SPANS)
 COUNTS = (Column("name", "finding"), Column("count", "count"), Column("meaning", "meaning"))

@@ -7,6 +7,7 @@ from musmyrtle.output import Stop
 from musmyrtle.show.engines import Inputs
 from musmyrtle.show.idle_cycle import idle_cycle_of
 from musmyrtle.show.network import Network
+from musmyrtle.visible import cut
 
 
 @dataclass(frozen=True)
@@ -50,9 +51,9 @@ def number_of(word: str, network: Network) -> int:
     if len(named) == 1:
         return named[0]
     if named:
-        raise Stop(USAGE, f"several nodes have the name {word}; give the number")
-    names = ", ".join(it for it in network.node_names if it is not None) or "none"
-    raise Stop(USAGE, f"the cluster has {len(network.cluster.nodes)} nodes, and none is {word}; names: {names}")
+        raise Stop(USAGE, f"several nodes have the name {cut(word)}; give the number")
+    names = ", ".join(cut(it) for it in network.node_names if it is not None) or "none"
+    raise Stop(USAGE, f"the cluster has {len(network.cluster.nodes)} nodes, and none is {cut(word)}; names: {names}")
 
 
 def known_slots(slots: frozenset[int] | None, inputs: Inputs) -> frozenset[int] | None:

@@ -21,7 +21,7 @@ def sender_columns(network: Network) -> tuple[Column, ...]:
     return (Column("segment", ""), Column("slot", "slot"), Column("channel", "channel"), Column("node", "node", "name"),
             Column("buffer", "buffer", "name"), Column("mode", "mode"), Column("base", ""), Column("repetition", ""),
             Column("cycles", "cycles"), network.column("begin", "begin"), network.column("end", "end"),
-            Column("words", "words"), Column("receivers", "receivers"))
+            Column("words", "words"), Column("receivers", "receivers", "whole"))
 
 
 def guard_columns(network: Network) -> tuple[Column, ...]:

@@ -57,7 +57,8 @@ def undelivered(facts: Facts) -> Section:
                  "cycle": it.cycle, "data": it.data, "fate": it.fate, "why": why(facts, it)}, True)
             for it in facts.commits if not it.is_delivered]
     columns = (Column("node", "node", "name"), Column("buffer", "buffer", "name"), Column("task", ""),
-               Column("cycle", "cycle"), Column("data", "bytes", "bytes"), Column("fate", ""), Column("why", "why"))
+               Column("cycle", "cycle"), Column("data", "bytes", "bytes"), Column("fate", ""),
+               Column("why", "why", "whole"))
     return Section("undelivered", "Commits that no node received", columns, rows, "Each commit was received.")
 
 

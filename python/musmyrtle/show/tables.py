@@ -109,7 +109,8 @@ class Column:
     """A column: its key in JSON and CSV, its heading in a text, and the kind of its values.
 
     The kind `name` has two keys, KEY and KEY_name, and `time` has KEY_mt and KEY_us. Values of the kind `bytes` are cut
-    in texts, and all others are `plain`. A heading that is empty leaves the column out of texts.
+    in texts, and those of `plain` too if they are very long. Values of `whole` aren't, since each name in them is. A
+    heading that is empty leaves the column out of texts.
     """
 
     key: str
@@ -150,7 +151,8 @@ class Column:
         text = "" if value is None else spelled(value)
         if self.kind == "bytes":
             text = shortened(text)
-        return visible(cut(self.words.get(text, text) or ABSENT, LONGEST_TEXT))
+        text = self.words.get(text, text) or ABSENT
+        return visible(text if self.kind == "whole" else cut(text, LONGEST_TEXT))
 
 
 def shortened(text: str) -> str:

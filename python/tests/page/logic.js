@@ -1,11 +1,14 @@
 "use strict";
 
-/** Tests of views, lanes, hits and searches: `node logic.js PAGE`, the page of the run of tests/shows.py. */
+/**
+ * Tests of views, lanes, hits and searches: `node logic.js PAGE BITS`, the page of the run of tests/shows.py, and that
+ * of a run with a fault for a bit in each minislot of cycle 0 on A.
+ */
 const assert = require("node:assert/strict");
 const test = require("node:test");
 const {runOf} = require("./loaded.js");
 
-const PAGE = process.argv[2];
+const [PAGE, BITS] = process.argv.slice(2);
 
 /** Returns cells from begins, ends and marks; each has its own number as window. */
 function cellsFrom(begins, ends, marks, channel = 0) {
@@ -125,6 +128,51 @@ test("the cells of a run", async () => {
   assert.deepEqual(listed(b.mark), [MARK.error | MARK.collision | MARK.babble | MARK.data, 2, MARK.silent, 2, 2]);
 });
 
+/** Returns the texts that cycles have in a view. A sign is 7 pixels wide. */
+function cycleTextsIn(run, from, width) {
+  const texts = [];
+  const context = {fillRect() {}, fillText: (it) => texts.push(it), measureText: (it) => ({width: 7 * it.length})};
+  paintCycles(context, {run, view: {from, span: 100, width, length: 200}, theme: {}, height: 100, lanes: []});
+  return texts;
+}
+
+test("the numbers of cycles that have room", async () => {
+  const run = await runOf(PAGE);
+  // Cycle 1 begins 5 macroticks after the left edge, which are 10 pixels of the 200 of a cycle.
+  assert.deepEqual(cycleTextsIn(run, 95, 200), ["cycle 1"]);
+  assert.deepEqual(cycleTextsIn(run, 50, 200), ["cycle 0", "cycle 1"]);
+  const recorded = Object.assign(Object.create(run), {isRecording: true, number: () => 41,
+                                                      header: {...run.header, first_cycle: 40}});
+  // `cycle 40 (count 41)` has 19 signs, which are 133 pixels.
+  assert.deepEqual(cycleTextsIn(recorded, 0, 136), ["cycle 40", "cycle 41"]);
+  assert.deepEqual(cycleTextsIn(recorded, 0, 137), ["cycle 40 (count 41)", "cycle 41 (count 41)"]);
+});
+
+test("the text of a faded box has the colour of texts beside boxes", async () => {
+  const run = await runOf(PAGE);
+  const lane = {cells: cellsOf(run, 0), top: 0, height: LANE};
+  const inkOf = (lit) => {
+    const inks = [];
+    const context = {fillRect() {}, strokeRect() {}, measureText: () => ({width: 1}),
+                     fillText() { inks.push(this.fillStyle); }};
+    paintBox(context, {run, view: {width: 1000}, theme: {ink: "ink"}, lit}, lane, {cell: 0, x: 0, width: 100});
+    return inks;
+  };
+  const chosen = new Uint8Array(2 * run.windows);
+  assert.deepEqual([inkOf(null), inkOf(chosen)], [["#000"], ["ink"]]);
+  chosen[0] = 1;
+  assert.deepEqual(inkOf(chosen), ["#000"]);
+});
+
+test("a fault for a bit without a slot is no cell", async () => {
+  const cells = cellsOf(await runOf(BITS), 0);
+  // Slot 3 has the minislots 1 to 4, up to macrotick 60. A opens empty slots at the minislots 5 to 10.
+  assert.deepEqual(listed(cells.begin), [0, 20, 40, 60, 65, 70, 75, 80, 85, 100, 120]);
+  assert.deepEqual(listed(cells.end), [20, 40, 60, 65, 70, 75, 80, 85, 90, 120, 140]);
+  const {boxes} = laneOf(cells, {from: 58, span: 4, width: 100, length: 200});
+  assert.deepEqual(boxes.map((it) => cells.begin[it.cell]), [40, 60]);
+});
+
 test("what a node received", async () => {
   const run = await runOf(PAGE);
   const seen = cellsSeen(run, cellsOf(run, 1), 1);
@@ -132,6 +180,21 @@ test("what a node received", async () => {
   assert.equal(run.storedBy(1, 0, 0), "b1");
   assert.equal(run.storedBy(1, 2, 0), "queue");
   assert.equal(run.storedBy(0, 2, 0), null);
+});
+
+test("lines in view, also those of slots that began before", async () => {
+  const run = await runOf(PAGE);
+  const placesAt = (from, span, most = 100) => {
+    const {count, lines} = inView(run, {from, span, width: 100, length: 200}, most);
+    return [count, lines.map((it) => run.slots[run.channelOf(it)][run.columns.record_window[it]])];
+  };
+  // Slot 3 takes the macroticks 40 to 60 of A. Slot 1 has a babble on B, and slot 2 a null frame.
+  assert.deepEqual(placesAt(45, 10), [1, [3]]);
+  assert.deepEqual(placesAt(60, 10), [0, []]);
+  assert.deepEqual(placesAt(10, 31), [6, [1, 1, 1, 2, 2, 3]]);
+  assert.deepEqual(placesAt(10, 31, 4), [6, [1, 1, 1, 2]]);
+  assert.deepEqual(placesAt(150, 9), [1, [3]]);
+  assert.deepEqual(placesAt(199, 1), [0, []]);
 });
 
 test("searches", async () => {
@@ -146,6 +209,9 @@ test("searches", async () => {
   assert.deepEqual(texts("payload", "x2222"), ["brake (1) state (2), cycle 0: x2222"]);
   assert.deepEqual(texts("payload", "11 11"), ["brake (1) force (0), cycle 0: x1111", "Slot 2 on A in cycle 0",
                                                "Slot 2 on A in cycle 1"]);
+  // The commits of `log` have the bytes 01 01 and 02 02, and no frame has 10 10. An odd digit begins a byte.
+  assert.deepEqual(texts("payload", "1010"), []);
+  assert.deepEqual(texts("payload", "222"), ["brake (1) state (2), cycle 0: x2222"]);
   assert.deepEqual(texts("payload", "zz"), []);
 });
 

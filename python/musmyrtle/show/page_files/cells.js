@@ -45,7 +45,8 @@ function markOf(run, line) {
 }
 
 /**
- * Returns the cells of a channel.
+ * Returns the cells of a channel. A fault for a bit in a window without a slot of the channel has none: the window is
+ * within the frame of an earlier slot, or after the last one.
  * @param {Run} run
  * @param {number} channel 0 for A, 1 for B
  * @returns {Cells}
@@ -55,14 +56,14 @@ function cellsOf(run, channel) {
   for (let window = 0; window < run.windows; window += 1) {
     const isStatic = run.columns.window_minislot[window] === 0;
     const lines = run.linesAt(window, channel);
-    if (!isStatic && !lines.length) {
+    if (!isStatic && (!lines.length || !run.slots[channel][window])) {
       continue;
     }
     const begin = run.columns.window_begin[window];
     const {mark, sender} = sightOf(run, lines);
     found.window.push(window);
     found.begin.push(begin);
-    found.end.push(begin + (run.lengths[channel][window] || run.header.params.minislot_mt));
+    found.end.push(begin + run.lengths[channel][window]);
     found.mark.push(mark);
     found.sender.push(sender);
   }

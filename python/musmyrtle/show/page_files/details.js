@@ -166,7 +166,8 @@ function heldText(line) {
     return "";
   }
   const [, , place, bytes] = line.split(" ");
-  return place === "-" ? "holds nothing" : `holds ${bytes}, ${place}`;
+  const [entry, channel] = place.split(":");
+  return place === "-" ? "holds nothing" : `holds ${bytes}, received on ${channel} (entry ${entry})`;
 }
 
 // ---- a commit

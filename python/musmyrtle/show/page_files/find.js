@@ -42,16 +42,25 @@ function usedSlots(run) {
   return run.usedSlots;
 }
 
+/** Returns whether bytes, spelled as `x0a0b`, have some digits from the start of a byte on. */
+function haveDigits(bytes, digits) {
+  let at = bytes.indexOf(digits, 1);
+  while (at >= 0 && at % 2 === 0) {
+    at = bytes.indexOf(digits, at + 1);
+  }
+  return at >= 0;
+}
+
 /** Returns the choices of commits with these digits in their bytes, and then of other transmissions with them. */
 function withPayload(run, digits) {
   if (!digits) {
     return [];
   }
   const commits = choicesOf(run.columns.commit_node.length, "commit",
-                            (it) => run.bytes("commit_data", it).includes(digits));
+                            (it) => haveDigits(run.bytes("commit_data", it), digits));
   const places = [];
   for (let line = 0; line < run.columns.record_window.length; line += 1) {
-    if (run.columns.record_data_size[line] && run.bytes("record_data", line).includes(digits)) {
+    if (run.columns.record_data_size[line] && haveDigits(run.bytes("record_data", line), digits)) {
       places.push({kind: "window", number: run.columns.record_window[line], channel: run.channelOf(line)});
     }
   }
@@ -156,11 +165,26 @@ function countOf(run, node, channel, error) {
   return count;
 }
 
-/** Returns the choices of the lines of the record in view, at most MOST, and their number. */
+/** Returns the lines of the record in view, at most MOST, and their number. */
 function inView(run, view, most) {
   const begin = below(run.columns.window_begin, view.from);
   const end = below(run.columns.window_begin, view.from + view.span);
   const first = run.firstOfWindow[begin];
   const last = run.firstOfWindow[end];
-  return {count: last - first, lines: Array.from({length: Math.min(most, last - first)}, (_, it) => first + it)};
+  const before = linesInto(run, view.from, first);
+  const count = before.length + last - first;
+  const others = Array.from({length: Math.min(most, last - first)}, (_, it) => first + it);
+  return {count, lines: [...before, ...others].slice(0, most)};
+}
+
+/** Returns the lines before LINE whose slot lasts beyond a time. No slot lasts beyond its cycle. */
+function linesInto(run, time, line) {
+  const found = [];
+  for (let it = run.firstOfWindow[run.firstOfCycle[cycleAt(run, time)]]; it < line; it += 1) {
+    const window = run.columns.record_window[it];
+    if (run.columns.window_begin[window] + run.lengths[run.channelOf(it)][window] > time) {
+      found.push(it);
+    }
+  }
+  return found;
 }

@@ -47,6 +47,11 @@ function cyclesApart(width) {
   return apart;
 }
 
+/** Returns texts for a cycle, the longest first: with its count, if a recording names it, or its number alone. */
+function cycleTexts(run, cycle) {
+  return [`cycle ${cycleText(run, cycle)}`, `cycle ${(run.header.first_cycle || 0) + cycle}`];
+}
+
 /** Paints the dynamic segments, and the borders of cycles with their numbers. */
 function paintCycles(context, {run, view, theme, height, lanes}) {
   const {minislots, minislot_mt} = run.header.params;
@@ -72,8 +77,8 @@ function paintCycles(context, {run, view, theme, height, lanes}) {
     context.fillRect(x, top, 1, height - top);
     lanes.forEach((it) => paintMinislots(context, it, begin, end, minislots));
     if (cycle % apart === 0) {
-      context.fillStyle = theme.ink;
-      context.fillText(`cycle ${cycleText(run, cycle)}`, Math.max(x, 0) + 4, 10);
+      const left = Math.max(x, 0) + 4;
+      paintText(context, theme.ink, cycleTexts(run, cycle), left, 10, x + apart * width - left);
     }
   }
 }
@@ -138,7 +143,8 @@ function paintBox(context, {run, view, theme, lit}, lane, {cell, x, width}) {
   const sender = cells.sender[cell];
   const isLit = lit !== null && lit[2 * cells.window[cell] + cells.channel] === 1;
   const inner = width > 3 ? width - 1 : width;
-  context.globalAlpha = lit === null || isLit ? 1 : 0.25;
+  const isFaded = lit !== null && !isLit;
+  context.globalAlpha = isFaded ? 0.25 : 1;
   const share = mark & MARK.silent ? 0.25 : mark & MARK.null ? 0.5 : 1;
   const room = (height - 10) * share;
   const isDrawn = !(mark & MARK.silent) && sender !== NO_NODE;
@@ -154,7 +160,8 @@ function paintBox(context, {run, view, theme, lit}, lane, {cell, x, width}) {
     context.strokeRect(x + 1, top + 1, Math.max(1, inner - 2), height - 2);
   }
   if (width > 22) {
-    const ink = isDrawn ? (DARK.includes(sender % 8) && sender < 8 ? "#fff" : "#000") : theme.ink;
+    // A faded colour is near that of the paper.
+    const ink = isDrawn && !isFaded ? (DARK.includes(sender % 8) && sender < 8 ? "#fff" : "#000") : theme.ink;
     const left = Math.max(x, 0) + 3;
     paintText(context, ink, boxTexts(run, cells, cell), left, top + height - 10,
               Math.min(x + inner, view.width) - left - 3);
