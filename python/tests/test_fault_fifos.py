@@ -132,7 +132,7 @@ class TestContent(CampaignCases):
         campaign = self.campaign(two(capacity=1), SCENE, 2)
         self.assertEqual(campaign.overwritten(), {1: 1})
         told = "".join(summary(Results([], campaign.cluster, 2, overwritten=campaign.overwritten())))
-        wanted = "node 1: FIFO not emptied by the scenario: 1 frame overwritten without any fault\n"
+        wanted = "node 1: FIFO not emptied by its tasks: 1 frame overwritten without any fault\n"
         self.assertEqual(told.count(wanted), 1)
 
 

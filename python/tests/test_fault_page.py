@@ -82,8 +82,8 @@ class TestSummary(unittest.TestCase):
 
     def test_notes(self):
         lines = self.lines(left_out=LeftOut(2, 1), overwritten={1: 561}, quiet=(0, 1))
-        self.assertIn("the scenario has no commit for node 0, node 1: nothing of these can be lost here", lines)
-        self.assertIn("node 1: FIFO not emptied by the scenario: 561 frames overwritten without any fault", lines)
+        self.assertIn("there is no commit for node 0, node 1: nothing of these can be lost here", lines)
+        self.assertIn("node 1: FIFO not emptied by its tasks: 561 frames overwritten without any fault", lines)
         self.assertIn("1 fault idle, without a run, since the node sends nothing there: node 1 on B", lines)
         self.assertIn("2 faults left out: the scenario has one of the kind in each of their windows", lines)
         self.assertIn("1 fault left out: no slot opens at their minislot", lines)

@@ -151,6 +151,12 @@ class Escapes(Shows):
                         text = self.printed(*words, form)
                         self.assertTrue(all(it.isprintable() for it in text.replace("\n", "")), text)
 
+    def test_an_empty_name(self) -> None:
+        """A text has the number then, and JSON the name."""
+        run = self.run_of(NETWORK.replace('"pedal"', '""'))
+        self.assertEqual(self.values("node", "node_name", "check", run[0])[0], ("",))
+        self.assertIn("\nnode 0 ", self.printed("check", run[0]))
+
     def test_a_name_in_json_is_whole(self) -> None:
         run = self.run_of(NETWORK.replace('"pedal"', f'"{"n" * 10000}\\u202e\\u001b\\u007f"'))
         self.assertEqual(self.values("node", "node_name", "check", run[0])[0], (f"{'n' * 10000}\u202e\x1b\x7f",))

@@ -23,18 +23,18 @@ class Labels:
 
     @classmethod
     def read(cls, cluster: bytes) -> "Labels":
-        """Returns the names that a cluster file has. A key `name` that isn't a string is none. A file that is no TOML
-        has no names."""
+        """Returns the names that a cluster file has. A key `name` that is empty or isn't a string is none. A file that
+        is no TOML has no names."""
         try:
             document = document_of(cluster)
         except ValueError:
             return cls()
         found = cls()
         for number, node in enumerate(tables_of(document.get("node"))):
-            if isinstance(name := node.get("name"), str):
+            if isinstance(name := node.get("name"), str) and name:
                 found.nodes[number] = visible(cut(name))
             for place, buffer in enumerate(tables_of(node.get("buffer"))):
-                if isinstance(name := buffer.get("name"), str):
+                if isinstance(name := buffer.get("name"), str) and name:
                     found.buffers[number, place] = visible(cut(name))
         return found
 

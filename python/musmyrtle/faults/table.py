@@ -34,7 +34,7 @@ class Results:
     overwritten: dict[int, int] = field(default_factory=dict)
     """The number of frames that each overwriting FIFO overwrites without any fault, by node."""
     quiet: tuple[int, ...] = ()
-    """The nodes that could send data and for which the scenario has no commit."""
+    """The nodes that could send data and for which there is no commit."""
     labels: Labels = field(default_factory=Labels)
 
     @property
@@ -219,10 +219,10 @@ def notes(results: Results) -> Iterator[str]:
     """Yields sentences on the runs as a whole."""
     yield from stopped(results)
     for node, count in sorted(results.overwritten.items()):
-        yield (f"{results.labels.node(node)}: FIFO not emptied by the scenario: {counted(count, 'frame')} overwritten "
+        yield (f"{results.labels.node(node)}: FIFO not emptied by its tasks: {counted(count, 'frame')} overwritten "
                "without any fault")
     if results.quiet:
-        yield ("the scenario has no commit for " + ", ".join(map(results.labels.node, results.quiet))
+        yield ("there is no commit for " + ", ".join(map(results.labels.node, results.quiet))
                + ": nothing of these can be lost here")
     if results.idle:
         yield (f"{counted(len(results.idle), 'fault')} idle, without a run, since the node sends nothing there: "

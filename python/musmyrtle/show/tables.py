@@ -29,8 +29,8 @@ class Name(NamedTuple):
     kind: str
 
     def __str__(self) -> str:
-        """Returns `pedal (0)`, or `node 0` without a name."""
-        return f"{self.kind} {self.number}" if self.name is None else f"{cut(self.name)} ({self.number})"
+        """Returns `pedal (0)`, or `node 0` without a name, or with an empty one."""
+        return f"{cut(self.name)} ({self.number})" if self.name else f"{self.kind} {self.number}"
 
 
 class Time(NamedTuple):

@@ -142,13 +142,13 @@ function cut(name) {
   return name.length > LONGEST_LABEL ? `${name.slice(0, LONGEST_LABEL)}..` : name;
 }
 
-/** Returns `pedal (0)`, or `node 0` without a name. */
+/** Returns `pedal (0)`, or `node 0` without a name, or with an empty one. */
 function nodeName(run, node) {
   const {name, is_nobody: isNobody} = run.header.nodes[node];
   if (isNobody) {
     return "no configured sender";
   }
-  return name === null ? `node ${node}` : `${cut(name)} (${node})`;
+  return name ? `${cut(name)} (${node})` : `node ${node}`;
 }
 
 /** Returns the number of a cycle, and of a recording `3 (count 41)` where a line of the program has the count. */
@@ -160,10 +160,10 @@ function cycleText(run, cycle) {
   return `${run.header.first_cycle + cycle}${count === null ? "" : ` (count ${count})`}`;
 }
 
-/** Returns `position (1)`, or `buffer 1` without a name. */
+/** Returns `position (1)`, or `buffer 1` without a name, or with an empty one. */
 function bufferName(run, node, buffer) {
   const {name} = run.header.nodes[node].buffers[buffer];
-  return name === null ? `buffer ${buffer}` : `${cut(name)} (${buffer})`;
+  return name ? `${cut(name)} (${buffer})` : `buffer ${buffer}`;
 }
 
 /** Returns the node and the buffer of a receiver that `fr_view` spells `1:b1`, or `1:queue` without a buffer. */
