@@ -103,7 +103,7 @@ def errors(facts: Facts) -> Section:
             for row in error_rows(facts, node, channel, ended.counters[channel])]
     columns = (Column("node", "node", "name"), Column("channel", "channel"), Column("error", "error"),
                Column("count", "count"), Column("slots", "in slots"), Column("cycles", "in cycles"),
-               Column("lines", "by lines"))
+               Column("lines", "fault lines"))
     return Section("error", "Errors that nodes counted", columns, rows, "No node counted an error.")
 
 
