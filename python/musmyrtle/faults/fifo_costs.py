@@ -8,9 +8,9 @@ def fifo_effects(before: Fifo, after: Fifo) -> Iterator[tuple[str, int]]:
     """Yields each effect with its number of frames, the costs first. BEFORE is the FIFO without the fault.
 
     The frames that the host got or can still get count, whichever channel they came by. Equal frames of other buffers
-    are other frames. If the FIFO overwrites frames
-    without any fault, the choice of the overwritten ones is random. Then a frame that no task popped is lost only if it
-    never came with the fault, and a frame is another one only if it never came without it.
+    are other frames. If the FIFO overwrites frames without any fault, the choice of the overwritten ones is random.
+    Then a frame that no task popped is lost only if it never came with the fault, and a frame is another one only if it
+    never came without it.
     """
     one, other = by_frame(before, before.kept), by_frame(after, after.kept)
     came = by_frame(before, before.stored if before.overwritten else before.kept)
