@@ -10,7 +10,7 @@ from musmyrtle.outcomes import BadOutcome, Outcome, read_outcome
 from musmyrtle.output import Stop
 from musmyrtle.scenario import Reading, Scenario
 from musmyrtle.show.causes import Causes
-from musmyrtle.show.engines import Inputs
+from musmyrtle.show.engines import ENDLESS, Inputs
 from musmyrtle.show.network import Network
 from musmyrtle.show.received import errors_in
 from musmyrtle.show.windows import Windows
@@ -192,8 +192,12 @@ class Facts:
 
     @cached_property
     def windows(self) -> Windows:
-        """Returns the windows of the run."""
-        return Windows(self.inputs.of_run("windows").lines)
+        """Returns the windows of the run, and its end.
+
+        The end is the begin of a further cycle, so the program is asked about a run that has one. Its windows before
+        are the same.
+        """
+        return Windows(self.inputs.lines_of_run("windows", ENDLESS, more=1), self.inputs.cycles)
 
     @cached_property
     def by_place(self) -> dict[tuple[int, int, str], list[Transmission]]:

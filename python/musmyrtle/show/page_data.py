@@ -3,6 +3,7 @@ from collections.abc import Iterable
 from typing import Any
 
 from musmyrtle.show.facts import ARRIVED, Facts
+from musmyrtle.show.idle_cycle import idle_cycle_of
 from musmyrtle.show.log import ENDS
 from musmyrtle.show.network import Network
 from musmyrtle.show.page_calls import Answers, add_commits
@@ -38,7 +39,7 @@ def packed_run(facts: Facts) -> bytes:
 
 def received_of(facts: Facts, lines: Iterable[str]) -> Received:
     """Returns what each node received, from the lines of `fr_view received`."""
-    received = Received(len(facts.windows.cycles), len(facts.network.cluster.nodes))
+    received = Received(len(facts.windows.begins), len(facts.network.cluster.nodes))
     for line in lines:
         received.add(line)
     return received
@@ -49,7 +50,7 @@ def received_of(facts: Facts, lines: Iterable[str]) -> Received:
 
 def header_of(facts: Facts, outcomes: list[list[str]], idle: list[int], missing: tuple[str, ...] = ()
               ) -> dict[str, Any]:
-    """Returns names, parameters, configuration and fault lines, for the header of the data.
+    """Returns names, minislots, configuration and fault lines, for the header of the data.
 
     OUTCOMES are the lines of each node's report, and IDLE the fault lines without effect. MISSING are the sentences
     that say what the page of an endless run doesn't have.
@@ -57,8 +58,7 @@ def header_of(facts: Facts, outcomes: list[list[str]], idle: list[int], missing:
     inputs, network = facts.inputs, facts.network
     return {
         "version": version(), "cluster": shown(inputs.task.cluster), "scenario": shown(inputs.task.scenario or ""),
-        "cycles": inputs.cycles, "macrotick_us": network.macrotick, "params": vars(network.cluster.parameters),
-        "dynamic_begin": facts.windows.dynamic_begin,
+        "cycles": inputs.cycles, "macrotick_us": network.macrotick, "minislots": idle_cycle_of(inputs).borders,
         "nodes": [{**node_of(network, it), "outcome": outcomes[it]} for it in range(len(network.cluster.nodes))],
         "plan": [it.split(" ") for it in inputs.of_cluster("fr_bench", "plan").lines if not it.startswith("guard ")],
         "faults": fault_lines(facts), "idle": idle, "arrived": ARRIVED,

@@ -33,7 +33,7 @@ function repeated(column, times, step = 0) {
 /** Returns the data of a run whose windows come several times. What nodes stored is left as it is. */
 function longer(data, times) {
   const {header} = data;
-  const steps = {window_cycle: header.cycles, window_begin: header.cycles * header.params.cycle_mt,
+  const steps = {window_cycle: header.cycles, window_begin: columns.cycle_begin[header.cycles],
                  record_window: data.columns.window_begin.length};
   const columns = {...data.columns};
   for (const name of Object.keys(columns)) {

@@ -126,9 +126,9 @@ function detailsOfCycle(run, cycle) {
   const begin = run.beginOf(cycle);
   const first = run.firstOfWindow[run.firstOfCycle[cycle]];
   const lines = Array.from({length: run.firstOfWindow[run.firstOfCycle[cycle + 1]] - first}, (_, it) => first + it);
-  details.facts = [`It begins at ${timeText(run, begin)} and takes ${timeText(run, run.cycleLength)}.`];
+  details.facts = [`It begins at ${timeText(run, begin)} and takes ${timeText(run, run.lengthOf(cycle))}.`];
   details.tables = [sendsTable(run, lines)];
-  details.span = [begin, begin + run.cycleLength];
+  details.span = [begin, run.beginOf(cycle + 1)];
   return details;
 }
 
