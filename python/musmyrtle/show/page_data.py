@@ -5,6 +5,7 @@ from typing import Any
 from musmyrtle.show.facts import ARRIVED, Facts
 from musmyrtle.show.idle_cycle import idle_cycle_of
 from musmyrtle.show.log import ENDS
+from musmyrtle.show.marks import OF_COUNTED, OF_ENDS, OF_SEEN
 from musmyrtle.show.network import Network
 from musmyrtle.show.page_calls import Answers, add_commits
 from musmyrtle.show.page_columns import Columns
@@ -22,7 +23,7 @@ LONGEST_NAME = 20_000
 def packed_run(facts: Facts) -> bytes:
     """Returns the packed data of a run. Raises `Stop` where the run is refused."""
     facts.run()
-    columns, record = Columns(), Record()
+    columns, record = Columns(), Record(facts.causes)
     add_windows(facts.windows, columns)
     for it in facts.record:
         record.add(it)
@@ -65,6 +66,7 @@ def header_of(facts: Facts, outcomes: list[list[str]], idle: list[int], missing:
         "is_endless": bool(missing), "missing": missing,
         "expectations": len(facts.scenario.expectations), "missed": [vars(it) for it in inputs.misses],
         "ends": {**ENDS, "collided": "collided", ARRIVED: "arrived"}, "errors": ERRORS,
+        "marks": OF_ENDS, "seen_marks": OF_SEEN, "counted_marks": OF_COUNTED,
     }
 
 

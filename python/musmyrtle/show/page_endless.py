@@ -69,7 +69,7 @@ def check_time(facts: Facts) -> None:
 
 def record_of(facts: Facts) -> Record:
     """Returns the record."""
-    record = Record()
+    record = Record(facts.causes)
     for line in facts.inputs.lines_of_run("record", ENDLESS):
         record.add(transmission_of(line))
     return record

@@ -14,9 +14,11 @@ from typing import IO, Any
 from musmyrtle.findings import counted
 from musmyrtle.lint.command import USAGE
 from musmyrtle.output import Stop
+from musmyrtle.show.causes import Causes
 from musmyrtle.show.engines import Awaited, Inputs
 from musmyrtle.show.facts import ARRIVED, Transmission
 from musmyrtle.show.idle_cycle import IdleCycle, cycle_begins_of, idle_cycle_of
+from musmyrtle.show.marks import OF_RECORDS
 from musmyrtle.show.monitor import STANDARD_INPUT, judged
 from musmyrtle.show.network import Network
 from musmyrtle.show.page_columns import NOTHING, Columns, Words
@@ -138,7 +140,7 @@ class Bus:
 
     def __init__(self, shown_part: Shown, begins: "array[int]", network: Network) -> None:
         self.shown, self.network = shown_part, network
-        self.windows, self.record = Windows(), Record()
+        self.windows, self.record = Windows(), Record(Causes())
         self.windows.cycle_begins = begins
         self.numbers, self.seconds = array("I"), Words()
         self.nobody = len(network.cluster.nodes)
@@ -266,7 +268,7 @@ def header_of(inputs: Inputs, given: argparse.Namespace, bus: Bus, missing: list
         "minislots": part.cycle.borders,
         "nodes": nodes, "plan": plan, "faults": [], "idle": [],
         "arrived": ARRIVED, "is_endless": True, "missing": missing, "expectations": 0, "missed": [],
-        "ends": {ARRIVED: "as due"}, "errors": (), "is_recording": True, "first_cycle": part.cycles.start,
+        "ends": {ARRIVED: "as due"}, "errors": (), "marks": OF_RECORDS, "is_recording": True, "first_cycle": part.cycles.start,
         "findings": [list(it) for it in findings_of(bus)], "unplaced": [unplaced_row(it) for it in part.unplaced],
     }
 

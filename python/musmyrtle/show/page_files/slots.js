@@ -179,21 +179,12 @@ function effectsOf(run, fault) {
     run.effects = run.header.faults.map(() => []);
     for (let line = 0; line < run.columns.record_window.length; line += 1) {
       const its = faults.get(run.columns.record_line[line]);
-      if (its !== undefined && hasEffect(run, line)) {
+      if (its !== undefined && run.columns.record_effect[line]) {
         run.effects[its].push(line);
       }
     }
   }
   return run.effects[fault];
-}
-
-/** Returns whether a line of the record with a fault's number is an effect: a bit flips only in a lone transmission. */
-function hasEffect(run, line) {
-  if (run.word("record_what", line) !== "corrupt") {
-    return true;
-  }
-  return run.linesAt(run.columns.record_window[line], run.channelOf(line))
-    .some((it) => run.word("record_end", it) === "turned");
 }
 
 /** Returns the number of windows in which a fault line took effect. One on both channels is one window. */
