@@ -31,7 +31,7 @@ def why(facts: Facts, commit: Commit) -> str:
     before = "; ".join(unsent(facts, commit))
     after = f"; {before}" if before else ""
     if commit.fate == "pending":
-        return before or "its slot doesn't come again in this run"
+        return before or waiting(facts, commit)
     return f"{commit.fate} in cycle {commit.ended}{after}"
 
 
@@ -50,8 +50,18 @@ def lost(facts: Facts, sent: tuple[Sent, ...]) -> Iterator[str]:
         yield f"{reason} in {cycles_text(its)}{lines_text(sorted(lines[reason]))}"
 
 
+def waiting(facts: Facts, commit: Commit) -> str:
+    """Returns that a commit waits at the end, with the cycles in which its buffer sends."""
+    cycles = facts.sending.get((commit.node, commit.buffer))
+    return "it waits at the end of the run" + (f"; its buffer sends in {joined(cycles)}" if cycles else "")
+
+
 def unsent(facts: Facts, commit: Commit) -> Iterator[str]:
-    """Yields the reasons why the slot of a commit couldn't be used, with the cycles in which it was due."""
+    """Yields the reasons why the slot of a commit couldn't be used, with the cycles in which it was due.
+
+    It is pending from the windows of its own cycle on: calls come before them. The call that ends it comes before those
+    of the cycle in which it ends.
+    """
     until = facts.inputs.cycles if commit.ended is None else commit.ended
     found: dict[str, list[int]] = {}
     for turn in facts.causes.turns.get((commit.node, commit.buffer), []):
