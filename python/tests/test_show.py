@@ -220,6 +220,15 @@ class Runs(Shows):
                 found = [it[0] for it in self.values("undelivered", "why", "run", *run)]
                 self.assertEqual(found[0].replace(" with brake (1)", ""), expected)
 
+    def test_a_commit_that_waits_at_the_end(self) -> None:
+        """The buffer sends in each fourth cycle from 3 on, and the run ends before."""
+        network = NETWORK.replace('{name = "position", kind = "event", slot = 1, channels = "AB"}',
+                                  '{name = "position", kind = "event", slot = 1, channels = "AB", base = 3, '
+                                  'repetition = 4}')
+        run = self.run_of(network, "frscenario 2\ncommit 0 0 0 0 x0001\nend\n")
+        self.assertEqual(self.values("undelivered", "fate why", "run", *run), [
+            ("pending", "it waits at the end of the run; its buffer sends in cycles 3, 7 ..")])
+
     def test_a_reason_for_people_is_whole(self) -> None:
         """With a long name the reasons for both channels have 172 characters, 85 each."""
         run = self.run_of(NETWORK.replace('"brake"', f'"{"b" * 40}"'),

@@ -63,6 +63,8 @@ class Inputs:
         """False for a command that has a table of them, in which they aren't messages."""
         self.is_endless = False
         """True for a command whose run keeps no history. Otherwise its expectations are judged by another view."""
+        self.has_lines = True
+        """False for the scenario of a session, which nobody wrote, so that its line numbers say nothing."""
         self.awaited: frozenset[str] = frozenset()
         """The refusals for which the command has another way. They raise `Awaited`."""
 

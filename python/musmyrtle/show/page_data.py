@@ -109,4 +109,13 @@ def fault_lines(facts: Facts) -> list[dict[str, Any]]:
             found[it.number][1 if it.kind == "corrupt" else 2] = "AB"
         else:
             found[it.number] = list(it.words)
-    return [{"line": number, "words": words} for number, words in found.items()]
+    return [{"line": number, "words": words, **fault_names(facts, number)} for number, words in found.items()]
+
+
+def fault_names(facts: Facts, number: int) -> dict[str, str]:
+    """Returns the name of the fault of a line, and the title of its details: by the line, or by the cycle without one.
+    """
+    if facts.inputs.has_lines:
+        return {"name": f"line {number}", "title": f"Fault in line {number}"}
+    cycle = next(it.word("CYCLES") for it in facts.scenario.faults if it.number == number)
+    return {"name": f"fault of cycle {cycle}", "title": f"Fault of cycle {cycle}"}

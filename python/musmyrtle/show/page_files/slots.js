@@ -98,7 +98,7 @@ function whatText(run, line) {
 function faultCell(run, line) {
   const number = run.number("record_line", line, "u16");
   const fault = run.header.faults.findIndex((it) => it.line === number);
-  return fault < 0 ? "" : link(`line ${number}`, "fault", fault);
+  return fault < 0 ? "" : link(run.header.faults[fault].name, "fault", fault);
 }
 
 /** Returns the table of what each node received in a window on a channel. */
@@ -193,17 +193,21 @@ function effectText(run, fault) {
   return counted(windows.size, "window");
 }
 
-/** Returns the text of a fault line with the names of its node. */
+/** Returns the name of a fault line with its words. */
 function faultText(run, fault) {
-  const {line, words} = run.header.faults[fault];
-  const [kind, ...rest] = words;
+  return `${run.header.faults[fault].name}: ${faultWords(run, fault)}`;
+}
+
+/** Returns the words of a fault line with the name of its node. */
+function faultWords(run, fault) {
+  const [kind, ...rest] = run.header.faults[fault].words;
   const shown = kind === "corrupt" ? rest : [nodeName(run, Number(rest[0])), ...rest.slice(1)];
-  return `line ${line}: ${kind} ${shown.join(" ")}`;
+  return `${kind} ${shown.join(" ")}`;
 }
 
 /** Returns the details of a fault line: each window in which it took effect. */
 function detailsOfFault(run, fault) {
-  const details = emptyDetails(`Fault in ${faultText(run, fault)}`);
+  const details = emptyDetails(`${run.header.faults[fault].title}: ${faultWords(run, fault)}`);
   const lines = effectsOf(run, fault);
   const isIdle = run.header.idle.includes(run.header.faults[fault].line);
   details.facts = [isIdle ? "It had no effect in the whole run."
