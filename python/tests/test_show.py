@@ -5,7 +5,7 @@ import sys
 import unittest
 from unittest import mock
 
-from musmyrtle.show.tables import shortened
+from musmyrtle.show.tables import Column, Numbers, numbers_text, shortened
 from tests.shows import FIRST, NETWORK, POP, SCENE, SECOND, THREE, Shows
 
 
@@ -128,6 +128,34 @@ class Commits(Shows):
                 self.assertIn(FIRST.removeprefix("x"), self.printed(command, *run, form))
         self.assertEqual([shortened(it) for it in ("-", "x", f"x{'ab' * 16}", f"x{'ab' * 17}", "word" * 10)],
                          ["-", "x", f"x{'ab' * 16}", "xabababababababab..ab", "word" * 10])
+
+    def test_many_numbers(self) -> None:
+        """A text has ranges with steps from four numbers on, and counts what is left out of a very long list."""
+        for numbers, expected in (((), "-"), ((4,), "4"), ((1, 2, 3, 5), "1-3,5"), ((1, 3, 5), "1,3,5"),
+                                  ((0, 2, 4, 6), "0-6/2"), ((1, 2, 3, 5, 8, 10, 12, 14), "1-3,5,8-14/2"),
+                                  ((1, 3, 4, 5, 9, 13, 17, 21), "1,3-5,9-21/4"), (range(0, 1024, 2), "0-1022/2")):
+            self.assertEqual(Column("slots", "slots").text(Numbers(tuple(numbers))), expected)
+        squares = [it * it for it in range(1, 301)]
+        front, _, rest = numbers_text(squares).partition(" and ")
+        shown = [int(it) for it in front.split(",")]
+        self.assertEqual((shown, rest), (squares[:len(shown)], f"{300 - len(shown)} more"))
+        self.assertTrue(350 < len(front) <= 360)
+        self.assertEqual(Numbers((0, 2, 4, 6)).text, "0-6/2")
+        self.assertEqual(Column("slots", "slots").cells(Numbers((0, 2, 4, 6))), ["0,2,4,6"])
+
+    def test_many_static_slots(self) -> None:
+        """A node owns 60 slots, which JSON has one by one."""
+        slots = [it for it in range(1, 121) if it % 2]
+        owned = ", ".join(f'{{slot = {it}, channels = "A"}}' for it in slots)
+        network = NETWORK.replace("static_slots = 2\n", "static_slots = 121\n").replace("static_mt = 20", "static_mt = 5")
+        network = network.replace("cycle_mt = 100", "cycle_mt = 665").replace("slot = 3", "slot = 123")
+        network = network.replace("first = 3, last = 3", "first = 123, last = 123").replace("slot = 4", "slot = 124")
+        network = network.replace("slot = 5", "slot = 125")
+        network = network.replace('own = [{slot = 2, channels = "AB"}]', f"own = [{owned.replace('slot = 1,', 'slot = 121,')}]")
+        cluster = self.written("cluster.toml", network.replace('slot = 2, channels = "A"', 'slot = 3, channels = "A"'))
+        row = self.rows("node", "check", cluster)[1]
+        self.assertEqual(row["slots"], " ".join(map(str, [*slots[1:], 121])))
+        self.assertIn(" 3-121/2 ", self.printed("check", cluster))
 
 
 class Reads(Shows):
