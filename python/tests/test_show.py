@@ -147,12 +147,15 @@ class Commits(Shows):
         """A node owns 60 slots, which JSON has one by one."""
         slots = [it for it in range(1, 121) if it % 2]
         owned = ", ".join(f'{{slot = {it}, channels = "A"}}' for it in slots)
-        network = NETWORK.replace("static_slots = 2\n", "static_slots = 121\n").replace("static_mt = 20", "static_mt = 5")
-        network = network.replace("cycle_mt = 100", "cycle_mt = 665").replace("slot = 3", "slot = 123")
-        network = network.replace("first = 3, last = 3", "first = 123, last = 123").replace("slot = 4", "slot = 124")
-        network = network.replace("slot = 5", "slot = 125")
-        network = network.replace('own = [{slot = 2, channels = "AB"}]', f"own = [{owned.replace('slot = 1,', 'slot = 121,')}]")
-        cluster = self.written("cluster.toml", network.replace('slot = 2, channels = "A"', 'slot = 3, channels = "A"'))
+        network = NETWORK
+        for old, new in (("static_slots = 2\n", "static_slots = 121\n"), ("static_mt = 20", "static_mt = 5"),
+                         ("cycle_mt = 100", "cycle_mt = 665"), ("slot = 3", "slot = 123"), ("slot = 4", "slot = 124"),
+                         ("slot = 5", "slot = 125"), ("first = 3, last = 3", "first = 123, last = 123"),
+                         ('own = [{slot = 2, channels = "AB"}]', f"own = [{owned}]"),
+                         ('{slot = 1, channels = "A"}', '{slot = 121, channels = "A"}'),
+                         ('slot = 2, channels = "A"', 'slot = 3, channels = "A"')):
+            network = network.replace(old, new)
+        cluster = self.written("cluster.toml", network)
         row = self.rows("node", "check", cluster)[1]
         self.assertEqual(row["slots"], " ".join(map(str, [*slots[1:], 121])))
         self.assertIn(" 3-121/2 ", self.printed("check", cluster))

@@ -268,7 +268,8 @@ def header_of(inputs: Inputs, given: argparse.Namespace, bus: Bus, missing: list
         "minislots": part.cycle.borders,
         "nodes": nodes, "plan": plan, "faults": [], "idle": [],
         "arrived": ARRIVED, "is_endless": True, "missing": missing, "expectations": 0, "missed": [],
-        "ends": {ARRIVED: "as due"}, "errors": (), "marks": OF_RECORDS, "is_recording": True, "first_cycle": part.cycles.start,
+        "ends": {ARRIVED: "as due"}, "errors": (), "marks": OF_RECORDS,
+        "is_recording": True, "first_cycle": part.cycles.start,
         "findings": [list(it) for it in findings_of(bus)], "unplaced": [unplaced_row(it) for it in part.unplaced],
     }
 

@@ -150,9 +150,9 @@ class Column:
     """A column: its key in JSON and CSV, its heading in a text, and the kind of its values.
 
     The kind `name` has two keys, KEY and KEY_name, and `time` has KEY_mt and KEY_us. Values of the kind `bytes` are cut
-    in texts, and those of `plain` too if they are very long. Values of `whole` aren't, since each name in them is. Those
-    of `numbers` are texts of numbers, which texts for people have as ranges. A heading that is empty leaves the column
-    out of texts.
+    in texts, and those of `plain` too if they are very long. Values of `whole` aren't, since each name in them is. The
+    kind `numbers` has texts of numbers, which texts for people have as ranges. A heading that is empty leaves the
+    column out of texts.
     """
 
     key: str
