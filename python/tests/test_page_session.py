@@ -45,7 +45,7 @@ class SessionPages(Pages):
             self.compared(world, cluster, scenario, 2)
 
     def test_faults_have_no_lines(self) -> None:
-        """Nobody wrote a scenario, so a fault is named by its cycle, and a reason names no line."""
+        """The package made the scenario, so a fault is named by its cycle, and a reason names no line."""
         page = self.folder / "session.html"
         with World(self.written("cluster.toml", NETWORK), 2) as world:
             world.node(0).commit(0, b"\0\7")

@@ -64,7 +64,7 @@ class Inputs:
         self.is_endless = False
         """True for a command whose run keeps no history. Otherwise its expectations are judged by another view."""
         self.has_lines = True
-        """False for the scenario of a session, which nobody wrote, so that its line numbers say nothing."""
+        """False for the scenario of a session, which the package makes, so that its line numbers say nothing."""
         self.awaited: frozenset[str] = frozenset()
         """The refusals for which the command has another way. They raise `Awaited`."""
 

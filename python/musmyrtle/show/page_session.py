@@ -48,7 +48,7 @@ def first_of_cycle(trace: list[str], window: Window | None) -> int:
 
 
 def in_cycles(records: Iterable[Record]) -> Iterator[tuple[int, Record]]:
-    """Yields the records with their cycles of the run, from 0: where the cycle count changes, the next one begins."""
+    """Yields the records with their cycles of the run, from 0. The next cycle has another cycle count."""
     cycle, count = -1, None
     for record in records:
         if record.window.cycle != count:
@@ -74,7 +74,7 @@ def calls_of(node: int, trace: list[str], cycles: int) -> Iterator[str]:
     for line in trace[trace.index("begin") + 1:]:
         kind, *words = line.split(" ")
         if kind == "fetch":
-            # Where the cycle count changes, the next cycle begins.
+            # The next cycle has another cycle count.
             is_start, count = words[1] != count, words[1]
             if waiting and (is_within or not is_start):
                 raise in_the_middle(node, cycle, waiting[0])

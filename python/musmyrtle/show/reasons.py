@@ -21,7 +21,7 @@ def cycles_text(cycles: list[int]) -> str:
 def lines_text(lines: list[int], are_known: bool) -> str:
     """Returns `, by line 12`, or `, by lines 12-13`, for lines of the scenario; nothing for none.
 
-    Lines of a scenario that nobody wrote aren't known to a reader: they are `, by a fault`, or `, by faults`.
+    The lines of a scenario that the package made aren't known to a reader: they are `, by a fault`, or `, by faults`.
     """
     if not lines:
         return ""
