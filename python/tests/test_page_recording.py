@@ -142,7 +142,7 @@ class Places(Recorded):
         records = [it for cycle in range(5) for it in static(cycle)]
         with mock.patch("musmyrtle.show.page_recording.cycle_begins_of", wraps=cycle_begins_of) as asked:
             text = self.page_text(records, "--cycles", "2-3")
-        self.assertEqual([it.args[1] for it in asked.call_args_list], [2])
+        self.assertEqual([it.args[2] for it in asked.call_args_list], [2])
         self.assertEqual(unpacked(text)[1]["cycle_begin"], [0, 100, 200])
 
     def test_a_recording_that_is_too_long(self) -> None:

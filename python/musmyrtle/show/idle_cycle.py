@@ -10,6 +10,8 @@ from musmyrtle.show.engines import ENDLESS, Inputs
 from musmyrtle.show.windows import CHANNELS, Windows
 
 IDLE_RUN = "a run in which nothing is done"
+IDLE, FULL = "frscenario 2\nend\n", f"frscenario 3\nbabble 0 AB * m* x{'00' * 262}\nend\n"
+"""Scenarios in which nothing is sent, and in which the longest bytes fill the dynamic segment with few windows."""
 
 
 class IdleCycle:
@@ -32,12 +34,12 @@ class IdleCycle:
 
 
 @contextmanager
-def idle_inputs(inputs: Inputs, cycles: int) -> Iterator[Inputs]:
-    """Yields the inputs of a run of the same cluster in which nothing is done."""
+def idle_inputs(inputs: Inputs, cycles: int, text: str) -> Iterator[Inputs]:
+    """Yields the inputs of a run of the same cluster with the scenario of a text."""
     task = inputs.task
     with TemporaryDirectory(prefix="musmyrtle-") as folder:
         scenario = Path(folder, "scenario")
-        scenario.write_text("frscenario 2\nend\n", encoding="ascii")
+        scenario.write_text(text, encoding="ascii")
         idle = Inputs(Task(task.cluster, IDLE_RUN, cycles, {**task.files, IDLE_RUN: str(scenario)}))
         idle.programs, idle.awaited = inputs.programs, inputs.awaited
         yield idle
@@ -45,18 +47,21 @@ def idle_inputs(inputs: Inputs, cycles: int) -> Iterator[Inputs]:
 
 def idle_cycle_of(inputs: Inputs) -> IdleCycle:
     """Returns the windows of the first cycle."""
-    with idle_inputs(inputs, 1) as idle:
+    with idle_inputs(inputs, 1, IDLE) as idle:
         return IdleCycle(Windows(idle.of_run("windows", ENDLESS).lines, 1))
 
 
-def cycle_begins_of(inputs: Inputs, cycles: int, most: int) -> "array[int]":
-    """Returns the macroticks at which so many cycles begin, and the one after them, up to the first one above MOST."""
+def cycle_begins_of(inputs: Inputs, cycle: IdleCycle, cycles: int, most: int) -> "array[int]":
+    """Returns the macroticks at which so many cycles begin, and the one after them, up to the first one above MOST.
+
+    CYCLE is one of the cluster. The run has as few windows as can be, since each has a line.
+    """
     begins, last = array("Q"), ""
-    with idle_inputs(inputs, cycles + 1) as idle:
+    with idle_inputs(inputs, cycles + 1, FULL if cycle.minislots else IDLE) as idle:
         for line in idle.lines_of_run("windows", ENDLESS):
-            _, cycle, rest = line.split(" ", 2)
-            if cycle != last:
-                last = cycle
+            _, number, rest = line.split(" ", 2)
+            if number != last:
+                last = number
                 begins.append(int(rest.split(" ", 2)[1]))
                 if begins[-1] > most:
                     break

@@ -1,8 +1,8 @@
 """The page of a recording of a real bus: its frames, as `fr_monitor --frames` prints them, beside the schedule.
 
 The program names the cycle, the place and the sender of each frame. The begins of the cycles, and the empty slots and
-minislots of a cycle, are those of `fr_view windows`, for runs in which nothing is done. The page adds form alone: it
-puts each frame into its cycle, and a missing one into its slot.
+minislots of a cycle, are those of `fr_view windows`, for runs without calls. The page adds form alone: it puts each
+frame into its cycle, and a missing one into its slot.
 """
 import argparse
 import re
@@ -118,7 +118,7 @@ class Shown:
             raise self.no_room()
         inputs.awaited = frozenset((TOO_MANY,))
         try:
-            found = cycle_begins_of(inputs, len(self.cycles), MOST_TIME)
+            found = cycle_begins_of(inputs, self.cycle, len(self.cycles), MOST_TIME)
         except Awaited:
             raise self.no_room() from None
         if found[-1] > MOST_TIME:
