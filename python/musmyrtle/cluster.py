@@ -152,19 +152,6 @@ class Cluster:
     def buffers(self) -> list[Buffer]:
         return [buffer for node in self.nodes for buffer in node.buffers]
 
-    def senders(self, slot: int, channel: str, cycle: int) -> list[Buffer]:
-        """Returns the buffers that may send in a slot of a channel in a cycle with this count."""
-        return [it for it in self.transmitting.get((slot, channel), []) if it.cycles.admit(cycle)]
-
-    @cached_property
-    def transmitting(self) -> dict[tuple[int, str], list[Buffer]]:
-        """Returns the transmit buffers of each slot and channel."""
-        found: dict[tuple[int, str], list[Buffer]] = {}
-        for it in self.buffers():
-            for channel in it.channels if it.transmits else "":
-                found.setdefault((it.slot, channel), []).append(it)
-        return found
-
     def owned(self) -> list[Ownership]:
         return [line for node in self.nodes for line in node.owned]
 

@@ -1,10 +1,14 @@
 """Pages of runs for the tests of `musmyrtle page`, and what node makes of them."""
+import base64
 import json
 import os
 import re
 import shutil
+import struct
 import subprocess
 import unittest
+import zlib
+from itertools import accumulate
 from pathlib import Path
 from typing import Any
 
@@ -19,6 +23,23 @@ STEPS = ("click nodes node 0", "click details cycle 2", "click details cycle 2",
          "click results slot 4", "find payload x7002", "click faults line 12", "press 0", "press +", "press c",
          "click back")
 """A walk through the page of three nodes, in words of page/walk.js."""
+
+
+KINDS = {"u8": "B", "u16": "H", "u32": "I"}
+
+
+def unpacked(page: str) -> tuple[dict[str, Any], dict[str, list[Any]]]:
+    """Returns the header and the columns of a page. Numbers of words are replaced by these."""
+    found = re.search(r'id="data">(.*?)</script>', page, re.DOTALL)
+    data = zlib.decompress(base64.b64decode(found[1] if found else ""))
+    at = 4 + struct.unpack_from("<I", data)[0]
+    header, columns = json.loads(data[4:at]), dict[str, list[Any]]()
+    for it in header["columns"]:
+        values = list(struct.unpack_from(f"<{it['count']}{KINDS[it['type']]}", data, at))
+        at += -(-struct.calcsize(KINDS[it["type"]]) * it["count"] // 4) * 4
+        values = list(accumulate(values)) if it.get("is_rising") else values
+        columns[it["name"]] = [it["words"][value] for value in values] if "words" in it else values
+    return header, columns
 
 
 class Pages(Shows):

@@ -4,9 +4,11 @@ import unittest
 
 from musmyrtle.faults.campaign import Campaign
 from musmyrtle.faults.fifo_costs import fifo_effects
-from musmyrtle.faults.fifos import Fifo, StoredFrame, Unread, read_fifo
+from musmyrtle.faults.children import Children
+from musmyrtle.faults.fifos import Fifo, Senders, StoredFrame, Unread, read_fifo, senders_of
 from musmyrtle.faults.listing import Selection
 from musmyrtle.faults.table import Results, has_effect, summary, verdict
+from musmyrtle.links import links_in
 from musmyrtle.named_windows import RunCycles
 from tests.campaigns import PROGRAM, CampaignCases
 from tests.two_nodes import PARAMETERS
@@ -164,6 +166,28 @@ class TestLines(unittest.TestCase):
         with self.assertRaises(Unread) as raised:
             read_fifo([first])
         self.assertEqual(str(raised.exception), "fr_view fifo doesn't say what became of 1 frame")
+
+
+LINKS = ("0 0 static 1 A 0 2 1 0 20 2:queue", "0 0 static 1 B 0 2 1 0 20 2:queue", "0 1 static 1 A 1 2 1 0 20 2:queue",
+         "1 3 static 1 B 1 2 1 0 20 2:queue", "1 - static 2 A 0 1 1 20 40 -", "1 4 dynamic 7 B 3 4 1 - - 2:queue")
+"""Links as `fr_view links` prints them: slot 1 has one buffer for both channels in even cycles, and two in odd ones."""
+
+
+class TestSenders(unittest.TestCase):
+    def test_the_buffers_of_a_slot(self) -> None:
+        """Cycle 67 has the cycle count 3. Null frames have no buffer."""
+        senders = Senders(links_in(LINKS))
+        for cycle, slot, channel, expected in (
+                (66, 1, "A", {(0, 0)}), (66, 1, "B", {(0, 0)}), (67, 1, "A", {(0, 1)}), (67, 1, "B", {(1, 3)}),
+                (0, 2, "A", set()), (67, 7, "B", {(1, 4)}), (66, 7, "B", set()), (67, 7, "A", set())):
+            self.assertEqual(senders.of(StoredFrame(cycle, slot, "----", "x", channel)), expected)
+
+    def test_a_program_that_prints_no_links(self) -> None:
+        for program, why in (("false", "false links fails: status 1"), ("/absent", "/absent can't be run: "),
+                             ("echo", "echo prints no links of the cluster")):
+            with self.assertRaises(Unread) as raised:
+                senders_of(program, "cluster.toml", Children())
+            self.assertTrue(str(raised.exception).startswith(why))
 
 
 def frames(text: str) -> list[StoredFrame]:

@@ -173,21 +173,21 @@ class Senders(Monitor):
 
 
 class Waits(unittest.TestCase):
-    def test_many_frames_wait(self) -> None:
-        """A frame is known until its wait ends, however many wait meanwhile, and forgotten soon after that."""
+    def test_frames_are_known_for_a_while(self) -> None:
+        """A frame is known until so many other good ones came on its channel, however many broken ones come."""
         senders = recordings.Senders()
-        for record in range(1, 6):
-            senders.add(f"frame {record} 0.0 {record} A 1 - 0 20 {record} -n-- x0000 -".split())
-        finding = "finding {} 0.0 1 A 1 {} - -"
-        found = [senders.of(finding.format(record, name).split())
-                 for record, name in ((1, "Cycle"), (1, "Order"), (2, "Order"), (5, "Order"), (6, "Order"))]
-        self.assertEqual(found, [1, 1, 2, 5, None])
-        senders.end(2)
-        self.assertEqual(senders.of(finding.format(2, "Order").split()), 2)
-        for record, cycle, known in ((7, "-", [1, 2, 3]), (8, "-", [3]), (9, "6", [3]), (10, "6", [3]), (11, "6", [])):
-            senders.add(f"frame {record} 0.0 6 A 1 {cycle} 0 20 7 -n-- x0000 -".split())
-            self.assertEqual([it for it in (1, 2, 3) if senders.of(finding.format(it, "Order").split())], known)
-        self.assertEqual((senders.waiting, [len(it) for it in senders.ended["A"]]), ({"A": {}, "B": {}}, [0, 0]))
+        finding = "finding {} 0.0 1 {} 1 Order - -"
+
+        def known(record: int, channel: str = "A") -> int | None:
+            return senders.of(finding.format(record, channel).split())
+        for record in range(1, recordings.KEPT + 1):
+            senders.add(f"frame {record} 0.0 {record} A 1 - 0 20 {record % 7} -n-- x0000 -".split())
+        for record in range(100, 200):
+            senders.add(f"frame {record} 0.0 {record} A 1 - 0 20 5 - - -".split())
+        self.assertEqual([known(1), known(8), known(recordings.KEPT), known(199), known(100), known(8, "B")],
+                         [1, 1, recordings.KEPT % 7, 5, None, None])
+        senders.add("frame 200 0.0 6 A 1 - 0 20 3 -n-- x0000 -".split())
+        self.assertEqual([known(1), known(2), known(200)], [None, 2, 3])
 
 
 class Refusals(Monitor):

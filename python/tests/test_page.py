@@ -15,7 +15,7 @@ from random import Random
 
 from musmyrtle.program import usual_program
 from musmyrtle.show.page import FILES, SCRIPTS
-from tests.pages import HERE, SCRIPT, Pages, needs_node, view
+from tests.pages import HERE, SCRIPT, Pages, needs_node, unpacked, view
 from tests.shows import EXAMPLES, FIRST, NETWORK, SCENE, THREE
 from tests.test_visible_output import IN_TOML, SPELLED
 
@@ -23,6 +23,15 @@ TOP = Path(__file__).resolve().parents[2]
 RANDOM_RUNS = 8
 NAMES = ('<b>&\\"]]>', "</script><script>alert(1)</script>", "<!--<script>", IN_TOML, "n" * 10000)
 EMPTY = ("meta", "input", "br", "link", "img")
+COLUMNS = ("window_cycle", "window_minislot", "window_begin", "window_slot_A", "window_length_A", "window_slot_B",
+           "window_length_B")
+"""The columns of the words of a line of `fr_view windows` after the first."""
+
+
+def columns_of(windows: list[str]) -> dict[str, list[int]]:
+    """Returns the columns of the lines of `fr_view windows`. An absent number is 0."""
+    words = [[0 if it == "-" else int(it) for it in line.split(" ")[1:]] for line in windows]
+    return {name: [its[place] for its in words] for place, name in enumerate(COLUMNS)}
 
 
 class Structure(HTMLParser):
@@ -55,6 +64,10 @@ class Data(Pages):
             lines, idle = view(command, cluster, scenario, cycles)
             self.assertEqual(found[command], lines)
         self.assertEqual(found["idle"], idle)
+        windows, _ = view("windows", cluster, scenario, cycles)
+        self.assertEqual(found["windows"], columns_of(windows))
+        begins = {words[1]: int(words[3]) for words in (line.split(" ") for line in reversed(windows))}
+        self.assertEqual(found["cycles"][:-1], [begins[str(it)] for it in range(int(cycles))])
         outcome, _ = view("outcome", cluster, scenario, cycles)
         counts = [[int(it) for it in line.split(" ")[2:]] for line in outcome if line[:2] in ("A ", "B ")]
         self.assertEqual([its for node in found["counts"] for its in node], counts)
@@ -83,6 +96,15 @@ class Data(Pages):
     def test_the_run_of_two_nodes(self) -> None:
         run = self.run_of()
         self.compared(run, self.page(*run))
+
+    def test_cycles_and_minislots(self) -> None:
+        """A cycle has 100 macroticks. Ten minislots of 5 come after two static slots of 20. The run ends at 200."""
+        run = self.run_of()
+        page = self.page(*run)
+        self.assertEqual(self.facts(page)[0]["cycles"], [0, 100, 200])
+        header = unpacked(Path(page).read_text(encoding="utf-8"))[0]
+        self.assertEqual(header["minislots"], [40, 45, 50, 55, 60, 65, 70, 75, 80, 85, 90])
+        self.assertNotIn("params", header)
 
     def test_withdrawn_and_overwritten_commits(self) -> None:
         scene = SCENE.replace("frscenario 1", "frscenario 2").replace("read 1 0 1 1\n", (

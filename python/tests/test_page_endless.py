@@ -15,7 +15,7 @@ from tests.shows import NETWORK, SCENE, THREE
 
 TOP = Path(__file__).resolve().parents[2]
 RANDOM_RUNS = 6
-COMMON = ("windows", "record", "idle", "outcomes", "tables", "parts", "commits", "answers", "sources")
+COMMON = ("windows", "cycles", "record", "idle", "outcomes", "tables", "parts", "commits", "answers", "sources")
 """The facts that each page has."""
 SEEN = ("counts", "stored")
 """Those of a page that shows what each node received."""
@@ -121,6 +121,14 @@ class Endless(Pages):
         status, text, told = self.asked("page", *self.run_of()[:2], "--cycles", str(most + 1), "--endless")
         self.assertEqual((status, text), (2, ""))
         self.assertIn(f"a page has room for {most:,} cycles of this cluster".replace(",", ""), told.replace(",", ""))
+
+    def test_a_run_with_too_many_macroticks(self) -> None:
+        """The run of two cycles ends at macrotick 200."""
+        for most, status in ((200, 0), (199, 2)):
+            with mock.patch("musmyrtle.show.page_endless.MOST_TIME", most):
+                found, _, told = self.asked("page", *self.run_of(), "--endless")
+            self.assertEqual(found, status, told)
+        self.assertEqual(told, "musmyrtle: a page has room for fewer than 2^32 macroticks, and this run takes 200\n")
 
     def test_refusals(self) -> None:
         for network, scene, refusal in ((NETWORK.replace("idle = 0", "idle = 3"), SCENE, "Params OutOfRange idle"),

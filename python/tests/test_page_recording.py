@@ -4,40 +4,32 @@ A cycle has 100 macroticks. Slot 1 of the pedal begins at 0 and slot 2 of the br
 dynamic slot 3 opens at minislot 1, at macrotick 40, and its frame of 16 words takes 4 minislots of 5 macroticks. So
 slot 4 opens at minislot 5, at macrotick 60.
 """
-import base64
-import json
-import re
-import struct
+import os
 import subprocess
+import sys
 import unittest
-import zlib
-from itertools import accumulate
 from pathlib import Path
 from typing import Any
+from unittest import mock
 
 from musmyrtle.program import usual_program
+from musmyrtle.show.idle_cycle import cycle_begins_of
 from tests import test_page_browser as browser
-from tests.pages import Pages, needs_node
+from tests.pages import Pages, needs_node, unpacked
 from tests.test_monitor import CYCLE, HEADER, SLOT, Monitor, frame, sealed
 
 LOG = bytes(range(32))
-KINDS = {"u8": "B", "u16": "H", "u32": "I"}
 NOTHING, NO_COUNT = 2**32 - 1, 255
 MONITOR = usual_program("fr_monitor") or "fr_monitor"
-
-
-def unpacked(page: str) -> tuple[dict[str, Any], dict[str, list[Any]]]:
-    """Returns the header and the columns of a page. Numbers of words are replaced by these."""
-    found = re.search(r'id="data">(.*?)</script>', page, re.DOTALL)
-    data = zlib.decompress(base64.b64decode(found[1] if found else ""))
-    at = 4 + struct.unpack_from("<I", data)[0]
-    header, columns = json.loads(data[4:at]), dict[str, list[Any]]()
-    for it in header["columns"]:
-        values = list(struct.unpack_from(f"<{it['count']}{KINDS[it['type']]}", data, at))
-        at += -(-struct.calcsize(KINDS[it["type"]]) * it["count"] // 4) * 4
-        values = list(accumulate(values)) if it.get("is_rising") else values
-        columns[it["name"]] = [it["words"][value] for value in values] if "words" in it else values
-    return header, columns
+VIEW = usual_program("fr_view") or "fr_view"
+STAND_IN = """#!{python}
+import subprocess, sys
+words = sys.argv[1:]
+if words[words.index("--cycles") + 1] != "1":
+    sys.exit("refused BadCycles")
+sys.exit(subprocess.run([{program!r}, *words]).returncode)
+"""
+"""A program that refuses runs of more than one cycle."""
 
 
 def lines_of(columns: dict[str, list[Any]]) -> list[tuple[Any, ...]]:
@@ -144,6 +136,30 @@ class Places(Recorded):
         self.assertIn("Only the cycles 2 to 3 of the recording are shown; it has 5 cycles.", header["missing"])
         self.assertEqual(self.asked("page", self.cluster, "--recording", self.recording(records), "--cycles", "7"), (
             2, "", "musmyrtle: the recording has no cycle 7: it has 5 cycles\n"))
+
+    def test_only_the_shown_cycles_are_asked_for(self) -> None:
+        """The begins of the two cycles that are shown, and of the one after them, come from a run of three."""
+        records = [it for cycle in range(5) for it in static(cycle)]
+        with mock.patch("musmyrtle.show.page_recording.cycle_begins_of", wraps=cycle_begins_of) as asked:
+            text = self.page_text(records, "--cycles", "2-3")
+        self.assertEqual([it.args[2] for it in asked.call_args_list], [2])
+        self.assertEqual(unpacked(text)[1]["cycle_begin"], [0, 100, 200])
+
+    def test_a_recording_that_is_too_long(self) -> None:
+        """Three cycles have 300 macroticks. A run of four would have too many static slots and minislots for one."""
+        path = self.recording([it for cycle in range(3) for it in static(cycle)])
+        words = ("page", self.cluster, "--recording", path)
+        told = ("musmyrtle: a page has no room for the 3 cycles of this recording, which may have 4,000,000 static "
+                "slots and frames, and fewer than 2^32 macroticks; --cycles A-B shows a part of it\n")
+        module = "musmyrtle.show.page_recording"
+        for name, value, status in (("MOST_TIME", 300, 0), ("MOST_TIME", 299, 2), ("MOST_TIME", 99, 2),
+                                    ("MOST_ENDLESS", 4, 0), ("MOST_ENDLESS", 3, 2)):
+            with self.subTest(name, value=value), mock.patch(f"{module}.{name}", value):
+                self.assertEqual(self.asked(*words)[::2], (status, told if status else ""))
+        program = self.written("fr_view", STAND_IN.format(python=sys.executable, program=VIEW))
+        Path(program).chmod(0o755)
+        with mock.patch.dict(os.environ, MUSMYRTLE_VIEW=program):
+            self.assertEqual(self.asked(*words), (2, "", told))
 
     def test_only_its_frames_are_known(self) -> None:
         header, _ = self.data([*static(0), *static(1)])

@@ -44,6 +44,25 @@ class SessionPages(Pages):
             world.node(0).commit(0, b"\0\7")
             self.compared(world, cluster, scenario, 2)
 
+    def test_faults_have_no_lines(self) -> None:
+        """The package made the scenario, so a fault is named by its cycle, and a reason names no line."""
+        page = self.folder / "session.html"
+        with World(self.written("cluster.toml", NETWORK), 2) as world:
+            world.node(0).commit(0, b"\0\7")
+            for channel in "AB":
+                world.keep(f"babble brake {channel} 0 s1 x00")
+            world.run(2)
+            world.page(page)
+        first, pedal, fault, window = self.walked(str(page), "click nodes pedal", "click faults fault of cycle 0",
+                                                  "click details 0")
+        self.assertIn("fault of cycle 0: babble brake (1) A 0 s1 x001 window", first["faults"])
+        self.assertIn("collided on A with brake (1) in cycle 0, by a fault; collided on B with brake (1) in cycle 0, "
+                      "by a fault", pedal["details"])
+        self.assertTrue(fault["details"].startswith("Fault of cycle 0: babble brake (1) A 0 s1 x00"))
+        self.assertIn("bytes that are no framecollidedx00fault of cycle 0", window["details"])
+        for shown in (first, pedal, fault):
+            self.assertNotRegex(shown["faults"] + shown["details"], r"\bline \d")
+
     def test_calls_that_no_scenario_has(self) -> None:
         cluster, page = self.written("cluster.toml", NETWORK), self.folder / "session.html"
         with World(cluster, 3) as world:

@@ -5,7 +5,7 @@ import sys
 import unittest
 from unittest import mock
 
-from musmyrtle.show.tables import shortened
+from musmyrtle.show.tables import Column, Numbers, numbers_text, shortened
 from tests.shows import FIRST, NETWORK, POP, SCENE, SECOND, THREE, Shows
 
 
@@ -129,6 +129,37 @@ class Commits(Shows):
         self.assertEqual([shortened(it) for it in ("-", "x", f"x{'ab' * 16}", f"x{'ab' * 17}", "word" * 10)],
                          ["-", "x", f"x{'ab' * 16}", "xabababababababab..ab", "word" * 10])
 
+    def test_many_numbers(self) -> None:
+        """A text has ranges with steps from four numbers on, and counts what is left out of a very long list."""
+        for numbers, expected in (((), "-"), ((4,), "4"), ((1, 2, 3, 5), "1-3,5"), ((1, 3, 5), "1,3,5"),
+                                  ((0, 2, 4, 6), "0-6/2"), ((1, 2, 3, 5, 8, 10, 12, 14), "1-3,5,8-14/2"),
+                                  ((1, 3, 4, 5, 9, 13, 17, 21), "1,3-5,9-21/4"), (range(0, 1024, 2), "0-1022/2")):
+            self.assertEqual(Column("slots", "slots").text(Numbers(tuple(numbers))), expected)
+        squares = [it * it for it in range(1, 301)]
+        front, _, rest = numbers_text(squares).partition(" and ")
+        shown = [int(it) for it in front.split(",")]
+        self.assertEqual((shown, rest), (squares[:len(shown)], f"{300 - len(shown)} more"))
+        self.assertTrue(350 < len(front) <= 360)
+        self.assertEqual(Numbers((0, 2, 4, 6)).text, "0-6/2")
+        self.assertEqual(Column("slots", "slots").cells(Numbers((0, 2, 4, 6))), ["0,2,4,6"])
+
+    def test_many_static_slots(self) -> None:
+        """A node owns 60 slots, which JSON has one by one."""
+        slots = [it for it in range(1, 121) if it % 2]
+        owned = ", ".join(f'{{slot = {it}, channels = "A"}}' for it in slots)
+        network = NETWORK
+        for old, new in (("static_slots = 2\n", "static_slots = 121\n"), ("static_mt = 20", "static_mt = 5"),
+                         ("cycle_mt = 100", "cycle_mt = 665"), ("slot = 3", "slot = 123"), ("slot = 4", "slot = 124"),
+                         ("slot = 5", "slot = 125"), ("first = 3, last = 3", "first = 123, last = 123"),
+                         ('own = [{slot = 2, channels = "AB"}]', f"own = [{owned}]"),
+                         ('{slot = 1, channels = "A"}', '{slot = 121, channels = "A"}'),
+                         ('slot = 2, channels = "A"', 'slot = 3, channels = "A"')):
+            network = network.replace(old, new)
+        cluster = self.written("cluster.toml", network)
+        row = self.rows("node", "check", cluster)[1]
+        self.assertEqual(row["slots"], " ".join(map(str, [*slots[1:], 121])))
+        self.assertIn(" 3-121/2 ", self.printed("check", cluster))
+
 
 class Reads(Shows):
     def test_calls(self) -> None:
@@ -219,6 +250,15 @@ class Runs(Shows):
                 run = self.run_of(scene=f"frscenario 2\n{lines}end\n")
                 found = [it[0] for it in self.values("undelivered", "why", "run", *run)]
                 self.assertEqual(found[0].replace(" with brake (1)", ""), expected)
+
+    def test_a_commit_that_waits_at_the_end(self) -> None:
+        """The buffer sends in each fourth cycle from 3 on, and the run ends before."""
+        network = NETWORK.replace('{name = "position", kind = "event", slot = 1, channels = "AB"}',
+                                  '{name = "position", kind = "event", slot = 1, channels = "AB", base = 3, '
+                                  'repetition = 4}')
+        run = self.run_of(network, "frscenario 2\ncommit 0 0 0 0 x0001\nend\n")
+        self.assertEqual(self.values("undelivered", "fate why", "run", *run), [
+            ("pending", "it waits at the end of the run; its buffer sends in cycles 3, 7 ..")])
 
     def test_a_reason_for_people_is_whole(self) -> None:
         """With a long name the reasons for both channels have 172 characters, 85 each."""

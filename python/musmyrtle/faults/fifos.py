@@ -5,9 +5,10 @@ A trace costs no host entry, so this also works where no task can pop the FIFO.
 from collections.abc import Iterable
 from dataclasses import dataclass, field
 
-from musmyrtle.cluster import CYCLES, Cluster
+from musmyrtle.cluster import CYCLES
 from musmyrtle.faults.children import Children
 from musmyrtle.findings import counted
+from musmyrtle.links import Link, links_in
 from musmyrtle.visible import visible
 
 STORED = "stored"
@@ -89,20 +90,48 @@ def read_fifo(lines: Iterable[str]) -> Fifo:
     return fifo
 
 
-def fifo_of(program: str, trace: Iterable[str], children: Children, cluster: Cluster) -> Fifo:
-    """Returns the frames of the FIFO of a trace, and the buffers of the cluster that may have sent them.
+class Senders:
+    """The transmit buffers that may send in the slots of a cluster, by its links."""
+
+    def __init__(self, links: Iterable[Link]) -> None:
+        self.links: dict[tuple[int, str], list[Link]] = {}
+        for it in links:
+            self.links.setdefault((it.slot, it.channel), []).append(it)
+
+    def of(self, it: StoredFrame) -> frozenset[tuple[int, int]]:
+        """Returns the nodes and buffers of the links that have the slot, the channel and the cycle of a frame."""
+        its = self.links.get((it.slot, it.channel), [])
+        return frozenset((link.node, link.buffer) for link in its
+                         if link.buffer is not None and link.cycles.admit(it.cycle % len(CYCLES)))
+
+
+def senders_of(program: str, cluster: str, children: Children) -> Senders:
+    """Returns who may send in a cluster. PROGRAM is `fr_view`. Raises `Unread` where it prints no links."""
+    lines = printed(program, ["links", "--", cluster], children)
+    try:
+        return Senders(links_in(lines))
+    except ValueError:
+        raise Unread(f"{visible(program)} prints no links of the cluster") from None
+
+
+def fifo_of(program: str, trace: Iterable[str], children: Children, senders: Senders) -> Fifo:
+    """Returns the frames of the FIFO of a trace, and the buffers that may have sent them.
 
     PROGRAM is `fr_view`. Raises `Unread` where it prints no lines.
     """
+    fifo = read_fifo(printed(program, ["fifo"], children, "".join(f"{line}\n" for line in trace).encode()))
+    for it in fifo.stored:
+        fifo.senders[it.cycle, it.slot, it.channel] = senders.of(it)
+    return fifo
+
+
+def printed(program: str, words: list[str], children: Children, data: bytes = b"") -> list[str]:
+    """Returns the lines that `fr_view` prints. Raises `Unread` where it fails."""
     try:
-        status, output, told = children.ran([program, "fifo"], "".join(f"{line}\n" for line in trace).encode())
+        status, output, told = children.ran([program, *words], data)
     except OSError as error:
         raise Unread(f"{visible(program)} can't be run: {error.strerror}") from None
     if status:
         why = told.decode(errors="replace").strip().split("\n")[-1] or f"status {status}"
-        raise Unread(f"{visible(program)} fifo doesn't read a trace: {visible(why)}")
-    fifo = read_fifo(output.decode(errors="replace").splitlines())
-    for it in fifo.stored:
-        its = cluster.senders(it.slot, it.channel, it.cycle % len(CYCLES))
-        fifo.senders[it.cycle, it.slot, it.channel] = frozenset((buffer.node, buffer.number) for buffer in its)
-    return fifo
+        raise Unread(f"{visible(program)} {words[0]} fails: {visible(why)}")
+    return output.decode(errors="replace").splitlines()

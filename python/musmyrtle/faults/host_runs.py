@@ -9,7 +9,7 @@ from dataclasses import dataclass, field
 from musmyrtle.cluster import Cluster
 from musmyrtle.faults.answers import NO_REFUSALS
 from musmyrtle.faults.children import Children
-from musmyrtle.faults.fifos import Fifo, Unread, fifo_of
+from musmyrtle.faults.fifos import Fifo, Unread, fifo_of, senders_of
 from musmyrtle.faults.played import REQUEST_SECONDS, Begun, Occasion, Played, forged_babble, slot_of
 from musmyrtle.faults.traces import fetched
 from musmyrtle.world.faults import Mute
@@ -235,6 +235,7 @@ def begun(world: World, windows: list[list[str]]) -> list[Begun]:
 def fifo(job: HostJob, trace: list[str]) -> Fifo | str:
     """Returns the frames of a receive FIFO, or why they can't be read."""
     try:
-        return fifo_of(job.viewer, trace, Children(), job.cluster)
+        children = Children()
+        return fifo_of(job.viewer, trace, children, senders_of(job.viewer, job.file, children))
     except Unread as error:
         return str(error)

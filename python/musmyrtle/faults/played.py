@@ -6,9 +6,10 @@ doesn't say which they are. The minislots at which nodes send follow only from w
 from collections.abc import Callable, Collection, Iterable
 from contextlib import closing
 from dataclasses import dataclass, field
+from functools import cached_property
 
 from musmyrtle.cluster import CYCLES, Cluster
-from musmyrtle.faults.fifos import Fifo, Unread, fifo_of
+from musmyrtle.faults.fifos import Fifo, Senders, Unread, fifo_of, senders_of
 from musmyrtle.faults.frames import data_frame
 from musmyrtle.faults.runs import Folder
 from musmyrtle.faults.traces import fetched
@@ -67,6 +68,11 @@ class Player:
         self.calls: dict[int, list[Line]] = {}
         for cycle, line in scenario.calls(self.cycles):
             self.calls.setdefault(cycle, []).append(line)
+
+    @cached_property
+    def senders(self) -> Senders:
+        """Returns who may send in the cluster. Raises `Unread` where `fr_view` doesn't print it."""
+        return senders_of(self.viewer, str(self.folder.cluster), self.folder.children)
 
     def play(self, lines: Iterable[str] = (), watched: int | None = None) -> Played:
         """Returns the observations of the run with these fault lines, with the slots that were open at the minislot
@@ -214,6 +220,6 @@ class Play:
     def read_fifo(self, node: int) -> Fifo | str:
         try:
             return fifo_of(self.player.viewer, self.session.block(f"trace {node}"), self.player.folder.children,
-                           self.player.cluster)
+                           self.player.senders)
         except (Unread, Refused) as error:
             return str(error)

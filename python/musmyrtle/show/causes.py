@@ -1,5 +1,5 @@
 """The facts for which commits weren't sent or weren't received, as `fr_view reasons` prints them."""
-from collections.abc import Iterable
+from collections.abc import Collection, Iterable
 from dataclasses import dataclass
 
 from musmyrtle.show.windows import number_of
@@ -34,11 +34,13 @@ class Effect:
 class Causes:
     """The lines of `fr_view reasons`. Turns are kept of the WANTED buffers, each a node and a number, or of all."""
 
-    def __init__(self, lines: Iterable[str], wanted: set[tuple[int, int]] | None = None) -> None:
+    def __init__(self, lines: Iterable[str] = (), wanted: set[tuple[int, int]] | None = None) -> None:
         self.wanted = wanted
         self.turns: dict[tuple[int, int], list[Turn]] = {}
         """The turns of each buffer that couldn't be used, by node and number, in the order of the cycles."""
         self.effects: dict[Place, list[Effect]] = {}
+        self.stopped: dict[Place, list[Effect]] = {}
+        """The babbles that a bus guardian stopped."""
         self.lines: set[int] = set()
         """The lines of the scenario that had an effect, or whose babble a bus guardian stopped."""
         for line in lines:
@@ -53,10 +55,18 @@ class Causes:
                 self.turns.setdefault((node, buffer), []).append(Turn(cycle, slot, int(words[6]), minislot))
         elif words[0] in (EFFECT, STOPPED):
             self.lines.add(int(words[6]))
-            if words[0] != STOPPED:
-                place = int(words[1]), number_of(words[2]), words[3]
-                self.effects.setdefault(place, []).append(Effect(words[4], int(words[5]), int(words[6])))
+            found = self.stopped if words[0] == STOPPED else self.effects
+            place = int(words[1]), number_of(words[2]), words[3]
+            found.setdefault(place, []).append(Effect(words[4], int(words[5]), int(words[6])))
 
     def of(self, place: Place) -> list[Effect]:
         """Returns the effects of faults in a slot."""
         return self.effects.get(place, [])
+
+    def has(self, place: Place, sent: Collection[tuple[str | None, int]], line: int) -> bool:
+        """Returns whether a line of the scenario had an effect on one of the transmissions in a slot, or was stopped.
+
+        SENT has the end and the node of each.
+        """
+        its = *self.effects.get(place, ()), *self.stopped.get(place, ())
+        return any(it.line == line and (it.end, it.node) in sent for it in its)

@@ -21,6 +21,8 @@ from musmyrtle.visible import cut, visible
 
 COMMAND = "musmyrtle"
 IDLE_FRONT, IDLE_BACK = "line ", " struck nothing"
+ENDLESS = "--endless"
+"""The word for a run without history."""
 NOT_JUDGED = " is not judged in a run without history"
 """The end of the message on an expectation in a view that is written as the run goes."""
 MOST_REASONS = 20
@@ -61,6 +63,8 @@ class Inputs:
         """False for a command that has a table of them, in which they aren't messages."""
         self.is_endless = False
         """True for a command whose run keeps no history. Otherwise its expectations are judged by another view."""
+        self.has_lines = True
+        """False for the scenario of a session, which the package makes, so that its line numbers say nothing."""
         self.awaited: frozenset[str] = frozenset()
         """The refusals for which the command has another way. They raise `Awaited`."""
 
@@ -98,10 +102,10 @@ class Inputs:
         """Returns what `fr_view` prints about the run."""
         return self.ask("fr_view", self.words_of_run(command, *words))
 
-    def words_of_run(self, command: str, *words: str) -> list[str]:
-        """Returns the words with which `fr_view` is asked about the run."""
+    def words_of_run(self, command: str, *words: str, more: int = 0) -> list[str]:
+        """Returns the words with which `fr_view` is asked about the run, or about one with MORE cycles."""
         files = self.task.file(self.task.cluster), self.task.file(self.task.scenario or "")
-        return [command, *words, "--cycles", str(self.task.cycles), "--", *files]
+        return [command, *words, "--cycles", str(self.cycles + more), "--", *files]
 
     def ask(self, name: str, words: list[str], data: bytes = b"") -> Printed:
         """Returns what a program prints. Raises `Stop` where it refuses the inputs, which are then explained, and where
@@ -120,10 +124,13 @@ class Inputs:
         self.keep(program, name)
         return found
 
-    def lines_of_run(self, command: str, *words: str) -> Iterator[str]:
-        """Yields the lines that `fr_view` prints about the run, as it prints them. Raises what `ask` raises."""
+    def lines_of_run(self, command: str, *words: str, more: int = 0) -> Iterator[str]:
+        """Yields the lines that `fr_view` prints about the run, or about one with MORE cycles, as it prints them.
+
+        Raises what `ask` raises.
+        """
         name, pipe = "fr_view", subprocess.PIPE
-        program, words_of_run = self.program(name), self.words_of_run(command, *words)
+        program, words_of_run = self.program(name), self.words_of_run(command, *words, more=more)
         with temporary_file() as told:
             try:
                 with self.children.started([program, *words_of_run], stdin=subprocess.DEVNULL, stdout=pipe,

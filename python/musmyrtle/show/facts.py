@@ -4,13 +4,14 @@ from functools import cache, cached_property
 
 from musmyrtle.faults.fifos import Fifo, Unread, read_fifo
 from musmyrtle.lint.command import USAGE
+from musmyrtle.links import links_in
 from musmyrtle.lint.lint import read_bytes
 from musmyrtle.names import Names
 from musmyrtle.outcomes import BadOutcome, Outcome, read_outcome
 from musmyrtle.output import Stop
 from musmyrtle.scenario import Reading, Scenario
 from musmyrtle.show.causes import Causes
-from musmyrtle.show.engines import Inputs
+from musmyrtle.show.engines import ENDLESS, Inputs
 from musmyrtle.show.network import Network
 from musmyrtle.show.received import errors_in
 from musmyrtle.show.windows import Windows
@@ -192,8 +193,22 @@ class Facts:
 
     @cached_property
     def windows(self) -> Windows:
-        """Returns the windows of the run."""
-        return Windows(self.inputs.of_run("windows").lines)
+        """Returns the windows of the run, and its end.
+
+        The end is the begin of a further cycle, so the program is asked about a run that has one. Its windows before
+        are the same.
+        """
+        return Windows(self.inputs.lines_of_run("windows", ENDLESS, more=1), self.inputs.cycles)
+
+    @cached_property
+    def sending(self) -> dict[tuple[int, int], list[str]]:
+        """Returns the cycles in which each buffer sends, as `fr_view links` prints them, by node and number."""
+        found: dict[tuple[int, int], list[str]] = {}
+        for link in links_in(self.inputs.of_cluster("fr_view", "links").lines):
+            its = found.setdefault((link.node, link.buffer), []) if link.buffer is not None else []
+            if str(link.cycles) not in its:
+                its.append(str(link.cycles))
+        return found
 
     @cached_property
     def by_place(self) -> dict[tuple[int, int, str], list[Transmission]]:

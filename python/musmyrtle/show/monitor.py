@@ -17,8 +17,8 @@ from musmyrtle.program import Answer, is_launcher, itself, no_answer, places
 from musmyrtle.show.engines import COMMAND, Inputs, opened
 from musmyrtle.show.network import Network
 from musmyrtle.show.options import CLUSTER
-from musmyrtle.show.recordings import (BACK, FINDING, FRAME, OPENS, Senders, back_row, channel_row, finding_row,
-                                       found_row, slot_row, total_row)
+from musmyrtle.show.recordings import (BACK, FINDING, FRAME, Senders, back_row, channel_row, finding_row, found_row,
+                                       slot_row, total_row)
 from musmyrtle.show.tables import Column, Row, Section, as_json, as_text
 from musmyrtle.visible import cut
 
@@ -133,9 +133,6 @@ class Tables:
         words = line.split(" ")
         if words[0] == FRAME:
             self.senders.add(words)
-            return None
-        if words[0] == OPENS:
-            self.senders.end(int(words[1]))
             return None
         if words[0] == FINDING:
             kind, row = FINDING, finding_row(self.network, words, self.senders.of(words))

@@ -3,7 +3,9 @@ from collections.abc import Iterable
 from typing import Any
 
 from musmyrtle.show.facts import ARRIVED, Facts
+from musmyrtle.show.idle_cycle import idle_cycle_of
 from musmyrtle.show.log import ENDS
+from musmyrtle.show.marks import OF_COUNTED, OF_ENDS, OF_SEEN
 from musmyrtle.show.network import Network
 from musmyrtle.show.page_calls import Answers, add_commits
 from musmyrtle.show.page_columns import Columns
@@ -21,7 +23,7 @@ LONGEST_NAME = 20_000
 def packed_run(facts: Facts) -> bytes:
     """Returns the packed data of a run. Raises `Stop` where the run is refused."""
     facts.run()
-    columns, record = Columns(), Record()
+    columns, record = Columns(), Record(facts.causes)
     add_windows(facts.windows, columns)
     for it in facts.record:
         record.add(it)
@@ -38,7 +40,7 @@ def packed_run(facts: Facts) -> bytes:
 
 def received_of(facts: Facts, lines: Iterable[str]) -> Received:
     """Returns what each node received, from the lines of `fr_view received`."""
-    received = Received(len(facts.windows.cycles), len(facts.network.cluster.nodes))
+    received = Received(len(facts.windows.begins), len(facts.network.cluster.nodes))
     for line in lines:
         received.add(line)
     return received
@@ -49,7 +51,7 @@ def received_of(facts: Facts, lines: Iterable[str]) -> Received:
 
 def header_of(facts: Facts, outcomes: list[list[str]], idle: list[int], missing: tuple[str, ...] = ()
               ) -> dict[str, Any]:
-    """Returns names, parameters, configuration and fault lines, for the header of the data.
+    """Returns names, minislots, configuration and fault lines, for the header of the data.
 
     OUTCOMES are the lines of each node's report, and IDLE the fault lines without effect. MISSING are the sentences
     that say what the page of an endless run doesn't have.
@@ -57,14 +59,14 @@ def header_of(facts: Facts, outcomes: list[list[str]], idle: list[int], missing:
     inputs, network = facts.inputs, facts.network
     return {
         "version": version(), "cluster": shown(inputs.task.cluster), "scenario": shown(inputs.task.scenario or ""),
-        "cycles": inputs.cycles, "macrotick_us": network.macrotick, "params": vars(network.cluster.parameters),
-        "dynamic_begin": facts.windows.dynamic_begin,
+        "cycles": inputs.cycles, "macrotick_us": network.macrotick, "minislots": idle_cycle_of(inputs).borders,
         "nodes": [{**node_of(network, it), "outcome": outcomes[it]} for it in range(len(network.cluster.nodes))],
         "plan": [it.split(" ") for it in inputs.of_cluster("fr_bench", "plan").lines if not it.startswith("guard ")],
         "faults": fault_lines(facts), "idle": idle, "arrived": ARRIVED,
         "is_endless": bool(missing), "missing": missing,
         "expectations": len(facts.scenario.expectations), "missed": [vars(it) for it in inputs.misses],
         "ends": {**ENDS, "collided": "collided", ARRIVED: "arrived"}, "errors": ERRORS,
+        "marks": OF_ENDS, "seen_marks": OF_SEEN, "counted_marks": OF_COUNTED,
     }
 
 
@@ -107,4 +109,13 @@ def fault_lines(facts: Facts) -> list[dict[str, Any]]:
             found[it.number][1 if it.kind == "corrupt" else 2] = "AB"
         else:
             found[it.number] = list(it.words)
-    return [{"line": number, "words": words} for number, words in found.items()]
+    return [{"line": number, "words": words, **fault_names(facts, number)} for number, words in found.items()]
+
+
+def fault_names(facts: Facts, number: int) -> dict[str, str]:
+    """Returns the name of the fault of a line, and the title of its details: by the line, or by the cycle without one.
+    """
+    if facts.inputs.has_lines:
+        return {"name": f"line {number}", "title": f"Fault in line {number}"}
+    cycle = next(it.word("CYCLES") for it in facts.scenario.faults if it.number == number)
+    return {"name": f"fault of cycle {cycle}", "title": f"Fault of cycle {cycle}"}

@@ -1,8 +1,8 @@
 """The page of a recording of a real bus: its frames, as `fr_monitor --frames` prints them, beside the schedule.
 
-The program names the cycle, the place and the sender of each frame. The empty slots and minislots of a cycle, and its
-length, are those of `fr_view windows`, for a run of two cycles in which nothing is done. The page adds form alone: it
-puts the cycles one after another, each with the length of a cycle, and a missing frame into its slot.
+The program names the cycle, the place and the sender of each frame. The begins of the cycles, and the empty slots and
+minislots of a cycle, are those of `fr_view windows`, for runs without calls. The page adds form alone: it puts each
+frame into its cycle, and a missing one into its slot.
 """
 import argparse
 import re
@@ -14,9 +14,11 @@ from typing import IO, Any
 from musmyrtle.findings import counted
 from musmyrtle.lint.command import USAGE
 from musmyrtle.output import Stop
-from musmyrtle.show.engines import Inputs
+from musmyrtle.show.causes import Causes
+from musmyrtle.show.engines import Awaited, Inputs
 from musmyrtle.show.facts import ARRIVED, Transmission
-from musmyrtle.show.idle_cycle import IdleCycle, idle_cycle_of
+from musmyrtle.show.idle_cycle import IdleCycle, cycle_begins_of, idle_cycle_of
+from musmyrtle.show.marks import OF_RECORDS
 from musmyrtle.show.monitor import STANDARD_INPUT, judged
 from musmyrtle.show.network import Network
 from musmyrtle.show.page_columns import NOTHING, Columns, Words
@@ -29,9 +31,12 @@ from musmyrtle.show.recordings import BACK, Place
 from musmyrtle.show.windows import CHANNELS, Windows
 from musmyrtle.version import version
 from musmyrtle.visible import visible
+from musmyrtle.world.bounds import MOST_ENDLESS
 
 MOST_WINDOWS, MOST_TIME = 4_000_000, 2**32 - 1
 """The most static slots and frames of a recording with a page, and the most macroticks from its first cycle on."""
+TOO_MANY = "BadCycles"
+"""The refusal of a run with more static slots and minislots than any may have."""
 MISSING, BROKEN = "missing", "broken"
 ENDED_EARLY = ("BadBlock", "Truncated", "Read")
 """The refusals of a recording whose front has a page."""
@@ -103,13 +108,28 @@ class Shown:
             missing = [it.place.cycle for it in self.missing.get(number, ())]
             yield next((it for it in [*frames, *missing] if it is not None), None)
 
-    def check_length(self) -> None:
-        """Raises `Stop` where a page has no room for what is shown."""
+    def begins(self, inputs: Inputs) -> "array[int]":
+        """Returns the macroticks at which the cycles begin, of which the first one begins at 0, and the one after them.
+
+        Raises `Stop` where a page has no room for what is shown.
+        """
         windows = len(self.by_cycle) * len(self.cycle.slots) + sum(map(len, self.by_cycle.values()))
-        if windows > MOST_WINDOWS or len(self.cycles) * self.cycle.length > MOST_TIME:
-            raise Stop(USAGE, f"a page has no room for the {counted(len(self.cycles), 'cycle')} of this recording, "
-                              f"which may have {MOST_WINDOWS:,} static slots and frames, and fewer than 2^32 "
-                              "macroticks; --cycles A-B shows a part of it")
+        if windows > MOST_WINDOWS or len(self.cycles) >= MOST_ENDLESS:
+            raise self.no_room()
+        inputs.awaited = frozenset((TOO_MANY,))
+        try:
+            found = cycle_begins_of(inputs, self.cycle, len(self.cycles), MOST_TIME)
+        except Awaited:
+            raise self.no_room() from None
+        if found[-1] > MOST_TIME:
+            raise self.no_room()
+        return found
+
+    def no_room(self) -> Stop:
+        """Returns the end of the command where a page has no room for what is shown."""
+        return Stop(USAGE, f"a page has no room for the {counted(len(self.cycles), 'cycle')} of this recording, which "
+                           f"may have {MOST_WINDOWS:,} static slots and frames, and fewer than 2^32 macroticks; "
+                           "--cycles A-B shows a part of it")
 
 
 # ---- the windows and the record
@@ -118,18 +138,19 @@ class Shown:
 class Bus:
     """The windows and the lines of the record, cycle by cycle."""
 
-    def __init__(self, shown_part: Shown, network: Network) -> None:
+    def __init__(self, shown_part: Shown, begins: "array[int]", network: Network) -> None:
         self.shown, self.network = shown_part, network
-        self.windows, self.record = Windows(), Record()
+        self.windows, self.record = Windows(), Record(Causes())
+        self.windows.cycle_begins = begins
         self.numbers, self.seconds = array("I"), Words()
         self.nobody = len(network.cluster.nodes)
         self.errors: Counter[tuple[int, int]] = Counter()
         """The errors of a node's slots by node and cycle."""
         self.places: dict[tuple[int, int, str], int] = {}
         """The windows of findings by cycle, slot and channel."""
-        for place, number in enumerate(self.shown.cycles):
+        for number, start in zip(self.shown.cycles, begins):
             if number in self.shown.by_cycle or number in self.shown.missing:
-                self.add_cycle(number, place * self.shown.cycle.length)
+                self.add_cycle(number, start)
 
     def add_cycle(self, number: int, start: int) -> None:
         """Adds the windows of a cycle and their lines. START is the macrotick at which it begins."""
@@ -143,7 +164,6 @@ class Bus:
             lines.setdefault((self.shown.cycle.of_slot[note.place.slot or 0][0], note.place.channel), []).append(note)
         dynamic = {begin for begin, _ in lengths if begin in self.shown.cycle.minislots}
         slots = {begin: (slot, length) for begin, slot, length in self.shown.cycle.slots}
-        self.windows.starts.append(len(self.windows.cycles))
         for begin in sorted({*slots, *dynamic}):
             window = len(self.windows.cycles)
             self.windows.cycles.append(number - self.shown.cycles.start)
@@ -192,8 +212,7 @@ def packed_recording(inputs: Inputs, given: argparse.Namespace, found: Recorded,
     """Returns the packed data of a recording. CUT_OFF is the reason why it wasn't read to its end, or nothing."""
     cycle = idle_cycle_of(inputs)
     part = Shown(found, cycle, given.cycles)
-    part.check_length()
-    bus, columns = Bus(part, inputs.network), Columns()
+    bus, columns = Bus(part, part.begins(inputs), inputs.network), Columns()
     bus.fill(columns)
     add_no_host(columns)
     counts = sorted((node, number, count) for (node, number), count in bus.errors.items())
@@ -236,7 +255,7 @@ def missing_of(part: Shown, cut_off: str) -> Iterator[str]:
 
 
 def header_of(inputs: Inputs, given: argparse.Namespace, bus: Bus, missing: list[str]) -> dict[str, Any]:
-    """Returns names, parameters, configuration and findings, for the header of the data."""
+    """Returns names, minislots, configuration and findings, for the header of the data."""
     network, part = inputs.network, bus.shown
     nodes: list[dict[str, Any]] = [{**node_of(network, it), "outcome": []} for it in range(bus.nobody)]
     if bus.nobody in set(bus.record.nodes):
@@ -246,10 +265,11 @@ def header_of(inputs: Inputs, given: argparse.Namespace, bus: Bus, missing: list
     return {
         "version": version(), "cluster": shown(inputs.task.cluster), "scenario": shown(source),
         "cycles": len(part.cycles), "macrotick_us": network.macrotick,
-        "params": vars(network.cluster.parameters), "dynamic_begin": part.cycle.dynamic_begin,
+        "minislots": part.cycle.borders,
         "nodes": nodes, "plan": plan, "faults": [], "idle": [],
         "arrived": ARRIVED, "is_endless": True, "missing": missing, "expectations": 0, "missed": [],
-        "ends": {ARRIVED: "as due"}, "errors": (), "is_recording": True, "first_cycle": part.cycles.start,
+        "ends": {ARRIVED: "as due"}, "errors": (), "marks": OF_RECORDS,
+        "is_recording": True, "first_cycle": part.cycles.start,
         "findings": [list(it) for it in findings_of(bus)], "unplaced": [unplaced_row(it) for it in part.unplaced],
     }
 

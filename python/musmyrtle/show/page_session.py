@@ -32,16 +32,28 @@ def traces_of(block: Callable[[str], list[str]]) -> Iterator[list[str]]:
 
 
 def first_of_cycle(trace: list[str], window: Window | None) -> int:
-    """Returns the first window of the cycle that isn't done yet, or the number of all once the run is over."""
+    """Returns the first window of the cycle that isn't done yet, or the number of all once the run is over.
+
+    It is the first of the last windows with the cycle count of the open one, as the controller fetched them.
+    """
+    fetches = [line.split(" ") for line in trace if line.startswith("fetch ")]
     if window is None:
-        return sum(line.startswith("fetch ") for line in trace)
-    return window.number if window.opens_cycle else start_of_last_cycle(trace)
+        return len(fetches)
+    first = window.number
+    for words in reversed(fetches):
+        if int(words[2]) != window.cycle:
+            break
+        first = min(first, int(words[1]))
+    return first
 
 
-def start_of_last_cycle(trace: list[str]) -> int:
-    """Returns the number of the first window of the cycle that a trace began last."""
-    fetches = (line.split(" ") for line in reversed(trace) if line.startswith("fetch "))
-    return next(int(words[1]) for words in fetches if words[3:5] == ["0", "1"])
+def in_cycles(records: Iterable[Record]) -> Iterator[tuple[int, Record]]:
+    """Yields the records with their cycles of the run, from 0. The next cycle has another cycle count."""
+    cycle, count = -1, None
+    for record in records:
+        if record.window.cycle != count:
+            cycle, count = cycle + 1, record.window.cycle
+        yield cycle, record
 
 
 def scenario_of(traces: list[list[str]], records: Iterable[Record], cycles: int) -> str:
@@ -58,11 +70,12 @@ def scenario_of(traces: list[list[str]], records: Iterable[Record], cycles: int)
 
 def calls_of(node: int, trace: list[str], cycles: int) -> Iterator[str]:
     """Yields the lines of a scenario for the host calls of a node."""
-    cycle, waiting, is_within = -1, list[str](), False
+    cycle, count, waiting, is_within = -1, "", list[str](), False
     for line in trace[trace.index("begin") + 1:]:
         kind, *words = line.split(" ")
         if kind == "fetch":
-            is_start = words[2:4] == ["0", "1"]
+            # The next cycle has another cycle count.
+            is_start, count = words[1] != count, words[1]
             if waiting and (is_within or not is_start):
                 raise in_the_middle(node, cycle, waiting[0])
             cycle += is_start
@@ -96,10 +109,8 @@ def call_line(node: int, cycle: int, line: str) -> str:
 
 def faults_of(records: Iterable[Record]) -> Iterator[str]:
     """Yields the fault lines of a scenario for the faults in some records."""
-    cycle = -1
-    for record in records:
+    for cycle, record in in_cycles(records):
         window = record.window
-        cycle += window.opens_cycle
         place = f"{cycle} s{window.a}" if window.is_static else f"{cycle} m{window.minislot}"
         for it in record.sent:
             if it.babble:
@@ -117,7 +128,7 @@ def page_of_session(cluster: FileName, data: bytes, traces: list[list[str]], rec
     DATA is the cluster file, and RECORDS are those of the windows of these cycles. Raises `ValueError` where no cycle
     is done, or where the calls are those of no scenario, and `SessionOver` where a program can't be asked.
     """
-    cycles = sum(it.window.opens_cycle for it in records)
+    cycles = 1 + max((cycle for cycle, _ in in_cycles(records)), default=-1)
     if not cycles:
         raise ValueError("no cycle is done yet")
     text = scenario_of(traces, records, cycles)
@@ -127,6 +138,7 @@ def page_of_session(cluster: FileName, data: bytes, traces: list[list[str]], rec
         Path(files[name]).write_bytes(data)
         Path(files[SCENARIO]).write_text(text, encoding="ascii")
         inputs = Inputs(Task(name, SCENARIO, cycles, files))
+        inputs.has_lines = False
         if program is not None:
             inputs.programs["fr_view"] = os.fspath(program)
         try:

@@ -43,7 +43,7 @@ def nodes(network: Network) -> Section:
             "receive": len(node.buffers) - sends, "capacity": node.queue.capacity if node.queue else None,
             "sync": any(it.is_sync for it in node.owned), "startup": any(it.is_startup for it in node.owned),
         }))
-    columns = (Column("node", "node", "name"), Column("tasks", "tasks"), Column("slots", "static slots"),
+    columns = (Column("node", "node", "name"), Column("tasks", "tasks"), Column("slots", "static slots", "numbers"),
                Column("latest_a", "latest A"), Column("latest_b", "latest B"), Column("transmit", "transmit buffers"),
                Column("receive", "receive buffers"), Column("capacity", "FIFO"),
                Column("sync", "sync", words=YES), Column("startup", "startup", words=YES))

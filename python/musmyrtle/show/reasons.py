@@ -4,7 +4,7 @@ from collections.abc import Iterator
 from musmyrtle.findings import joined
 from musmyrtle.show.causes import Turn
 from musmyrtle.show.facts import Commit, Facts, Sent
-from musmyrtle.show.tables import ranges
+from musmyrtle.show.tables import numbers_text
 
 NOT_STORED = "sent on {}, and stored nowhere,"
 COLLIDED = "collided"
@@ -15,13 +15,19 @@ ENDS = {COLLIDED: "collided on {}", "muted": "lost on {}", "blocked": "stopped o
 
 def cycles_text(cycles: list[int]) -> str:
     """Returns `cycle 3`, or `cycles 0-3,5`."""
-    return f"cycle {cycles[0]}" if len(cycles) == 1 else f"cycles {ranges(sorted(cycles))}"
+    return f"cycle {cycles[0]}" if len(cycles) == 1 else f"cycles {numbers_text(sorted(cycles))}"
 
 
-def lines_text(lines: list[int]) -> str:
-    """Returns `, by line 12`, or `, by lines 12-13`, for lines of the scenario; nothing for none."""
-    front = "line" if len(lines) == 1 else "lines"
-    return f", by {front} {ranges(lines)}" if lines else ""
+def lines_text(lines: list[int], are_known: bool) -> str:
+    """Returns `, by line 12`, or `, by lines 12-13`, for lines of the scenario; nothing for none.
+
+    The lines of a scenario that the package made aren't known to a reader: they are `, by a fault`, or `, by faults`.
+    """
+    if not lines:
+        return ""
+    if not are_known:
+        return ", by a fault" if len(lines) == 1 else ", by faults"
+    return f", by line {lines[0]}" if len(lines) == 1 else f", by lines {numbers_text(lines)}"
 
 
 def why(facts: Facts, commit: Commit) -> str:
@@ -31,7 +37,7 @@ def why(facts: Facts, commit: Commit) -> str:
     before = "; ".join(unsent(facts, commit))
     after = f"; {before}" if before else ""
     if commit.fate == "pending":
-        return before or "its slot doesn't come again in this run"
+        return before or waiting(facts, commit)
     return f"{commit.fate} in cycle {commit.ended}{after}"
 
 
@@ -47,11 +53,21 @@ def lost(facts: Facts, sent: tuple[Sent, ...]) -> Iterator[str]:
         cycles.setdefault(reason, []).append(it.cycle)
         lines.setdefault(reason, set()).update(cause.line for cause in causes)
     for reason, its in cycles.items():
-        yield f"{reason} in {cycles_text(its)}{lines_text(sorted(lines[reason]))}"
+        yield f"{reason} in {cycles_text(its)}{lines_text(sorted(lines[reason]), facts.inputs.has_lines)}"
+
+
+def waiting(facts: Facts, commit: Commit) -> str:
+    """Returns that a commit waits at the end, with the cycles in which its buffer sends."""
+    cycles = facts.sending.get((commit.node, commit.buffer))
+    return "it waits at the end of the run" + (f"; its buffer sends in {joined(cycles)}" if cycles else "")
 
 
 def unsent(facts: Facts, commit: Commit) -> Iterator[str]:
-    """Yields the reasons why the slot of a commit couldn't be used, with the cycles in which it was due."""
+    """Yields the reasons why the slot of a commit couldn't be used, with the cycles in which it was due.
+
+    It is pending from the windows of its own cycle on: calls come before them. The call that ends it comes before those
+    of the cycle in which it ends.
+    """
     until = facts.inputs.cycles if commit.ended is None else commit.ended
     found: dict[str, list[int]] = {}
     for turn in facts.causes.turns.get((commit.node, commit.buffer), []):

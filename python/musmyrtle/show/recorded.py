@@ -51,7 +51,7 @@ class Note:
 
 @dataclass(slots=True)
 class Lane:
-    """A channel: the latest number of each count, as the lines have them.
+    """A channel: the latest number of a cycle with each count, as the lines of its frames have both.
 
     `base` is the number of its first cycle on the axis that both channels share.
     """

@@ -3,12 +3,14 @@
 The program names the node that may send in a slot: in the line of each frame, or in the finding itself. So a finding is
 joined with the frame of its record, and only names and words are added here.
 """
+from collections import deque
 from collections.abc import Callable
 from dataclasses import dataclass
 
 from musmyrtle.findings import counted
 from musmyrtle.show.network import Network
 from musmyrtle.show.tables import Numbers, Row, decimal
+from musmyrtle.show.windows import CHANNELS
 
 LOGGED = "the logger saw {}"
 WORDS = {
@@ -52,9 +54,9 @@ MEANINGS = {
     "Nothing": "channels without a frame",
 }
 NANOSECONDS = ("Clock", "Time")
-FRAME, FINDING, BACK, FOUND, OPENS = "frame", "finding", "back", "found", "opens"
-CYCLE = "Cycle"
-"""The finding of a frame that waited and opened no cycle."""
+FRAME, FINDING, BACK, FOUND = "frame", "finding", "back", "found"
+KEPT = 16
+"""The frames of a channel that are kept, good and broken ones each. A frame waits for the next good one alone."""
 NAMED = ("Missing", "NoBuffer")
 """The findings that have the node as the expected word."""
 
@@ -91,56 +93,30 @@ def microseconds(word: str) -> float | None:
 
 
 class Senders:
-    """The nodes that may send in the slots of the last frames, by the lines of `fr_monitor --frames`.
+    """The nodes of the last frames, as the lines of `fr_monitor --frames` name them, by channel and record.
 
-    A finding is about the last frame of its channel, or about one that waited for a later one. A frame waits until a
-    line `opens` or a finding `Cycle` names it, or a frame of an open cycle comes. Findings that the wait shows are
-    printed before the second line of a frame after that.
+    A finding names the record of a frame: the last one, or one of the last good ones. So few are kept, however long a
+    recording is.
     """
 
     def __init__(self) -> None:
-        self.last: dict[str, tuple[int, int | None]] = {}
-        self.waiting: dict[str, dict[int, int | None]] = {it: {} for it in "AB"}
-        self.ended: dict[str, list[dict[int, int | None]]] = {it: [{}, {}] for it in "AB"}
-        """The frames whose wait ended since the last line of a frame, and before."""
+        self.good = {it: deque[tuple[int, int | None]](maxlen=KEPT) for it in CHANNELS}
+        self.broken = {it: deque[tuple[int, int | None]](maxlen=KEPT) for it in CHANNELS}
 
     def add(self, words: list[str]) -> None:
-        """Adds the line of a frame."""
-        record, channel, node = int(words[1]), words[4], number(words[9])
-        self.last[channel] = record, node
-        is_open, is_frame = words[6] != "-", words[10] != "-"
-        self.ended[channel] = [{}, self.ended[channel][0]]
-        # A frame that waits has no cycle yet, and a broken record has no indicators.
-        if is_frame and is_open:
-            self.ended[channel][0] = self.waiting[channel]
-            self.waiting[channel] = {}
-        elif is_frame:
-            self.waiting[channel][record] = node
-
-    def end(self, record: int | None) -> None:
-        """Notes that a frame doesn't wait any more, if it did."""
-        for channel, frames in self.waiting.items():
-            if record is not None and record in frames:
-                self.ended[channel][0][record] = frames.pop(record)
+        """Adds the line of a frame. A broken record has no indicators."""
+        kept = self.broken if words[10] == "-" else self.good
+        kept[words[4]].append((int(words[1]), number(words[9])))
 
     def of(self, words: list[str]) -> int | None:
         """Returns the node of a line `finding`, if there is one."""
         place, name, expected = Place.of(words), words[6], words[7]
-        if name == CYCLE:
-            self.end(place.record)
         if name in NAMED:
             return number(expected)
-        if place.slot is None or place.channel not in self.last:
+        if place.slot is None:
             return None
-        return self.node_of(place)
-
-    def node_of(self, place: Place) -> int | None:
-        """Returns the node of the frame at a place, whose channel had a frame."""
-        record, node = self.last[place.channel]
-        if place.record is None or place.record == record:
-            return None if place.record is None else node
-        known = (self.waiting[place.channel], *self.ended[place.channel])
-        return next((frames[place.record] for frames in known if place.record in frames), None)
+        known = *self.good[place.channel], *self.broken[place.channel]
+        return next((node for record, node in known if record == place.record), None)
 
 
 def length_why(expected: str, found: str) -> str:

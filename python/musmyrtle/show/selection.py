@@ -59,14 +59,14 @@ def number_of(word: str, network: Network) -> int:
 def known_slots(slots: frozenset[int] | None, inputs: Inputs) -> frozenset[int] | None:
     """Returns slots that are given, or None. Raises `Stop` if the cluster doesn't have one of them.
 
-    Its last slot is the last one that opens in a cycle in which nothing is sent. A slot that never opens can be given
-    too if a buffer is for it.
+    Its slots are those that open in a cycle in which nothing is sent. A slot that never opens can be given too if a
+    buffer is for it.
     """
     if slots is None:
         return None
-    last = idle_cycle_of(inputs).last_slot
-    known = {*range(1, last + 1), *(buffer.slot for node in inputs.network.cluster.nodes for buffer in node.buffers)}
+    opened = idle_cycle_of(inputs).all_slots
+    known = opened | {buffer.slot for node in inputs.network.cluster.nodes for buffer in node.buffers}
     missing = slots - known
     if missing:
-        raise Stop(USAGE, f"the cluster has no slot {min(missing)}: its slots are 1 to {last}")
+        raise Stop(USAGE, f"the cluster has no slot {min(missing)}: its slots are 1 to {max(opened)}")
     return slots

@@ -1,5 +1,5 @@
 """The command `plan`: who sends where, who is to receive it, and when the guardians are open."""
-from musmyrtle.cluster import Cycles
+from musmyrtle.links import Link, links_in
 from musmyrtle.show.engines import Inputs
 from musmyrtle.show.network import Network
 from musmyrtle.show.tables import Column, Name, Row, Section, Value
@@ -8,9 +8,8 @@ from musmyrtle.show.tables import Column, Name, Row, Section, Value
 def plan(inputs: Inputs) -> list[Section]:
     """Returns the tables of `plan`: the senders of `fr_view links`, and the open windows of `fr_bench plan`."""
     lines = [line.split(" ") for line in inputs.of_cluster("fr_bench", "plan").lines]
-    links = [line.split(" ") for line in inputs.of_cluster("fr_view", "links").lines]
     network = inputs.network
-    sent = [sender(network, words) for words in links]
+    sent = [sender(network, it) for it in links_in(inputs.of_cluster("fr_view", "links").lines)]
     guards = [guard(network, words) for words in lines if words[0] == "guard"]
     return [Section("sender", "Senders", sender_columns(network), sent, "No node sends."),
             Section("guardian", "Open windows of the bus guardians", guard_columns(network), guards)]
@@ -30,18 +29,17 @@ def guard_columns(network: Network) -> tuple[Column, ...]:
             network.column("begin", "from"), network.column("end", "to"))
 
 
-def sender(network: Network, words: list[str]) -> Row:
-    """Returns the row of a sender from the words of its line."""
-    node, number, segment, slot, channel, base, repetition, size, begin, end, receivers = words
-    buffer: Name | None = None if number == "-" else network.buffer(int(node), int(number))
+def sender(network: Network, it: Link) -> Row:
+    """Returns the row of a sender."""
+    buffer: Name | None = None if it.buffer is None else network.buffer(it.node, it.buffer)
     values: dict[str, Value] = {
-        "segment": segment, "slot": int(slot), "channel": channel, "node": network.node(int(node)), "buffer": buffer,
-        "mode": "null frames" if number == "-" else network.cluster.nodes[int(node)].buffers[int(number)].kind,
-        "base": int(base), "repetition": int(repetition), "cycles": str(Cycles(int(base), int(repetition))),
-        "words": int(size), "receivers": network.receivers(receivers),
+        "segment": it.segment, "slot": it.slot, "channel": it.channel, "node": network.node(it.node), "buffer": buffer,
+        "mode": "null frames" if it.buffer is None else network.cluster.nodes[it.node].buffers[it.buffer].kind,
+        "base": it.cycles.base, "repetition": it.cycles.repetition, "cycles": str(it.cycles), "words": it.words,
+        "receivers": network.receivers(it.receivers),
     }
-    if begin != "-":
-        values |= {"begin": network.time(int(begin)), "end": network.time(int(end))}
+    if it.begin is not None and it.end is not None:
+        values |= {"begin": network.time(it.begin), "end": network.time(it.end)}
     return Row(values)
 
 

@@ -1,14 +1,12 @@
 """The command `run`: what a person wants to know at the end of a run.
 
-The counts are those of the reports. Their slots and cycles are the rows of `fr_view received` with the same word. The
-run ends with its last cycle, which is as long as a cycle in which nothing is sent.
+The counts are those of the reports. Their slots and cycles are the rows of `fr_view received` with the same word.
 """
 from collections import Counter
 from collections.abc import Iterator
 
 from musmyrtle.lint.lint import read_bytes
 from musmyrtle.show.facts import Facts
-from musmyrtle.show.idle_cycle import idle_cycle_of
 from musmyrtle.show.reasons import why
 from musmyrtle.show.received import ERRORS
 from musmyrtle.show.tables import Column, Numbers, Row, Section
@@ -30,8 +28,7 @@ def totals(facts: Facts) -> Section:
     columns = (Column("nodes", "nodes"), Column("cycles", "cycles"), facts.network.column("time", "time"),
                Column("windows", "windows"), Column("commits", "commits"), Column("delivered", "delivered"),
                Column("idle_faults", "faults without effect"))
-    last = facts.windows.begin_of_cycle(facts.inputs.cycles - 1)
-    time = facts.network.time(last + idle_cycle_of(facts.inputs).length)
+    time = facts.network.time(facts.windows.begin_of_cycle(facts.inputs.cycles))
     return Section("total", "Run", columns, [Row({
         "nodes": len(outcome.nodes), "cycles": facts.inputs.cycles, "time": time, "windows": outcome.windows,
         "commits": len(facts.commits), "delivered": delivered, "idle_faults": len(idle_lines)})])

@@ -14,6 +14,10 @@ Plain = int | float | str | bool | None | Sequence[int] | Sequence[Mapping[str, 
 BOLD, RED, USUAL = "\x1b[1m", "\x1b[31m", "\x1b[0m"
 ABSENT = "-"
 LONGEST_TEXT = 120
+LONGEST_NUMBERS = 360
+"""The characters of a list of numbers in a text. Of a longer one the numbers that are left out are counted."""
+LEAST_STEPS = 4
+"""The fewest numbers at equal distances above 1 that a text has as `0-6/2`."""
 MOST_BYTES, FIRST_BYTES = 16, 8
 """The bytes that a text shows whole. Of more it shows the first ones and the last one."""
 BYTES = re.compile("x(?:[0-9a-f]{2})*")
@@ -67,13 +71,18 @@ class Receiver(NamedTuple):
 
 
 class Numbers(NamedTuple):
-    """Numbers in ascending order, such as slots: a list in JSON, and ranges otherwise."""
+    """Numbers in ascending order, such as slots: a list in JSON, ranges in CSV, and ranges with steps in texts."""
 
     numbers: tuple[int, ...]
 
     def __str__(self) -> str:
         """Returns `1-3,5` for 1, 2, 3 and 5."""
         return ranges(self.numbers)
+
+    @property
+    def text(self) -> str:
+        """Returns the text for people."""
+        return numbers_text(self.numbers)
 
 
 class Receivers(NamedTuple):
@@ -99,6 +108,38 @@ def ranges(numbers: Iterable[int]) -> str:
     return ",".join(f"{it[0]}-{it[-1]}" if len(it) > 1 else str(it[0]) for it in found)
 
 
+def stepped(numbers: Sequence[int]) -> Iterator[tuple[str, int]]:
+    """Yields the parts of a list of numbers in ascending order, as scenarios spell them, and how many each part has.
+
+    The parts of 1, 2, 3, 5, 8, 10, 12 and 14 are `1-3`, `5` and `8-14/2`.
+    """
+    first = 0
+    while first < len(numbers):
+        last = first + 1
+        step = numbers[last] - numbers[first] if last < len(numbers) else 0
+        while last < len(numbers) and numbers[last] - numbers[last - 1] == step:
+            last += 1
+        count = last - first
+        if count > 1 and step == 1:
+            yield f"{numbers[first]}-{numbers[last - 1]}", count
+        elif count >= LEAST_STEPS:
+            yield f"{numbers[first]}-{numbers[last - 1]}/{step}", count
+        else:
+            last = first + 1
+            yield str(numbers[first]), 1
+        first = last
+
+
+def numbers_text(numbers: Sequence[int]) -> str:
+    """Returns numbers in ascending order for people, as `0-1022/2`, or `0,3,7 and 50 more` for a very long list."""
+    text, shown = "", 0
+    for part, count in stepped(numbers):
+        if shown and len(text) + 1 + len(part) > LONGEST_NUMBERS:
+            return f"{text} and {len(numbers) - shown} more"
+        text, shown = f"{text},{part}" if shown else part, shown + count
+    return text
+
+
 def decimal(number: float) -> str:
     """Returns a number with at most three decimal places."""
     return f"{number:.3f}".rstrip("0").rstrip(".")
@@ -109,8 +150,9 @@ class Column:
     """A column: its key in JSON and CSV, its heading in a text, and the kind of its values.
 
     The kind `name` has two keys, KEY and KEY_name, and `time` has KEY_mt and KEY_us. Values of the kind `bytes` are cut
-    in texts, and those of `plain` too if they are very long. Values of `whole` aren't, since each name in them is. A
-    heading that is empty leaves the column out of texts.
+    in texts, and those of `plain` too if they are very long. Values of `whole` aren't, since each name in them is. The
+    kind `numbers` has texts of numbers, which texts for people have as ranges. A heading that is empty leaves the
+    column out of texts.
     """
 
     key: str
@@ -148,11 +190,15 @@ class Column:
 
     def text(self, value: Value) -> str:
         """Returns the value for people, in one line."""
+        if isinstance(value, Numbers):
+            return value.text or ABSENT
         text = "" if value is None else spelled(value)
         if self.kind == "bytes":
             text = shortened(text)
+        if self.kind == "numbers":
+            text = numbers_text([int(it) for it in text.split()])
         text = self.words.get(text, text) or ABSENT
-        return visible(text if self.kind == "whole" else cut(text, LONGEST_TEXT))
+        return visible(text if self.kind in ("whole", "numbers") else cut(text, LONGEST_TEXT))
 
 
 def shortened(text: str) -> str:

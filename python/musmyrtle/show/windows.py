@@ -6,22 +6,28 @@ CHANNELS = "AB"
 
 
 class Windows:
-    """The windows of a run, by their numbers. Times and lengths are in macroticks. A slot 0 stands for none."""
+    """The windows of a run, by their numbers. Times and lengths are in macroticks. A slot 0 stands for none.
 
-    def __init__(self, lines: Iterable[str] = ()) -> None:
+    LINES are those of a run with one cycle more than CYCLES. Of this last cycle only the begin is kept, with which the
+    run ends.
+    """
+
+    def __init__(self, lines: Iterable[str] = (), cycles: int = 0) -> None:
         self.cycles, self.minislots, self.begins = array("I"), array("H"), array("Q")
         self.slots = {it: array("H") for it in CHANNELS}
         self.lengths = {it: array("H") for it in CHANNELS}
-        self.starts = array("I")
-        """The number of the first window of each cycle."""
+        self.cycle_begins = array("Q")
+        """The macrotick of the run at which each cycle begins, also the one after the last."""
         for line in lines:
-            self.add(line.split(" "))
+            words = line.split(" ")
+            if int(words[1]) == len(self.cycle_begins):
+                self.cycle_begins.append(int(words[3]))
+            if int(words[1]) < cycles:
+                self.add(words)
 
     def add(self, words: list[str]) -> None:
         """Adds a window by the words of its line."""
-        number, cycle, minislot, begin = words[:4]
-        if int(cycle) == len(self.starts):
-            self.starts.append(int(number))
+        _, cycle, minislot, begin = words[:4]
         self.cycles.append(int(cycle))
         self.minislots.append(number_of(minislot))
         self.begins.append(int(begin))
@@ -29,15 +35,9 @@ class Windows:
             self.slots[channel].append(number_of(words[at]))
             self.lengths[channel].append(number_of(words[at + 1]))
 
-    @property
-    def dynamic_begin(self) -> int:
-        """Returns the macrotick of a cycle at which its dynamic segment begins, or 0 without one."""
-        first = next((window for window, minislot in enumerate(self.minislots) if minislot), None)
-        return 0 if first is None else self.begins[first] - self.begin_of_cycle(self.cycles[first])
-
     def begin_of_cycle(self, cycle: int) -> int:
-        """Returns the macrotick of the run at which a cycle of the run begins."""
-        return self.begins[self.starts[cycle]]
+        """Returns the macrotick of the run at which a cycle of the run begins, or at which the run ends."""
+        return self.cycle_begins[cycle]
 
 
 def number_of(word: str) -> int:

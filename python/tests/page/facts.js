@@ -50,7 +50,7 @@ async function main() {
       counts: run.hasSeen ? Array.from({length: run.nodes}, (_, node) => countsOf(run, node)) : null,
       stored: storedOf(run), sources: sourcesOf(run), tables: errorTable(run, 16).rows.map((it) => it.total),
       parts: errorTable(run, 16).rows.map((it) => it.counts), windows: windowsOf(run),
-      outcomes: run.header.nodes.map((it) => it.outcome),
+      cycles: Array.from(run.columns.cycle_begin), outcomes: run.header.nodes.map((it) => it.outcome),
     }));
   }
 }

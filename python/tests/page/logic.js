@@ -128,6 +128,40 @@ test("the cells of a run", async () => {
   assert.deepEqual(listed(b.mark), [MARK.error | MARK.collision | MARK.babble | MARK.data, 2, MARK.silent, 2, 2]);
 });
 
+test("the cycle at a time", async () => {
+  const run = await runOf(PAGE);
+  assert.deepEqual([-1, 0, 99.5, 100, 199.5, 200, 201].map((it) => cycleAt(run, it)), [0, 0, 0, 1, 1, 1, 1]);
+  assert.deepEqual([run.lengthOf(0), run.lengthOf(1), run.length], [100, 100, 200]);
+});
+
+test("the marks of minislots, and the ground of the dynamic segment", async () => {
+  const run = await runOf(PAGE);
+  const paintedFrom = (from, width, borders = run.header.minislots) => {
+    const boxes = [];
+    const context = {fillRect: (...its) => boxes.push(its.map((it) => Math.round(it)))};
+    paintMinislots(context, {from, span: 100, width, length: 200}, {top: 0, height: LANE}, 100, borders);
+    return boxes;
+  };
+  // The minislots of cycle 1 are the macroticks 140 to 190, on 100 pixels of 100 macroticks: one for each is 5 wide.
+  const [line, ...marks] = paintedFrom(100, 100);
+  assert.deepEqual(line, [40, LANE - 2, 50, 2]);
+  assert.deepEqual(marks.map((it) => it[0]), [40, 45, 50, 55, 60, 65, 70, 75, 80, 85, 90]);
+  assert.deepEqual(paintedFrom(157, 100).map((it) => it[0]), [-17, 3, 8, 13, 18, 23, 28, 33]);
+  assert.equal(paintedFrom(100, 99).length, 1);
+  assert.deepEqual(dynamicOf({from: 0, span: 100, width: 100, length: 200}, 0, []), [0, 0]);
+});
+
+test("the marks of lines, by their words", () => {
+  const run = {words: {record_what: ["offer", "babble", "corrupt"], record_end: ["alone", "collided", "blocked", "-"]},
+               columns: {record_what: [0, 0, 1, 1, 2], record_end: [0, 1, 0, 2, 3]},
+               header: {marks: {offer: {alone: [], collided: ["error", "collision"]},
+                                babble: {alone: ["babble", "error"], blocked: ["babble", "blocked"]},
+                                corrupt: {other: []}}}};
+  assert.deepEqual([0, 1, 2, 3, 4].map((it) => markOf(run, it)),
+                   [0, MARK.error | MARK.collision, MARK.babble | MARK.error, MARK.babble | MARK.blocked, 0]);
+  assert.equal(bitsOf({alone: [], other: ["error"]}, "no frame of brake"), MARK.error);
+});
+
 /** Returns the texts that cycles have in a view. A sign is 7 pixels wide. */
 function cycleTextsIn(run, from, width) {
   const texts = [];
@@ -213,6 +247,11 @@ test("searches", async () => {
   assert.deepEqual(texts("payload", "1010"), []);
   assert.deepEqual(texts("payload", "222"), ["brake (1) state (2), cycle 0: x2222"]);
   assert.deepEqual(texts("payload", "zz"), []);
+  // Slot 1 has a babble of x00 on B. The frame of x1111 has the header of slot 2 in front, which is no payload.
+  assert.deepEqual(texts("payload", "00").slice(-1), ["Slot 1 on B in cycle 0"]);
+  assert.deepEqual(texts("payload", "0002"), []);
+  assert.deepEqual(texts("bytes", "x1111"), ["Slot 2 on A in cycle 0", "Slot 2 on A in cycle 1"]);
+  assert.deepEqual(texts("bytes", "zz"), []);
 });
 
 test("names and times", async () => {

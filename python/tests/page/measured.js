@@ -33,14 +33,16 @@ function repeated(column, times, step = 0) {
 /** Returns the data of a run whose windows come several times. What nodes stored is left as it is. */
 function longer(data, times) {
   const {header} = data;
-  const steps = {window_cycle: header.cycles, window_begin: header.cycles * header.params.cycle_mt,
-                 record_window: data.columns.window_begin.length};
+  const begins = data.columns.cycle_begin;
+  const end = begins[header.cycles];
+  const steps = {window_cycle: header.cycles, window_begin: end, record_window: data.columns.window_begin.length};
   const columns = {...data.columns};
   for (const name of Object.keys(columns)) {
     if (name.startsWith("window_") || name.startsWith("record_")) {
       columns[name] = repeated(columns[name], times, steps[name]);
     }
   }
+  columns.cycle_begin = Uint32Array.from([...repeated(begins.subarray(0, header.cycles), times, end), times * end]);
   const size = 2 * data.columns.window_begin.length;
   columns.seen_state = new data.columns.seen_state.constructor(1 + size * times * header.nodes.length);
   header.nodes.forEach((_, node) => {

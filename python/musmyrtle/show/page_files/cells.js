@@ -21,9 +21,6 @@ function sightOf(run, lines) {
   let mark = 0;
   let sender = NO_NODE;
   for (const line of lines) {
-    if (run.word("record_what", line) === "corrupt") {
-      continue;
-    }
     mark |= markOf(run, line);
     if (run.word("record_passed", line) === "passed" && sender === NO_NODE) {
       sender = run.columns.record_node[line];
@@ -33,15 +30,18 @@ function sightOf(run, lines) {
   return {mark: sender === NO_NODE ? mark | MARK.silent : mark, sender};
 }
 
-/** Returns the marks of one transmission. */
+/** Returns the marks of one line of the record, by its kind and its end. */
 function markOf(run, line) {
-  const end = run.word("record_end", line);
-  const isBabble = run.word("record_what", line) === "babble";
-  if (end === "blocked") {
-    return MARK.blocked | (isBabble ? MARK.babble : 0);
+  if (!run.marks) {
+    const {marks} = run.header;
+    run.marks = run.words.record_what.map((what) => run.words.record_end.map((end) => bitsOf(marks[what], end)));
   }
-  const hasFailed = end !== run.header.arrived || isBabble;
-  return (hasFailed ? MARK.error : 0) | (end === "collided" ? MARK.collision : 0) | (isBabble ? MARK.babble : 0);
+  return run.marks[run.columns.record_what[line]][run.columns.record_end[line]];
+}
+
+/** Returns the marks of a word in a table, which may have some for all other words. */
+function bitsOf(table, word) {
+  return (table[word] || table.other || []).reduce((bits, it) => bits | MARK[it], 0);
 }
 
 /**
@@ -91,16 +91,10 @@ function cellsSeen(run, cells, node) {
   return summed({...cells, node, mark});
 }
 
-/** Returns the mark of a word for what a node received. */
+/** Returns the marks of a word for what a node received and what it counted. */
 function seenMark(run, word) {
   const [seen, counted] = word.split(" ");
-  if (seen === "conflict") {
-    return MARK.error | MARK.collision;
-  }
-  if (run.header.errors.includes(counted)) {
-    return MARK.error;
-  }
-  return seen === "" || seen === "silence" ? MARK.silent : MARK.data;
+  return bitsOf(run.header.seen_marks, seen) | bitsOf(run.header.counted_marks, counted);
 }
 
 /** Adds sums before each cell: macroticks with traffic, errors and collisions. */

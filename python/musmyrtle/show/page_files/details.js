@@ -210,9 +210,10 @@ function sentAt(run, sent) {
 
 /** Returns the table of a commit's transmissions, and adds them to what lights up. */
 function sentTable(run, commit, details) {
-  const start = run.beginOf(run.columns.commit_cycle[commit]);
+  const cycle = run.columns.commit_cycle[commit];
+  const start = run.beginOf(cycle);
   const rows = [];
-  details.span = [start, start + run.cycleLength];
+  details.span = [start, run.beginOf(cycle + 1)];
   for (const sent of sendsOf(run, commit)) {
     const slot = run.columns.sent_slot[sent];
     const {window, channel} = sentAt(run, sent);
@@ -222,7 +223,7 @@ function sentTable(run, commit, details) {
     details.lit.places.push(2 * window + channel);
     if (!rows.length) {
       // The cycles from the call to the first transmission.
-      details.span = [start, run.beginOf(run.columns.sent_cycle[sent]) + run.cycleLength];
+      details.span = [start, run.beginOf(run.columns.sent_cycle[sent] + 1)];
     }
     rows.push([link(`cycle ${run.columns.sent_cycle[sent]}`, "window", window, channel), timeText(run, begin),
                timeText(run, begin - start), link(String(slot), "slot", slot), CHANNELS[channel],

@@ -43,7 +43,7 @@ class Explorer {
     const {run} = this;
     const {cluster, scenario, cycles, nodes} = run.header;
     document.getElementById("subject").textContent = `${cluster} with ${scenario}: ${counted(cycles, "cycle")} of `
-      + `${timeText(run, run.cycleLength)}, ${counted(nodes.length, "node")}, ${counted(run.windows, "window")}.`;
+      + `${timeText(run, run.lengthOf(0))}, ${counted(nodes.length, "node")}, ${counted(run.windows, "window")}.`;
     this.buttons = nodes.map((_, node) => {
       const classes = `node n${node % 8}${node < 8 ? "" : " striped"}`;
       return button(nodeName(run, node), () => this.toggle(node), {"aria-pressed": "false", class: classes});
@@ -187,10 +187,14 @@ class Explorer {
       before: () => moved(view, -view.width), after: () => moved(view, view.width),
       start: () => clamped({...view, from: 0}), end: () => clamped({...view, from: view.length}),
       whole: () => wholeView(view.length, view.width),
-      cycle: () => clamped({...view, span: this.run.cycleLength,
-                            from: this.run.beginOf(cycleAt(this.run, timeAt(view, middle)))}),
+      cycle: () => this.viewOfCycle(cycleAt(this.run, timeAt(view, middle))),
     };
     this.set(acts[command]());
+  }
+
+  /** Returns the view of one cycle. */
+  viewOfCycle(cycle) {
+    return clamped({...this.view, span: this.run.lengthOf(cycle), from: this.run.beginOf(cycle)});
   }
 
   /** Draws the picture in the next frame, once for all changes until then. */

@@ -15,8 +15,14 @@ const SEARCHES = {
   buffer: (run, wanted) => buffersNamed(run, wanted),
   slot: (run, wanted) => usedSlots(run).filter((it) => String(it) === wanted)
     .map((it) => ({kind: "slot", number: it})),
-  payload: (run, wanted) => withPayload(run, wanted.toLowerCase().replace(/^0?x/, "").replace(/[^0-9a-f]/g, "")),
+  payload: (run, wanted) => withPayload(run, digitsOf(wanted)),
+  bytes: (run, wanted) => withBytes(run, digitsOf(wanted)),
 };
+
+/** Returns the hexadecimal digits that were typed. */
+function digitsOf(wanted) {
+  return wanted.toLowerCase().replace(/^0?x/, "").replace(/[^0-9a-f]/g, "");
+}
 
 /** Returns the choices of the numbers below a count that suit. */
 function choicesOf(count, kind, suits) {
@@ -51,20 +57,42 @@ function haveDigits(bytes, digits) {
   return at >= 0;
 }
 
-/** Returns the choices of commits with these digits in their bytes, and then of other transmissions with them. */
+/**
+ * Returns the choices of commits with these digits in their payload, of the frames that carried them, and of bytes with
+ * them that are no frame. A recording has the payloads of its frames.
+ */
 function withPayload(run, digits) {
   if (!digits) {
     return [];
   }
   const commits = choicesOf(run.columns.commit_node.length, "commit",
                             (it) => haveDigits(run.bytes("commit_data", it), digits));
-  const places = [];
+  const wanted = new Set(commits.map((it) => it.number));
+  return [...commits, ...linesWith(run, (line) => {
+    const isSearched = run.isRecording || run.number("record_frame", line, "u16") === null;
+    return isSearched ? haveBytes(run, line, digits) : wanted.has(commitOf(run, line));
+  })];
+}
+
+/** Returns the choices of lines of the record with these digits in any of their bytes, as in headers and CRCs. */
+function withBytes(run, digits) {
+  return digits ? linesWith(run, (line) => haveBytes(run, line, digits)) : [];
+}
+
+/** Returns whether the bytes of a line of the record have some digits. */
+function haveBytes(run, line, digits) {
+  return run.columns.record_data_size[line] > 0 && haveDigits(run.bytes("record_data", line), digits);
+}
+
+/** Returns the choices of the lines of the record that suit. */
+function linesWith(run, suits) {
+  const found = [];
   for (let line = 0; line < run.columns.record_window.length; line += 1) {
-    if (run.columns.record_data_size[line] && haveDigits(run.bytes("record_data", line), digits)) {
-      places.push({kind: "window", number: run.columns.record_window[line], channel: run.channelOf(line)});
+    if (suits(line)) {
+      found.push({kind: "window", number: run.columns.record_window[line], channel: run.channelOf(line)});
     }
   }
-  return [...commits, ...places];
+  return found;
 }
 
 /**
@@ -177,14 +205,33 @@ function inView(run, view, most) {
   return {count, lines: [...before, ...others].slice(0, most)};
 }
 
-/** Returns the lines before LINE whose slot lasts beyond a time. No slot lasts beyond its cycle. */
+/** Returns the lines before LINE whose slot lasts beyond a time. */
 function linesInto(run, time, line) {
+  const ends = latestEnds(run);
   const found = [];
-  for (let it = run.firstOfWindow[run.firstOfCycle[cycleAt(run, time)]]; it < line; it += 1) {
-    const window = run.columns.record_window[it];
-    if (run.columns.window_begin[window] + run.lengths[run.channelOf(it)][window] > time) {
+  for (let it = line - 1; it >= 0 && ends[it] > time; it -= 1) {
+    if (endOf(run, it) > time) {
       found.push(it);
     }
   }
-  return found;
+  return found.reverse();
+}
+
+/** Returns the macrotick at which the slot of a line of the record ends. */
+function endOf(run, line) {
+  const window = run.columns.record_window[line];
+  return run.columns.window_begin[window] + run.lengths[run.channelOf(line)][window];
+}
+
+/** Returns for each line of the record the latest end of a slot up to it. */
+function latestEnds(run) {
+  if (!run.latestEnds) {
+    run.latestEnds = new Float64Array(run.columns.record_window.length);
+    let latest = 0;
+    for (let line = 0; line < run.latestEnds.length; line += 1) {
+      latest = Math.max(latest, endOf(run, line));
+      run.latestEnds[line] = latest;
+    }
+  }
+  return run.latestEnds;
 }

@@ -7,6 +7,8 @@ const GUTTER = 130;
 const FONT = "12px sans-serif";
 /** The pixels that the number of a cycle takes at most. */
 const NUMBER_ROOM = 70;
+/** The pixels of a minislot from which on each has a mark. */
+const LEAST_MINISLOT = 5;
 /** The colours of the picture by name. The style of the page has them, light and dark. */
 const THEME = ["ink", "paper", "grid", "silent", "dynamic", "error", "collision", "lit"];
 const PAPER = {ink: "#000", paper: "#fff", grid: "#bbb", silent: "#eee", dynamic: "#f4f4f4", error: "#b3261e",
@@ -54,28 +56,24 @@ function cycleTexts(run, cycle) {
 
 /** Paints the dynamic segments, and the borders of cycles with their numbers. */
 function paintCycles(context, {run, view, theme, height, lanes}) {
-  const {minislots, minislot_mt} = run.header.params;
-  const {dynamic_begin: dynamicBegin} = run.header;
-  const width = pixelOf(view, view.from + run.cycleLength);
+  const first = cycleAt(run, view.from);
+  const width = pixelOf(view, view.from + run.lengthOf(first));
   if (width < 6) {
     return;
   }
   const apart = cyclesApart(width);
-  for (let cycle = cycleAt(run, view.from); cycle < run.header.cycles; cycle += 1) {
+  for (let cycle = first; cycle < run.header.cycles; cycle += 1) {
     const start = run.beginOf(cycle);
     const x = pixelOf(view, start);
     if (x > view.width) {
       break;
     }
-    const begin = pixelOf(view, start + dynamicBegin);
-    const end = pixelOf(view, start + dynamicBegin + minislots * minislot_mt);
-    context.fillStyle = theme.dynamic;
-    context.fillRect(begin, AXIS, end - begin, height - AXIS);
+    paintDynamic(context, view, theme, start, run.header.minislots, height);
     // The borders of cycles without a number would cross the numbers.
     const top = cycle % apart === 0 ? 0 : AXIS;
     context.fillStyle = theme.grid;
     context.fillRect(x, top, 1, height - top);
-    lanes.forEach((it) => paintMinislots(context, it, begin, end, minislots));
+    lanes.forEach((it) => paintMinislots(context, view, it, start, run.header.minislots));
     if (cycle % apart === 0) {
       const left = Math.max(x, 0) + 4;
       paintText(context, theme.ink, cycleTexts(run, cycle), left, 10, x + apart * width - left);
@@ -83,18 +81,30 @@ function paintCycles(context, {run, view, theme, height, lanes}) {
   }
 }
 
-/** Paints the axis of the minislots of a lane, with a mark for each minislot where there is room. */
-function paintMinislots(context, lane, begin, end, minislots) {
+/** Paints the ground of the minislots of a cycle, from the borders of these and the begin of the cycle. */
+function paintDynamic(context, view, theme, start, borders, height) {
+  const [begin, end] = dynamicOf(view, start, borders);
+  context.fillStyle = theme.dynamic;
+  context.fillRect(begin, AXIS, end - begin, height - AXIS);
+}
+
+/** Returns the pixels at which the minislots of a cycle begin and end. */
+function dynamicOf(view, start, borders) {
+  const ends = borders.length ? [borders[0], borders[borders.length - 1]] : [0, 0];
+  return ends.map((it) => pixelOf(view, start + it));
+}
+
+/** Paints the axis of the minislots of a lane, with a mark at each border where there is room. */
+function paintMinislots(context, view, lane, start, borders) {
   const bottom = lane.top + lane.height;
+  const [begin, end] = dynamicOf(view, start, borders);
   context.fillRect(begin, bottom - 2, end - begin, 2);
-  const width = (end - begin) / minislots;
-  if (width < 5) {
+  if (end - begin < LEAST_MINISLOT * (borders.length - 1)) {
     return;
   }
-  const first = Math.max(0, Math.floor(-begin / width));
-  const last = Math.min(minislots, first + 4000 / width);
-  for (let minislot = first; minislot <= last; minislot += 1) {
-    context.fillRect(begin + minislot * width, bottom - 6, 1, 4);
+  const last = below(borders, timeAt(view, view.width) - start);
+  for (let border = below(borders, view.from - start); border < last; border += 1) {
+    context.fillRect(pixelOf(view, start + borders[border]), bottom - 6, 1, 4);
   }
 }
 

@@ -13,7 +13,6 @@ class Run {
     const its = this.columns;
     this.windows = its.window_begin.length;
     this.nodes = this.header.nodes.length;
-    this.cycleLength = this.header.params.cycle_mt;
     this.slots = CHANNELS.map((it) => its[`window_slot_${it}`]);
     this.lengths = CHANNELS.map((it) => its[`window_length_${it}`]);
     this.starts = {};
@@ -27,7 +26,7 @@ class Run {
     this.firstSent = beginnings(its.commit_sends);
     this.firstOfWindow = firstLines(its.record_window, this.windows);
     this.firstOfCycle = firstLines(its.window_cycle, this.header.cycles);
-    this.length = this.beginOf(this.header.cycles - 1) + this.cycleLength;
+    this.length = this.beginOf(this.header.cycles);
   }
 
   /** Returns the word of a column at a place. */
@@ -86,13 +85,14 @@ class Run {
     return this.columns.stored_place[place] === wanted ? this.word("stored_by", place) : null;
   }
 
-  /**
-   * Returns the macrotick at which a cycle begins: that of its first window. A cycle of a recording without frames has
-   * none, and stands as many cycles after the first one as its number says.
-   */
+  /** Returns the macrotick at which a cycle begins, and at the number of all cycles that at which the run ends. */
   beginOf(cycle) {
-    const first = this.firstOfCycle[cycle];
-    return first < this.firstOfCycle[cycle + 1] ? this.columns.window_begin[first] : cycle * this.cycleLength;
+    return this.columns.cycle_begin[cycle];
+  }
+
+  /** Returns the macroticks of a cycle. */
+  lengthOf(cycle) {
+    return this.beginOf(cycle + 1) - this.beginOf(cycle);
   }
 
   /** Returns the window in which a channel had a slot in a cycle, or -1. */
@@ -122,17 +122,10 @@ function firstLines(keys, count) {
 
 /** Returns the cycle at a time: the last one that begins by then. */
 function cycleAt(run, time) {
-  let first = 0;
-  let last = run.header.cycles - 1;
-  while (first < last) {
-    const middle = (first + last + 1) >> 1;
-    if (run.beginOf(middle) <= time) {
-      first = middle;
-    } else {
-      last = middle - 1;
-    }
-  }
-  return first;
+  const begins = run.columns.cycle_begin;
+  const later = below(begins, time);
+  const found = begins[later] === time ? later : later - 1;
+  return Math.min(run.header.cycles - 1, Math.max(0, found));
 }
 
 // ---- names and times

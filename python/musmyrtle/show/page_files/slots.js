@@ -98,7 +98,7 @@ function whatText(run, line) {
 function faultCell(run, line) {
   const number = run.number("record_line", line, "u16");
   const fault = run.header.faults.findIndex((it) => it.line === number);
-  return fault < 0 ? "" : link(`line ${number}`, "fault", fault);
+  return fault < 0 ? "" : link(run.header.faults[fault].name, "fault", fault);
 }
 
 /** Returns the table of what each node received in a window on a channel. */
@@ -126,9 +126,9 @@ function detailsOfCycle(run, cycle) {
   const begin = run.beginOf(cycle);
   const first = run.firstOfWindow[run.firstOfCycle[cycle]];
   const lines = Array.from({length: run.firstOfWindow[run.firstOfCycle[cycle + 1]] - first}, (_, it) => first + it);
-  details.facts = [`It begins at ${timeText(run, begin)} and takes ${timeText(run, run.cycleLength)}.`];
+  details.facts = [`It begins at ${timeText(run, begin)} and takes ${timeText(run, run.lengthOf(cycle))}.`];
   details.tables = [sendsTable(run, lines)];
-  details.span = [begin, begin + run.cycleLength];
+  details.span = [begin, run.beginOf(cycle + 1)];
   return details;
 }
 
@@ -179,21 +179,12 @@ function effectsOf(run, fault) {
     run.effects = run.header.faults.map(() => []);
     for (let line = 0; line < run.columns.record_window.length; line += 1) {
       const its = faults.get(run.columns.record_line[line]);
-      if (its !== undefined && hasEffect(run, line)) {
+      if (its !== undefined && run.columns.record_effect[line]) {
         run.effects[its].push(line);
       }
     }
   }
   return run.effects[fault];
-}
-
-/** Returns whether a line of the record with a fault's number is an effect: a bit flips only in a lone transmission. */
-function hasEffect(run, line) {
-  if (run.word("record_what", line) !== "corrupt") {
-    return true;
-  }
-  return run.linesAt(run.columns.record_window[line], run.channelOf(line))
-    .some((it) => run.word("record_end", it) === "turned");
 }
 
 /** Returns the number of windows in which a fault line took effect. One on both channels is one window. */
@@ -202,17 +193,21 @@ function effectText(run, fault) {
   return counted(windows.size, "window");
 }
 
-/** Returns the text of a fault line with the names of its node. */
+/** Returns the name of a fault line with its words. */
 function faultText(run, fault) {
-  const {line, words} = run.header.faults[fault];
-  const [kind, ...rest] = words;
+  return `${run.header.faults[fault].name}: ${faultWords(run, fault)}`;
+}
+
+/** Returns the words of a fault line with the name of its node. */
+function faultWords(run, fault) {
+  const [kind, ...rest] = run.header.faults[fault].words;
   const shown = kind === "corrupt" ? rest : [nodeName(run, Number(rest[0])), ...rest.slice(1)];
-  return `line ${line}: ${kind} ${shown.join(" ")}`;
+  return `${kind} ${shown.join(" ")}`;
 }
 
 /** Returns the details of a fault line: each window in which it took effect. */
 function detailsOfFault(run, fault) {
-  const details = emptyDetails(`Fault in ${faultText(run, fault)}`);
+  const details = emptyDetails(`${run.header.faults[fault].title}: ${faultWords(run, fault)}`);
   const lines = effectsOf(run, fault);
   const isIdle = run.header.idle.includes(run.header.faults[fault].line);
   details.facts = [isIdle ? "It had no effect in the whole run."
