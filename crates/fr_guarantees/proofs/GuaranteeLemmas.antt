@@ -1,10 +1,10 @@
 -- The guarantees of a schedule hold in every world.
-use Rattle.std.proofs.Common.{◌≡◌, ℕ, zero, suc, ◌+◌, ◌-◌, ◌%◌, ◌<◌, ◌≤◌, Bool, true, false, cond, ◌&&◌, ◌||◌, ◌⊎◌}
-use Rattle.std.proofs.Common.{inl, inr, List, [], ◌∷◌, ◌++◌, length, map, take, Option, Some, None, refl, sym, ap}
-use Rattle.std.proofs.Common.{subst}
+use Rattle.std.proofs.Common.{◌≡◌, ℕ, zero, suc, ◌+◌, ◌-◌, ◌%◌, ◌<◌, ◌≤◌, Bool, true, false, cond, ◌&&◌, ◌||◌, ◌⊎◌, inl}
+use Rattle.std.proofs.Common.{inr, List, [], ◌∷◌, ◌++◌, length, map, take, Option, Some, None, refl, sym, ap, subst}
 use Rattle.std.proofs.Common.{◌∙◌, arith, slice_get}
 use Rattle.std.specs.Prelude.{nat_le}
 use Rattle.std.proofs.lemmas.Bool.{le-leb, leb-false, leb-true}
+use Rattle.std.proofs.lemmas.Option.{slice_get_within, get_or_from_slice_get}
 use Rattle.fr_bus.specs.declared.error.Phase.{Phase}
 use Rattle.fr_bus.specs.declared.error.Phase.TheVariants.{Collect, Sealed as InSealed, Finished}
 use Rattle.fr_bus.specs.Record.{Recorded}
@@ -18,6 +18,11 @@ use Rattle.fr_core.specs.Agreement.{BusView, view_for, ahead, handed_as, NodeAgr
 use Rattle.fr_core.specs.Carried.{Carried, Idle, Knows, Offers, Waits, Took}
 use Rattle.fr_core.specs.Headline.{Headline}
 use Rattle.fr_core.specs.Worlds.{WorldState, no_interface, interface_at, carried_at}
+use Rattle.fr_guarantees.proofs.NextRowLemmas.{row_is, cycle_is}
+use Rattle.fr_guarantees.proofs.ServedLemmas.{served}
+use Rattle.fr_guarantees.proofs.WayLemmas.{row_fits, goes_a_way}
+use Rattle.fr_guarantees.specs.Guarantees.{AlwaysOpens, OpensBy, ArePlain, IsTurn, IsServed, cycle_of, Guarantees}
+use Rattle.fr_guarantees.specs.Ways.{IsWay}
 use Rattle.fr_interface.specs.State.{State, IsLegalInterface}
 use Rattle.fr_journal.specs.declared.entry.Entry.TheVariants.{Fetch}
 use Rattle.fr_journal.specs.declared.entry.Offered.{Offered}
@@ -25,11 +30,6 @@ use Rattle.fr_journal.specs.Entries.{IsEntry}
 use Rattle.fr_journal.specs.Forms.{Entry}
 use Rattle.fr_journal.specs.Legal.{IsLegal, IsLegalFetch, AreEntries}
 use Rattle.fr_journal.specs.Offers.{may_begin}
-use Rattle.fr_guarantees.specs.Guarantees.{AlwaysOpens, OpensBy, ArePlain, IsTurn, IsServed, cycle_of, Guarantees}
-use Rattle.fr_guarantees.specs.Ways.{IsWay}
-use Rattle.fr_guarantees.proofs.NextRowLemmas.{row_is, cycle_is}
-use Rattle.fr_guarantees.proofs.ServedLemmas.{served}
-use Rattle.fr_guarantees.proofs.WayLemmas.{row_fits, goes_a_way}
 use Rattle.fr_minislot.specs.DynamicRows.{first_minislot, slot_after, has_row_after}
 use Rattle.fr_schedule.specs.Descriptions.{Description}
 use Rattle.fr_slots.proofs.FaultlessLemmas.{faultless}
@@ -40,7 +40,6 @@ use Rattle.fr_slots.specs.Faults.{latest_on}
 use Rattle.fr_slots.specs.History.{AllAfter, each_after}
 use Rattle.fr_slots.specs.Parameters.{Parameters}
 use Rattle.fr_slots.specs.Windows.{Opportunity, slot_of, is_static}
-use Rattle.std.proofs.lemmas.Option.{slice_get_within, get_or_from_slice_get}
 
 or_first : (p q : Bool) → p ≡ true → (p || q) ≡ true
 or_first true q e = refl

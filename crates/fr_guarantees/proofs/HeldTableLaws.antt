@@ -12,8 +12,8 @@ use Rattle.fr_guarantees.proofs.GuaranteeLemmas.{HasFetch, has_fetch, guarantees
 use Rattle.fr_guarantees.proofs.TableLaws.{opens_by}
 use Rattle.fr_guarantees.specs.Guarantees.{ArePlain, IsTurn, IsServed, OpensBy, TableHolds}
 use Rattle.fr_interface.specs.State.{State}
-use Rattle.fr_journal.specs.declared.entry.Offered.{Offered}
 use Rattle.fr_journal.specs.declared.entry.Entry.TheVariants.{Fetch}
+use Rattle.fr_journal.specs.declared.entry.Offered.{Offered}
 use Rattle.fr_journal.specs.Fate.{tally_of}
 use Rattle.fr_journal.specs.Forms.{Entry}
 use Rattle.fr_latency.specs.Latencies.{channel_of, is_always_in_time, is_guaranteed, last_begin_of, latest_for}

@@ -1,13 +1,14 @@
 -- A node's offer in a dynamic window is a frame that can be sent there.
 use Rattle.std.proofs.Common.{◌≡◌, ℕ, ◌+◌, ◌*◌, ◌≤◌, ◌<◌, Bool, true, false, cond, ◌&&◌, ◌||◌, List, [], ◌∷◌, ◌++◌}
-use Rattle.std.proofs.Common.{length}
-use Rattle.std.proofs.Common.{Option, Some, None, refl, sym, ap, subst, ◌∙◌, arith, slice_get, length-append, is_some}
-use Rattle.std.proofs.Common.{take}
+use Rattle.std.proofs.Common.{length, Option, Some, None, refl, sym, ap, subst, ◌∙◌, arith, slice_get, length-append}
+use Rattle.std.proofs.Common.{is_some, take}
 use Rattle.std.specs.Prelude.{nat_le, IfSome, IsSomeAnd}
 use Rattle.std.specs.Int.{bytes_high_first}
 use Rattle.std.specs.Option.{option_and_then}
 use Rattle.std.proofs.lemmas.Bool.{eqb-true, leb-true}
 use Rattle.arrayvec.specs.ArrayVec.{ArrayVec}
+use Rattle.std.proofs.lemmas.List.Quantifiers.{position-Some}
+use Rattle.std.proofs.lemmas.Option.{get_or_from_slice_get}
 use Rattle.fr_core.proofs.CaseLemmas.{both, both_rest, kept_if}
 use Rattle.fr_core.proofs.HandingLemmas.{data_is, offer_is}
 use Rattle.fr_core.proofs.TakingLemmas.{IsOfferedBy, in_slot, transmitter_transmits}
@@ -17,6 +18,7 @@ use Rattle.fr_frame.specs.Crc.{frame_check}
 use Rattle.fr_frame.specs.Encoding.{checked_bytes, encoded}
 use Rattle.fr_frame.specs.Fields.{Fields}
 use Rattle.fr_frame.specs.Spelling.{header}
+use Rattle.fr_guarantees.specs.Ways.{CanSend}
 use Rattle.fr_interface.specs.State.{State, IsLegalInterface}
 use Rattle.fr_journal.proofs.LastCommitLemmas.{last_commit-there, IsCommitAt}
 use Rattle.fr_journal.specs.declared.entry.Entry.TheVariants.{Commit, Withdraw, Read, Pop, Fetch, Observe}
@@ -26,10 +28,8 @@ use Rattle.fr_journal.specs.Fate.{is_commit_on, last_commit}
 use Rattle.fr_journal.specs.Forms.{Entry}
 use Rattle.fr_journal.specs.Legal.{IsLegal, IsLegalFetch}
 use Rattle.fr_journal.specs.Offers.{transmitter, is_admitting, may_begin, ready, ready_in, commit_offered, owns}
-use Rattle.fr_journal.specs.Offers.{data_or}
-use Rattle.fr_journal.specs.Offers.{ownership, line_of, offered_at, offered, payload_in, payload_of, data_frame_of}
-use Rattle.fr_journal.specs.Offers.{frame_of_offer, frame_with, bytes_of}
-use Rattle.fr_guarantees.specs.Ways.{CanSend}
+use Rattle.fr_journal.specs.Offers.{data_or, ownership, line_of, offered_at, offered, payload_in, payload_of}
+use Rattle.fr_journal.specs.Offers.{data_frame_of, frame_of_offer, frame_with, bytes_of}
 use Rattle.fr_schedule.specs.Descriptions.{Description}
 use Rattle.fr_slots.proofs.PlaceLemmas.{same_some, get-append, AllAfter-at, AllAfter-cut}
 use Rattle.fr_slots.specs.declared.channel.Channel.{Channel}
@@ -39,8 +39,6 @@ use Rattle.fr_slots.specs.History.{AllAfter}
 use Rattle.fr_slots.specs.Parameters.{Parameters}
 use Rattle.fr_slots.specs.Plans.{Plan, buffer_at, admits_slot, is_receive}
 use Rattle.fr_slots.specs.Windows.{Opportunity, slot_of, is_static}
-use Rattle.std.proofs.lemmas.List.Quantifiers.{position-Some}
-use Rattle.std.proofs.lemmas.Option.{get_or_from_slice_get}
 
 -- ---- the bytes of a frame
 

@@ -1,6 +1,6 @@
 -- A fetch in which a buffer may begin to send leaves no commit pending on it.
 use Rattle.std.proofs.Common.{◌≡◌, ℕ, Bool, true, false, not, cond, ◌&&◌, ◌||◌, List, [], ◌∷◌, ◌++◌, Option, Some, None}
-use Rattle.std.proofs.Common.{refl, sym, ap, ◌∙◌, is_some}
+use Rattle.std.proofs.Common.{refl, sym, ap, ◌∙◌, is_some, subst}
 use Rattle.std.specs.Prelude.{◌==◌}
 use Rattle.std.proofs.lemmas.Bool.{eqb-true}
 use Rattle.fr_core.proofs.CaseLemmas.{both_first, both_rest}
@@ -15,14 +15,13 @@ use Rattle.fr_journal.specs.Legal.{IsLegalFetch}
 use Rattle.fr_journal.specs.Offers.{may_begin}
 use Rattle.fr_slots.specs.Admission.{includes, cycle_admitted}
 use Rattle.fr_slots.specs.declared.channel.Channel.{Channel}
+use Rattle.fr_slots.specs.declared.channel.Channel.TheVariants.{A, B}
 use Rattle.fr_slots.specs.declared.plan.Buffer.{Buffer}
 use Rattle.fr_slots.specs.Faults.{sends_at, transmits, HasOneSender}
 use Rattle.fr_slots.specs.Numbers.{IsSlot}
 use Rattle.fr_slots.specs.Parameters.{Parameters}
 use Rattle.fr_slots.specs.Plans.{Plan, buffer_at, is_receive}
 use Rattle.fr_slots.specs.Windows.{Opportunity, IsInRange, IsSlotOrNone, slot_of}
-use Rattle.std.proofs.Common.{subst}
-use Rattle.fr_slots.specs.declared.channel.Channel.TheVariants.{A, B}
 
 unset : (b : Bool) → not b ≡ true → b ≡ false
 unset true e = absurd (let none : ⊥ = cc in none)

@@ -1,8 +1,7 @@
 -- In a run without faults of senders the rows of each cycle are one of the schedule's ways.
 use Rattle.std.proofs.Common.{◌≡◌, ℕ, zero, suc, ◌+◌, ◌-◌, ◌%◌, ◌<◌, ◌≤◌, ◌==◌, Bool, true, false, not, cond, ◌&&◌}
-use Rattle.std.proofs.Common.{◌||◌}
-use Rattle.std.proofs.Common.{◌⊎◌, inl, inr, List, [], ◌∷◌, ◌++◌, length, map, take, Option, Some, None, refl, sym, ap}
-use Rattle.std.proofs.Common.{subst, ◌∙◌, arith, slice_get, get_or, is_some}
+use Rattle.std.proofs.Common.{◌||◌, ◌⊎◌, inl, inr, List, [], ◌∷◌, ◌++◌, length, map, take, Option, Some, None, refl}
+use Rattle.std.proofs.Common.{sym, ap, subst, ◌∙◌, arith, slice_get, get_or, is_some}
 use Rattle.std.specs.Prelude.{count_by, max, nat_le, nat_lt, slice_index_or}
 use Rattle.std.specs.List.{filter, fold, list_all}
 use Rattle.std.proofs.lemmas.Bool.{eqb-true, eq-eqb, leb-true, leb-false, lt-ltb, ltb-true}
@@ -16,13 +15,11 @@ use Rattle.fr_bus.specs.declared.outcome.SentFate.{SentFate}
 use Rattle.fr_bus.specs.Outcome.{transmission, sent_in, is_of, passed_on, all_passed, longest, fate_of, is_passed}
 use Rattle.fr_bus.specs.Record.{Recorded, IsOutcome, is_offer_of, offer_in, side_on}
 use Rattle.fr_bus.specs.States.{IsRecorded, idle_station}
-use Rattle.fr_bus.specs.Windows.{begins_cycle, cycles_begun, with_window, this_cycle, is_row_of}
-use Rattle.fr_slots.specs.Windows.{is_first_slot}
-use Rattle.fr_bus.specs.Windows.{counts_on}
+use Rattle.fr_bus.specs.Windows.{begins_cycle, cycles_begun, with_window, this_cycle, is_row_of, counts_on}
 use Rattle.fr_core.proofs.CaseLemmas.{both_first, both_rest, both}
 use Rattle.fr_core.proofs.HandingLemmas.{fetch_of, bytes_on, handed_on}
-use Rattle.fr_core.proofs.OwnLemmas.{own_from}
 use Rattle.fr_core.proofs.JudgedLemmas.{recorded_at}
+use Rattle.fr_core.proofs.OwnLemmas.{own_from}
 use Rattle.fr_core.proofs.ReceiverLemmas.{handed_is_offered}
 use Rattle.fr_core.proofs.SentLemmas.{of_all}
 use Rattle.fr_core.proofs.TimingLemmas.{count_more}
@@ -30,14 +27,14 @@ use Rattle.fr_core.specs.Accounts.{own}
 use Rattle.fr_core.specs.Agreeing.{Handed, Follows, fetched, offers_of}
 use Rattle.fr_core.specs.Receivers.{is_muted}
 use Rattle.fr_core.specs.Worlds.{no_interface}
+use Rattle.fr_guarantees.proofs.NextRowLemmas.{row_is, cycle_is}
+use Rattle.fr_guarantees.proofs.OfferLemmas.{can_send}
+use Rattle.fr_guarantees.specs.Guarantees.{cycle_of, is_plain, ArePlain}
+use Rattle.fr_guarantees.specs.Ways.{CanSend, IsRow, IsWay}
 use Rattle.fr_guardian.specs.Guarding.{passes}
 use Rattle.fr_interface.specs.State.{State, IsLegalInterface}
 use Rattle.fr_journal.specs.declared.entry.Entry.TheVariants.{Fetch}
 use Rattle.fr_journal.specs.Forms.{Entry}
-use Rattle.fr_guarantees.specs.Guarantees.{cycle_of, is_plain, ArePlain}
-use Rattle.fr_guarantees.specs.Ways.{CanSend, IsRow, IsWay}
-use Rattle.fr_guarantees.proofs.OfferLemmas.{can_send}
-use Rattle.fr_guarantees.proofs.NextRowLemmas.{row_is, cycle_is}
 use Rattle.fr_minislot.specs.DynamicRows.{first_minislot, slot_after}
 use Rattle.fr_schedule.specs.Descriptions.{Description}
 use Rattle.fr_slots.proofs.HistoryLemmas.{AllAfter-snoc}
@@ -46,7 +43,7 @@ use Rattle.fr_slots.specs.Admission.{is_channel}
 use Rattle.fr_slots.specs.declared.channel.Channel.{Channel}
 use Rattle.fr_slots.specs.declared.channel.Channel.TheVariants.{A, B}
 use Rattle.fr_slots.specs.History.{AllAfter}
-use Rattle.fr_slots.specs.Windows.{Opportunity, slot_of, is_static}
+use Rattle.fr_slots.specs.Windows.{is_first_slot, Opportunity, slot_of, is_static}
 
 -- ---- lists
 

@@ -1,29 +1,26 @@
 -- The frame of a slot that the cluster allows leaves no finding, and the place after it.
-use Rattle.std.proofs.Common.{◌≡◌, ℕ, ◌+◌, ◌-◌, ◌/◌, ◌≤◌, Bool, true, false, cond}
-use Rattle.std.proofs.Common.{refl}
-use Rattle.std.proofs.Common.{ap, ◌∙◌, arith, length}
+use Rattle.std.proofs.Common.{◌≡◌, ℕ, ◌+◌, ◌-◌, ◌/◌, ◌≤◌, Bool, true, false, cond, refl, ap, ◌∙◌, arith, length}
 use Rattle.std.proofs.lemmas.Bool.{cond-true}
 use Rattle.std.specs.Prelude.{Option, Some, None, min, nat_le, ◌==◌}
 use Rattle.std.specs.Option.{option_or}
 use Rattle.fr_frame.specs.Fields.{Fields}
-use Rattle.fr_logged.specs.Rules.{static_finding, dynamic_finding, minislot_finding}
-use Rattle.fr_logged.specs.declared.due.Due.{Due}
-use Rattle.fr_logged.specs.declared.finding.Finding.{Finding}
-use Rattle.fr_recording.specs.Numbers.{counted, most_counted}
-use Rattle.fr_slots.specs.declared.channel.Channel.{Channel}
-use Rattle.fr_slots.specs.Faults.{minislots_filled}
+use Rattle.fr_hearing.proofs.CoreLemmas.{Core, core, back_core, show_core, fix_core, keep_core, no_channels}
+use Rattle.fr_hearing.proofs.FrameLemmas.{owners_fits, dynamic_fits, minislot_fits}
+use Rattle.fr_hearing.specs.Heard.{Spot, after_dynamic, after_frame, IsOwners, IsDynamic, IsAllowed, IsAllowedAs}
+use Rattle.fr_judging.specs.declared.line.At.{At}
+use Rattle.fr_judging.specs.declared.rules.Rules.{Rules}
 use Rattle.fr_judging.specs.Distances.{time_finding, time_from}
 use Rattle.fr_judging.specs.Judging.{State, static_came, static_found, static_with, dynamic_came, came, came_with, back}
 use Rattle.fr_judging.specs.Judging.{show, fix, keep_frame, channels_finding, placed_finding, is_placed, none_found}
 use Rattle.fr_judging.specs.Judging.{none_away}
 use Rattle.fr_judging.specs.Lanes.{after_dynamic as dynamic_lane}
 use Rattle.fr_judging.specs.Rules.{due_at, slot_time, are_both}
-use Rattle.fr_judging.specs.declared.line.At.{At}
-use Rattle.fr_judging.specs.declared.rules.Rules.{Rules}
-use Rattle.fr_hearing.specs.Heard.{Spot, after_dynamic, after_frame, IsOwners, IsDynamic, IsAllowed}
-use Rattle.fr_hearing.specs.Heard.{IsAllowedAs}
-use Rattle.fr_hearing.proofs.CoreLemmas.{Core, core, back_core, show_core, fix_core, keep_core, no_channels}
-use Rattle.fr_hearing.proofs.FrameLemmas.{owners_fits, dynamic_fits, minislot_fits}
+use Rattle.fr_logged.specs.declared.due.Due.{Due}
+use Rattle.fr_logged.specs.declared.finding.Finding.{Finding}
+use Rattle.fr_logged.specs.Rules.{static_finding, dynamic_finding, minislot_finding}
+use Rattle.fr_recording.specs.Numbers.{counted, most_counted}
+use Rattle.fr_slots.specs.declared.channel.Channel.{Channel}
+use Rattle.fr_slots.specs.Faults.{minislots_filled}
 
 -- one channel is judged, and times aren't
 pub record IsPlain (r : Rules) : Type 0 where

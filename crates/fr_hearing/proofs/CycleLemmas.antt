@@ -1,7 +1,6 @@
 -- The frames of a record of windows are those of a channel's cycles.
-use Rattle.std.proofs.Common.{◌≡◌, ℕ, zero, suc, ◌+◌, ◌-◌, ◌%◌, ◌<◌, ◌≤◌, Bool, true, false, ◌&&◌, ◌||◌, List, []}
-use Rattle.std.proofs.Common.{◌∷◌, ◌++◌, length, Some, None, refl, sym, ap, subst, ◌∙◌, arith, slice_get}
-use Rattle.std.proofs.Common.{inl, inr}
+use Rattle.std.proofs.Common.{◌≡◌, ℕ, zero, suc, ◌+◌, ◌-◌, ◌%◌, ◌<◌, ◌≤◌, Bool, true, false, ◌&&◌, ◌||◌, List, [], ◌∷◌}
+use Rattle.std.proofs.Common.{◌++◌, length, Some, None, refl, sym, ap, subst, ◌∙◌, arith, slice_get, inl, inr}
 use Rattle.std.specs.Prelude.{◌==◌}
 use Rattle.std.specs.List.{list_any}
 use Rattle.std.proofs.lemmas.Bool.{eq-eqb, le-leb}
@@ -23,8 +22,8 @@ use Rattle.fr_hearing.specs.Heard.{FollowOn}
 use Rattle.fr_judging.specs.Rules.{due_at, is_clocked, owns_some, owns_in}
 use Rattle.fr_logged.proofs.DueLemmas.{due_is_owners}
 use Rattle.fr_logged.proofs.FirstLemmas.{some_found_in}
-use Rattle.fr_logged.specs.Dues.{static_due, buffer_in}
 use Rattle.fr_logged.specs.declared.due.Due.{Due}
+use Rattle.fr_logged.specs.Dues.{static_due, buffer_in}
 use Rattle.fr_schedule.specs.Clusters.{IsCluster, IsNode}
 use Rattle.fr_schedule.specs.Descriptions.{Description}
 use Rattle.fr_slots.proofs.FaultlessLemmas.{faultless}

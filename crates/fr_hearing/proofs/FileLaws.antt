@@ -1,7 +1,6 @@
 -- A capture of the bus of a run without faults is read as a recording without findings.
-use Rattle.std.proofs.Common.{◌≡◌, ℕ, ℤ, suc, ◌+◌, ◌-◌, ◌≤◌, false, List, [], ◌∷◌, ◌++◌}
-use Rattle.std.proofs.Common.{length, take, Option, Some, None, refl, sym, ap, subst, ◌∙◌, arith, slice_get, inl, inr}
-use Rattle.std.proofs.Common.{length-take}
+use Rattle.std.proofs.Common.{◌≡◌, ℕ, ℤ, suc, ◌+◌, ◌-◌, ◌≤◌, false, List, [], ◌∷◌, ◌++◌, length, take, Option, Some}
+use Rattle.std.proofs.Common.{None, refl, sym, ap, subst, ◌∙◌, arith, slice_get, inl, inr, length-take}
 use Rattle.std.proofs.lemmas.List.{append_assoc}
 use Rattle.arrayvec.specs.ArrayVec.{ArrayVec}
 use Rattle.fr_bus.specs.Record.{Recorded, heard}
@@ -21,17 +20,17 @@ use Rattle.fr_hearing.specs.Files.{window_seen, Clock, capture_of, NoAlarmInFile
 use Rattle.fr_hearing.specs.Runs.{IsHealthy, packets_seen, packets_of, logged, AreLogged}
 use Rattle.fr_judging.specs.Rules.{has_sender, other_channel}
 use Rattle.fr_logged.specs.Logged.{kind_of}
-use Rattle.fr_recording.specs.Records.{Record}
-use Rattle.fr_recording.specs.Stream.{refusal_in, Progress, fresh, take_bytes, records_from, records_in, end_in}
 use Rattle.fr_recording.specs.declared.phase.Phase.{Phase}
 use Rattle.fr_recording.specs.declared.phase.Phase.TheVariants.{RecordHeader}
+use Rattle.fr_recording.specs.Records.{Record}
+use Rattle.fr_recording.specs.Stream.{refusal_in, Progress, fresh, take_bytes, records_from, records_in, end_in}
 use Rattle.fr_slots.specs.Admission.{is_channel}
 use Rattle.fr_slots.specs.declared.channel.Channel.{Channel}
 use Rattle.fr_slots.specs.declared.channel.Channel.TheVariants.{A, B}
 use Rattle.fr_slots.specs.History.{each_after}
 use Rattle.fr_slots.specs.Parameters.{Parameters}
-use Rattle.fr_status.specs.Forms.{Seen}
 use Rattle.fr_status.specs.declared.seen.Seen.TheVariants.{Silence, Own, Conflict, Noise, Overrun, Bytes}
+use Rattle.fr_status.specs.Forms.{Seen}
 
 -- ---- the record of an observation
 

@@ -1,12 +1,12 @@
 -- In a run without faults of senders each frame that a listener receives is due in its window.
-use Rattle.std.proofs.Common.{◌≡◌, ℕ, zero, suc, ◌<◌, Bool, true, false, not, cond, ◌&&◌, ◌||◌, List, [], ◌∷◌}
-use Rattle.std.proofs.Common.{◌++◌, length, map, Option, Some, None, refl, sym, ap, subst, ◌∙◌, arith, slice_get}
-use Rattle.std.proofs.Common.{get_or}
-use Rattle.std.specs.Prelude.{nat_lt, slice_index_or, ◌==◌}
+use Rattle.std.proofs.Common.{◌≡◌, ℕ, zero, suc, ◌<◌, Bool, true, false, not, cond, ◌&&◌, ◌||◌, List, [], ◌∷◌, ◌++◌}
+use Rattle.std.proofs.Common.{length, map, Option, Some, None, refl, sym, ap, subst, ◌∙◌, arith, slice_get, get_or}
+use Rattle.std.specs.Prelude.{nat_lt, slice_index_or, ◌==◌, nat_le}
 use Rattle.std.specs.List.{filter, list_all}
 use Rattle.std.proofs.lemmas.Bool.{eq-eqb, lt-ltb, ltb-true, cond-false, cond-true, not-true}
 use Rattle.std.proofs.lemmas.Option.{slice_get-get_or}
 use Rattle.arrayvec.specs.ArrayVec.{ArrayVec}
+use Rattle.std.specs.Option.{option_and_then}
 use Rattle.fr_bus.specs.declared.outcome.Sent.{Sent}
 use Rattle.fr_bus.specs.declared.outcome.SentFate.{SentFate}
 use Rattle.fr_bus.specs.Outcome.{transmission, sent_in, is_of, passed_on, all_passed, fate_of, is_passed, heard_of}
@@ -51,8 +51,6 @@ use Rattle.fr_slots.specs.Parameters.{Parameters, is_static_slot}
 use Rattle.fr_slots.specs.Windows.{Opportunity, slot_of, is_static, window_fits, static_slot_fits, dynamic_slot_fits}
 use Rattle.fr_slots.specs.Windows.{IsInRange}
 use Rattle.fr_status.specs.declared.seen.Seen.TheVariants.{Overrun, Bytes}
-use Rattle.std.specs.Option.{option_and_then}
-use Rattle.std.specs.Prelude.{nat_le}
 
 -- ---- lists
 

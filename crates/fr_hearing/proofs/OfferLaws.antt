@@ -1,8 +1,6 @@
 -- In each static window its owner hands over the frame that is due.
-use Rattle.std.proofs.Common.{◌≡◌, ℕ, zero, suc, ◌*◌, ◌≤◌, Bool, true, false, cond, ◌&&◌, List, [], ◌∷◌}
-use Rattle.std.proofs.Common.{◌++◌}
-use Rattle.std.proofs.Common.{length, refl, sym, ap, subst, ◌∙◌, arith, Option, Some, None, slice_get}
-use Rattle.std.proofs.Common.{replicate}
+use Rattle.std.proofs.Common.{◌≡◌, ℕ, zero, suc, ◌*◌, ◌≤◌, Bool, true, false, cond, ◌&&◌, List, [], ◌∷◌, ◌++◌, length}
+use Rattle.std.proofs.Common.{refl, sym, ap, subst, ◌∙◌, arith, Option, Some, None, slice_get, replicate}
 use Rattle.std.proofs.lemmas.Bool.{cond-true, cond-false, eqb-true, ne_eqb, leb-true}
 use Rattle.std.specs.Prelude.{IfSome, IsSomeAnd, is_some, ◌==◌, ◌||◌, nat_le}
 use Rattle.std.specs.List.{position, list_all}
@@ -13,6 +11,8 @@ use Rattle.fr_core.proofs.TakingLemmas.{in_slot, transmitter_admits}
 use Rattle.fr_core.specs.Receivers.{offered_on}
 use Rattle.fr_frame.specs.Fields.{Fields}
 use Rattle.fr_hearing.specs.Heard.{IsOwners}
+use Rattle.fr_hearing.specs.Offering.{IsFetched, IsOwnWindow, HandsDue, OwnersSend, IsOpenWindow, IsDueThere}
+use Rattle.fr_hearing.specs.Offering.{SendersSend}
 use Rattle.fr_interface.specs.State.{State, IsLegalInterface}
 use Rattle.fr_journal.proofs.LastCommitLemmas.{last_commit-there, IsCommitAt}
 use Rattle.fr_journal.specs.declared.entry.Entry.TheVariants.{Commit, Withdraw, Read, Pop, Fetch, Observe}
@@ -21,18 +21,14 @@ use Rattle.fr_journal.specs.declared.entry.Offered.TheVariants.{Nothing, Null, D
 use Rattle.fr_journal.specs.Fate.{is_commit_on, last_commit}
 use Rattle.fr_journal.specs.Forms.{Entry}
 use Rattle.fr_journal.specs.Legal.{IsLegal, IsLegalFetch}
-use Rattle.fr_journal.specs.Offers.{may_begin}
-use Rattle.fr_journal.specs.Offers.{transmitter, ready, ready_in, commit_offered, owns, ownership}
-use Rattle.fr_journal.specs.Offers.{line_of}
+use Rattle.fr_journal.specs.Offers.{may_begin, transmitter, ready, ready_in, commit_offered, owns, ownership, line_of}
 use Rattle.fr_journal.specs.Offers.{data_or, offered_at, offered, payload_in, payload_of, sync_of, startup_of}
 use Rattle.fr_journal.specs.Offers.{preamble_of, null_frame, data_frame_of, frame_of_offer, frame_with}
 use Rattle.fr_logged.proofs.DueLemmas.{due_is_owners, due_is_senders}
 use Rattle.fr_logged.proofs.FirstLemmas.{find_position, there}
-use Rattle.fr_hearing.specs.Offering.{IsFetched, IsOwnWindow, HandsDue, OwnersSend, IsOpenWindow}
-use Rattle.fr_hearing.specs.Offering.{IsDueThere, SendersSend}
+use Rattle.fr_logged.specs.declared.due.Due.{Due}
 use Rattle.fr_logged.specs.Dues.{line_in, buffer_in, static_due, dynamic_due, preamble_of as due_preamble, due_of}
 use Rattle.fr_logged.specs.Rules.{is_zero}
-use Rattle.fr_logged.specs.declared.due.Due.{Due}
 use Rattle.fr_schedule.specs.Clusters.{IsCluster}
 use Rattle.fr_schedule.specs.Descriptions.{Description}
 use Rattle.fr_slots.proofs.PlaceLemmas.{same_some, get-append, AllAfter-at, AllAfter-cut}

@@ -1,8 +1,6 @@
 -- In a run without faults of senders a listener receives the frame of each static slot's owner.
-use Rattle.std.proofs.Common.{◌≡◌, ℕ, suc, ◌+◌, ◌*◌, ◌<◌, Bool, true, false, cond, ◌&&◌, List, []}
-use Rattle.std.proofs.Common.{◌∷◌, ◌++◌, length, Option, Some, None, refl, sym, ap, ◌∙◌, arith, slice_get}
-use Rattle.std.proofs.Common.{get_or}
-use Rattle.std.proofs.Common.{length-append}
+use Rattle.std.proofs.Common.{◌≡◌, ℕ, suc, ◌+◌, ◌*◌, ◌<◌, Bool, true, false, cond, ◌&&◌, List, [], ◌∷◌, ◌++◌, length}
+use Rattle.std.proofs.Common.{Option, Some, None, refl, sym, ap, ◌∙◌, arith, slice_get, get_or, length-append}
 use Rattle.std.specs.Prelude.{nat_lt, slice_index_or, ◌==◌, ◌-◌}
 use Rattle.std.specs.Int.{bytes_high_first}
 use Rattle.std.specs.List.{list_all}
@@ -32,20 +30,19 @@ use Rattle.fr_frame.specs.Encoding.{encoded, checked_bytes}
 use Rattle.fr_frame.specs.Fields.{Fields}
 use Rattle.fr_frame.specs.Spelling.{header}
 use Rattle.fr_guardian.proofs.AloneLemmas.{owner_passes}
-use Rattle.fr_hearing.proofs.ListenLaws.{own_sound, handed_by, sent_by, IsHanded, frame_of, static_slot_is}
-use Rattle.fr_hearing.proofs.ListenLaws.{not_nothing, legal_fetch, in_range, window_is, fetch_range, fetch_fits}
-use Rattle.fr_hearing.proofs.OfferLaws.{owners_send}
+use Rattle.fr_hearing.proofs.ListenLaws.{own_sound, handed_by, sent_by, IsHanded, frame_of, static_slot_is, not_nothing}
+use Rattle.fr_hearing.proofs.ListenLaws.{legal_fetch, in_range, window_is, fetch_range, fetch_fits}
+use Rattle.fr_hearing.proofs.OfferLaws.{owners_send, line_is}
 use Rattle.fr_hearing.proofs.OwnedLemmas.{offers_own, owned_is}
 use Rattle.fr_hearing.specs.Listening.{is_sound, AreSound, Receives, OwnersAreHeard}
 use Rattle.fr_hearing.specs.Offering.{HandsDue}
 use Rattle.fr_interface.specs.State.{State, IsLegalInterface}
 use Rattle.fr_journal.specs.Offers.{frame_with, bytes_of, line_of}
+use Rattle.fr_logged.proofs.DueLemmas.{static_sender}
+use Rattle.fr_logged.proofs.FirstLemmas.{any_found_in, there}
 use Rattle.fr_minislot.specs.DynamicRows.{minislots_filled_by}
 use Rattle.fr_schedule.specs.Clusters.{IsCluster}
 use Rattle.fr_schedule.specs.Descriptions.{Description}
-use Rattle.fr_logged.proofs.DueLemmas.{static_sender}
-use Rattle.fr_logged.proofs.FirstLemmas.{any_found_in, there}
-use Rattle.fr_hearing.proofs.OfferLaws.{line_is}
 use Rattle.fr_slots.proofs.PlaceLemmas.{same_some}
 use Rattle.fr_slots.specs.Admission.{is_channel}
 use Rattle.fr_slots.specs.declared.channel.Channel.{Channel}

@@ -1,6 +1,6 @@
 -- What is written of a bus is read back as what a listener received there.
-use Rattle.std.proofs.Common.{◌≡◌, ℕ, ℤ, suc, ◌+◌, ◌*◌, ◌/◌, ◌%◌, ◌<◌, ◌≤◌, List, [], ◌∷◌, ◌++◌, length}
-use Rattle.std.proofs.Common.{Option, Some, None, false, refl, sym, ap, ◌∙◌, arith}
+use Rattle.std.proofs.Common.{◌≡◌, ℕ, ℤ, suc, ◌+◌, ◌*◌, ◌/◌, ◌%◌, ◌<◌, ◌≤◌, List, [], ◌∷◌, ◌++◌, length, Option, Some}
+use Rattle.std.proofs.Common.{None, false, refl, sym, ap, ◌∙◌, arith}
 use Rattle.std.proofs.lemmas.List.{append_assoc}
 use Rattle.std.specs.Prelude.{◌^◌, pos}
 use Rattle.arrayvec.specs.ArrayVec.{ArrayVec}
@@ -12,16 +12,16 @@ use Rattle.fr_hearing.proofs.ReadingLemmas.{bytes_more, records_more, IsReady, r
 use Rattle.fr_hearing.specs.Files.{window_seen, Clock}
 use Rattle.fr_hearing.specs.ReadBack.{read_time, read_seen, read_window, AreShort, IsReadBack, TimeIsKept}
 use Rattle.fr_hearing.specs.Runs.{logged}
+use Rattle.fr_recording.specs.declared.numbers.Order.TheVariants.{LowFirst}
 use Rattle.fr_recording.specs.Numbers.{long}
 use Rattle.fr_recording.specs.Records.{Record}
 use Rattle.fr_recording.specs.Stream.{Progress, fresh, take_bytes, records_from, end_in}
-use Rattle.fr_recording.specs.declared.numbers.Order.TheVariants.{LowFirst}
 use Rattle.fr_slots.specs.declared.channel.Channel.{Channel}
 use Rattle.fr_slots.specs.declared.channel.Channel.TheVariants.{A, B}
 use Rattle.fr_slots.specs.History.{each_after}
 use Rattle.fr_slots.specs.Parameters.{Parameters}
-use Rattle.fr_status.specs.Forms.{Seen}
 use Rattle.fr_status.specs.declared.seen.Seen.TheVariants.{Silence, Own, Conflict, Noise, Overrun, Bytes}
+use Rattle.fr_status.specs.Forms.{Seen}
 
 -- ---- the time of a record
 

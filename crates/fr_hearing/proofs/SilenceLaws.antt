@@ -1,6 +1,6 @@
 -- A channel without a sender has no frame and no finding.
-use Rattle.std.proofs.Common.{◌≡◌, ℕ, zero, suc, Bool, true, false, not, cond, ◌&&◌, ◌||◌, List, [], ◌∷◌, refl}
-use Rattle.std.proofs.Common.{sym, ap, ◌∙◌, inl, inr, Some, None, slice_get}
+use Rattle.std.proofs.Common.{◌≡◌, ℕ, zero, suc, Bool, true, false, not, cond, ◌&&◌, ◌||◌, List, [], ◌∷◌, refl, sym, ap}
+use Rattle.std.proofs.Common.{◌∙◌, inl, inr, Some, None, slice_get}
 use Rattle.std.proofs.lemmas.Bool.{cond-false, eqb-true}
 use Rattle.std.specs.Prelude.{◌==◌}
 use Rattle.std.specs.List.{list_any}
@@ -13,14 +13,13 @@ use Rattle.fr_hearing.proofs.CoreLemmas.{Core, core}
 use Rattle.fr_hearing.proofs.PassageLemmas.{IsLoud}
 use Rattle.fr_hearing.specs.Alarms.{AreOn, judged, NoAlarmInSilence}
 use Rattle.fr_hearing.specs.Listening.{IsThere}
-use Rattle.fr_judging.specs.Judging.{State, turn, turned, judge, fresh, finish, finish_on, finish_channel}
-use Rattle.fr_judging.specs.Judging.{has_finding}
+use Rattle.fr_judging.specs.declared.rules.Rules.{Rules}
+use Rattle.fr_judging.specs.Judging.{State, turn, turned, judge, fresh, finish, finish_on, finish_channel, has_finding}
 use Rattle.fr_judging.specs.Rules.{judges, other_channel, rules_of, has_sender, has_sender_in, sends_on, own_includes}
 use Rattle.fr_judging.specs.Rules.{transmits_on}
-use Rattle.fr_judging.specs.declared.rules.Rules.{Rules}
 use Rattle.fr_logged.proofs.SenderLemmas.{due_nobody}
-use Rattle.fr_logged.specs.Dues.{due_of}
 use Rattle.fr_logged.specs.declared.due.Due.{Due}
+use Rattle.fr_logged.specs.Dues.{due_of}
 use Rattle.fr_recording.specs.Records.{Record}
 use Rattle.fr_schedule.specs.Descriptions.{Description}
 use Rattle.fr_schedule.specs.SenderTable.{IsSender}

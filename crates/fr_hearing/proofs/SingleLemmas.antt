@@ -1,11 +1,11 @@
 -- In a run without faults of senders at most one frame passes on a channel in a window.
-use Rattle.std.proofs.Common.{◌≡◌, ℕ, suc, ◌<◌, ◌≤◌, Bool, true, false, cond, ◌&&◌, List, []}
-use Rattle.std.proofs.Common.{◌∷◌, ◌++◌, length, Option, Some, None, refl, sym, ap, ◌∙◌, arith, slice_get}
-use Rattle.std.proofs.Common.{◌⊎◌, inl, inr, length-append}
+use Rattle.std.proofs.Common.{◌≡◌, ℕ, suc, ◌<◌, ◌≤◌, Bool, true, false, cond, ◌&&◌, List, [], ◌∷◌, ◌++◌, length, Option}
+use Rattle.std.proofs.Common.{Some, None, refl, sym, ap, ◌∙◌, arith, slice_get, ◌⊎◌, inl, inr, length-append}
 use Rattle.std.specs.Prelude.{nat_lt, slice_index_or, ◌==◌, is_some}
 use Rattle.std.specs.List.{filter, list_all}
 use Rattle.std.proofs.lemmas.Bool.{eq-eqb, lt-ltb, ltb-true}
 use Rattle.arrayvec.specs.ArrayVec.{ArrayVec}
+use Rattle.std.specs.Option.{option_and_then}
 use Rattle.fr_bus.specs.declared.outcome.Sent.{Sent}
 use Rattle.fr_bus.specs.declared.outcome.SentFate.{SentFate}
 use Rattle.fr_bus.specs.Outcome.{transmission, sent_in, is_of, passed_on, all_passed, fate_of}
@@ -49,7 +49,6 @@ use Rattle.fr_slots.specs.History.{AllAfter}
 use Rattle.fr_slots.specs.Parameters.{Parameters, is_static_slot}
 use Rattle.fr_slots.specs.Plans.{buffer_at}
 use Rattle.fr_slots.specs.Windows.{Opportunity, slot_of, is_static}
-use Rattle.std.specs.Option.{option_and_then}
 
 -- ---- a node that hands a frame over is a sender of the slot
 

@@ -1,6 +1,6 @@
 -- The size of a frame that is due: its words, its minislots and its bytes.
-use Rattle.std.proofs.Common.{◌≡◌, ℕ, zero, suc, ◌+◌, ◌-◌, ◌*◌, ◌<◌, ◌≤◌, Bool, true, false, cond, not, ◌&&◌}
-use Rattle.std.proofs.Common.{List, [], ◌∷◌, Option, Some, None, refl, sym, ap, subst, ◌∙◌, arith, slice_get}
+use Rattle.std.proofs.Common.{◌≡◌, ℕ, zero, suc, ◌+◌, ◌-◌, ◌*◌, ◌<◌, ◌≤◌, Bool, true, false, cond, not, ◌&&◌, List, []}
+use Rattle.std.proofs.Common.{◌∷◌, Option, Some, None, refl, sym, ap, subst, ◌∙◌, arith, slice_get}
 use Rattle.std.proofs.lemmas.Bool.{cond-true, cond-false, eqb-true, ne_eqb, leb-true, leb-false}
 use Rattle.std.proofs.lemmas.Grind.{div_ceil_times}
 use Rattle.std.proofs.Math.Nat.{add-mul, mul-le-mul_right}
@@ -8,8 +8,8 @@ use Rattle.std.specs.Int.{div_ceil}
 use Rattle.std.specs.List.{find}
 use Rattle.std.specs.Prelude.{◌==◌, ◌||◌, nat_le, is_some, unwrap_or}
 use Rattle.fr_core.proofs.CaseLemmas.{both, both_first, both_rest}
-use Rattle.fr_logged.specs.Dues.{line_in, buffer_in, owner_or, owner_from, sender_or, sender_from, dynamic_due, due_of}
 use Rattle.fr_logged.specs.declared.due.Due.{Due}
+use Rattle.fr_logged.specs.Dues.{line_in, buffer_in, owner_or, owner_from, sender_or, sender_from, dynamic_due, due_of}
 use Rattle.fr_minislot.specs.DynamicRows.{minislots_filled_by, row_length}
 use Rattle.fr_schedule.specs.Clusters.{IsCluster, IsNode}
 use Rattle.fr_schedule.specs.Descriptions.{Description}
