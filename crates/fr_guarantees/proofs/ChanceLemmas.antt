@@ -2,7 +2,7 @@
 use Rattle.std.proofs.Common.{◌≡◌, ℕ, ◌+◌, ◌*◌, ◌<◌, ◌≤◌, ◌==◌, Bool, true, false, ◌&&◌, ◌||◌, List, length, replicate}
 use Rattle.std.proofs.Common.{Some, None, refl, sym, ap, subst, ◌∙◌, arith, slice_get, option_map}
 use Rattle.std.specs.Prelude.{nat_le, count_by}
-use Rattle.std.proofs.lemmas.Bool.{eq-eqb, le-leb, leb-true}
+use Rattle.std.proofs.lemmas.Bool.{eq-eqb, le-leb, leb-true, not-true}
 use Rattle.std.proofs.lemmas.List.{length-replicate, get_or-set_same}
 use Rattle.std.proofs.lemmas.Option.{slice_get_within}
 use Rattle.fr_core.proofs.CaseLemmas.{both, both_first, both_rest}
@@ -13,7 +13,7 @@ use Rattle.fr_core.specs.Worlds.{no_interface, interface_at, opening_world}
 use Rattle.fr_guarantees.proofs.CallLemmas.{commit_accepted, committed_ready}
 use Rattle.fr_guarantees.proofs.DelayLemmas.{fits, above, has_channel}
 use Rattle.fr_guarantees.proofs.ExactLemmas.{IsRowOf, is_way, row_of, open_at, comes}
-use Rattle.fr_guarantees.proofs.FrameLemmas.{each_at, unset, IsSending, sending_is}
+use Rattle.fr_guarantees.proofs.FrameLemmas.{IsSending, sending_is}
 use Rattle.fr_guarantees.proofs.HoldingLemmas.{nothing_kept}
 use Rattle.fr_guarantees.proofs.PassingLemmas.{IsNodeAt}
 use Rattle.fr_guarantees.proofs.TurnLemmas.{if_known}
@@ -32,6 +32,7 @@ use Rattle.fr_latency.specs.Lanes.{Opens}
 use Rattle.fr_latency.specs.Latencies.{before_slot, channel_of, is_ever_in_time, is_possible}
 use Rattle.fr_latency.specs.Openings.{can_begin, greatest}
 use Rattle.fr_minislot.specs.DynamicRows.{is_row, last_slot}
+use Rattle.fr_schedule.proofs.ClusterLemmas.{each_at}
 use Rattle.fr_schedule.specs.Clusters.{IsCluster, IsNode}
 use Rattle.fr_schedule.specs.Descriptions.{Description}
 use Rattle.fr_slots.proofs.PlaceLemmas.{same_some}
@@ -112,7 +113,7 @@ module _ (d : Description) (lawful : IsCluster d) (n number : ℕ) (plan : Plan)
   payload = replicate (2 * words_of d.params b) 0
 
   sending : is_receive b.mode ≡ false
-  sending = unset (is_receive b.mode) transmitting
+  sending = not-true (is_receive b.mode) transmitting
 
   accepts : commit_refusal s 0 number payload ≡ None
   accepts =

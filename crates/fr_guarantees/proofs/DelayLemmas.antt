@@ -15,7 +15,6 @@ use Rattle.fr_bus.specs.Record.{Recorded}
 use Rattle.fr_bus.specs.Windows.{cycles_begun, this_cycle, counts_on, is_row_of, following}
 use Rattle.fr_core.proofs.CaseLemmas.{both, both_first, both_rest}
 use Rattle.fr_guarantees.proofs.FollowingLemmas.{following_fits}
-use Rattle.fr_guarantees.proofs.FrameLemmas.{each_at}
 use Rattle.fr_guarantees.proofs.HoldingLemmas.{only_kept, other_node, other_buffer}
 use Rattle.fr_guarantees.proofs.NextRowLemmas.{row_is, cycle_is}
 use Rattle.fr_guarantees.proofs.PassingLemmas.{AreMute}
@@ -25,6 +24,7 @@ use Rattle.fr_guarantees.specs.Exactness.{HasRoom}
 use Rattle.fr_journal.specs.Offers.{is_admitting, may_begin, transmitter}
 use Rattle.fr_latency.specs.Latencies.{before_slot, channel_of, first_from}
 use Rattle.fr_minislot.specs.DynamicRows.{slot_after, has_row_after}
+use Rattle.fr_schedule.proofs.ClusterLemmas.{each_at}
 use Rattle.fr_schedule.specs.Clusters.{IsCluster, IsNode}
 use Rattle.fr_schedule.specs.Descriptions.{Description}
 use Rattle.fr_slots.proofs.FaultlessLemmas.{faultless}
@@ -136,7 +136,7 @@ turn_of plan number b window on at e =
     turn_in b window on (slot_of window on) refl (both_rest (transmits b)
     (admits_slot b.filter window.cycle on (slot_of window on)) passes)
 
-static_fits : (p : Parameters) (w : Opportunity) (on : Channel) (slot : ℕ) → window_fits p w ≡ true
+pub static_fits : (p : Parameters) (w : Opportunity) (on : Channel) (slot : ℕ) → window_fits p w ≡ true
     → is_static w ≡ true → slot_of w on ≡ Some slot → is_static_slot p slot ≡ true
 static_fits p w on slot fits static is = by on is
   where

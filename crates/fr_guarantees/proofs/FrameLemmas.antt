@@ -1,8 +1,8 @@
 -- A frame that a host commits right before its window is sent there, and the host then empties the buffer.
-use Rattle.std.proofs.Common.{◌≡◌, ℕ, ◌+◌, ◌<◌, ◌≤◌, ◌==◌, Bool, true, false, not, ◌&&◌, ◌||◌, List, [], ◌∷◌, length}
-use Rattle.std.proofs.Common.{Some, None, refl, sym, ap, subst, ◌∙◌, arith, slice_get, zero, suc}
+use Rattle.std.proofs.Common.{◌≡◌, ℕ, ◌+◌, ◌<◌, ◌≤◌, ◌==◌, true, false, ◌&&◌, List, length, Some, None, refl, sym, ap}
+use Rattle.std.proofs.Common.{subst, ◌∙◌, arith}
 use Rattle.std.specs.Prelude.{nat_le, count_by, option_map}
-use Rattle.std.proofs.lemmas.Bool.{eqb-true, le-leb, ne_eqb}
+use Rattle.std.proofs.lemmas.Bool.{eqb-true, le-leb, ne_eqb, or_right, not-true}
 use Rattle.std.proofs.lemmas.List.{length-set}
 use Rattle.arrayvec.specs.ArrayVec.{ArrayVec}
 use Rattle.fr_core.proofs.CaseLemmas.{both_first, both_rest}
@@ -32,16 +32,16 @@ use Rattle.fr_journal.proofs.LastCommitLemmas.{payload_of-next}
 use Rattle.fr_journal.specs.declared.entry.Entry.TheVariants as entries
 use Rattle.fr_journal.specs.Entries.{is_host}
 use Rattle.fr_journal.specs.Offers.{may_begin, transmitter, data_frame_of}
+use Rattle.fr_schedule.proofs.ClusterLemmas.{each_at}
 use Rattle.fr_schedule.specs.Clusters.{IsCluster, IsNode}
 use Rattle.fr_schedule.specs.Descriptions.{Description}
 use Rattle.fr_slots.proofs.FaultlessLemmas.{faultless}
-use Rattle.fr_slots.proofs.PlaceLemmas.{same_some}
 use Rattle.fr_slots.specs.Admission.{includes, cycle_admitted}
 use Rattle.fr_slots.specs.declared.channel.Channel.{Channel}
 use Rattle.fr_slots.specs.declared.plan.Buffer.{Buffer}
 use Rattle.fr_slots.specs.Faults.{HasOneSender, latest_on, transmits}
 use Rattle.fr_slots.specs.Parameters.{Parameters}
-use Rattle.fr_slots.specs.Plans.{Plan, Each, IsBuffer, buffer_at, is_receive}
+use Rattle.fr_slots.specs.Plans.{Plan, IsBuffer, buffer_at, is_receive}
 use Rattle.fr_slots.specs.Windows.{Opportunity, slot_of, is_static}
 
 -- ---- calls change one interface
@@ -78,19 +78,6 @@ between_kept w n i is =
 
 -- ---- the sender
 
-pub each_at : {X : Type 0} (P : X → Type 0) (xs : List X) (k : ℕ) (x : X) → Each P xs → slice_get xs k ≡ Some x → P x
-each_at P [] k x all at = absurd (let none : ⊥ = cc in none)
-each_at P (y ∷ ys) zero x all at = subst P (same_some y x at) all.0
-each_at P (y ∷ ys) (suc k) x all at = each_at P ys k x all.1 at
-
-pub unset : (b : Bool) → not b ≡ true → b ≡ false
-unset true e = absurd (let none : ⊥ = cc in none)
-unset false e = refl
-
-or_rest : (p q : Bool) → q ≡ true → (p || q) ≡ true
-or_rest true q e = refl
-or_rest false q e = e
-
 -- a transmit buffer of a node with tasks that sends in the slot on the channel in the cycle
 pub record IsSending (p : Parameters) (plan : Plan) (number : ℕ) (b : Buffer) (window : Opportunity)
     (channel : Channel) : Type 0 where
@@ -122,12 +109,12 @@ module _ (d : Description) (lawful : IsCluster d) (window : Opportunity) (channe
       record {
         at = can.at;
         some_task = can.some_task;
-        sending = unset (is_receive b.mode) transmitting;
+        sending = not-true (is_receive b.mode) transmitting;
         transmitting = transmitting;
         transmitter_is = transmits_there plan can.number b can.at transmitting one window channel cycle_fits
             ranges.slot_is (slot_is ∙ ap Some (sym same)) (both_rest there on in_slot)
             (both_rest (there && on) cycles admits);
-        begins = or_rest (is_static window) (nat_le window.minislot (latest_on plan channel))
+        begins = or_right (is_static window) (nat_le window.minislot (latest_on plan channel))
             (le-leb window.minislot (latest_on plan channel) can.in_time);
         one = one;
       }

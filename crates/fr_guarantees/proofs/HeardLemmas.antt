@@ -26,7 +26,7 @@ abbrev pub offer_on : Channel → Offer → Option (ArrayVec ℕ)
 offer_on A offer = offer.a
 offer_on B offer = offer.b
 
-same_channel : (channel : Channel) → is_channel channel channel ≡ true
+pub same_channel : (channel : Channel) → is_channel channel channel ≡ true
 same_channel A = refl
 same_channel B = refl
 

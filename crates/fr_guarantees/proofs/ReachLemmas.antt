@@ -3,7 +3,7 @@ use Rattle.std.proofs.Common.{◌≡◌, ℕ, zero, suc, ◌+◌, ◌-◌, ◌*�
 use Rattle.std.proofs.Common.{◌||◌, ◌⊎◌, inl, inr, List, [], ◌∷◌, ◌++◌, length, length-append, replicate, Some, None}
 use Rattle.std.proofs.Common.{refl, sym, ap, subst, ◌∙◌, arith, slice_get, is_some, option_map}
 use Rattle.std.specs.Prelude.{nat_le, sum_by, count_by}
-use Rattle.std.proofs.lemmas.Bool.{eq-eqb, le-leb, leb-true}
+use Rattle.std.proofs.lemmas.Bool.{eq-eqb, le-leb, leb-true, not-true}
 use Rattle.std.proofs.lemmas.List.{length-replicate}
 use Rattle.std.proofs.lemmas.List.Sums.{sum_by-append}
 use Rattle.std.proofs.lemmas.Nat.{mod-mul-add, mod_below}
@@ -21,7 +21,7 @@ use Rattle.fr_core.specs.Worlds.{WorldState, interface_at, opening_world}
 use Rattle.fr_guarantees.proofs.CallLemmas.{commit_accepted}
 use Rattle.fr_guarantees.proofs.DelayLemmas.{first_below, first_is, has_channel, fits, above, way_mute}
 use Rattle.fr_guarantees.proofs.ExactLemmas.{is_way, row_of, IsRowOf, open_at, comes}
-use Rattle.fr_guarantees.proofs.FrameLemmas.{each_at, unset, sending_is}
+use Rattle.fr_guarantees.proofs.FrameLemmas.{sending_is}
 use Rattle.fr_guarantees.proofs.HoldingLemmas.{nothing_kept, only_kept, this_buffer, IsHeld, is_held}
 use Rattle.fr_guarantees.proofs.LateLemmas.{ends_cycle, start_mute, passes_cycles}
 use Rattle.fr_guarantees.proofs.LeadLemmas.{leads_on}
@@ -45,6 +45,7 @@ use Rattle.fr_latency.specs.Latencies.{before_slot, channel_of, is_after, is_gua
 use Rattle.fr_latency.specs.Latencies.{last_begin_of, latest_for, wait_from, earliest_start, latest_end}
 use Rattle.fr_latency.specs.Openings.{can_begin, last_begin}
 use Rattle.fr_minislot.specs.DynamicRows.{first_minislot, row_length, slot_after, has_row_after, is_row, last_slot}
+use Rattle.fr_schedule.proofs.ClusterLemmas.{each_at}
 use Rattle.fr_schedule.specs.Clusters.{IsCluster, IsNode}
 use Rattle.fr_schedule.specs.Descriptions.{Description}
 use Rattle.fr_slots.proofs.PlaceLemmas.{same_some}
@@ -302,7 +303,7 @@ module _ (d : Description) (lawful : IsCluster d) (n number : ℕ) (plan : Plan)
       j = length f0.entries
 
       sending : is_receive b.mode ≡ false
-      sending = unset (is_receive b.mode) transmitting
+      sending = not-true (is_receive b.mode) transmitting
 
       fetched_accepts : commit_refusal f0 0 number payload ≡ None
       fetched_accepts =

@@ -96,7 +96,7 @@ no_data s window channel commit none = by (slot_of window channel)
 
 -- ---- a dynamic window without a frame of the node
 
-not_owned : (plan : Plan) (window : Opportunity) (channel : Channel) (slot : ℕ) → is_static window ≡ false
+pub not_owned : (plan : Plan) (window : Opportunity) (channel : Channel) (slot : ℕ) → is_static window ≡ false
     → owns plan window channel slot ≡ false
 not_owned plan window channel slot dynamic = ap (λ (b : Bool). is_some (cond b
     (ownership plan.owned slot channel window.cycle) None)) dynamic
@@ -108,12 +108,12 @@ nothing_offered s window channel dynamic none None = refl
 nothing_offered s window channel dynamic none (Some slot) =
     λ i. data_or (cond (not_owned s.plan window channel slot dynamic i) Null Nothing) (none i)
 
-no_frame : (s : State) (window : Opportunity) (channel : Channel) (o : Option ℕ)
+pub no_frame : (s : State) (window : Opportunity) (channel : Channel) (o : Option ℕ)
     → option_and_then (λ (slot : ℕ). frame_of_offer s.params s.plan s.entries window channel slot Nothing) o ≡ None
 no_frame s window channel None = refl
 no_frame s window channel (Some slot) = refl
 
-offer_is : (s : State) (window : Opportunity) (channel : Channel)
+pub offer_is : (s : State) (window : Opportunity) (channel : Channel)
     → offer_on channel (offer_of s window) ≡ bytes_of channel (frame_offered s.params s.plan s.entries window channel)
 offer_is s window A = refl
 offer_is s window B = refl

@@ -2,7 +2,7 @@
 use Rattle.std.proofs.Common.{◌≡◌, ℕ, ◌+◌, ◌-◌, ◌*◌, ◌%◌, ◌<◌, ◌≤◌, Bool, true, false, cond, ◌||◌, inl, inr, List}
 use Rattle.std.proofs.Common.{length, replicate, Some, None, refl, sym, ap, subst, ◌∙◌, arith, slice_get, option_map}
 use Rattle.std.specs.Prelude.{nat_le, count_by}
-use Rattle.std.proofs.lemmas.Bool.{leb-true}
+use Rattle.std.proofs.lemmas.Bool.{leb-true, not-true}
 use Rattle.std.proofs.lemmas.List.{length-replicate}
 use Rattle.std.proofs.lemmas.Nat.{mod-mul-add, mod_below}
 use Rattle.std.proofs.lemmas.Option.{slice_get_within}
@@ -18,7 +18,6 @@ use Rattle.fr_core.specs.Worlds.{WorldState, interface_at, opening_world}
 use Rattle.fr_guarantees.proofs.CallLemmas.{commit_accepted}
 use Rattle.fr_guarantees.proofs.DelayLemmas.{first_below, first_is, has_channel}
 use Rattle.fr_guarantees.proofs.ExactLemmas.{opening_at, open_at}
-use Rattle.fr_guarantees.proofs.FrameLemmas.{each_at, unset}
 use Rattle.fr_guarantees.proofs.HoldingLemmas.{nothing_kept, only_kept, this_buffer, IsHeld, is_held}
 use Rattle.fr_guarantees.proofs.LeadLemmas.{leads_on}
 use Rattle.fr_guarantees.proofs.OfferingLemmas.{fetched_by}
@@ -37,6 +36,7 @@ use Rattle.fr_journal.specs.Entries.{is_host}
 use Rattle.fr_journal.specs.Offers.{may_begin, offered, transmitter}
 use Rattle.fr_latency.specs.Latencies.{before_slot, channel_of, is_after, is_always_in_time, is_guaranteed, wait_from}
 use Rattle.fr_latency.specs.Latencies.{earliest_start, last_begin_of, latest_end}
+use Rattle.fr_schedule.proofs.ClusterLemmas.{each_at}
 use Rattle.fr_schedule.specs.Clusters.{IsCluster, IsNode}
 use Rattle.fr_schedule.specs.Descriptions.{Description}
 use Rattle.fr_slots.proofs.FaultlessLemmas.{faultless}
@@ -197,7 +197,7 @@ module _ (d : Description) (lawful : IsCluster d) (n number : ℕ) (plan : Plan)
     j = length f0.entries
 
     sending : is_receive b.mode ≡ false
-    sending = unset (is_receive b.mode) transmitting
+    sending = not-true (is_receive b.mode) transmitting
 
     fetched_accepts : commit_refusal f0 0 number payload ≡ None
     fetched_accepts =

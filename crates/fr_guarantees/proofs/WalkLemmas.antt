@@ -66,7 +66,7 @@ module _ (d : Description) (lawful : IsCluster d) (cycles most : ℕ) (room : Ha
     opens = start.opens;
   }
 
-  one_more : (w : WorldState) (rs : List Recorded) (r : Recorded) → w.bus.sealed ≡ rs ++ r ∷ []
+  pub one_more : (w : WorldState) (rs : List Recorded) (r : Recorded) → w.bus.sealed ≡ rs ++ r ∷ []
       → length w.bus.sealed ≡ length rs + 1
   one_more w rs r is = ap (λ (l : List Recorded). length l) is ∙ length-append rs (r ∷ [])
 

@@ -4,11 +4,12 @@ use Rattle.std.proofs.lemmas.Bool.{cond-true, cond-false, and_left, and_right}
 use Rattle.std.specs.Prelude.{Some, None, not, ◌&&◌}
 use Rattle.std.specs.List.{list_any}
 use Rattle.fr_frame.specs.Fields.{Fields}
+use Rattle.fr_guarantees.proofs.HeardLemmas.{same_channel}
 use Rattle.fr_hearing.proofs.CameLemmas.{IsPlain, core_at}
 use Rattle.fr_hearing.proofs.CoreLemmas.{Core, core}
 use Rattle.fr_hearing.proofs.CourseLemmas.{IsOn, next_frame}
-use Rattle.fr_hearing.proofs.OpenLemmas.{core_before, over_none}
-use Rattle.fr_hearing.proofs.RecordLemmas.{same_channel, turn_none, record_turn, other_record, at_record, own_frame}
+use Rattle.fr_hearing.proofs.OpenLemmas.{core_before, over_none, either_same}
+use Rattle.fr_hearing.proofs.RecordLemmas.{turn_none, record_turn, other_record, at_record, own_frame}
 use Rattle.fr_hearing.proofs.StepLemmas.{waiting, held_at, place_first, settle_none, good_is, spoken, settle_at}
 use Rattle.fr_hearing.proofs.StepLemmas.{settle_first, settle_next}
 use Rattle.fr_hearing.specs.Alarms.{is_on, Spells, AreOn, judged, NoFalseAlarm, NoFalseAlarmOfBoth}
@@ -322,11 +323,7 @@ at_end r channel s plain (inr (inr b)) = record {
   over = b.rest;
 }
 
-either_same : {X : Type 0} (b : Bool) (x y : X) → x ≡ y → cond b x y ≡ y
-either_same true x y e = e
-either_same false x y e = refl
-
-nothing_none : (s : State) → s.mine.heard ≡ true → tell_nothing s ≡ s
+pub nothing_none : (s : State) → s.mine.heard ≡ true → tell_nothing s ≡ s
 unfolding tell_nothing
 nothing_none s heard_is =
     cond-false (has_sender_in s.rules s.channel && says_nothing s)
@@ -387,7 +384,7 @@ turn_found s channel = by (is_channel s.channel channel)
     by true = refl
     by false = refl
 
-double : (c : Channel) → other_channel (other_channel c) ≡ c
+pub double : (c : Channel) → other_channel (other_channel c) ≡ c
 double A = refl
 double B = refl
 

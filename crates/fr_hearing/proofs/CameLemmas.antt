@@ -76,10 +76,10 @@ static_at r channel s at d spot f e plain is =
 pub still_least : (a b m : ℕ) → min (min a m + b) m ≡ min (a + b) m
 still_least a b m = omega arith
 
-least_below : (a b m n : ℕ) → a + b ≤ n → min (min a m + b) m ≤ n
+pub least_below : (a b m n : ℕ) → a + b ≤ n → min (min a m + b) m ≤ n
 least_below a b m n le = omega arith
 
-opens_by_limit : (n a b : ℕ) → a + b ≤ n → counted (min a most_counted) b ≤ n
+pub opens_by_limit : (n a b : ℕ) → a + b ≤ n → counted (min a most_counted) b ≤ n
 opens_by_limit n a b le = least_below a b most_counted n le
 
 dynamic_core : (s : State) (f : Fields) (at : At) (d : Option Due) → dynamic_finding d f ≡ None
@@ -113,7 +113,7 @@ placed_none r channel s d spot f e is =
     by false none = refl
 
 -- the limit is taken once
-limits : (a b c d : ℕ)
+pub limits : (a b c d : ℕ)
     → counted (counted (counted (min a most_counted) b) c) d ≡ min (a + b + c + d) most_counted
 limits a b c d =
     ap (λ (n : ℕ). counted (counted n c) d) (still_least a b most_counted)

@@ -27,7 +27,7 @@ same_cycle_after p s f = by (nat_le f.id p.static_slots)
     by true = refl
     by false = refl
 
-last_after_frame : (p : Parameters) (s : Spot) (f : Fields) → (after_frame p s f).last ≡ f.id
+pub last_after_frame : (p : Parameters) (s : Spot) (f : Fields) → (after_frame p s f).last ≡ f.id
 last_after_frame p s f = by (nat_le f.id p.static_slots)
   where
     by : (b : Bool) → (let t : Spot = cond b (record s { last = f.id }) (after_dynamic p s f) in t).last ≡ f.id

@@ -10,8 +10,8 @@ use Rattle.fr_core.specs.Worlds.{WorldState}
 use Rattle.fr_frame.specs.declared.decode.DecodeError.{DecodeError}
 use Rattle.fr_frame.specs.declared.decode.DecodeError.TheVariants.{TooShort, LengthMismatch, HeaderCrc, FrameCrc}
 use Rattle.fr_frame.specs.Refusal.{refusal}
+use Rattle.fr_guarantees.proofs.OfferLemmas.{length-frame}
 use Rattle.fr_hearing.proofs.HearingLemmas.{window_heard, each_heard}
-use Rattle.fr_hearing.proofs.OwnersLaws.{length-frame}
 use Rattle.fr_hearing.proofs.PassageLemmas.{IsHeardAt}
 use Rattle.fr_hearing.proofs.ReadingLemmas.{bytes_more, records_more, IsReady, read_item, started, none_yet}
 use Rattle.fr_hearing.proofs.RunLaws.{no_alarm_in_run, no_alarm_of_both, all_quiet}
@@ -98,7 +98,7 @@ own_made channel (Bytes bytes) rs more packets made rest =
     (packet channel (refusal channel bytes.items) bytes.items ∷ packets)) (sym made.1)
     (inr (made.0, packet channel (refusal channel bytes.items) bytes.items, packets, refl, refl, rest))
 
-not_on : (channel other : Channel) (error : Option DecodeError) (bytes : List ℕ) → is_channel channel other ≡ false
+pub not_on : (channel other : Channel) (error : Option DecodeError) (bytes : List ℕ) → is_channel channel other ≡ false
     → is_on channel (kind_of link_type (packet other error bytes)) ≡ false
 not_on channel A error bytes is_other = is_other
 not_on channel B error bytes is_other = is_other

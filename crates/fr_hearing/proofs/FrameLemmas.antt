@@ -13,7 +13,7 @@ use Rattle.fr_logged.specs.Rules.{same, is_zero, preamble_finding, null_finding,
 use Rattle.fr_logged.specs.Rules.{words_finding, dynamic_rules, minislot_finding, bits_finding}
 use Rattle.fr_slots.specs.Parameters.{Parameters}
 
-same_self : (b : Bool) → same b b ≡ true
+pub same_self : (b : Bool) → same b b ≡ true
 same_self true = refl
 same_self false = refl
 

@@ -8,13 +8,15 @@ use Rattle.std.proofs.lemmas.Option.{slice_get-get_or}
 use Rattle.fr_bus.specs.declared.outcome.Sent.{Sent}
 use Rattle.fr_bus.specs.Outcome.{all_passed, heard_of, received, overruns, longest}
 use Rattle.fr_bus.specs.Record.{Recorded, corrupt_on, heard}
-use Rattle.fr_core.proofs.FollowLemmas.{world_follows, world_configured, legal_at}
 use Rattle.fr_core.specs.Headline.{Headline}
 use Rattle.fr_core.specs.Worlds.{WorldState, no_interface}
 use Rattle.fr_frame.specs.Fields.{Fields}
+use Rattle.fr_guarantees.proofs.DelayLemmas.{static_fits}
+use Rattle.fr_guarantees.proofs.HeldTableLaws.{not_static}
+use Rattle.fr_guarantees.proofs.OfferLemmas.{length-frame}
 use Rattle.fr_hearing.proofs.CycleLemmas.{AreHeardAt}
-use Rattle.fr_hearing.proofs.ListenLaws.{handed_by, fetch_fits, static_slot_is, dynamic_slot_is}
-use Rattle.fr_hearing.proofs.OwnersLaws.{owners_are_heard, length-frame}
+use Rattle.fr_hearing.proofs.ListenLaws.{handed_by, fetch_fits}
+use Rattle.fr_hearing.proofs.OwnersLaws.{owners_are_heard}
 use Rattle.fr_hearing.proofs.PassageLemmas.{IsQuiet, IsLoud, IsHeardAt}
 use Rattle.fr_hearing.proofs.SingleLemmas.{none_there, alone, IsLone}
 use Rattle.fr_hearing.proofs.SizeLemmas.{filled_same, static_words, dynamic_sized}
@@ -53,14 +55,14 @@ module _ (d : Description) (cluster : IsCluster d) (w : Opportunity) (channel : 
   ends true static there bytes size =
       let words = there.owners.words in
       let due_words = static_words d slot channel w.cycle there.due
-      (static_slot_is d.params w channel slot fits static slot_is) there.due_is in
+      (static_fits d.params w channel slot fits static slot_is) there.due_is in
       cond-true (is_static w) (nat_lt (8 + 2 * d.params.static_words) bytes)
       (nat_lt d.params.minislots (w.minislot - 1 + minislots_filled_by d.params bytes)) static
       ∙ le-ltb (8 + 2 * d.params.static_words) bytes (omega (arith, size, words, due_words))
   ends false dynamic there bytes size =
       let words = there.words in
       let sized = dynamic_sized d slot channel w.cycle there.due cluster
-      (dynamic_slot_is d.params w channel slot fits dynamic slot_is) there.due_is in
+      (not_static d.params w channel slot fits dynamic slot_is) there.due_is in
       let some : 1 ≤ w.minislot = by_zero w.minislot dynamic in
       let in_time = there.in_time in
       let last = sized.ends (omega (arith, some, in_time)) in
@@ -79,13 +81,13 @@ module _ (d : Description) (cluster : IsCluster d) (w : Opportunity) (channel : 
   few_bytes true static there =
       let words = there.owners.words in
       let due_words = static_words d slot channel w.cycle there.due
-      (static_slot_is d.params w channel slot fits static slot_is) there.due_is in
+      (static_fits d.params w channel slot fits static slot_is) there.due_is in
       let most : d.params.static_words ≤ 127 = cluster.params_are.static_words_fit.at_most in
       omega (arith, words, due_words, most)
   few_bytes false dynamic there =
       let words = there.words in
       let sized = dynamic_sized d slot channel w.cycle there.due cluster
-      (dynamic_slot_is d.params w channel slot fits dynamic slot_is) there.due_is in
+      (not_static d.params w channel slot fits dynamic slot_is) there.due_is in
       let most = sized.words_fit in
       omega (arith, words, most)
 
@@ -100,11 +102,7 @@ module _ (w : WorldState) (head : Headline w) (channel : Channel) (healthy : IsH
       let as_many : length w.interfaces ≡ length d.plans = head.agrees.agrees.a_station_each ∙ head.run.one_each in
       let some : 0 < length w.interfaces = (let nodes = cluster.some_nodes in omega (arith, as_many, nodes)) in
       let s = get_or w.interfaces 0 no_interface in
-      let h = handed_by d w.bus.cycles w.interfaces w.bus.sealed cluster (legal_at w.interfaces head.legal)
-      (world_follows w head.agrees)
-      (λ n s here. let c = world_configured w head.agrees n s here in c.params_are)
-      (λ n s here. let c = world_configured w head.agrees n s here in c.plan_at)
-      as_many head.run.recorded channel healthy.sound 0 k s r (slice_get-get_or w.interfaces 0 no_interface some) at in
+      let h = handed_by w head 0 k s r (slice_get-get_or w.interfaces 0 no_interface some) at in
       fetch_fits d 0 s h.before r.window h.a h.b h.fetched_is
 
   silent : all_passed channel r.sent ≡ [] → heard w.bus.cluster.params r channel ≡ Silence
@@ -118,7 +116,7 @@ module _ (w : WorldState) (head : Headline w) (channel : Channel) (healthy : IsH
     where
       owned : (node : ℕ) → IsSender w.bus.cluster r.window.cycle slot channel node → ⊥
       owned node sender =
-          let static_slot = static_slot_is w.bus.cluster.params r.window channel slot window_here static slot_is in
+          let static_slot = static_fits w.bus.cluster.params r.window channel slot window_here static slot_is in
           let heard_is = owners_are_heard w head channel healthy.sound k slot node r at (healthy.intact k r at) static
           slot_is
           (record {
@@ -170,17 +168,8 @@ module _ (w : WorldState) (head : Headline w) (channel : Channel) (healthy : IsH
       either slot slot_is (inr lone) = inr (loud slot slot_is lone)
 
       by : (o : Option ℕ) → slot_of r.window channel ≡ o → IsHeardAt w.bus.cluster channel r
-      by None none = inl (quiet (none_there w.bus.cluster w.bus.cycles w.interfaces w.bus.sealed head.run.lawful
-          (legal_at w.interfaces head.legal) (world_follows w head.agrees)
-          (λ n s here. let c = world_configured w head.agrees n s here in c.params_are)
-          (λ n s here. let c = world_configured w head.agrees n s here in c.plan_at)
-          (head.agrees.agrees.a_station_each ∙ head.run.one_each) head.run.recorded channel healthy.sound k r at none))
-      by (Some slot) is = either slot is (alone w.bus.cluster w.bus.cycles w.interfaces w.bus.sealed head.run.lawful
-          (legal_at w.interfaces head.legal) (world_follows w head.agrees)
-          (λ n s here. let c = world_configured w head.agrees n s here in c.params_are)
-          (λ n s here. let c = world_configured w head.agrees n s here in c.plan_at)
-          (head.agrees.agrees.a_station_each ∙ head.run.one_each) head.run.recorded channel healthy.sound k r at slot
-          is)
+      by None none = inl (quiet (none_there w head channel healthy.sound k r at none))
+      by (Some slot) is = either slot is (alone w head channel healthy.sound k r at slot is)
 
 pub each_heard : (d : Description) (channel : Channel) (rs : List Recorded)
     → ((k : ℕ) (r : Recorded) → slice_get rs k ≡ Some r → IsHeardAt d channel r) → AreHeardAt d channel rs

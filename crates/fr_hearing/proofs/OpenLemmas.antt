@@ -70,7 +70,7 @@ begun_core : (s : State) (f : Fields) (at : At) → core (record s { mine = begu
     })
 begun_core s f at = refl
 
-either_same : {X : Type 0} (b : Bool) (x y : X) → x ≡ y → cond b x y ≡ y
+pub either_same : {X : Type 0} (b : Bool) (x y : X) → x ≡ y → cond b x y ≡ y
 either_same true x y e = e
 either_same false x y e = refl
 

@@ -8,7 +8,8 @@ use Rattle.std.specs.Prelude.{is_some, ◌==◌, ◌||◌}
 use Rattle.std.specs.List.{find, list_any}
 use Rattle.fr_core.proofs.CaseLemmas.{both_first, both_rest}
 use Rattle.fr_core.proofs.TakingLemmas.{in_slot}
-use Rattle.fr_hearing.proofs.OfferLaws.{some_buffer, line_is}
+use Rattle.fr_guarantees.proofs.OfferLemmas.{some_buffer}
+use Rattle.fr_hearing.proofs.OfferLaws.{line_is}
 use Rattle.fr_journal.specs.declared.entry.Offered.{Offered}
 use Rattle.fr_journal.specs.declared.entry.Offered.TheVariants.{Nothing, Null, Data}
 use Rattle.fr_journal.specs.Forms.{Entry}

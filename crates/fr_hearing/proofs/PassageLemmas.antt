@@ -109,7 +109,7 @@ cycle_below c = mod_below (c.begun - 1) 64 (omega arith)
 
 -- ---- a static window
 
-slot_static : (channel : Channel) (number cycle slot : ℕ) → slot_of (static_window number cycle slot) channel
+pub slot_static : (channel : Channel) (number cycle slot : ℕ) → slot_of (static_window number cycle slot) channel
     ≡ Some slot
 slot_static A number cycle slot = refl
 slot_static B number cycle slot = refl

@@ -3,6 +3,7 @@ use Rattle.std.proofs.Common.{◌≡◌, ℕ, ◌≤◌, Bool, true, false, cond
 use Rattle.std.proofs.lemmas.Bool.{cond-true, cond-false, le-ltb, leb-true, ne_eqb, and_left, and_right}
 use Rattle.std.specs.Prelude.{Ok, nat_le, nat_lt, ◌==◌, ◌&&◌}
 use Rattle.fr_frame.specs.Fields.{Fields}
+use Rattle.fr_guarantees.proofs.HeardLemmas.{same_channel}
 use Rattle.fr_hearing.proofs.CoreLemmas.{core}
 use Rattle.fr_hearing.specs.Alarms.{is_on}
 use Rattle.fr_hearing.specs.Heard.{Spot, IsAllowed, IsAllowedAs}
@@ -25,10 +26,6 @@ use Rattle.fr_slots.specs.declared.channel.Channel.{Channel}
 use Rattle.fr_slots.specs.declared.channel.Channel.TheVariants.{A, B}
 
 -- ---- the channel that stands first
-
-pub same_channel : (c : Channel) → is_channel c c ≡ true
-same_channel A = refl
-same_channel B = refl
 
 pub turn_none : (s : State) (channel : Channel) → s.channel ≡ channel → turn s channel ≡ s
 turn_none s channel e =

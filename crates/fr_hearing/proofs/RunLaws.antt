@@ -20,12 +20,12 @@ use Rattle.fr_frame.specs.declared.decode.DecodeError.{DecodeError}
 use Rattle.fr_frame.specs.Encoding.{encoded}
 use Rattle.fr_frame.specs.Fields.{Fields, IsFrame}
 use Rattle.fr_frame.specs.Refusal.{refusal}
+use Rattle.fr_guarantees.proofs.HeardLemmas.{same_channel}
 use Rattle.fr_hearing.proofs.AlarmLaws.{no_false_alarm, no_false_alarm_of_both}
 use Rattle.fr_hearing.proofs.CaptureLaws.{read, reads_back}
 use Rattle.fr_hearing.proofs.CycleLemmas.{AreHeardAt, frames_of, Begins, from_start, are_heard}
 use Rattle.fr_hearing.proofs.HearingLemmas.{window_heard, each_heard}
 use Rattle.fr_hearing.proofs.PassageLemmas.{IsHeardAt, with_frame}
-use Rattle.fr_hearing.proofs.RecordLemmas.{same_channel}
 use Rattle.fr_hearing.proofs.SilenceLaws.{no_alarm_in_silence, nothing_due}
 use Rattle.fr_hearing.proofs.SizeLemmas.{static_words, dynamic_sized}
 use Rattle.fr_hearing.specs.Alarms.{Spells, AreOn, judged}
@@ -122,7 +122,7 @@ module _ (d : Description) (channel : Channel) (cluster : IsCluster d) where
         payload_fits = record { short = omega (arith, words, most); even = omega (arith, words) };
       }
 
-  follow_frames : (s : Spot) (fs : List Fields) → FollowOn d channel s fs → Each IsFrame fs
+  pub follow_frames : (s : Spot) (fs : List Fields) → FollowOn d channel s fs → Each IsFrame fs
   follow_frames s [] over = tt
   follow_frames s (f ∷ fs) (inl further) =
       (is_frame s f further.0.allowed, follow_frames (after_frame d.params s f) fs further.1)

@@ -1,9 +1,10 @@
 -- A channel without a sender has no frame and no finding.
-use Rattle.std.proofs.Common.{◌≡◌, ℕ, zero, suc, Bool, true, false, not, cond, ◌&&◌, ◌||◌, List, [], ◌∷◌, refl, sym, ap}
-use Rattle.std.proofs.Common.{◌∙◌, inl, inr, Some, None, slice_get}
+use Rattle.std.proofs.Common.{◌≡◌, ℕ, Bool, true, false, not, cond, ◌&&◌, ◌||◌, List, [], ◌∷◌, refl, sym, ap, ◌∙◌, inl}
+use Rattle.std.proofs.Common.{inr, Some, None}
 use Rattle.std.proofs.lemmas.Bool.{cond-false, eqb-true}
 use Rattle.std.specs.Prelude.{◌==◌}
 use Rattle.std.specs.List.{list_any}
+use Rattle.std.proofs.lemmas.Map.Keys.{any_passes_from_place}
 use Rattle.fr_bus.specs.Record.{Recorded}
 use Rattle.fr_core.proofs.CaseLemmas.{both, both_first, both_rest, differ}
 use Rattle.fr_frame.specs.Fields.{Fields}
@@ -23,7 +24,6 @@ use Rattle.fr_logged.specs.Dues.{due_of}
 use Rattle.fr_recording.specs.Records.{Record}
 use Rattle.fr_schedule.specs.Descriptions.{Description}
 use Rattle.fr_schedule.specs.SenderTable.{IsSender}
-use Rattle.fr_slots.proofs.PlaceLemmas.{same_some}
 use Rattle.fr_slots.specs.Admission.{is_channel, includes, cycle_admitted}
 use Rattle.fr_slots.specs.declared.channel.Channel.{Channel}
 use Rattle.fr_slots.specs.declared.channel.Channel.TheVariants.{A, B}
@@ -50,17 +50,6 @@ any_more p q (x ∷ xs) more some = by (p x) refl some (any_more p q xs more)
     by true is e rest = ap (λ (b : Bool). b || list_any q xs) (more x is)
     by false is e rest = ap (λ (b : Bool). q x || b) (rest e) ∙ or_true (q x)
 
-any_at : {X : Type 0} (test : X → Bool) (xs : List X) (k : ℕ) (x : X) → slice_get xs k ≡ Some x → test x ≡ true
-    → list_any test xs ≡ true
-any_at test [] k x at passes = absurd (let none : ⊥ = cc in none)
-any_at test (y ∷ xs) zero x at passes =
-    ap (λ (b : Bool). b || list_any test xs) (ap test (same_some y x at) ∙ passes)
-any_at test (y ∷ xs) (suc k) x at passes = by (test y) (any_at test xs k x at passes)
-  where
-    by : (b : Bool) → list_any test xs ≡ true → (b || list_any test xs) ≡ true
-    by true rest = refl
-    by false rest = rest
-
 module _ (d : Description) (channel : Channel) (slot cycle : ℕ) where
   owner_sends : (own : Own) → claims slot channel cycle own ≡ true → own_includes channel own ≡ true
   owner_sends own e =
@@ -83,7 +72,7 @@ module _ (d : Description) (channel : Channel) (slot cycle : ℕ) where
 
   some_sender : (node : ℕ) → IsSender d cycle slot channel node → has_sender d channel ≡ true
   some_sender node s =
-      any_at (sends_on d.params channel) d.plans node s.plan s.at (by (is_static_slot d.params slot) refl s.sends)
+      any_passes_from_place (sends_on d.params channel) d.plans node s.plan s.at (by (is_static_slot d.params slot) refl s.sends)
     where
       or_rest : (p q : Bool) → q ≡ true → (p || q) ≡ true
       or_rest true q e = refl

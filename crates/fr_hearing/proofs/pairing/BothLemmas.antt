@@ -1,10 +1,10 @@
 -- A transmit buffer for both channels offers the same on both.
-use Rattle.std.proofs.Common.{◌≡◌, ℕ, zero, suc, ◌*◌, ◌<◌, Bool, true, false, cond, ◌&&◌, List, [], ◌∷◌, refl, sym, ap}
-use Rattle.std.proofs.Common.{◌∙◌, Option, Some, None, replicate, slice_get}
+use Rattle.std.proofs.Common.{◌≡◌, ℕ, ◌*◌, ◌<◌, Bool, true, false, cond, ◌&&◌, List, refl, sym, ap, ◌∙◌, Option, Some}
+use Rattle.std.proofs.Common.{None, replicate, slice_get}
 use Rattle.std.proofs.lemmas.Bool.{eqb-true}
-use Rattle.std.specs.List.{list_any}
 use Rattle.std.specs.Option.{option_and_then}
 use Rattle.std.specs.Prelude.{is_some, nat_le, ◌==◌, ◌||◌}
+use Rattle.std.proofs.lemmas.Map.Keys.{any_passes_from_place}
 use Rattle.fr_core.proofs.CaseLemmas.{both, both_first, both_rest}
 use Rattle.fr_frame.specs.Fields.{Fields}
 use Rattle.fr_hearing.proofs.OfferLaws.{transmitter_is}
@@ -103,17 +103,6 @@ transmitter_of plan w channel slot b slot_is found =
       sends = (found_at (sends_at slot channel w.cycle) plan.buffers b found).passes;
     }
 
-any_at : {X : Type 0} (test : X → Bool) (xs : List X) (k : ℕ) (x : X) → slice_get xs k ≡ Some x → test x ≡ true
-    → list_any test xs ≡ true
-any_at test [] k x at passes = absurd (let none : ⊥ = cc in none)
-any_at test (y ∷ xs) zero x at passes =
-    ap (λ (b : Bool). b || list_any test xs) (ap test (same_some y x at) ∙ passes)
-any_at test (y ∷ xs) (suc k) x at passes = by (test y) (any_at test xs k x at passes)
-  where
-    by : (b : Bool) → list_any test xs ≡ true → (b || list_any test xs) ≡ true
-    by true rest = refl
-    by false rest = rest
-
 module _ (p : Parameters) (plan : Plan) (w : Opportunity) (slot : ℕ) (here there : Channel)
     (fine : plan_fault p plan ≡ None) (fits : w.cycle < 64) (is_slot : IsSlot slot)
     (slot_here : slot_of w here ≡ Some slot) (slot_there : slot_of w there ≡ Some slot)
@@ -123,7 +112,7 @@ module _ (p : Parameters) (plan : Plan) (w : Opportunity) (slot : ℕ) (here the
       let x = transmitter_of plan w here slot twin.buffer slot_here twin.found in
       let sends = sends_there slot here there w.cycle twin.buffer twin.both x.sends in
       let other = some_found_in (sends_at slot there w.cycle) plan.buffers
-      (any_at (sends_at slot there w.cycle) plan.buffers x.number twin.buffer x.at sends) in
+      (any_passes_from_place (sends_at slot there w.cycle) plan.buffers x.number twin.buffer x.at sends) in
       let y = transmitter_of plan w there slot other.value slot_there other.is in
       let same : x.number ≡ y.number = (faultless p plan fine).one_sender slot there w.cycle x.number y.number
       twin.buffer other.value fits is_slot (record { at = x.at; sends = sends })

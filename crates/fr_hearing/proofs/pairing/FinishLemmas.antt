@@ -1,8 +1,8 @@
 -- Both lanes at the start of a cycle, between records, and at the end of the recording.
 use Rattle.std.proofs.Common.{◌≡◌, ℕ, ◌+◌, ◌-◌, ◌%◌, ◌≤◌, Bool, true, false, cond, refl, sym, ap, subst, ◌∙◌, arith}
 use Rattle.std.proofs.Common.{◌⊎◌, inl, inr, Some, None}
-use Rattle.std.proofs.lemmas.Bool.{cond-false, and_left, and_right}
-use Rattle.std.specs.Prelude.{min, not, ◌&&◌}
+use Rattle.std.specs.Prelude.{min}
+use Rattle.fr_hearing.proofs.AlarmLaws.{nothing_none}
 use Rattle.fr_hearing.proofs.pairing.GoodLemmas.{freed_view, settle_begun, settle_between}
 use Rattle.fr_hearing.proofs.pairing.JointLemmas.{Pending, IsPending, IsSettled, HasSpoken, Stage, abs, Bounds, bounds}
 use Rattle.fr_hearing.proofs.pairing.JointLemmas.{Joint, clean_by, counted_more, stage_with_alone, abs_with_alone}
@@ -13,21 +13,14 @@ use Rattle.fr_hearing.proofs.pairing.ViewLemmas.{AgreesBeside, LaneView, View, v
 use Rattle.fr_hearing.proofs.StepLemmas.{settle_none}
 use Rattle.fr_hearing.specs.Heard.{Spot, cycle_start, IsOver}
 use Rattle.fr_judging.specs.declared.rules.Rules.{Rules}
-use Rattle.fr_judging.specs.Judging.{State, settle, end_cycle, tell_nothing, tell_end, says_nothing, find, symbol_place}
-use Rattle.fr_judging.specs.Rules.{due_at, other_channel, has_sender_in}
+use Rattle.fr_judging.specs.Judging.{State, settle, end_cycle, tell_nothing, tell_end}
+use Rattle.fr_judging.specs.Rules.{due_at, other_channel}
 use Rattle.fr_logged.specs.declared.due.Due.{Due}
 use Rattle.fr_logged.specs.declared.finding.Name.TheVariants as name
-use Rattle.fr_logged.specs.Findings.{bare}
 use Rattle.fr_recording.specs.Numbers.{counted, most_counted}
 use Rattle.fr_slots.proofs.PlaceLemmas.{same_some}
 use Rattle.fr_slots.specs.declared.channel.Channel.{Channel}
 use Rattle.fr_slots.specs.declared.channel.Channel.TheVariants.{A, B}
-
-no_nothing : (s : State) → s.mine.heard ≡ true → tell_nothing s ≡ s
-unfolding tell_nothing
-no_nothing s e =
-    cond-false (has_sender_in s.rules s.channel && says_nothing s) (find s None (symbol_place s) (bare name.Nothing)) s
-    (and_right (has_sender_in s.rules s.channel) (says_nothing s) (and_left (not s.mine.heard) _ (ap not e)))
 
 abbrev pub swapped : View → View
 swapped v = record v { mine = v.other; other = v.mine; channel = other_channel v.channel }
@@ -376,4 +369,4 @@ module _ (r : Rules) (pair : IsPair r) (static_few : r.cluster.params.static_slo
       either_same false x y e = refl
 
       nothing_told : (x : State) → x.mine.heard ≡ true → tell_nothing x ≡ x
-      nothing_told x e = no_nothing x e
+      nothing_told x e = nothing_none x e

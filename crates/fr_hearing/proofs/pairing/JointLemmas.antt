@@ -1,11 +1,11 @@
 -- Both lanes of a judge beside a run without faults, and the next frame of one of them.
-use Rattle.std.proofs.Common.{◌≡◌, ℕ, ◌+◌, ◌-◌, ◌%◌, ◌<◌, ◌≤◌, Bool, true, false, cond, List, refl, sym, ap, subst, ◌∙◌}
-use Rattle.std.proofs.Common.{arith, ◌⊎◌, inl, inr, Option, Some, None}
+use Rattle.std.proofs.Common.{◌≡◌, ℕ, ◌+◌, ◌-◌, ◌%◌, ◌<◌, ◌≤◌, true, false, List, refl, sym, ap, subst, ◌∙◌, arith, ◌⊎◌}
+use Rattle.std.proofs.Common.{inl, inr, Option, Some, None}
 use Rattle.std.proofs.lemmas.Bool.{ltb-true, ne_eqb}
-use Rattle.std.specs.Prelude.{min, nat_lt, nat_le}
+use Rattle.std.specs.Prelude.{min, nat_lt}
 use Rattle.fr_frame.specs.Fields.{Fields}
 use Rattle.fr_hearing.proofs.CountLemmas.{opens_same, opens_first, opens_next, not_same}
-use Rattle.fr_hearing.proofs.CourseLemmas.{same_cycle_after}
+use Rattle.fr_hearing.proofs.CourseLemmas.{same_cycle_after, last_after_frame}
 use Rattle.fr_hearing.proofs.pairing.GoodLemmas.{held_view, freed_view, spoken_view, hold_is, place_is, settle_begun}
 use Rattle.fr_hearing.proofs.pairing.GoodLemmas.{settle_between}
 use Rattle.fr_hearing.proofs.pairing.OpeningLemmas.{Opened, IsHeardOf, alone_after}
@@ -13,7 +13,7 @@ use Rattle.fr_hearing.proofs.pairing.SideLemmas.{FrameMap, AreAlike, CountOk, Sh
 use Rattle.fr_hearing.proofs.pairing.SideLemmas.{shown_next, shown_aside, heard_of, alone_more}
 use Rattle.fr_hearing.proofs.pairing.ViewLemmas.{AgreesBeside, LaneView, View, view, at_spot, ShownBy, IsPair, IsClean}
 use Rattle.fr_hearing.proofs.StepLemmas.{held_at, settle_none, good_is}
-use Rattle.fr_hearing.specs.Heard.{Spot, cycle_start, after_frame, after_dynamic, IsFirst, IsFurther, IsNext, IsOver}
+use Rattle.fr_hearing.specs.Heard.{Spot, cycle_start, after_frame, IsFirst, IsFurther, IsNext, IsOver}
 use Rattle.fr_judging.specs.declared.judge.Shown.{Shown}
 use Rattle.fr_judging.specs.declared.lane.Held.{Held}
 use Rattle.fr_judging.specs.declared.line.At.{At}
@@ -25,14 +25,6 @@ use Rattle.fr_logged.specs.declared.due.Due.{Due}
 use Rattle.fr_recording.specs.Numbers.{counted, most_counted}
 use Rattle.fr_slots.proofs.PlaceLemmas.{same_some}
 use Rattle.fr_slots.specs.declared.channel.Channel.{Channel}
-use Rattle.fr_slots.specs.Parameters.{Parameters}
-
-last_after : (p : Parameters) (t : Spot) (f : Fields) → (after_frame p t f).last ≡ f.id
-last_after p t f = by (nat_le f.id p.static_slots)
-  where
-    by : (b : Bool) → (let u : Spot = cond b (record t { last = f.id }) (after_dynamic p t f) in u).last ≡ f.id
-    by true = refl
-    by false = refl
 
 pub counted_more : (a m : ℕ) → a + 1 ≤ m → min (a + 1) m ≡ a + 1
 counted_more a m few = omega (arith, few)
@@ -674,7 +666,7 @@ module _ (r : Rules) (pair : IsPair r) (static_few : r.cluster.params.static_slo
 
       spot_last : spot.last ≡ is.held.frame.id
       spot_last = ap (λ (x : Spot). x.last) is.spot_is
-          ∙ last_after r.cluster.params (cycle_start r.cluster.params is.held.frame.cycle) is.held.frame
+          ∙ last_after_frame r.cluster.params (cycle_start r.cluster.params is.held.frame.cycle) is.held.frame
 
       opens_here : t ≡ spot → (c : Option ℕ) → opens c (next_of is.held.frame) (Some (next_of f)) ≡ true
       opens_here here c =

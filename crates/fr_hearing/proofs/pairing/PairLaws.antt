@@ -10,8 +10,8 @@ use Rattle.fr_capture.specs.Pcap.{packet}
 use Rattle.fr_core.specs.Headline.{Headline}
 use Rattle.fr_core.specs.Worlds.{WorldState}
 use Rattle.fr_frame.specs.Refusal.{refusal}
+use Rattle.fr_guarantees.proofs.OfferLemmas.{length-frame}
 use Rattle.fr_hearing.proofs.HearingLemmas.{window_heard, each_heard}
-use Rattle.fr_hearing.proofs.OwnersLaws.{length-frame}
 use Rattle.fr_hearing.proofs.pairing.QuietLemmas.{packets_of_one, packets_are_of, are_logged, none_logged}
 use Rattle.fr_hearing.proofs.pairing.QuietLemmas.{no_alarm_of_none}
 use Rattle.fr_hearing.proofs.pairing.TwinLemmas.{IsInRun, each_in_run, are_alike}

@@ -1,104 +1,50 @@
 -- Where a buffer for both channels sends in a static slot, a listener receives the same frame on both.
-use Rattle.std.proofs.Common.{◌≡◌, ℕ, ◌-◌, ◌<◌, ◌≤◌, Bool, true, false, cond, List, [], ◌∷◌, ◌++◌, length, map, Option}
-use Rattle.std.proofs.Common.{Some, None, refl, sym, ap, subst, ◌∙◌, arith, slice_get}
+use Rattle.std.proofs.Common.{◌≡◌, ℕ, ◌-◌, ◌<◌, ◌≤◌, Bool, true, false, List, [], ◌∷◌, ◌++◌, length, Some, refl, sym}
+use Rattle.std.proofs.Common.{ap, subst, ◌∙◌, arith, slice_get}
 use Rattle.std.proofs.lemmas.Bool.{leb-false}
 use Rattle.std.proofs.lemmas.List.{append_assoc}
 use Rattle.arrayvec.specs.ArrayVec.{ArrayVec}
-use Rattle.fr_bus.specs.declared.outcome.Sent.{Sent}
-use Rattle.fr_bus.specs.Outcome.{all_passed, passed_on, heard_of, overruns}
 use Rattle.fr_bus.specs.Record.{Recorded, offer_in}
 use Rattle.fr_bus.specs.States.{IsRecorded}
 use Rattle.fr_bus.specs.Windows.{cycles_begun, following}
-use Rattle.fr_core.proofs.FollowLemmas.{world_follows, world_configured, legal_at}
-use Rattle.fr_core.proofs.HandingLemmas.{fetch_of, bytes_on, offer_is}
-use Rattle.fr_core.proofs.ReceiverLemmas.{handed_is_offered}
-use Rattle.fr_core.specs.Agreeing.{Handed, fetched, offers_of}
+use Rattle.fr_core.proofs.HandingLemmas.{offer_is}
 use Rattle.fr_core.specs.Headline.{Headline}
-use Rattle.fr_core.specs.Receivers.{offered_on}
 use Rattle.fr_core.specs.Worlds.{WorldState}
 use Rattle.fr_frame.proofs.EncodingLemmas.{encoded_is_decoded}
 use Rattle.fr_frame.specs.Decoding.{decoded}
 use Rattle.fr_frame.specs.Encoding.{encoded}
 use Rattle.fr_frame.specs.Fields.{Fields, IsFrame}
-use Rattle.fr_hearing.proofs.ListenLaws.{filter_from, frame_of, static_slot_is, dynamic_slot_is, not_nothing}
-use Rattle.fr_hearing.proofs.ListenLaws.{fetch_legal, fetch_range, fetch_fits, static_there, sent_by}
-use Rattle.fr_hearing.proofs.OfferLaws.{line_is}
-use Rattle.fr_hearing.proofs.OwnedLemmas.{offers_own}
+use Rattle.fr_guarantees.proofs.DelayLemmas.{static_fits}
+use Rattle.fr_guarantees.proofs.HeldTableLaws.{not_static}
+use Rattle.fr_hearing.proofs.ListenLaws.{frame_of, received_from, handed_by, IsHanded, fetch_legal, fetch_range}
+use Rattle.fr_hearing.proofs.ListenLaws.{fetch_fits, static_there, sent_by}
 use Rattle.fr_hearing.proofs.pairing.BothLemmas.{IsTwin, is_twin, owned_there, offers_alike}
 use Rattle.fr_hearing.proofs.pairing.OnceLemmas.{same_level, statics_are}
 use Rattle.fr_hearing.proofs.pairing.SideLemmas.{AreAlike, both_static, in_range}
 use Rattle.fr_hearing.proofs.pairing.ViewLemmas.{Alike}
 use Rattle.fr_hearing.proofs.pairing.WalkLemmas.{AreMapped}
 use Rattle.fr_hearing.proofs.PassageLemmas.{IsLoud}
+use Rattle.fr_hearing.proofs.SingleLemmas.{IsOwning, owning}
 use Rattle.fr_hearing.proofs.SizeLemmas.{static_words}
 use Rattle.fr_hearing.specs.Listening.{IsOwnersThere, IsThere}
-use Rattle.fr_hearing.specs.Offering.{IsFetched}
 use Rattle.fr_hearing.specs.Runs.{IsHealthy}
 use Rattle.fr_interface.specs.State.{State}
-use Rattle.fr_journal.specs.declared.entry.Entry.TheVariants.{Fetch}
 use Rattle.fr_journal.specs.declared.entry.Offered.{Offered}
-use Rattle.fr_journal.specs.Forms.{Entry}
-use Rattle.fr_journal.specs.Offers.{frame_with, bytes_of, offered, line_of}
+use Rattle.fr_journal.specs.Offers.{frame_with, bytes_of, offered}
 use Rattle.fr_judging.specs.Rules.{other_channel}
 use Rattle.fr_logged.proofs.DueLemmas.{due_is_owners, static_sender}
 use Rattle.fr_logged.proofs.FirstLemmas.{any_found_in, there}
 use Rattle.fr_logged.specs.declared.due.Due.{Due}
-use Rattle.fr_logged.specs.Dues.{line_in, buffer_in, static_due, due_of}
+use Rattle.fr_logged.specs.Dues.{buffer_in, static_due, due_of}
 use Rattle.fr_schedule.specs.Descriptions.{Description}
 use Rattle.fr_schedule.specs.SenderTable.{IsSender}
-use Rattle.fr_slots.proofs.PlaceLemmas.{same_some, get-append, get-after, map-get, AllAfter-cut}
+use Rattle.fr_slots.proofs.PlaceLemmas.{same_some, get-after, AllAfter-cut}
 use Rattle.fr_slots.specs.declared.channel.Channel.{Channel}
-use Rattle.fr_slots.specs.declared.plan.Own.{Own}
 use Rattle.fr_slots.specs.Faults.{claims}
 use Rattle.fr_slots.specs.History.{AllAfter}
 use Rattle.fr_slots.specs.Numbers.{IsSlot}
 use Rattle.fr_slots.specs.Parameters.{Parameters, is_static_slot}
-use Rattle.fr_slots.specs.Windows.{Opportunity, slot_of, is_static, window_fits}
-use Rattle.fr_status.specs.declared.seen.Seen.TheVariants.{Overrun, Bytes}
-
--- ---- a node's fetch of a window
-
--- the node fetched the window, and its offers were recorded on both channels
-record IsHanded (d : Description) (n : ℕ) (s : State) (r : Recorded) : Type 0 where
-  before : List Entry
-  a : Offered
-  b : Offered
-  fetched_is : IsFetched d n s before r.window a b
-  handed : (channel : Channel) → bytes_of channel (frame_with s.params s.plan before r.window channel
-      (offered s.plan before r.window channel)) ≡ offer_in channel n r.sent
-
-handed_by : (w : WorldState) → Headline w → (n k : ℕ) (s : State) (r : Recorded) → slice_get w.interfaces n ≡ Some s
-    → slice_get w.bus.sealed k ≡ Some r → IsHanded w.bus.cluster n s r
-handed_by w head n k s r here at =
-    let follows = world_follows w head.agrees n s here in
-    let configured = world_configured w head.agrees n s here in
-    let there : slice_get (fetched s) k ≡ Some (offers_of n r) =
-    ap (λ (l : List Handed). slice_get l k) follows.fetches
-    ∙ get-append (map (offers_of n) w.bus.sealed) follows.under_way k (offers_of n r)
-    (map-get (offers_of n) w.bus.sealed k r at) in
-    let c = fetch_of s k (offers_of n r) there in
-    let window : c.holds.window ≡ r.window = ap (λ (h : Handed). h.window) c.holds.handed_is in
-    let fetch : IsFetched w.bus.cluster n s c.inner r.window c.holds.a c.holds.b = record {
-      lawful = legal_at w.interfaces head.legal n s here;
-      params_are = configured.params_are;
-      plan_at = configured.plan_at;
-      after = c.after;
-      cut = c.cut ∙ ap (λ (e : Entry). c.inner ++ e ∷ c.after) c.holds.entry_is
-          ∙ ap (λ (o : Opportunity). c.inner ++ Fetch o c.holds.a c.holds.b ∷ c.after) window;
-    } in
-    record {
-      before = c.inner;
-      a = c.holds.a;
-      b = c.holds.b;
-      fetched_is = fetch;
-      handed = λ channel.
-          ap (λ (o : Offered). bytes_of channel (frame_with s.params s.plan c.inner r.window channel o))
-          (offer_is s c.inner r.window c.holds.a c.holds.b channel
-          (fetch_legal w.bus.cluster n s c.inner r.window c.holds.a c.holds.b fetch))
-          ∙ ap (λ (o : Opportunity). bytes_of channel (frame_with s.params s.plan c.inner o channel
-          (offered_on channel c.holds.a c.holds.b))) (sym window)
-          ∙ bytes_on s c.inner c.here (offers_of n r) channel c.holds ∙ handed_is_offered n r channel;
-    }
+use Rattle.fr_slots.specs.Windows.{slot_of, is_static, window_fits}
 
 -- ---- the frame of an owner
 
@@ -108,26 +54,6 @@ same_frame : (f g : Fields) (channel : Channel) (bytes : List ℕ) → IsFrame f
 same_frame f g channel bytes is_f is_g spells_f spells_g =
     same_some f g (sym (encoded_is_decoded f channel is_f) ∙ ap (decoded channel) (sym spells_f ∙ spells_g)
     ∙ encoded_is_decoded g channel is_g)
-
--- the only one of these transmissions
-record IsLone (ts : List Sent) (bytes : ArrayVec ℕ) : Type 0 where
-  sender : Sent
-  only : ts ≡ sender ∷ []
-  bytes_are : sender.bytes ≡ bytes
-
-lone : (p : Parameters) (w : Opportunity) (ts : List Sent) (bytes : ArrayVec ℕ) → heard_of p w None ts ≡ Bytes bytes
-    → IsLone ts bytes
-lone p w [] bytes e = absurd (let none : ⊥ = cc in none)
-lone p w (t ∷ []) bytes e = record {
-  sender = t;
-  only = refl;
-  bytes_are = by (overruns p w (length t.bytes.items)) e;
-}
-  where
-    by : (b : Bool) → cond b Overrun (Bytes t.bytes) ≡ Bytes bytes → t.bytes ≡ bytes
-    by true f = absurd (let none : ⊥ = cc in none)
-    by false f = cc
-lone p w (t ∷ u ∷ ts) bytes e = absurd (let none : ⊥ = cc in none)
 
 -- ---- a static window
 
@@ -142,23 +68,14 @@ module _ (w : WorldState) (head : Headline w) (k : ℕ) (r : Recorded) (at : sli
   offered_by : (channel : Channel) → IsHealthy w channel → (l : IsLoud w.bus.cluster channel r)
       → IsOffered channel l.bytes
   offered_by channel healthy l =
-      let d : Description = w.bus.cluster in
-      let one = lone d.params r.window (all_passed channel r.sent) l.bytes
-      (sym (ap (λ (c : Option ℕ). heard_of d.params r.window c (all_passed channel r.sent)) (healthy.intact k r at))
-      ∙ l.hears) in
-      let kept = filter_from (passed_on channel) r.sent 0 one.sender
-      (ap (λ (ts : List Sent). slice_get ts 0) one.only) in
-      let by = sent_by d w.bus.cycles w.interfaces w.bus.sealed head.run.lawful (legal_at w.interfaces head.legal)
-      (world_follows w head.agrees)
-      (λ n s here. let c = world_configured w head.agrees n s here in c.params_are)
-      (λ n s here. let c = world_configured w head.agrees n s here in c.plan_at)
-      (head.agrees.agrees.a_station_each ∙ head.run.one_each) head.run.recorded channel healthy.sound k l.slot r at
-      l.slot_is kept.place one.sender kept.at kept.passing in
+      let x = received_from w.bus.cluster channel r l.bytes (healthy.intact k r at) l.hears in
+      let by = sent_by w head channel healthy.sound k l.slot r at l.slot_is x.kept.place x.sender x.kept.at
+      x.kept.passing in
       record {
-        node = one.sender.node;
+        node = x.sender.node;
         state = by.state;
         here = by.here;
-        offer = by.offer ∙ ap Some one.bytes_are;
+        offer = by.offer ∙ ap Some x.bytes_are;
       }
 
   -- ---- the frame of a static slot
@@ -195,7 +112,7 @@ module _ (w : WorldState) (head : Headline w) (k : ℕ) (r : Recorded) (at : sli
           let h = handed_by w head offer_here.node k offer_here.state r offer_here.here at in
           let fits = fetch_fits w.bus.cluster offer_here.node offer_here.state h.before r.window h.a h.b h.fetched_is in
           let beyond = leb-false l.slot w.bus.cluster.params.static_slots
-          (dynamic_slot_is w.bus.cluster.params r.window channel l.slot fits dynamic l.slot_is) in
+          (not_static w.bus.cluster.params r.window channel l.slot fits dynamic l.slot_is) in
           absurd (let none : ⊥ = omega (arith, same, few, beyond) in none)
 
   -- ---- a node that offers the frame
@@ -209,7 +126,7 @@ module _ (w : WorldState) (head : Headline w) (k : ℕ) (r : Recorded) (at : sli
     cycle_here = (fetch_range w.bus.cluster n s h.before r.window h.a h.b h.fetched_is).cycle_fits
 
     static_here : is_static_slot w.bus.cluster.params slot ≡ true
-    static_here = static_slot_is w.bus.cluster.params r.window channel slot window_here x.static x.slot_is
+    static_here = static_fits w.bus.cluster.params r.window channel slot window_here x.static x.slot_is
 
     is_frame : (g : Fields) → IsOwnersThere w.bus.cluster r.window channel slot g → slot ≤ 1023 → IsFrame g
     is_frame g there_is few =
@@ -236,7 +153,9 @@ module _ (w : WorldState) (head : Headline w) (k : ℕ) (r : Recorded) (at : sli
         let legal = fetch_legal w.bus.cluster n s h.before r.window h.a h.b h.fetched_is in
         let offered_is = offer_is s h.before r.window h.a h.b channel legal in
         let o = frame_of channel (frame_with s.params s.plan h.before r.window channel
-        (offered s.plan h.before r.window channel)) x.bytes (h.handed channel ∙ offer) in
+        (offered s.plan h.before r.window channel)) x.bytes
+        (ap (λ (y : Offered). bytes_of channel (frame_with s.params s.plan h.before r.window channel y)) offered_is
+        ∙ h.handed channel ∙ offer) in
         let there_is = static_there w.bus.cluster n s h.before r.window h.a h.b channel slot head.run.lawful
         h.fetched_is x.slot_is o.frame
         (ap (frame_with s.params s.plan h.before r.window channel) (sym offered_is) ∙ o.is) x.static in
@@ -244,24 +163,15 @@ module _ (w : WorldState) (head : Headline w) (k : ℕ) (r : Recorded) (at : sli
         (is_frame f x.there_is few) o.spelled x.spelled)
 
     -- its line for the slot
-    record IsOwning : Type 0 where
-      own : Own
-      line : line_in slot channel r.window.cycle s.plan ≡ Some own
-
-    owning : slot ≤ 1023 → IsOwning
-    owning few =
-        let static : is_static_slot s.params slot ≡ true =
-        ap (λ (p : Parameters). is_static_slot p slot) h.fetched_is.params_are ∙ static_here in
-        let owned = offers_own s.params s.plan h.before r.window channel slot h.fetched_is.lawful.faultless x.static
-        static cycle_here x.slot_is (offered s.plan h.before r.window channel) refl
-        (not_nothing w.bus.cluster.params s h.before r.window channel (offered s.plan h.before r.window channel) f slot
-        x.slot_is (hands_over few)) in
-        let line = there (line_of s.plan r.window channel slot) owned in
-        record { own = line.value; line = sym (line_is s.plan r.window channel slot x.static) ∙ line.is }
+    line_here : slot ≤ 1023 → IsOwning s.plan slot channel r.window.cycle
+    line_here few =
+        owning w.bus.cluster n s h.before r.window h.a h.b channel slot h.fetched_is x.slot_is f
+        (ap (frame_with s.params s.plan h.before r.window channel) (sym (offer_is s h.before r.window h.a h.b channel
+        (fetch_legal w.bus.cluster n s h.before r.window h.a h.b h.fetched_is))) ∙ hands_over few) x.static
 
     sender_is : slot ≤ 1023 → IsSender w.bus.cluster r.window.cycle slot channel n
     sender_is few =
-        let o = owning few in
+        let o = line_here few in
         static_sender w.bus.cluster slot channel r.window.cycle n s.plan static_here h.fetched_is.plan_at
         (any_found_in (claims slot channel r.window.cycle) s.plan.owned o.own o.line)
 
@@ -269,7 +179,7 @@ module _ (w : WorldState) (head : Headline w) (k : ℕ) (r : Recorded) (at : sli
     due_here : slot ≤ 1023 → (due : Due) → due_of w.bus.cluster slot channel r.window.cycle ≡ Some due
         → due.both ≡ true → IsTwin slot channel r.window.cycle s.plan
     due_here few due due_is both =
-        let o = owning few in
+        let o = line_here few in
         let same : static_due w.bus.cluster.params n s.plan o.own (buffer_in slot channel r.window.cycle s.plan) ≡ due =
         same_some (static_due w.bus.cluster.params n s.plan o.own (buffer_in slot channel r.window.cycle s.plan)) due
         (sym (due_is_owners w.bus.cluster slot channel r.window.cycle n s.plan o.own head.run.lawful.one_sender

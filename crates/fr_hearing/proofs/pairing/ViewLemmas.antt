@@ -7,8 +7,9 @@ use Rattle.std.proofs.lemmas.List.{get_or-set_same, get_or-set_other}
 use Rattle.std.specs.Prelude.{min, nat_le, nat_lt, ◌==◌, not, ◌&&◌, ◌||◌, slice_index, slice_index_or, slice_set}
 use Rattle.std.specs.Option.{option_or}
 use Rattle.fr_frame.specs.Fields.{Fields}
+use Rattle.fr_hearing.proofs.CameLemmas.{opens_by_limit, limits}
 use Rattle.fr_hearing.proofs.CoreLemmas.{none_at}
-use Rattle.fr_hearing.proofs.FrameLemmas.{owners_fits, dynamic_fits, minislot_fits}
+use Rattle.fr_hearing.proofs.FrameLemmas.{owners_fits, dynamic_fits, minislot_fits, same_self}
 use Rattle.fr_hearing.specs.Heard.{Spot, after_frame, after_dynamic, IsOwners, IsDynamic, IsAllowed, IsAllowedAs}
 use Rattle.fr_judging.specs.declared.judge.Shown.{Shown}
 use Rattle.fr_judging.specs.declared.lane.Held.{Held}
@@ -188,10 +189,6 @@ equal_self : (l : List ℕ) → are_equal l l ≡ true
 equal_self [] = refl
 equal_self (x ∷ l) = and_from (x == x) (are_equal l l) (eq-eqb x x refl) (equal_self l)
 
-same_self : (b : Bool) → same b b ≡ true
-same_self true = refl
-same_self false = refl
-
 alike_none : (f g : Fields) → Alike f g → differ f (Some g) ≡ None
 alike_none f g is =
     cond-true (same f.has_data g.has_data && are_equal f.payload g.payload) None _
@@ -317,21 +314,6 @@ pub record CameTo (statics : ℕ) (v : View) (f : Fields) (l : LaneView) (w : Vi
   pub shown : List Shown
   pub is : w ≡ record v { mine = l; shown = shown }
   pub shown_by : ShownBy statics v.shown shown v.channel f v.mine.cycles
-
-still_least : (a b m : ℕ) → min (min a m + b) m ≡ min (a + b) m
-still_least a b m = omega arith
-
-limits : (a b c d : ℕ) → counted (counted (counted (min a most_counted) b) c) d ≡ min (a + b + c + d) most_counted
-limits a b c d =
-    ap (λ (n : ℕ). counted (counted n c) d) (still_least a b most_counted)
-    ∙ ap (λ (n : ℕ). counted n d) (still_least (a + b) c most_counted)
-    ∙ still_least (a + b + c) d most_counted
-
-least_below : (a b m n : ℕ) → a + b ≤ n → min (min a m + b) m ≤ n
-least_below a b m n le = omega arith
-
-opens_by_limit : (n a b : ℕ) → a + b ≤ n → counted (min a most_counted) b ≤ n
-opens_by_limit n a b le = least_below a b most_counted n le
 
 module _ (r : Rules) (channel : Channel) (pair : IsPair r) (s : State) (f : Fields) (at : At) (spot : Spot)
     (clean : IsClean r channel (view s)) (l : LaneView) (here : lane_view s.mine ≡ at_spot l spot) where

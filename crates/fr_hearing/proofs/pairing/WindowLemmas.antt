@@ -6,7 +6,7 @@ use Rattle.fr_bus.specs.Courses.{Standpoint, cycle_of, first_passed, opening}
 use Rattle.fr_bus.specs.Outcome.{longest}
 use Rattle.fr_bus.specs.Record.{Recorded, heard}
 use Rattle.fr_frame.specs.Fields.{Fields, IsFrame}
-use Rattle.fr_hearing.proofs.AlarmLaws.{turn_rules}
+use Rattle.fr_hearing.proofs.AlarmLaws.{turn_rules, double}
 use Rattle.fr_hearing.proofs.CaptureLaws.{reads_back}
 use Rattle.fr_hearing.proofs.CourseLemmas.{same_cycle_after}
 use Rattle.fr_hearing.proofs.NextLemmas.{static_passed, dynamic_passed}
@@ -38,10 +38,6 @@ use Rattle.fr_slots.specs.declared.channel.Channel.TheVariants.{A, B}
 use Rattle.fr_slots.specs.Windows.{static_window}
 
 -- ---- turned states
-
-double : (c : Channel) → other_channel (other_channel c) ≡ c
-double A = refl
-double B = refl
 
 pub turn_b : (s : State) → s.channel ≡ A → turn s B ≡ turned s
 turn_b s e = cond-false (is_channel s.channel B) s (turned s) (ap (λ (c : Channel). is_channel c B) e)

@@ -5,6 +5,7 @@ use Rattle.std.proofs.lemmas.Bool.{cond-true, cond-false, le-ltb, leb-true, ne_e
 use Rattle.std.proofs.lemmas.List.{append-nil}
 use Rattle.std.specs.Prelude.{nat_le, nat_lt, ◌==◌, ◌&&◌}
 use Rattle.fr_frame.specs.Fields.{Fields}
+use Rattle.fr_guarantees.proofs.HeardLemmas.{same_channel}
 use Rattle.fr_hearing.proofs.punctual.CalmLemmas.{Hand, hand, Watch, watch, IsCalm, tell_end_calm}
 use Rattle.fr_hearing.proofs.punctual.WalkLemmas.{Keeps, line, Stands, good_at, settled_end}
 use Rattle.fr_hearing.specs.Alarms.{is_on, Spells, judged}
@@ -31,10 +32,6 @@ use Rattle.fr_slots.specs.declared.channel.Channel.TheVariants.{A, B}
 use Rattle.fr_slots.specs.Parameters.{Parameters, IsParameters}
 
 -- ---- the channel that stands first
-
-same_channel : (c : Channel) → is_channel c c ≡ true
-same_channel A = refl
-same_channel B = refl
 
 -- what a channel keeps of times
 abbrev pub hand_on : State → Channel → Hand

@@ -1,6 +1,6 @@
 -- A capture of the bus of a run without faults, with a clock that keeps the schedule, has no finding with times.
 use Rattle.std.proofs.Common.{◌≡◌, ℕ, ◌+◌, ◌-◌, ◌*◌, ◌^◌, ◌<◌, ◌≤◌, Bool, true, false, cond, List, [], ◌∷◌, ◌++◌}
-use Rattle.std.proofs.Common.{length, Option, Some, refl, sym, ap, subst, ◌∙◌, arith, inl, inr}
+use Rattle.std.proofs.Common.{length, Some, refl, sym, ap, subst, ◌∙◌, arith, inl, inr}
 use Rattle.std.proofs.lemmas.List.{append_assoc, append-nil}
 use Rattle.std.proofs.lemmas.Nat.{mul-le}
 use Rattle.arrayvec.specs.ArrayVec.{ArrayVec}
@@ -13,19 +13,18 @@ use Rattle.fr_bus.specs.Record.{Recorded, heard}
 use Rattle.fr_bus.specs.States.{IsRecorded}
 use Rattle.fr_bus.specs.Windows.{cycles_begun, following}
 use Rattle.fr_capture.specs.Moments.{start_of}
-use Rattle.fr_capture.specs.Pcap.{packet, link_type}
+use Rattle.fr_capture.specs.Pcap.{packet}
 use Rattle.fr_core.specs.Headline.{Headline}
 use Rattle.fr_core.specs.Worlds.{WorldState}
-use Rattle.fr_frame.specs.declared.decode.DecodeError.{DecodeError}
 use Rattle.fr_frame.specs.Refusal.{refusal}
+use Rattle.fr_guarantees.proofs.OfferLemmas.{length-frame}
+use Rattle.fr_hearing.proofs.FileLaws.{not_on}
 use Rattle.fr_hearing.proofs.HearingLemmas.{window_heard}
-use Rattle.fr_hearing.proofs.OwnersLaws.{length-frame}
 use Rattle.fr_hearing.proofs.PassageLemmas.{IsHeardAt}
 use Rattle.fr_hearing.proofs.punctual.RunLaws.{times_add_nothing, no_alarm_in_time}
 use Rattle.fr_hearing.proofs.punctual.TimeLemmas.{even_is_timeline}
 use Rattle.fr_hearing.proofs.punctual.WindowLemmas.{start_within, near_is_within}
 use Rattle.fr_hearing.proofs.ReadBackLaws.{is_read_back, time_is_kept}
-use Rattle.fr_hearing.specs.Alarms.{is_on}
 use Rattle.fr_hearing.specs.Files.{Clock, capture_of}
 use Rattle.fr_hearing.specs.ReadBack.{read_seen, read_window, AreShort}
 use Rattle.fr_hearing.specs.Runs.{IsHealthy, logged}
@@ -34,7 +33,6 @@ use Rattle.fr_hearing.specs.TimedRuns.{Bounds, IsWithin, bounds_of, Packet, pack
 use Rattle.fr_hearing.specs.TimedRuns.{KeepsTime, NearKeepsTime, RoundedKeepsTime, WindowsKeepTime, NoAlarmInTimelyFile}
 use Rattle.fr_hearing.specs.TimedRuns.{TimesAddNothingInFile, NoAlarmInExactFile, whole_microseconds, window_begins}
 use Rattle.fr_hearing.specs.TimedRuns.{rounded_down}
-use Rattle.fr_logged.specs.Logged.{kind_of}
 use Rattle.fr_recording.specs.Records.{Record}
 use Rattle.fr_recording.specs.Stream.{records_in}
 use Rattle.fr_schedule.specs.Descriptions.{Description}
@@ -48,11 +46,6 @@ use Rattle.fr_status.specs.declared.seen.Seen.TheVariants.{Silence, Own, Conflic
 use Rattle.fr_status.specs.Forms.{Seen}
 
 -- ---- the records of a capture
-
-not_on : (channel other : Channel) (error : Option DecodeError) (bytes : List ℕ) → is_channel channel other ≡ false
-    → is_on channel (kind_of link_type (packet other error bytes)) ≡ false
-not_on channel A error bytes is_other = is_other
-not_on channel B error bytes is_other = is_other
 
 -- the time in microseconds fits, and is within the bounds
 abbrev IsKept : ℕ → ℕ → Bounds → Type 0

@@ -12,10 +12,10 @@ use Rattle.fr_hearing.proofs.PassageLemmas.{IsHeardAt, with_frame}
 use Rattle.fr_hearing.proofs.punctual.PunctualLaws.{in_time_is_untimed}
 use Rattle.fr_hearing.proofs.punctual.WindowLemmas.{Placed, at_time, IsPlaced, Follows, ContinueInPlace, ArePlaced}
 use Rattle.fr_hearing.proofs.punctual.WindowLemmas.{with_placed, placed_frames, frames_in_time}
-use Rattle.fr_hearing.proofs.RunLaws.{packet_for, packet_seen, is_frame, no_alarm_in_run}
+use Rattle.fr_hearing.proofs.RunLaws.{packet_for, packet_seen, is_frame, no_alarm_in_run, follow_frames}
 use Rattle.fr_hearing.proofs.SilenceLaws.{nothing_due}
 use Rattle.fr_hearing.specs.Alarms.{Spells}
-use Rattle.fr_hearing.specs.Heard.{Spot, after_frame, cycle_start, FollowOn}
+use Rattle.fr_hearing.specs.Heard.{after_frame, cycle_start}
 use Rattle.fr_hearing.specs.Runs.{IsHealthy, packets_seen, packets_of, logged, AreLogged}
 use Rattle.fr_hearing.specs.Schedule.{Timeline, Timed, IsPunctual, IsAfter, Continue, ArePunctual, AreAt}
 use Rattle.fr_hearing.specs.TimedRuns.{Bounds, IsWithin, bounds_of, Packet, packets_at, packets_after, packets_on}
@@ -116,16 +116,6 @@ packets_are d t channel before (r ∷ rs) h each = by h.0 each (packets_are d t 
 
 -- each of them is a frame
 module _ (d : Description) (channel : Channel) (cluster : IsCluster d) where
-  follow_frames : (s : Spot) (fs : List Fields) → FollowOn d channel s fs → Each IsFrame fs
-  follow_frames s [] over = tt
-  follow_frames s (f ∷ fs) (inl further) = (
-    is_frame d channel cluster s f further.0.allowed,
-    follow_frames (after_frame d.params s f) fs further.1,
-  )
-  follow_frames s (f ∷ fs) (inr next) = (
-    is_frame d channel cluster (cycle_start d.params f.cycle) f next.0.first.allowed,
-    follow_frames (after_frame d.params (cycle_start d.params f.cycle) f) fs next.1,
-  )
 
   begin_frames : (cycle : ℕ) (fs : List Fields) → Begins d channel cycle fs → Each IsFrame fs
   begin_frames cycle fs b = subst (Each IsFrame) (sym b.is) (

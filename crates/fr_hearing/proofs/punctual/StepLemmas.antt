@@ -22,7 +22,7 @@ use Rattle.fr_judging.specs.Judging.{State, back, show, fix, keep_frame, static_
 use Rattle.fr_judging.specs.Judging.{channels_finding, placed_finding, dynamic_came, came, skip_before, leave, listen}
 use Rattle.fr_judging.specs.Judging.{tell_gap, enter, find_some, open_first, open_after, open_closed, open_next}
 use Rattle.fr_judging.specs.Judging.{open_cycle, end_cycle, member, hold, place_frame, next_of, decide, wrong_count}
-use Rattle.fr_judging.specs.Judging.{settle, settle_with, add_ill, speak, good}
+use Rattle.fr_judging.specs.Judging.{settle, settle_with, add_ill, speak}
 use Rattle.fr_judging.specs.Lanes.{begun, opens, same_open, after_dynamic}
 use Rattle.fr_judging.specs.Rules.{due_at, slot_time}
 use Rattle.fr_judging.specs.Tallies.{long_counted, span_between}
@@ -423,8 +423,3 @@ place_same s f at here soon fine =
 
 pub speak_leads : (s : State) (at : At) → Leads (speak (untimed s) at) (speak s at) (watch s)
 speak_leads s at = record { same = refl; seen = refl }
-
-pub good_is : (s : State) (f : Fields) (at : At)
-    → good s f at ≡ place_frame (settle (speak s at) (Some (next_of f))) f at
-unfolding good
-good_is s f at = refl

@@ -8,8 +8,9 @@ use Rattle.fr_hearing.proofs.CountLemmas.{opens_same, opens_first, opens_next, o
 use Rattle.fr_hearing.proofs.punctual.CalmLemmas.{Hand, hand, Watch, watch}
 use Rattle.fr_hearing.proofs.punctual.StepLemmas.{Leads, MayLead, fixed_next, off, IsInStep, opened_watch, free_watch}
 use Rattle.fr_hearing.proofs.punctual.StepLemmas.{came_watch, held_watch, settle_leads, settle_still, place_other}
-use Rattle.fr_hearing.proofs.punctual.StepLemmas.{place_same, good_is}
+use Rattle.fr_hearing.proofs.punctual.StepLemmas.{place_same}
 use Rattle.fr_hearing.proofs.punctual.TimeLemmas.{in_cycle, soon, in_time, in_step}
+use Rattle.fr_hearing.proofs.StepLemmas.{good_is}
 use Rattle.fr_hearing.specs.Schedule.{Timeline, IsTimeline, slot_begins, AreNear, IsTimely, IsTimelyAs, Timed}
 use Rattle.fr_hearing.specs.Schedule.{IsPunctual, IsAfter, Continue, ArePunctual}
 use Rattle.fr_hearing.specs.Untimed.{untimed}

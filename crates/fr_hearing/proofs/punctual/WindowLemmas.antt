@@ -12,13 +12,14 @@ use Rattle.fr_bus.specs.Windows.{cycles_begun}
 use Rattle.fr_capture.specs.Moments.{start_of}
 use Rattle.fr_core.proofs.CaseLemmas.{both, both_first, both_rest}
 use Rattle.fr_frame.specs.Fields.{Fields}
+use Rattle.fr_hearing.proofs.CourseLemmas.{last_after_frame}
 use Rattle.fr_hearing.proofs.CycleLemmas.{AreHeardAt, has_owner, not_free}
 use Rattle.fr_hearing.proofs.NextLemmas.{IsNextOf, next_window, after_first, after_static, after_dynamic, some_minislot}
 use Rattle.fr_hearing.proofs.NextLemmas.{static_passed, dynamic_passed, lane_of, slot_opened, IsOpened, opened_is}
 use Rattle.fr_hearing.proofs.PassageLemmas.{IsHeardAt, IsLoud, IsAt, IsStaticFrame, static_frame, static_none}
 use Rattle.fr_hearing.proofs.PassageLemmas.{static_loud, static_quiet, first_at, dynamic_quiet, dynamic_loud}
 use Rattle.fr_hearing.proofs.PassageLemmas.{further_dynamic}
-use Rattle.fr_hearing.specs.Heard.{Spot, cycle_start, after_frame, after_dynamic as dynamic_spot, IsFurther}
+use Rattle.fr_hearing.specs.Heard.{Spot, cycle_start, after_frame, IsFurther}
 use Rattle.fr_hearing.specs.Listening.{IsThere}
 use Rattle.fr_hearing.specs.Offering.{IsDueThere}
 use Rattle.fr_hearing.specs.Schedule.{Timeline, IsTimelyAs, Timed, IsPunctual, IsAfter, cycle_length, slot_begins}
@@ -158,13 +159,6 @@ abbrev IsLast : Option Placed → Spot → ℕ → Type 0
 IsLast None s begun = (begun ≡ 1) × (s.last ≡ 0)
 IsLast (Some x) s begun =
     ((x.cycle + 1 ≡ begun) × (s.last ≡ x.frame.id)) ⊎ ((x.cycle + 2 ≡ begun) × (s.last ≡ 0))
-
-last_after_frame : (p : Parameters) (s : Spot) (f : Fields) → (after_frame p s f).last ≡ f.id
-last_after_frame p s f = by (nat_le f.id p.static_slots)
-  where
-    by : (b : Bool) → (let t : Spot = cond b (record s { last = f.id }) (dynamic_spot p s f) in t).last ≡ f.id
-    by true = refl
-    by false = refl
 
 -- a frame of the open cycle
 within_cycle : (last : Option Placed) (s : Spot) (begun : ℕ) (y : Placed) → 1 ≤ begun → IsLast last s begun

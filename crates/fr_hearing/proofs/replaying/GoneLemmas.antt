@@ -18,15 +18,15 @@ use Rattle.fr_frame.specs.Fields.{Fields}
 use Rattle.fr_guarantees.proofs.FollowingLemmas.{following_fits, IsFitting}
 use Rattle.fr_guarantees.proofs.HeardLemmas.{offer_on, sent_by}
 use Rattle.fr_guarantees.proofs.HoldingLemmas.{nothing_kept}
+use Rattle.fr_guarantees.proofs.OfferLemmas.{length-frame}
 use Rattle.fr_guarantees.proofs.PassingLemmas.{IsNodeAt, IsAt, AreMute, next_here, takes_next, node_past}
 use Rattle.fr_guarantees.proofs.ProgressLemmas.{course_next}
-use Rattle.fr_guarantees.proofs.SilenceLemmas.{none_offered}
+use Rattle.fr_guarantees.proofs.SilenceLemmas.{none_offered, not_owned}
 use Rattle.fr_guarantees.proofs.WindowLemmas.{recorded_by, HasPassed, has_passed}
 use Rattle.fr_guarantees.specs.Exactness.{HasRoom}
 use Rattle.fr_guarantees.specs.Leading.{Leads}
 use Rattle.fr_guardian.specs.Guarding.{passes, passes_in}
 use Rattle.fr_hearing.proofs.OfferLaws.{line_is, not_owned}
-use Rattle.fr_hearing.proofs.OwnersLaws.{length-frame}
 use Rattle.fr_hearing.proofs.replaying.LoneLemmas.{none_pass, one_passes}
 use Rattle.fr_hearing.proofs.replaying.OfferLemmas.{none_here, null_here}
 use Rattle.fr_hearing.proofs.replaying.SenderLemmas.{CanNull}
@@ -94,12 +94,6 @@ not_owner plan window channel slot none = by (is_static window) refl
         (line_is plan window channel slot static
         ∙ none_found_in
         (claims slot channel window.cycle) plan.owned none)
-
-pub dynamic_not_owner : (plan : Plan) (window : Opportunity) (channel : Channel) (slot : ℕ)
-    → is_static window ≡ false → owns plan window channel slot ≡ false
-dynamic_not_owner plan window channel slot dynamic =
-    ap (λ (o : Option Own). is_some o)
-    (not_owned plan window channel slot dynamic)
 
 -- the static slot of a window has this owner alone
 pub only_owner : (d : Description) (window : Opportunity) (channel : Channel) (slot k n : ℕ) (owner plan : Plan)

@@ -8,34 +8,23 @@ use Rattle.fr_frame.specs.Fields.{Fields}
 use Rattle.fr_guarantees.proofs.CallLemmas.{committed_ready}
 use Rattle.fr_guarantees.proofs.FrameLemmas.{IsSending}
 use Rattle.fr_guarantees.proofs.HeardLemmas.{offer_on}
-use Rattle.fr_guarantees.proofs.SilenceLemmas.{data_bytes}
+use Rattle.fr_guarantees.proofs.SilenceLemmas.{data_bytes, offer_is, no_frame}
 use Rattle.fr_hearing.proofs.replaying.SenderLemmas.{CanHand}
 use Rattle.fr_interface.specs.State.{State, with_entry}
 use Rattle.fr_journal.proofs.LastCommitLemmas.{payload_of-next}
 use Rattle.fr_journal.specs.declared.entry.Entry.TheVariants as entries
 use Rattle.fr_journal.specs.declared.entry.Offered.{Offered}
 use Rattle.fr_journal.specs.declared.entry.Offered.TheVariants.{Nothing, Null}
-use Rattle.fr_journal.specs.Offers.{commit_offered, offered, offered_at, data_or, owns, bytes_of, frame_offered}
-use Rattle.fr_journal.specs.Offers.{frame_with, frame_of_offer, null_frame, data_frame_of, preamble_of, transmitter}
-use Rattle.fr_journal.specs.Offers.{line_of, sync_of, startup_of}
+use Rattle.fr_journal.specs.Offers.{commit_offered, offered, offered_at, data_or, owns, bytes_of, frame_with}
+use Rattle.fr_journal.specs.Offers.{frame_of_offer, null_frame, data_frame_of, preamble_of, transmitter, line_of}
+use Rattle.fr_journal.specs.Offers.{sync_of, startup_of}
 use Rattle.fr_schedule.specs.Descriptions.{Description}
 use Rattle.fr_slots.specs.declared.channel.Channel.{Channel}
-use Rattle.fr_slots.specs.declared.channel.Channel.TheVariants.{A, B}
 use Rattle.fr_slots.specs.declared.plan.Buffer.{Buffer}
 use Rattle.fr_slots.specs.Plans.{Plan, buffer_at}
 use Rattle.fr_slots.specs.Windows.{Opportunity, slot_of}
 
-offer_is : (s : State) (window : Opportunity) (channel : Channel)
-    → offer_on channel (offer_of s window) ≡ bytes_of channel (frame_offered s.params s.plan s.entries window channel)
-offer_is s window A = refl
-offer_is s window B = refl
-
 -- ---- nothing
-
-no_frame : (s : State) (window : Opportunity) (channel : Channel) (o : Option ℕ)
-    → option_and_then (λ (slot : ℕ). frame_of_offer s.params s.plan s.entries window channel slot Nothing) o ≡ None
-no_frame s window channel None = refl
-no_frame s window channel (Some slot) = refl
 
 nothing_there : (s : State) (window : Opportunity) (channel : Channel)
     → commit_offered s.plan s.entries window channel ≡ None

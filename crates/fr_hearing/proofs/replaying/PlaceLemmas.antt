@@ -9,33 +9,11 @@ use Rattle.fr_bus.specs.Outcome.{longest}
 use Rattle.fr_bus.specs.Record.{Recorded}
 use Rattle.fr_frame.specs.Fields.{Fields}
 use Rattle.fr_hearing.proofs.NextLemmas.{static_passed, dynamic_passed, lane_passed, lane_of, opened_is}
-use Rattle.fr_hearing.specs.Heard.{Spot, after_frame, after_dynamic}
 use Rattle.fr_hearing.specs.Replays.{cycles_after}
 use Rattle.fr_minislot.specs.Lanes.{Standing, closed, opened_in}
 use Rattle.fr_slots.proofs.PlaceLemmas.{same_some}
 use Rattle.fr_slots.specs.declared.channel.Channel.{Channel}
 use Rattle.fr_slots.specs.declared.channel.Channel.TheVariants.{A, B}
-use Rattle.fr_slots.specs.Parameters.{Parameters}
-use Rattle.fr_slots.specs.Windows.{slot_of, static_window}
-
-pub cycle_same : (p : Parameters) (s : Spot) (f : Fields) → (after_frame p s f).cycle ≡ s.cycle
-cycle_same p s f = by (nat_le f.id p.static_slots)
-  where
-    by : (b : Bool) → (let t : Spot = cond b (record s { last = f.id }) (after_dynamic p s f) in t).cycle ≡ s.cycle
-    by true = refl
-    by false = refl
-
-pub last_is : (p : Parameters) (s : Spot) (f : Fields) → (after_frame p s f).last ≡ f.id
-last_is p s f = by (nat_le f.id p.static_slots)
-  where
-    by : (b : Bool) → (let t : Spot = cond b (record s { last = f.id }) (after_dynamic p s f) in t).last ≡ f.id
-    by true = refl
-    by false = refl
-
-pub static_slot_of : (channel : Channel) (number cycle slot : ℕ)
-    → slot_of (static_window number cycle slot) channel ≡ Some slot
-static_slot_of A number cycle slot = refl
-static_slot_of B number cycle slot = refl
 
 pub lane_static : (channel : Channel) (c : Standpoint) → lane_of channel (static_passed c) ≡ lane_of channel c
 lane_static A c = refl

@@ -24,14 +24,14 @@ use Rattle.fr_guarantees.proofs.ObservingLemmas.{IsObserved}
 use Rattle.fr_guarantees.proofs.OfferingLemmas.{fetched_by}
 use Rattle.fr_guarantees.proofs.PassingLemmas.{IsNodeAt, IsAt, AreMute, next_here, takes_next, node_past}
 use Rattle.fr_guarantees.proofs.ProgressLemmas.{course_next}
-use Rattle.fr_guarantees.proofs.SilenceLemmas.{Keeps, none_offered}
+use Rattle.fr_guarantees.proofs.SilenceLemmas.{Keeps, none_offered, not_owned}
 use Rattle.fr_guarantees.proofs.WindowLemmas.{recorded_by, HasPassed, has_passed}
 use Rattle.fr_guarantees.specs.Exactness.{HasRoom}
 use Rattle.fr_guarantees.specs.Leading.{Leads}
 use Rattle.fr_guarantees.specs.Ways.{CanSend}
 use Rattle.fr_guardian.specs.Guarding.{passes}
 use Rattle.fr_hearing.proofs.replaying.GoneLemmas.{IsLone, IsGone, all_mute, whole_by, frame_some, not_owner}
-use Rattle.fr_hearing.proofs.replaying.GoneLemmas.{dynamic_not_owner, only_owner, passes_owner}
+use Rattle.fr_hearing.proofs.replaying.GoneLemmas.{only_owner, passes_owner}
 use Rattle.fr_hearing.proofs.replaying.LoneLemmas.{one_passes}
 use Rattle.fr_hearing.proofs.replaying.OfferLemmas.{none_here, data_here}
 use Rattle.fr_hearing.proofs.replaying.SenderLemmas.{CanHand}
@@ -153,7 +153,7 @@ module _ (d : Description) (lawful : IsCluster d) (cycles most : ℕ) (room : Ha
   others n inside other m m_is = by (is_static window) refl
     where
       by : (b : Bool) → is_static window ≡ b → owns (interface_at w n).plan window channel m ≡ false
-      by false dynamic = dynamic_not_owner (interface_at w n).plan window channel m dynamic
+      by false dynamic = not_owned (interface_at w n).plan window channel m dynamic
       by true static = not_owner (interface_at w n).plan window channel m
           (subst (λ (j : ℕ). is_owned (interface_at w n).plan.owned j channel window.cycle ≡ false)
           (same_some slot m (sym slot_is ∙ m_is))

@@ -12,12 +12,13 @@ use Rattle.fr_core.specs.Worlds.{WorldState}
 use Rattle.fr_frame.specs.Fields.{Fields}
 use Rattle.fr_guarantees.proofs.FollowingLemmas.{following_fits}
 use Rattle.fr_guarantees.proofs.HoldingLemmas.{nothing_kept}
+use Rattle.fr_guarantees.proofs.OfferLemmas.{length-frame}
 use Rattle.fr_guarantees.proofs.PassingLemmas.{IsAt, at_more}
+use Rattle.fr_guarantees.proofs.SilenceLemmas.{not_owned}
 use Rattle.fr_guarantees.specs.Exactness.{HasRoom}
 use Rattle.fr_hearing.proofs.HearingLemmas.{longest_one, ends, few_bytes}
-use Rattle.fr_hearing.proofs.OwnersLaws.{length-frame}
 use Rattle.fr_hearing.proofs.PassageLemmas.{IsLoud}
-use Rattle.fr_hearing.proofs.replaying.GoneLemmas.{IsLone, IsGone, goes_quiet, goes_null, not_owner, dynamic_not_owner}
+use Rattle.fr_hearing.proofs.replaying.GoneLemmas.{IsLone, IsGone, goes_quiet, goes_null, not_owner}
 use Rattle.fr_hearing.proofs.replaying.SenderLemmas.{hand_static, hand_dynamic, hand_null}
 use Rattle.fr_hearing.proofs.replaying.SentLemmas.{goes_sending}
 use Rattle.fr_hearing.proofs.RunLaws.{due_in}
@@ -154,7 +155,7 @@ module _ (d : Description) (lawful : IsCluster d) (cycles most : ℕ) (room : Ha
   pub free_dynamic : is_static window ≡ false → IsGone d cycles calls w window channel None
   free_dynamic dynamic =
       goes_quiet d lawful cycles most room calls w here window next channel
-      (λ n k plan at k_is. dynamic_not_owner plan window channel k dynamic)
+      (λ n k plan at k_is. not_owned plan window channel k dynamic)
 
   gone_more : (o : Option Fields) → IsGone d cycles calls w window channel o
       → IsGone d cycles (calls + 3) w window channel o

@@ -1,7 +1,6 @@
 -- A run that follows some frames, window by window, to its end.
 use Rattle.std.proofs.Common.{◌≡◌, ℕ, zero, suc, ◌+◌, ◌-◌, ◌*◌, ◌%◌, ◌<◌, ◌≤◌, Bool, true, false, cond, ◌&&◌, List, []}
-use Rattle.std.proofs.Common.{◌∷◌, ◌++◌, length, length-append, Option, Some, None, refl, sym, ap, subst, ◌∙◌, arith}
-use Rattle.std.proofs.Common.{inl, inr}
+use Rattle.std.proofs.Common.{◌∷◌, ◌++◌, length, Option, Some, None, refl, sym, ap, subst, ◌∙◌, arith, inl, inr}
 use Rattle.std.specs.Prelude.{nat_le}
 use Rattle.std.proofs.lemmas.Bool.{le-leb, lt-leb, leb-true, leb-false, ne_eqb}
 use Rattle.std.proofs.lemmas.Bool.Decides.{eqb_tells}
@@ -21,18 +20,19 @@ use Rattle.fr_guarantees.proofs.LeadLemmas.{leads_not, leads_on}
 use Rattle.fr_guarantees.proofs.PassingLemmas.{IsAt}
 use Rattle.fr_guarantees.proofs.ProgressLemmas.{course_next, windows_fit, goes_on, next_later, begun_next, HasLater}
 use Rattle.fr_guarantees.proofs.StaticLemmas.{static_follows}
+use Rattle.fr_guarantees.proofs.WalkLemmas.{one_more}
 use Rattle.fr_guarantees.specs.Exactness.{HasRoom}
 use Rattle.fr_guarantees.specs.Leading.{Leads}
+use Rattle.fr_hearing.proofs.CourseLemmas.{last_after_frame, same_cycle_after}
 use Rattle.fr_hearing.proofs.HearingLemmas.{longest_none}
 use Rattle.fr_hearing.proofs.NextLemmas.{IsFirst as IsFirstWindow, IsNextOf, next_window, static_passed, dynamic_passed}
 use Rattle.fr_hearing.proofs.NextLemmas.{lane_of, after_first, after_static as course_static}
 use Rattle.fr_hearing.proofs.NextLemmas.{after_dynamic as course_dynamic, slot_opened, opened_is, some_minislot}
 use Rattle.fr_hearing.proofs.PassageLemmas.{IsAt as IsAtSpot, cycle_below, static_loud, static_quiet, first_at}
-use Rattle.fr_hearing.proofs.PassageLemmas.{dynamic_quiet, dynamic_loud, after_static}
+use Rattle.fr_hearing.proofs.PassageLemmas.{dynamic_quiet, dynamic_loud, after_static, slot_static}
 use Rattle.fr_hearing.proofs.replaying.GoneLemmas.{IsGone}
-use Rattle.fr_hearing.proofs.replaying.PlaceLemmas.{cycle_same, last_is, static_slot_of, lane_static, lane_dynamic}
-use Rattle.fr_hearing.proofs.replaying.PlaceLemmas.{lane_first, strictly, passed_slot, next_slot, later_by, same_slot}
-use Rattle.fr_hearing.proofs.replaying.PlaceLemmas.{cycle_after}
+use Rattle.fr_hearing.proofs.replaying.PlaceLemmas.{lane_static, lane_dynamic, lane_first, strictly, passed_slot}
+use Rattle.fr_hearing.proofs.replaying.PlaceLemmas.{next_slot, later_by, same_slot, cycle_after}
 use Rattle.fr_hearing.proofs.replaying.StepLemmas.{silent_is, IsLoudAs, loud_is, due_of_none, static_allowed}
 use Rattle.fr_hearing.proofs.replaying.StepLemmas.{dynamic_allowed, fits_here, free_static, free_dynamic, owners_gone}
 use Rattle.fr_hearing.proofs.replaying.StepLemmas.{senders_gone}
@@ -137,10 +137,6 @@ module _ (d : Description) (lawful : IsCluster d) (cycles most : ℕ) (room : Ha
       → cycles_begun w.bus.sealed + cycles_after s.cycle gs ≡ cycles → calls + 3 * length gs ≤ most
       → length w.bus.sealed + fuel ≡ cycles * opportunities d.params + 1 → IsWalked w gs
 
-  one_more : (w : WorldState) (rs : List Recorded) (r : Recorded) → w.bus.sealed ≡ rs ++ r ∷ []
-      → length w.bus.sealed ≡ length rs + 1
-  one_more w rs r is = ap (λ (l : List Recorded). length l) is ∙ length-append rs (r ∷ [])
-
   begun_after : (v w : WorldState) (r : Recorded) (window : Opportunity) (b : Bool)
       → v.bus.sealed ≡ w.bus.sealed ++ r ∷ [] → r.window ≡ window → opens_cycle window ≡ b
       → cycles_begun v.bus.sealed ≡ cycles_begun w.bus.sealed + cond b 1 0
@@ -189,7 +185,7 @@ module _ (d : Description) (lawful : IsCluster d) (cycles most : ℕ) (room : Ha
 
     slot_here : slot_of window channel ≡ Some ((course w).statics + 1)
     slot_here = ap (λ (v : Opportunity). slot_of v channel) is
-        ∙ static_slot_of channel (course w).windows (cycle_of (course w)) ((course w).statics + 1)
+        ∙ slot_static channel (course w).windows (cycle_of (course w)) ((course w).statics + 1)
 
     static_here : is_static_slot d.params ((course w).statics + 1) ≡ true
     static_here = le-leb ((course w).statics + 1) d.params.static_slots (omega (arith, further))
@@ -451,7 +447,7 @@ module _ (d : Description) (lawful : IsCluster d) (cycles most : ℕ) (room : Ha
         subst (λ (f : Fields). IsAtSpot d channel (dynamic_passed (course w) m (longest A gone.recorded.sent)
         (longest B gone.recorded.sent)) (after_frame d.params s f)) loud.frame_is
         (dynamic_loud d channel lawful (course w) m gone.recorded (gone.window_is ∙ is) some over s at loud.loud) in
-        let still : (after_frame d.params s g).cycle ≡ s.cycle = cycle_same d.params s g in
+        let still : (after_frame d.params s g).cycle ≡ s.cycle = same_cycle_after d.params s g in
         let left_after : cycles_after (after_frame d.params s g).cycle gs ≡ cycles_after s.cycle gs =
         ap (λ (n : ℕ). cycles_after n gs) still in
         walked_loud (calls + 3) w window g gs gone loud
@@ -460,7 +456,7 @@ module _ (d : Description) (lawful : IsCluster d) (cycles most : ℕ) (room : Ha
           at = subst (λ (c : Standpoint). IsAtSpot d channel c (after_frame d.params s g)) (sym e) spot_is;
           follow = follow;
           ahead = subst (λ (c : Standpoint). Ahead c (after_frame d.params s g) gs follow) (sym e)
-              (ahead_then gone.recorded (after_frame d.params s g) g.id (last_is d.params s g) high opened gs follow);
+              (ahead_then gone.recorded (after_frame d.params s g) g.id (last_after_frame d.params s g) high opened gs follow);
           unopened = subst IsUnopened (sym e)
               (unopened_now (longest A gone.recorded.sent) (longest B gone.recorded.sent));
         }) (omega (arith, begun, left, counted, left_after)) (omega (arith, enough)) (omega (arith, count, one)))
@@ -494,7 +490,7 @@ module _ (d : Description) (lawful : IsCluster d) (cycles most : ℕ) (room : Ha
 
     first_slot : slot_of window channel ≡ Some 1
     first_slot = ap (λ (v : Opportunity). slot_of v channel) is
-        ∙ static_slot_of channel (course w).windows ((course w).begun % 64) 1
+        ∙ slot_static channel (course w).windows ((course w).begun % 64) 1
 
     first_is_static : is_static_slot d.params 1 ≡ true
     first_is_static = le-leb 1 d.params.static_slots (let some = some_slots in omega (arith, some))
