@@ -138,34 +138,36 @@ module _ (d : Description) (w : Opportunity) where
       (subst (λ (n : ℕ). all_passed channel (sent_of d w n (slice_index_or ss k idle_station)) ≡ t ∷ []) same loud)
       (λ n inside other. each (suc n) (omega (arith, inside)) (λ e. other (omega (arith, e))))
 
-  -- ---- the longest transmission
-
-  pub longest_none : (channel : Channel) (ss : List Station) (offers : ℕ → Offer)
+  pub none_pass : (channel : Channel) (ss : List Station) (offers : ℕ → Offer)
       → ((n : ℕ) → n < length ss → slice_index_or ss n idle_station ≡ offering idle_station (offers n))
       → ((n : ℕ) → n < length ss → offer_on channel (offers n) ≡ None)
-      → longest channel (sent_from d w 0 ss) ≡ 0
-  longest_none channel ss offers are silent =
-      ap (λ (l : List Sent). fold max 0 (map (λ (t : Sent). length t.bytes.items) l))
-      (all_quiet channel 0 ss (λ n within node. subst (IsQuiet channel node) (sym (are n within))
-      (nothing_passed channel node (offers n) (silent n within))))
+      → all_passed channel (sent_from d w 0 ss) ≡ []
+  none_pass channel ss offers are silent =
+      all_quiet channel 0 ss (λ n within node. subst (IsQuiet channel node) (sym (are n within))
+      (nothing_passed channel node (offers n) (silent n within)))
 
-  max_zero : (n : ℕ) → max 0 n ≡ n
-  max_zero n = omega arith
-
-  pub longest_one : (channel : Channel) (ss : List Station) (offers : ℕ → Offer) (k slot : ℕ) (bytes : ArrayVec ℕ)
+  pub one_passes : (channel : Channel) (ss : List Station) (offers : ℕ → Offer) (k slot : ℕ) (bytes : ArrayVec ℕ)
       → ((n : ℕ) → n < length ss → slice_index_or ss n idle_station ≡ offering idle_station (offers n))
       → k < length ss → offer_on channel (offers k) ≡ Some bytes → slot_of w channel ≡ Some slot
       → (length bytes.items == 0) ≡ false → passes d k w channel ≡ true
       → ((n : ℕ) → n < length ss → n ≢ k → offer_on channel (offers n) ≡ None)
-      → longest channel (sent_from d w 0 ss) ≡ length bytes.items
-  longest_one channel ss offers k slot bytes are within is slot_is some through silent =
+      → all_passed channel (sent_from d w 0 ss) ≡ sent_by k channel bytes ∷ []
+  one_passes channel ss offers k slot bytes are within is slot_is some through silent =
       let first : 0 + k ≡ k = omega arith in
-      ap (λ (l : List Sent). fold max 0 (map (λ (t : Sent). length t.bytes.items) l))
-      (one_loud channel 0 ss k (sent_by k channel bytes) within
+      one_loud channel 0 ss k (sent_by k channel bytes) within
       (subst (λ (n : ℕ). all_passed channel (sent_of d w n (slice_index_or ss k idle_station))
       ≡ sent_by k channel bytes ∷ []) (sym first)
       (subst (λ (s : Station). all_passed channel (sent_of d w k s) ≡ sent_by k channel bytes ∷ [])
       (sym (are k within)) (one_passed channel k slot (offers k) bytes is slot_is some through)))
       (λ n inside other node. subst (IsQuiet channel node) (sym (are n inside))
-      (nothing_passed channel node (offers n) (silent n inside other))))
-      ∙ max_zero (length bytes.items)
+      (nothing_passed channel node (offers n) (silent n inside other)))
+
+-- ---- the longest transmission
+
+pub longest_none : (channel : Channel) (ts : List Sent) → all_passed channel ts ≡ [] → longest channel ts ≡ 0
+longest_none channel ts e = ap (λ (l : List Sent). fold max 0 (map (λ (t : Sent). length t.bytes.items) l)) e
+
+pub longest_one : (channel : Channel) (ts : List Sent) (t : Sent) → all_passed channel ts ≡ t ∷ []
+    → longest channel ts ≡ length t.bytes.items
+longest_one channel ts t e =
+    ap (λ (l : List Sent). fold max 0 (map (λ (u : Sent). length u.bytes.items) l)) e ∙ omega arith

@@ -1,11 +1,10 @@
 -- A window in which a host commits right after the fetch: the commit is ready after it.
-use Rattle.std.proofs.Common.{◌≡◌, ◌≢◌, ℕ, ◌+◌, ◌<◌, ◌≤◌, ◌==◌, Bool, cond, ◌&&◌, List, [], ◌∷◌, ◌++◌, length}
-use Rattle.std.proofs.Common.{length-append, Option, Some, None, refl, sym, ap, subst, ◌∙◌, arith, inl, inr}
+use Rattle.std.proofs.Common.{◌≡◌, ◌≢◌, ℕ, ◌+◌, ◌<◌, ◌≤◌, ◌==◌, Bool, cond, ◌&&◌, List, [], ◌∷◌, ◌++◌, length, Option}
+use Rattle.std.proofs.Common.{Some, None, refl, sym, ap, subst, ◌∙◌, arith, inl, inr}
 use Rattle.std.specs.Prelude.{count_by}
 use Rattle.std.proofs.lemmas.Bool.{eq-eqb, lt-leb, ne_eqb}
 use Rattle.std.proofs.lemmas.Bool.Decides.{eqb_tells}
 use Rattle.std.proofs.lemmas.List.{length-set, get_or-set_same, get_or-set_other}
-use Rattle.fr_bus.specs.Courses.{IsCourse, course_of}
 use Rattle.fr_bus.specs.Record.{Recorded}
 use Rattle.fr_bus.specs.States.{BusState, outcome_of}
 use Rattle.fr_bus.specs.Windows.{following}
@@ -14,17 +13,15 @@ use Rattle.fr_core.proofs.TimingLemmas.{count_more}
 use Rattle.fr_core.specs.Carried.{Waits}
 use Rattle.fr_core.specs.Steps.{with_interface}
 use Rattle.fr_core.specs.Worlds.{WorldState, no_interface, interface_at, carried_at}
-use Rattle.fr_guarantees.proofs.FollowingLemmas.{following_fits}
 use Rattle.fr_guarantees.proofs.JournalLemmas.{HasWindows}
 use Rattle.fr_guarantees.proofs.ObservingLemmas.{IsObserved}
 use Rattle.fr_guarantees.proofs.OfferingLemmas.{IsFresh, HavePut, fetched_by, all_put_offers}
-use Rattle.fr_guarantees.proofs.PassingLemmas.{IsNodeAt, IsAt, next_here, takes_next, node_past}
-use Rattle.fr_guarantees.proofs.ProgressLemmas.{course_next}
+use Rattle.fr_guarantees.proofs.PassingLemmas.{IsNodeAt, IsAt, next_here, node_past, takes_here, number_here, at_next}
 use Rattle.fr_guarantees.proofs.SilenceLemmas.{Keeps, HasReady, IsSilent, mute_is_silent, unsent}
 use Rattle.fr_guarantees.proofs.WindowLemmas.{IsFull, HasEnded, fresh_between, full_is, has_ended}
 use Rattle.fr_guarantees.specs.Exactness.{HasRoom}
 use Rattle.fr_guarantees.specs.Leading.{Leads}
-use Rattle.fr_interface.specs.State.{State, with_entry, fetch_entry, fetch_refusal, is_not_above}
+use Rattle.fr_interface.specs.State.{State, with_entry, fetch_entry, is_not_above}
 use Rattle.fr_journal.proofs.OpenWindowLemmas.{open_window-snoc, last_number-snoc}
 use Rattle.fr_journal.specs.declared.entry.Entry.TheVariants.{Commit, Observe}
 use Rattle.fr_journal.specs.Entries.{is_host, is_slot}
@@ -144,14 +141,8 @@ module _ (d : Description) (cycles most : ℕ) (room : HasRoom d cycles most) (c
   fresh : IsFresh w window
   fresh = fresh_between w window here.between (next_here d cycles nothing_kept calls w here ∙ next)
 
-  takes : (m : ℕ) → m < length w.interfaces → fetch_refusal (interface_at w m) window ≡ None
-  takes m inside =
-      let node = here.nodes m inside in
-      takes_next d cycles most room nothing_kept m (interface_at w m) w.bus.sealed window node.params_are node.plan_at
-      node.has here.course next
-
   put : HavePut w window (length w.interfaces)
-  put = all_put_offers w window fresh takes
+  put = all_put_offers w window fresh (takes_here d cycles most room nothing_kept calls w here window next)
 
   abbrev v : WorldState
   v = put.world
@@ -208,14 +199,10 @@ module _ (d : Description) (cycles most : ℕ) (room : HasRoom d cycles most) (c
   j = length (fetched_by (interface_at w n) window).entries
 
   number_is : window.number ≡ length w.bus.sealed
-  number_is = (following_fits d.params cycles w.bus.sealed window
-      (omega (arith, here.course.lawful.static_slots_fit.from_least)) next).number_is
+  number_is = number_here d cycles most room nothing_kept calls w here window next
 
   sealed_is : over.world.bus.sealed ≡ w.bus.sealed ++ r ∷ []
   sealed_is = over.sealed ∙ ap (λ (b : BusState). b.sealed ++ r ∷ []) put.shape.bus
-
-  more : length w.bus.sealed + 1 ≡ length over.world.bus.sealed
-  more = sym (ap (λ (rs : List Recorded). length rs) sealed_is ∙ length-append w.bus.sealed (r ∷ []))
 
   node_at : (m : ℕ) → m < length w.interfaces
       → IsNodeAt d (only_kept n number j m) m (interface_at over.world m) (length w.bus.sealed + 1) (calls + 1)
@@ -254,17 +241,10 @@ module _ (d : Description) (cycles most : ℕ) (room : HasRoom d cycles most) (c
     within = within_v;
     world = over.world;
     leads = over.leads;
-    is_at = record {
-      cluster = over.cluster ∙ ap (λ (b : BusState). b.cluster) put.shape.bus ∙ here.cluster;
-      cycles_are = over.cycles ∙ ap (λ (b : BusState). b.cycles) put.shape.bus ∙ here.cycles_are;
-      one_each = over.interfaces_long ∙ long ∙ put.shape.interfaces ∙ here.one_each;
-      course = subst (λ (rs : List Recorded). IsCourse (course_of d.params cycles rs)) (sym sealed_is)
-          (course_next d.params cycles w.bus.sealed r here.course next);
-      between = over.is_between;
-      nodes = λ m inside. subst
-          (λ (k : ℕ). IsNodeAt d (only_kept n number j m) m (interface_at over.world m) k (calls + 1)) more
-          (node_at m (subst (λ (k : ℕ). m < k) (over.interfaces_long ∙ long ∙ put.shape.interfaces) inside));
-    };
+    is_at = at_next d cycles nothing_kept (only_kept n number j) calls (calls + 1) w over.world r here next
+        (over.cluster ∙ ap (λ (b : BusState). b.cluster) put.shape.bus)
+        (over.cycles ∙ ap (λ (b : BusState). b.cycles) put.shape.bus)
+        (over.interfaces_long ∙ long ∙ put.shape.interfaces) sealed_is over.is_between node_at;
     recorded = r;
     sealed = sealed_is;
     window_is = refl;

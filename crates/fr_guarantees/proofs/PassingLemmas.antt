@@ -9,17 +9,18 @@ use Rattle.fr_bus.specs.Windows.{following}
 use Rattle.fr_core.specs.Steps.{offer_of}
 use Rattle.fr_core.specs.Worlds.{WorldState, interface_at}
 use Rattle.fr_guarantees.proofs.FollowingLemmas.{following_fits}
-use Rattle.fr_guarantees.proofs.HeardLemmas.{longest_none}
+use Rattle.fr_guarantees.proofs.HeardLemmas.{longest_none, none_pass}
 use Rattle.fr_guarantees.proofs.JournalLemmas.{HasWindows, fetch_ready, windows_more, hosts_same}
 use Rattle.fr_guarantees.proofs.ObservingLemmas.{IsObserved}
 use Rattle.fr_guarantees.proofs.OfferingLemmas.{fetched_by}
 use Rattle.fr_guarantees.proofs.ProgressLemmas.{course_next, number_fits}
 use Rattle.fr_guarantees.proofs.SilenceLemmas.{Keeps, HasReady, IsMute, none_offered, no_bytes, kept_after}
-use Rattle.fr_guarantees.proofs.WindowLemmas.{recorded_by, IsBetween, has_passed}
+use Rattle.fr_guarantees.proofs.WindowLemmas.{recorded_by, IsBetween, HasPassed, has_passed}
 use Rattle.fr_guarantees.specs.Exactness.{HasRoom}
 use Rattle.fr_guarantees.specs.Leading.{Leads}
 use Rattle.fr_interface.specs.State.{State, fetch_refusal}
 use Rattle.fr_journal.specs.Entries.{is_host}
+use Rattle.fr_journal.specs.Offers.{commit_offered}
 use Rattle.fr_schedule.specs.Descriptions.{Description}
 use Rattle.fr_slots.specs.declared.channel.Channel.{Channel}
 use Rattle.fr_slots.specs.Parameters.{Parameters}
@@ -99,6 +100,28 @@ pub next_here : (d : Description) (cycles : ℕ) (kept : ℕ → Keeps) (calls :
     → following w.bus.cluster.params w.bus.cycles w.bus.sealed ≡ following d.params cycles w.bus.sealed
 next_here d cycles kept calls w here = λ i. following (here.cluster i).params (here.cycles_are i) w.bus.sealed
 
+-- the world after one more window, from its nodes
+pub at_next : (d : Description) (cycles : ℕ) (kept keeps : ℕ → Keeps) (calls more : ℕ) (w v : WorldState) (r : Recorded)
+    → IsAt d cycles kept calls w → following d.params cycles w.bus.sealed ≡ Some r.window
+    → v.bus.cluster ≡ w.bus.cluster → v.bus.cycles ≡ w.bus.cycles → length v.interfaces ≡ length w.interfaces
+    → v.bus.sealed ≡ w.bus.sealed ++ r ∷ [] → IsBetween v
+    → ((n : ℕ) → n < length w.interfaces
+    → IsNodeAt d (keeps n) n (interface_at v n) (length w.bus.sealed + 1) more)
+    → IsAt d cycles keeps more v
+at_next d cycles kept keeps calls more w v r here next cluster cycles_are long sealed between nodes =
+    let many : length w.bus.sealed + 1 ≡ length v.bus.sealed =
+    sym (ap (λ (rs : List Recorded). length rs) sealed ∙ length-append w.bus.sealed (r ∷ [])) in
+    record {
+      cluster = cluster ∙ here.cluster;
+      cycles_are = cycles_are ∙ here.cycles_are;
+      one_each = long ∙ here.one_each;
+      course = subst (λ (rs : List Recorded). IsCourse (course_of d.params cycles rs)) (sym sealed)
+          (course_next d.params cycles w.bus.sealed r here.course next);
+      between = between;
+      nodes = λ n within. subst (λ (m : ℕ). IsNodeAt d (keeps n) n (interface_at v n) m more) many
+          (nodes n (subst (λ (m : ℕ). n < m) long within));
+    }
+
 module _ (d : Description) (cycles most : ℕ) (room : HasRoom d cycles most) (kept : ℕ → Keeps) where
   -- an interface between two windows takes the next one
   pub takes_next : (n : ℕ) (s : State) (rs : List Recorded) (window : Opportunity) → s.params ≡ d.params
@@ -125,48 +148,54 @@ module _ (d : Description) (cycles most : ℕ) (room : HasRoom d cycles most) (k
     ready = kept_after (kept n) s t window was.ready (mute n s.plan was.plan_at) seen;
   }
 
+  module _ (calls : ℕ) (w : WorldState) (here : IsAt d cycles kept calls w) (window : Opportunity)
+      (next : following d.params cycles w.bus.sealed ≡ Some window) where
+    pub takes_here : (n : ℕ) → n < length w.interfaces → fetch_refusal (interface_at w n) window ≡ None
+    takes_here n within =
+        let node = here.nodes n within in
+        takes_next n (interface_at w n) w.bus.sealed window node.params_are node.plan_at node.has here.course next
+
+    pub number_here : window.number ≡ length w.bus.sealed
+    number_here = (following_fits d.params cycles w.bus.sealed window
+        (omega (arith, here.course.lawful.static_slots_fit.from_least)) next).number_is
+
+    -- ---- a window without a call of a host
+
+    module _ (mute : AreMute d kept window) where
+      pub past_silent : HasPassed w window
+      past_silent = has_passed w window here.between (next_here d cycles kept calls w here ∙ next) takes_here
+
+      pub at_silent : IsAt d cycles kept calls past_silent.world
+      at_silent = at_next d cycles kept kept calls calls w past_silent.world
+          (recorded_by w.bus.cluster window past_silent.stations) here next past_silent.cluster past_silent.cycles
+          past_silent.interfaces_long past_silent.sealed past_silent.is_between
+          (λ n within. node_past n (length w.bus.sealed) calls (interface_at w n) (interface_at past_silent.world n)
+          window (here.nodes n within) mute number_here (past_silent.interfaces n within))
+
+      pub none_commits : (channel : Channel) (n : ℕ) → n < length w.interfaces
+          → commit_offered (interface_at w n).plan (interface_at w n).entries window channel ≡ None
+      none_commits channel n within =
+          none_offered (kept n) (interface_at w n) (here.nodes n within).ready window
+          (mute n (interface_at w n).plan (here.nodes n within).plan_at) channel
+
   -- nothing is sent in the window
   pub passes_silent : (calls : ℕ) (w : WorldState) (window : Opportunity) (channel : Channel)
       → IsAt d cycles kept calls w → following d.params cycles w.bus.sealed ≡ Some window → AreMute d kept window
       → IsPast d cycles kept calls w window channel 0
   passes_silent calls w window channel here next mute =
-      let ready : (n : ℕ) → n < length w.interfaces → fetch_refusal (interface_at w n) window ≡ None =
-      λ n within. (
-      let node = here.nodes n within in
-      takes_next n (interface_at w n) w.bus.sealed window node.params_are node.plan_at node.has here.course next) in
-      let past = has_passed w window here.between (next_here d cycles kept calls w here ∙ next) ready in
-      let v = past.world in
+      let past = past_silent calls w here window next mute in
       let r = recorded_by w.bus.cluster window past.stations in
-      let fitting = following_fits d.params cycles w.bus.sealed window
-      (omega (arith, here.course.lawful.static_slots_fit.from_least)) next in
       let in_w : (n : ℕ) → n < length past.stations → n < length w.interfaces =
       λ n within. subst (λ (m : ℕ). n < m) past.offers.one_each within in
       record {
-        world = v;
+        world = past.world;
         leads = past.leads;
-        is_at = record {
-          cluster = past.cluster ∙ here.cluster;
-          cycles_are = past.cycles ∙ here.cycles_are;
-          one_each = past.interfaces_long ∙ here.one_each;
-          course = subst (λ (rs : List Recorded). IsCourse (course_of d.params cycles rs)) (sym past.sealed)
-              (course_next d.params cycles w.bus.sealed r here.course next);
-          between = past.is_between;
-          nodes = λ n within. (
-              let in_old : n < length w.interfaces = subst (λ (m : ℕ). n < m) past.interfaces_long within in
-              let many : length w.bus.sealed + 1 ≡ length v.bus.sealed =
-              sym (ap (λ (rs : List Recorded). length rs) past.sealed ∙ length-append w.bus.sealed (r ∷ [])) in
-              subst (λ (m : ℕ). IsNodeAt d (kept n) n (interface_at v n) m calls) many
-              (node_past n (length w.bus.sealed) calls (interface_at w n) (interface_at v n) window
-              (here.nodes n in_old) mute fitting.number_is (past.interfaces n in_old)));
-        };
+        is_at = at_silent calls w here window next mute;
         recorded = r;
         sealed = past.sealed;
         window_is = refl;
-        longest_is = λ dynamic. longest_none w.bus.cluster window channel past.stations
+        longest_is = λ dynamic. longest_none channel r.sent (none_pass w.bus.cluster window channel past.stations
             (λ n. offer_of (interface_at w n) window) (λ n within. past.offers.are n (in_w n within))
-            (λ n within. (
-            let node = here.nodes n (in_w n within) in
-            no_bytes (interface_at w n) window channel dynamic
-            (none_offered (kept n) (interface_at w n) node.ready window (mute n (interface_at w n).plan node.plan_at)
-            channel)));
+            (λ n within. no_bytes (interface_at w n) window channel dynamic
+            (none_commits calls w here window next mute channel n (in_w n within))));
       }

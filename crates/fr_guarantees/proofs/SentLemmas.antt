@@ -1,31 +1,30 @@
 -- One more window of a run, in which a chosen frame is sent.
 use Rattle.std.proofs.Common.{◌≡◌, ◌≢◌, ℕ, ◌+◌, ◌*◌, ◌<◌, ◌≤◌, Bool, true, false, not, ◌&&◌, ◌||◌, List, [], ◌∷◌, ◌++◌}
-use Rattle.std.proofs.Common.{length, length-append, replicate, Some, None, refl, sym, ap, subst, ◌∙◌, arith, slice_get}
-use Rattle.std.proofs.Common.{inl, inr}
-use Rattle.std.specs.Prelude.{count_by}
+use Rattle.std.proofs.Common.{length, replicate, Some, None, refl, sym, ap, subst, ◌∙◌, arith, slice_get, inl, inr}
+use Rattle.std.specs.Prelude.{count_by, ◌==◌}
 use Rattle.std.proofs.lemmas.Bool.Decides.{eqb_tells}
 use Rattle.std.proofs.lemmas.List.{length-replicate, length-set, get_or-set_same, get_or-set_other}
 use Rattle.std.proofs.lemmas.Option.{slice_get_within}
-use Rattle.fr_bus.specs.Courses.{IsCourse, course_of}
-use Rattle.fr_bus.specs.Outcome.{longest}
+use Rattle.arrayvec.specs.ArrayVec.{ArrayVec}
+use Rattle.fr_bus.specs.Outcome.{all_passed}
 use Rattle.fr_bus.specs.Record.{Recorded}
+use Rattle.fr_bus.specs.Stations.{Station}
 use Rattle.fr_bus.specs.Windows.{following}
 use Rattle.fr_core.proofs.TimingLemmas.{count_more}
 use Rattle.fr_core.specs.Steps.{with_interface, offer_of}
 use Rattle.fr_core.specs.Worlds.{WorldState, no_interface, interface_at}
 use Rattle.fr_guarantees.proofs.CallLemmas.{commit_accepted, withdraw_accepted, emptied}
-use Rattle.fr_guarantees.proofs.FollowingLemmas.{following_fits}
 use Rattle.fr_guarantees.proofs.FrameLemmas.{leads_commit, leads_withdraw, between_kept, IsSending, sending_is}
 use Rattle.fr_guarantees.proofs.FrameLemmas.{HasBytes, frame_is, committed_has, past_plan, past_params, past_hosts}
 use Rattle.fr_guarantees.proofs.FrameLemmas.{emptied_at}
-use Rattle.fr_guarantees.proofs.HeardLemmas.{offer_on, longest_one}
+use Rattle.fr_guarantees.proofs.HeardLemmas.{offer_on, longest_one, one_passes, sent_by}
 use Rattle.fr_guarantees.proofs.LeadLemmas.{leads_on}
 use Rattle.fr_guarantees.proofs.ObservingLemmas.{IsObserved}
 use Rattle.fr_guarantees.proofs.OfferingLemmas.{fetched_by}
 use Rattle.fr_guarantees.proofs.PassingLemmas.{IsNodeAt, IsAt, AreMute, IsPast, next_here, takes_next, node_past}
-use Rattle.fr_guarantees.proofs.ProgressLemmas.{course_next}
-use Rattle.fr_guarantees.proofs.SilenceLemmas.{Keeps, none_offered, no_bytes}
-use Rattle.fr_guarantees.proofs.WindowLemmas.{recorded_by, HasPassed, has_passed}
+use Rattle.fr_guarantees.proofs.PassingLemmas.{at_next, takes_here, number_here, none_commits}
+use Rattle.fr_guarantees.proofs.SilenceLemmas.{Keeps, no_bytes}
+use Rattle.fr_guarantees.proofs.WindowLemmas.{recorded_by, HasPassed, has_passed, AreOffers}
 use Rattle.fr_guarantees.specs.Exactness.{HasRoom}
 use Rattle.fr_guarantees.specs.Leading.{Leads}
 use Rattle.fr_guarantees.specs.Ways.{CanSend}
@@ -37,25 +36,59 @@ use Rattle.fr_schedule.specs.Clusters.{IsCluster}
 use Rattle.fr_schedule.specs.Descriptions.{Description, is_guarded}
 use Rattle.fr_slots.proofs.PlaceLemmas.{same_some}
 use Rattle.fr_slots.specs.declared.channel.Channel.{Channel}
+use Rattle.fr_slots.specs.declared.plan.Buffer.{Buffer}
 use Rattle.fr_slots.specs.Faults.{is_owned, words_of}
 use Rattle.fr_slots.specs.Parameters.{Parameters}
 use Rattle.fr_slots.specs.Plans.{Plan}
 use Rattle.fr_slots.specs.Windows.{Opportunity, slot_of, is_static}
 
+-- A host commits right before the window, in which its frame is sent, and empties the buffer after it.
+pub record IsSent (d : Description) (cycles : ℕ) (kept : ℕ → Keeps) (calls : ℕ) (w : WorldState)
+    (window : Opportunity) (channel : Channel) (n number : ℕ) (b : Buffer) (payload : List ℕ) : Type 0 where
+  pub world : WorldState
+  pub leads : Leads w world
+  pub is_at : IsAt d cycles kept calls world
+  pub sending : IsSending (interface_at w n).params (interface_at w n).plan number b window channel
+  -- the world before the window
+  pub committed : WorldState
+  pub long : length committed.interfaces ≡ length w.interfaces
+  pub at_sender : interface_at committed n ≡ with_entry (interface_at w n) (entries.Commit 0 number payload)
+  pub at_other : (m : ℕ) → m ≢ n → interface_at committed m ≡ interface_at w m
+  pub stations : List Station
+  pub offers : AreOffers committed window stations
+  pub sealed : world.bus.sealed ≡ w.bus.sealed ++ recorded_by w.bus.cluster window stations ∷ []
+
+-- its frame alone passes on the channel
+pub one_sent : (d : Description) (cycles : ℕ) (kept : ℕ → Keeps) (calls : ℕ) (w : WorldState) (window : Opportunity)
+    (channel : Channel) (n number slot : ℕ) (b : Buffer) (payload : List ℕ) (bytes : ArrayVec ℕ)
+    → (x : IsSent d cycles kept calls w window channel n number b payload) → n < length w.interfaces
+    → offer_on channel (offer_of (with_entry (interface_at w n) (entries.Commit 0 number payload)) window) ≡ Some bytes
+    → slot_of window channel ≡ Some slot → (length bytes.items == 0) ≡ false
+    → passes w.bus.cluster n window channel ≡ true
+    → ((m : ℕ) → m < length w.interfaces → m ≢ n → offer_on channel (offer_of (interface_at w m) window) ≡ None)
+    → all_passed channel (recorded_by w.bus.cluster window x.stations).sent
+    ≡ sent_by w.bus.cluster window n channel bytes ∷ []
+one_sent d cycles kept calls w window channel n number slot b payload bytes x within is slot_is some through silent =
+    let inside : (m : ℕ) → m < length x.stations → m < length x.committed.interfaces =
+    λ m there. subst (λ (j : ℕ). m < j) x.offers.one_each there in
+    one_passes w.bus.cluster window channel x.stations (λ m. offer_of (interface_at x.committed m) window) n slot bytes
+    (λ m there. x.offers.are m (inside m there)) (omega (arith, within, x.long, x.offers.one_each))
+    (ap (λ (y : State). offer_on channel (offer_of y window)) x.at_sender ∙ is) slot_is some through
+    (λ m there other. ap (λ (y : State). offer_on channel (offer_of y window)) (x.at_other m other)
+    ∙ silent m (subst (λ (j : ℕ). m < j) x.long (inside m there)) other)
+
 module _ (d : Description) (lawful : IsCluster d) (cycles most : ℕ) (room : HasRoom d cycles most) (kept : ℕ → Keeps)
     (channel : Channel) (calls : ℕ) (few : calls + 3 ≤ most) (w : WorldState) (here : IsAt d cycles kept calls w)
     (window : Opportunity) (next : following d.params cycles w.bus.sealed ≡ Some window)
-    (mute : AreMute d kept window) (dynamic : is_static window ≡ false) (slot : ℕ)
-    (slot_is : slot_of window channel ≡ Some slot) (cycle_fits : window.cycle < 64) (bytes : ℕ)
-    (can : CanSend d window.cycle slot channel window.minislot bytes) where
+    (mute : AreMute d kept window) (slot : ℕ) (slot_is : slot_of window channel ≡ Some slot)
+    (cycle_fits : window.cycle < 64) (bytes : ℕ)
+    (can : CanSend d window.cycle slot channel window.minislot bytes) (payload : List ℕ)
+    (as_long : length payload ≡ 2 * words_of d.params can.buffer) where
   abbrev k : ℕ
   k = can.node
 
   abbrev s : State
   s = interface_at w k
-
-  abbrev payload : List ℕ
-  payload = replicate (2 * words_of d.params can.buffer) 0
 
   abbrev s1 : State
   s1 = with_entry s (entries.Commit 0 can.number payload)
@@ -79,8 +112,7 @@ module _ (d : Description) (lawful : IsCluster d) (cycles most : ℕ) (room : Ha
       (sending_is d lawful window channel slot bytes slot_is cycle_fits can))
 
   words : length payload ≡ 2 * words_of s.params can.buffer
-  words = length-replicate (2 * words_of d.params can.buffer) 0
-      ∙ ap (λ (p : Parameters). 2 * words_of p can.buffer) (sym node.params_are)
+  words = as_long ∙ ap (λ (p : Parameters). 2 * words_of p can.buffer) (sym node.params_are)
 
   has_room : calls + 3 ≤ s.plan.host_entries
   has_room =
@@ -108,12 +140,8 @@ module _ (d : Description) (lawful : IsCluster d) (cycles most : ℕ) (room : Ha
         ∙ ap (λ (x : State). fetch_refusal x window) at_sender
         ∙ takes_next d cycles most room kept k s1 w.bus.sealed window node.params_are node.plan_at
         (committed_has d (kept k) k s (length w.bus.sealed) calls can.number can.buffer payload node) here.course next
-    | inr other ↦ (
-        let inside_w : n < length w.interfaces = subst (λ (m : ℕ). n < m) long inside in
-        let at = here.nodes n inside_w in
-        ap (λ (x : State). fetch_refusal x window) (at_other n other.1)
-        ∙ takes_next d cycles most room kept n (interface_at w n) w.bus.sealed window at.params_are at.plan_at at.has
-        here.course next)
+    | inr other ↦ ap (λ (x : State). fetch_refusal x window) (at_other n other.1)
+        ∙ takes_here d cycles most room kept calls w here window next n (subst (λ (m : ℕ). n < m) long inside)
   ]
 
   -- ---- the window
@@ -127,45 +155,13 @@ module _ (d : Description) (lawful : IsCluster d) (cycles most : ℕ) (room : Ha
   abbrev r : Recorded
   r = recorded_by w.bus.cluster window past.stations
 
-  frame : HasBytes s1 window channel bytes
-  frame =
-      let long : length payload ≡ 2 * words_of d.params can.buffer =
-      length-replicate (2 * words_of d.params can.buffer) 0 in
-      frame_is s can.number can.buffer window channel slot bytes payload sending slot_is
-      (omega (arith, can.bytes_are, long))
-
-  through : passes w.bus.cluster k window channel ≡ true
-  through =
-      let plan_at : slice_get w.bus.cluster.plans k ≡ Some can.plan =
-      ap (λ (c : Description). slice_get c.plans k) here.cluster ∙ can.plan_at in
-      (λ i. passes_in w.bus.cluster window channel (plan_at i) (slot_is i))
-      ∙ ap (λ (b : Bool). not (b && is_guarded w.bus.cluster.guard channel)
-      || is_owned can.plan.owned slot channel window.cycle) dynamic
-
-  longest_is : longest channel r.sent ≡ bytes
-  longest_is =
-      let in_w1 : (n : ℕ) → n < length past.stations → n < length w1.interfaces =
-      λ n inside. subst (λ (m : ℕ). n < m) past.offers.one_each inside in
-      let inside : k < length past.stations = omega (arith, within, long, past.offers.one_each) in
-      longest_one w.bus.cluster window channel past.stations (λ n. offer_of
-      (interface_at w1 n) window) k slot frame.frame
-      (λ n inside. past.offers.are n (in_w1 n inside)) inside
-      (ap (λ (x : State). offer_on channel (offer_of x window)) at_sender ∙ frame.is) slot_is frame.some through
-      (λ n inside other. (
-      let at = here.nodes n (subst (λ (m : ℕ). n < m) long (in_w1 n inside)) in
-      ap (λ (x : State). offer_on channel (offer_of x window)) (at_other n other)
-      ∙ no_bytes (interface_at w n) window channel dynamic (none_offered (kept n) (interface_at w n) at.ready
-      window (mute n (interface_at w n).plan at.plan_at) channel)))
-      ∙ frame.long
-
   -- ---- the buffer is emptied
 
   abbrev t : State
   t = interface_at v k
 
   number_is : window.number ≡ length w.bus.sealed
-  number_is = (following_fits d.params cycles w.bus.sealed window
-      (omega (arith, here.course.lawful.static_slots_fit.from_least)) next).number_is
+  number_is = number_here d cycles most room kept calls w here window next
 
   seen : IsObserved (fetched_by s1 window) t window
   seen = subst (λ (x : State). IsObserved (fetched_by x window) t window) at_sender
@@ -233,12 +229,6 @@ module _ (d : Description) (lawful : IsCluster d) (cycles most : ℕ) (room : Ha
   long_v3 = length-set v2.interfaces k (with_entry (interface_at v2 k)
       (withdraw_entry (interface_at v2 k) 0 can.number)) ∙ long_v2 ∙ past.interfaces_long ∙ long
 
-  sealed_is : v.bus.sealed ≡ w.bus.sealed ++ r ∷ []
-  sealed_is = past.sealed
-
-  more : length w.bus.sealed + 1 ≡ length v.bus.sealed
-  more = sym (ap (λ (rs : List Recorded). length rs) past.sealed ∙ length-append w.bus.sealed (r ∷ []))
-
   sender_at : interface_at v3 k ≡ emptied t can.number payload
   sender_at = get_or-set_same v2.interfaces k (with_entry (interface_at v2 k)
       (withdraw_entry (interface_at v2 k) 0 can.number)) no_interface within_v2
@@ -277,23 +267,57 @@ module _ (d : Description) (lawful : IsCluster d) (cycles most : ℕ) (room : Ha
         }))
   ]
 
-  pub passes_sending : IsPast d cycles kept (calls + 3) w window channel bytes
-  passes_sending = record {
+  pub commit_sent : IsSent d cycles kept (calls + 3) w window channel can.node can.number can.buffer payload
+  commit_sent = record {
     world = v3;
     leads = leads_on commits (leads_on past.leads (leads_on again withdraws));
-    is_at = record {
-      cluster = past.cluster ∙ here.cluster;
-      cycles_are = past.cycles ∙ here.cycles_are;
-      one_each = long_v3 ∙ here.one_each;
-      course = subst (λ (rs : List Recorded). IsCourse (course_of d.params cycles rs)) (sym past.sealed)
-          (course_next d.params cycles w.bus.sealed r here.course next);
-      between = between_kept v2 k (with_entry (interface_at v2 k) (withdraw_entry (interface_at v2 k) 0 can.number))
-          (between_kept v k t2 past.is_between);
-      nodes = λ n inside. subst (λ (m : ℕ). IsNodeAt d (kept n) n (interface_at v3 n) m (calls + 3)) more
-          (nodes_at n (subst (λ (m : ℕ). n < m) long_v3 inside));
-    };
-    recorded = r;
+    is_at = at_next d cycles kept kept calls (calls + 3) w v3 r here next past.cluster past.cycles long_v3 past.sealed
+        (between_kept v2 k (with_entry (interface_at v2 k) (withdraw_entry (interface_at v2 k) 0 can.number))
+        (between_kept v k t2 past.is_between)) nodes_at;
+    sending = sending;
+    committed = w1;
+    long = long;
+    at_sender = at_sender;
+    at_other = at_other;
+    stations = past.stations;
+    offers = past.offers;
     sealed = past.sealed;
-    window_is = refl;
-    longest_is = λ still. longest_is;
   }
+
+-- a frame of zeros in a dynamic window
+pub passes_sending : (d : Description) → IsCluster d → (cycles most : ℕ) → HasRoom d cycles most → (kept : ℕ → Keeps)
+    (channel : Channel) (calls : ℕ) → calls + 3 ≤ most → (w : WorldState) → IsAt d cycles kept calls w
+    → (window : Opportunity) → following d.params cycles w.bus.sealed ≡ Some window → AreMute d kept window
+    → is_static window ≡ false → (slot : ℕ) → slot_of window channel ≡ Some slot → window.cycle < 64 → (bytes : ℕ)
+    → CanSend d window.cycle slot channel window.minislot bytes → IsPast d cycles kept (calls + 3) w window channel bytes
+passes_sending d lawful cycles most room kept channel calls few w here window next mute dynamic slot slot_is cycle_fits
+    bytes can =
+    let payload : List ℕ = replicate (2 * words_of d.params can.buffer) 0 in
+    let as_long : length payload ≡ 2 * words_of d.params can.buffer =
+    length-replicate (2 * words_of d.params can.buffer) 0 in
+    let x = commit_sent d lawful cycles most room kept channel calls few w here window next mute slot slot_is cycle_fits
+    bytes can payload as_long in
+    let r = recorded_by w.bus.cluster window x.stations in
+    let frame = frame_is (interface_at w can.node) can.number can.buffer window channel slot bytes payload x.sending
+    slot_is (omega (arith, can.bytes_are, as_long)) in
+    let within : can.node < length w.interfaces =
+    (let inside = slice_get_within d.plans can.node can.plan can.plan_at in omega (arith, inside, here.one_each)) in
+    let plan_at : slice_get w.bus.cluster.plans can.node ≡ Some can.plan =
+    ap (λ (c : Description). slice_get c.plans can.node) here.cluster ∙ can.plan_at in
+    let through : passes w.bus.cluster can.node window channel ≡ true =
+    (λ i. passes_in w.bus.cluster window channel (plan_at i) (slot_is i))
+    ∙ ap (λ (b : Bool). not (b && is_guarded w.bus.cluster.guard channel)
+    || is_owned can.plan.owned slot channel window.cycle) dynamic in
+    record {
+      world = x.world;
+      leads = x.leads;
+      is_at = x.is_at;
+      recorded = r;
+      sealed = x.sealed;
+      window_is = refl;
+      longest_is = λ still. longest_one channel r.sent (sent_by w.bus.cluster window can.node channel frame.frame)
+          (one_sent d cycles kept (calls + 3) w window channel can.node can.number slot can.buffer payload frame.frame x
+          within frame.is slot_is frame.some through (λ m inside other. no_bytes (interface_at w m) window channel
+          dynamic (none_commits d cycles most room kept calls w here window next mute channel m inside)))
+          ∙ frame.long;
+    }

@@ -1,17 +1,18 @@
 -- In a run without faults on a channel a listener receives silence or the frame that is due, window by window.
 use Rattle.std.proofs.Common.{◌≡◌, ℕ, zero, suc, ◌+◌, ◌-◌, ◌*◌, ◌<◌, ◌≤◌, Bool, true, false, List, [], ◌∷◌, length}
-use Rattle.std.proofs.Common.{Option, Some, None, refl, sym, ap, ◌∙◌, arith, slice_get, get_or, ◌⊎◌, inl, inr, map}
-use Rattle.std.specs.Prelude.{nat_lt, max, ◌==◌}
-use Rattle.std.specs.List.{fold, list_any}
+use Rattle.std.proofs.Common.{Option, Some, None, refl, sym, ap, ◌∙◌, arith, slice_get, get_or, ◌⊎◌, inl, inr}
+use Rattle.std.specs.Prelude.{nat_lt, ◌==◌}
+use Rattle.std.specs.List.{list_any}
 use Rattle.std.proofs.lemmas.Bool.{cond-true, cond-false, le-ltb}
 use Rattle.std.proofs.lemmas.Option.{slice_get-get_or}
 use Rattle.fr_bus.specs.declared.outcome.Sent.{Sent}
-use Rattle.fr_bus.specs.Outcome.{all_passed, heard_of, received, overruns, longest}
+use Rattle.fr_bus.specs.Outcome.{all_passed, heard_of, received, overruns}
 use Rattle.fr_bus.specs.Record.{Recorded, corrupt_on, heard}
 use Rattle.fr_core.specs.Headline.{Headline}
 use Rattle.fr_core.specs.Worlds.{WorldState, no_interface}
 use Rattle.fr_frame.specs.Fields.{Fields}
 use Rattle.fr_guarantees.proofs.DelayLemmas.{static_fits}
+use Rattle.fr_guarantees.proofs.HeardLemmas.{longest_none, longest_one}
 use Rattle.fr_guarantees.proofs.HeldTableLaws.{not_static}
 use Rattle.fr_guarantees.proofs.OfferLemmas.{length-frame}
 use Rattle.fr_hearing.proofs.CycleLemmas.{AreHeardAt}
@@ -33,19 +34,6 @@ use Rattle.fr_slots.specs.Faults.{is_owned, sends_at}
 use Rattle.fr_slots.specs.Parameters.{is_static_slot}
 use Rattle.fr_slots.specs.Windows.{Opportunity, slot_of, is_static, window_fits}
 use Rattle.fr_status.specs.declared.seen.Seen.TheVariants.{Silence, Overrun, Bytes}
-
--- ---- the length of a transmission
-
-pub longest_none : (channel : Channel) (r : Recorded) → all_passed channel r.sent ≡ [] → longest channel r.sent ≡ 0
-longest_none channel r e = ap (λ (l : List Sent). fold max 0 (map (λ (t : Sent). length t.bytes.items) l)) e
-
-max_zero : (n : ℕ) → max 0 n ≡ n
-max_zero n = omega arith
-
-pub longest_one : (channel : Channel) (r : Recorded) (t : Sent) → all_passed channel r.sent ≡ t ∷ []
-    → longest channel r.sent ≡ length t.bytes.items
-longest_one channel r t e =
-    ap (λ (l : List Sent). fold max 0 (map (λ (u : Sent). length u.bytes.items) l)) e ∙ max_zero (length t.bytes.items)
 
 module _ (d : Description) (cluster : IsCluster d) (w : Opportunity) (channel : Channel) (slot : ℕ)
     (fits : window_fits d.params w ≡ true) (slot_is : slot_of w channel ≡ Some slot) (f : Fields) where
@@ -130,7 +118,7 @@ module _ (w : WorldState) (head : Headline w) (channel : Channel) (healthy : IsH
           let none : ⊥ = cc in none
 
   quiet : all_passed channel r.sent ≡ [] → IsQuiet w.bus.cluster channel r
-  quiet e = record { hears = silent e; none = longest_none channel r e; free = no_owner e }
+  quiet e = record { hears = silent e; none = longest_none channel r.sent e; free = no_owner e }
 
   loud : (slot : ℕ) → slot_of r.window channel ≡ Some slot → IsLone w.bus.cluster r channel slot
       → IsLoud w.bus.cluster channel r
@@ -153,7 +141,7 @@ module _ (w : WorldState) (head : Headline w) (channel : Channel) (healthy : IsH
             (Bytes lone.sender.bytes) short;
         spelled = due.spelled;
         is_there = due.is_there;
-        size = longest_one channel r lone.sender lone.only ∙ size;
+        size = longest_one channel r.sent lone.sender lone.only ∙ size;
         few = few_bytes d head.run.lawful r.window channel slot window_here slot_is due.frame (is_static r.window) refl
             due.is_there;
       }

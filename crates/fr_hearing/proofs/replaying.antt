@@ -1,6 +1,5 @@
 mod SenderLemmas
 mod OfferLemmas
-mod LoneLemmas
 mod GoneLemmas
 mod SentLemmas
 mod StepLemmas

@@ -1,11 +1,10 @@
 -- One more window of a run in which no host commits anything: nothing passes on the channel, or its owner's null frame.
-use Rattle.std.proofs.Common.{◌≡◌, ◌≢◌, ℕ, ◌+◌, ◌<◌, Bool, true, false, not, ◌&&◌, ◌||◌, List, [], ◌∷◌, ◌++◌, length}
-use Rattle.std.proofs.Common.{length-append, Option, Some, None, refl, sym, ap, subst, ◌∙◌, arith, slice_get}
+use Rattle.std.proofs.Common.{◌≡◌, ◌≢◌, ℕ, ◌<◌, Bool, true, false, not, ◌&&◌, ◌||◌, List, [], ◌∷◌, ◌++◌, length, Option}
+use Rattle.std.proofs.Common.{Some, None, refl, sym, ap, subst, ◌∙◌, arith, slice_get}
 use Rattle.std.specs.Prelude.{is_some, ◌==◌}
 use Rattle.std.proofs.lemmas.Bool.{ne_eqb, or_right, false_from_ne_true}
 use Rattle.std.proofs.lemmas.Option.{slice_get_within}
 use Rattle.arrayvec.specs.ArrayVec.{ArrayVec}
-use Rattle.fr_bus.specs.Courses.{IsCourse, course_of}
 use Rattle.fr_bus.specs.declared.outcome.Sent.{Sent}
 use Rattle.fr_bus.specs.Outcome.{all_passed}
 use Rattle.fr_bus.specs.Record.{Recorded, corrupt_on}
@@ -15,22 +14,19 @@ use Rattle.fr_core.specs.Steps.{offer_of}
 use Rattle.fr_core.specs.Worlds.{WorldState, interface_at}
 use Rattle.fr_frame.specs.Encoding.{encoded}
 use Rattle.fr_frame.specs.Fields.{Fields}
-use Rattle.fr_guarantees.proofs.FollowingLemmas.{following_fits, IsFitting}
-use Rattle.fr_guarantees.proofs.HeardLemmas.{offer_on, sent_by}
+use Rattle.fr_guarantees.proofs.HeardLemmas.{offer_on, sent_by, none_pass, one_passes}
 use Rattle.fr_guarantees.proofs.HoldingLemmas.{nothing_kept}
 use Rattle.fr_guarantees.proofs.OfferLemmas.{length-frame}
-use Rattle.fr_guarantees.proofs.PassingLemmas.{IsNodeAt, IsAt, AreMute, next_here, takes_next, node_past}
-use Rattle.fr_guarantees.proofs.ProgressLemmas.{course_next}
-use Rattle.fr_guarantees.proofs.SilenceLemmas.{none_offered, not_owned}
-use Rattle.fr_guarantees.proofs.WindowLemmas.{recorded_by, HasPassed, has_passed}
+use Rattle.fr_guarantees.proofs.PassingLemmas.{IsAt, AreMute, past_silent, at_silent, none_commits}
+use Rattle.fr_guarantees.proofs.SilenceLemmas.{not_owned}
+use Rattle.fr_guarantees.proofs.WindowLemmas.{recorded_by, HasPassed}
 use Rattle.fr_guarantees.specs.Exactness.{HasRoom}
 use Rattle.fr_guarantees.specs.Leading.{Leads}
 use Rattle.fr_guardian.specs.Guarding.{passes, passes_in}
 use Rattle.fr_hearing.proofs.OfferLaws.{line_is, not_owned}
-use Rattle.fr_hearing.proofs.replaying.LoneLemmas.{none_pass, one_passes}
 use Rattle.fr_hearing.proofs.replaying.OfferLemmas.{none_here, null_here}
 use Rattle.fr_hearing.proofs.replaying.SenderLemmas.{CanNull}
-use Rattle.fr_interface.specs.State.{State, fetch_refusal}
+use Rattle.fr_interface.specs.State.{State}
 use Rattle.fr_journal.specs.Offers.{owns, null_frame, commit_offered}
 use Rattle.fr_logged.proofs.DueLemmas.{static_sender}
 use Rattle.fr_logged.proofs.FirstLemmas.{none_found_in}
@@ -124,48 +120,15 @@ passes_owner d window channel slot k plan at slot_is owned =
 module _ (d : Description) (lawful : IsCluster d) (cycles most : ℕ) (room : HasRoom d cycles most) (calls : ℕ)
     (w : WorldState) (here : IsAt d cycles nothing_kept calls w) (window : Opportunity)
     (next : following d.params cycles w.bus.sealed ≡ Some window) where
-  ready : (n : ℕ) → n < length w.interfaces → fetch_refusal (interface_at w n) window ≡ None
-  ready n within =
-      let node = here.nodes n within in
-      takes_next d cycles most room nothing_kept n (interface_at w n) w.bus.sealed window node.params_are node.plan_at
-      node.has here.course next
-
-  past : HasPassed w window
-  past = has_passed w window here.between (next_here d cycles nothing_kept calls w here ∙ next) ready
-
-  abbrev r : Recorded
-  r = recorded_by w.bus.cluster window past.stations
-
-  fitting : IsFitting d.params (length w.bus.sealed) window
-  fitting = following_fits d.params cycles w.bus.sealed window
-      (omega (arith, here.course.lawful.static_slots_fit.from_least)) next
+  abbrev past : HasPassed w window
+  past = past_silent d cycles most room nothing_kept calls w here window next (all_mute d window)
 
   in_w : (n : ℕ) → n < length past.stations → n < length w.interfaces
   in_w n within = subst (λ (m : ℕ). n < m) past.offers.one_each within
 
-  at_end : IsAt d cycles nothing_kept calls past.world
-  at_end = record {
-    cluster = past.cluster ∙ here.cluster;
-    cycles_are = past.cycles ∙ here.cycles_are;
-    one_each = past.interfaces_long ∙ here.one_each;
-    course = subst (λ (rs : List Recorded). IsCourse (course_of d.params cycles rs)) (sym past.sealed)
-        (course_next d.params cycles w.bus.sealed r here.course next);
-    between = past.is_between;
-    nodes = λ n within. (
-        let in_old : n < length w.interfaces = subst (λ (m : ℕ). n < m) past.interfaces_long within in
-        let many : length w.bus.sealed + 1 ≡ length past.world.bus.sealed =
-        sym (ap (λ (rs : List Recorded). length rs) past.sealed ∙ length-append w.bus.sealed (r ∷ [])) in
-        subst (λ (m : ℕ). IsNodeAt d (nothing_kept n) n (interface_at past.world n) m calls) many
-        (node_past d cycles most room nothing_kept n (length w.bus.sealed) calls (interface_at w n)
-        (interface_at past.world n) window (here.nodes n in_old) (all_mute d window) fitting.number_is
-        (past.interfaces n in_old)));
-  }
-
   no_commit : (channel : Channel) (n : ℕ) → n < length w.interfaces
       → commit_offered (interface_at w n).plan (interface_at w n).entries window channel ≡ None
-  no_commit channel n within =
-      none_offered (nothing_kept n) (interface_at w n) (here.nodes n within).ready window
-      (all_mute d window n (interface_at w n).plan (here.nodes n within).plan_at) channel
+  no_commit = none_commits d cycles most room nothing_kept calls w here window next (all_mute d window)
 
   gone : (channel : Channel) (o : Option Fields)
       → PassedAs channel (recorded_by w.bus.cluster window past.stations) o
@@ -173,7 +136,7 @@ module _ (d : Description) (lawful : IsCluster d) (cycles most : ℕ) (room : Ha
   gone channel o passed_as = record {
     world = past.world;
     leads = past.leads;
-    is_at = at_end;
+    is_at = at_silent d cycles most room nothing_kept calls w here window next (all_mute d window);
     recorded = recorded_by w.bus.cluster window past.stations;
     sealed = past.sealed;
     window_is = refl;

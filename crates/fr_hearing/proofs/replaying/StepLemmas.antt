@@ -11,12 +11,13 @@ use Rattle.fr_core.proofs.CaseLemmas.{both}
 use Rattle.fr_core.specs.Worlds.{WorldState}
 use Rattle.fr_frame.specs.Fields.{Fields}
 use Rattle.fr_guarantees.proofs.FollowingLemmas.{following_fits}
+use Rattle.fr_guarantees.proofs.HeardLemmas.{longest_one}
 use Rattle.fr_guarantees.proofs.HoldingLemmas.{nothing_kept}
 use Rattle.fr_guarantees.proofs.OfferLemmas.{length-frame}
 use Rattle.fr_guarantees.proofs.PassingLemmas.{IsAt, at_more}
 use Rattle.fr_guarantees.proofs.SilenceLemmas.{not_owned}
 use Rattle.fr_guarantees.specs.Exactness.{HasRoom}
-use Rattle.fr_hearing.proofs.HearingLemmas.{longest_one, ends, few_bytes}
+use Rattle.fr_hearing.proofs.HearingLemmas.{ends, few_bytes}
 use Rattle.fr_hearing.proofs.PassageLemmas.{IsLoud}
 use Rattle.fr_hearing.proofs.replaying.GoneLemmas.{IsLone, IsGone, goes_quiet, goes_null, not_owner}
 use Rattle.fr_hearing.proofs.replaying.SenderLemmas.{hand_static, hand_dynamic, hand_null}
@@ -73,7 +74,7 @@ loud_is d channel r g slot cluster fits slot_is whole there lone =
             (Bytes lone.sender.bytes) short;
         spelled = lone.spelled;
         is_there = there;
-        size = longest_one channel r lone.sender lone.only ∙ size;
+        size = longest_one channel r.sent lone.sender lone.only ∙ size;
         few = few_bytes d cluster r.window channel slot fits slot_is g (is_static r.window) refl there;
       };
       frame_is = refl;

@@ -15,6 +15,7 @@ use Rattle.fr_core.specs.Worlds.{WorldState}
 use Rattle.fr_frame.specs.Encoding.{encoded}
 use Rattle.fr_frame.specs.Fields.{Fields}
 use Rattle.fr_guarantees.proofs.ExactLemmas.{small_mod}
+use Rattle.fr_guarantees.proofs.HeardLemmas.{longest_none}
 use Rattle.fr_guarantees.proofs.HoldingLemmas.{nothing_kept}
 use Rattle.fr_guarantees.proofs.LeadLemmas.{leads_not, leads_on}
 use Rattle.fr_guarantees.proofs.PassingLemmas.{IsAt}
@@ -24,7 +25,6 @@ use Rattle.fr_guarantees.proofs.WalkLemmas.{one_more}
 use Rattle.fr_guarantees.specs.Exactness.{HasRoom}
 use Rattle.fr_guarantees.specs.Leading.{Leads}
 use Rattle.fr_hearing.proofs.CourseLemmas.{last_after_frame, same_cycle_after}
-use Rattle.fr_hearing.proofs.HearingLemmas.{longest_none}
 use Rattle.fr_hearing.proofs.NextLemmas.{IsFirst as IsFirstWindow, IsNextOf, next_window, static_passed, dynamic_passed}
 use Rattle.fr_hearing.proofs.NextLemmas.{lane_of, after_first, after_static as course_static}
 use Rattle.fr_hearing.proofs.NextLemmas.{after_dynamic as course_dynamic, slot_opened, opened_is, some_minislot}
@@ -375,7 +375,7 @@ module _ (d : Description) (lawful : IsCluster d) (cycles most : ℕ) (room : Ha
         let e = course_now gone.world gone.recorded gone.sealed gone.window_is in
         let one = one_more gone.world w.bus.sealed gone.recorded gone.sealed in
         let begun = begun_after gone.world w gone.recorded window false gone.sealed gone.window_is shut_now in
-        let none = longest_none channel gone.recorded gone.passed_as in
+        let none = longest_none channel gone.recorded.sent gone.passed_as in
         walked_quiet calls w window gs gone (again calls gone.world s gs (record {
           is_at = gone.is_at;
           at = subst (λ (c : Standpoint). IsAtSpot d channel c s) (sym e)
