@@ -15,8 +15,7 @@ use Rattle.fr_core.specs.Steps.{with_interface, offer_of}
 use Rattle.fr_core.specs.Worlds.{WorldState, no_interface, interface_at}
 use Rattle.fr_guarantees.proofs.CallLemmas.{commit_accepted, withdraw_accepted, emptied}
 use Rattle.fr_guarantees.proofs.FrameLemmas.{leads_commit, leads_withdraw, between_kept, IsSending, sending_is}
-use Rattle.fr_guarantees.proofs.FrameLemmas.{HasBytes, frame_is, committed_has, past_plan, past_params, past_hosts}
-use Rattle.fr_guarantees.proofs.FrameLemmas.{emptied_at}
+use Rattle.fr_guarantees.proofs.FrameLemmas.{frame_is, committed_has, past_plan, past_params, past_hosts, emptied_at}
 use Rattle.fr_guarantees.proofs.HeardLemmas.{offer_on, longest_one, one_passes, sent_by}
 use Rattle.fr_guarantees.proofs.LeadLemmas.{leads_on}
 use Rattle.fr_guarantees.proofs.ObservingLemmas.{IsObserved}

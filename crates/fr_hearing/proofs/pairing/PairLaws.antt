@@ -1,28 +1,26 @@
 -- Recordings of both channels of a run without faults have no finding.
-use Rattle.std.proofs.Common.{◌≡◌, ℕ, zero, suc, ◌+◌, ◌*◌, ◌<◌, ◌≤◌, Bool, true, false, List, [], ◌∷◌, ◌++◌, length}
-use Rattle.std.proofs.Common.{Some, None, refl, sym, ap, subst, ◌∙◌, arith, inl, inr}
+use Rattle.std.proofs.Common.{◌≡◌, ℕ, zero, suc, ◌+◌, ◌*◌, ◌<◌, ◌≤◌, Bool, true, false, List, [], ◌∷◌, ◌++◌, Some, None}
+use Rattle.std.proofs.Common.{refl, sym, subst, ◌∙◌, arith, inr}
 use Rattle.std.proofs.lemmas.List.{append_assoc}
 use Rattle.std.specs.Prelude.{◌^◌}
-use Rattle.arrayvec.specs.ArrayVec.{ArrayVec}
 use Rattle.fr_bus.specs.Courses.{opportunities}
 use Rattle.fr_bus.specs.Record.{Recorded, heard}
 use Rattle.fr_capture.specs.Pcap.{packet}
 use Rattle.fr_core.specs.Headline.{Headline}
 use Rattle.fr_core.specs.Worlds.{WorldState}
 use Rattle.fr_frame.specs.Refusal.{refusal}
-use Rattle.fr_guarantees.proofs.OfferLemmas.{length-frame}
+use Rattle.fr_hearing.proofs.FileLaws.{short_seen}
 use Rattle.fr_hearing.proofs.HearingLemmas.{window_heard, each_heard}
 use Rattle.fr_hearing.proofs.pairing.QuietLemmas.{packets_of_one, packets_are_of, are_logged, none_logged}
 use Rattle.fr_hearing.proofs.pairing.QuietLemmas.{no_alarm_of_none}
 use Rattle.fr_hearing.proofs.pairing.TwinLemmas.{IsInRun, each_in_run, are_alike}
 use Rattle.fr_hearing.proofs.pairing.WalkLemmas.{none_found_in}
-use Rattle.fr_hearing.proofs.PassageLemmas.{IsHeardAt}
 use Rattle.fr_hearing.proofs.ReadBackLaws.{is_read_back}
 use Rattle.fr_hearing.proofs.RunLaws.{all_quiet, no_alarm_of_both}
 use Rattle.fr_hearing.specs.Alarms.{judged}
 use Rattle.fr_hearing.specs.Files.{Clock, capture_of}
 use Rattle.fr_hearing.specs.Pairs.{packets_of_both, AreInOrder, NoAlarmTogether, NoAlarmInFileTogether}
-use Rattle.fr_hearing.specs.ReadBack.{read_time, read_seen, read_window, AreShort}
+use Rattle.fr_hearing.specs.ReadBack.{read_time, read_seen, read_window}
 use Rattle.fr_hearing.specs.Runs.{IsHealthy, packets_seen, packets_of}
 use Rattle.fr_judging.specs.Judging.{fresh, finish, has_finding}
 use Rattle.fr_judging.specs.Rules.{rules_of, judges, is_clocked, has_sender, other_channel}
@@ -46,6 +44,10 @@ some_product cycles (suc slots) some = omega arith
 few_cycles : (cycles slots product : ℕ) → cycles ≤ product → product < 2 ^ 32 → cycles + 2 ≤ most_counted
 few_cycles cycles slots product low high = omega (arith, low, high)
 
+pub both_healthy : (w : WorldState) → IsHealthy w A → IsHealthy w B → (channel : Channel) → IsHealthy w channel
+both_healthy w healthy_a healthy_b A = healthy_a
+both_healthy w healthy_a healthy_b B = healthy_b
+
 -- both channels have a sender
 both_send : (w : WorldState) → Headline w → (most : ℕ) (whole : Bool) (records : List Record) → IsHealthy w A
     → IsHealthy w B → has_sender w.bus.cluster A ≡ true → has_sender w.bus.cluster B ≡ true
@@ -61,16 +63,12 @@ both_send w head most whole records healthy_a healthy_b some_a some_b in_order =
     let few = few_cycles w.bus.cycles (opportunities d.params) (w.bus.cycles * opportunities d.params) product
     head.run.few_windows in
     none_found_in (rules_of w.bus.cluster most whole None 0) (record { untimed = refl }) greatest (IsInRun w)
-    (are_alike w head healthy) head.run.lawful all w.bus.cycles few clocked w.bus.sealed head.run.recorded
+    (are_alike w head (both_healthy w healthy_a healthy_b)) head.run.lawful all w.bus.cycles few clocked w.bus.sealed head.run.recorded
     (each_heard w.bus.cluster A w.bus.sealed (window_heard w head A healthy_a))
     (each_heard w.bus.cluster B w.bus.sealed (window_heard w head B healthy_b))
     (each_in_run w [] w.bus.sealed refl) healthy_a.complete.some_window healthy_a.complete.static_over
     head.run.some_cycles records in_order
   where
-    healthy : (channel : Channel) → IsHealthy w channel
-    healthy A = healthy_a
-    healthy B = healthy_b
-
     all : (channel : Channel) → judges (rules_of w.bus.cluster most whole None 0) channel ≡ true
     all A = refl
     all B = refl
@@ -150,31 +148,9 @@ read_order time p before (r ∷ rs) =
     (seen_order (time before r) A (heard p r A) (b ++ more) (packets_seen B (heard p r B) ++ packets_of_both p rs)
     (seen_order (time before r) B (heard p r B) more (packets_of_both p rs) (read_order time p (before ++ r ∷ []) rs)))
 
-short_both : (w : WorldState) → Headline w → IsHealthy w A → IsHealthy w B
-    → AreShort w.bus.cluster.params w.bus.sealed
-short_both w head healthy_a healthy_b k r at channel bytes is = by channel is (heard_on channel)
-  where
-    same_bytes : (x y : ArrayVec ℕ) → Bytes x ≡ Bytes y → x ≡ y
-    same_bytes x y e = cc
-
-    heard_on : (on : Channel) → IsHeardAt w.bus.cluster on r
-    heard_on A = window_heard w head A healthy_a k r at
-    heard_on B = window_heard w head B healthy_b k r at
-
-    by : (on : Channel) → heard w.bus.cluster.params r on ≡ Bytes bytes → IsHeardAt w.bus.cluster on r
-        → length bytes.items ≤ 262
-    by on e (inl quiet) = absurd (let both : Silence ≡ Bytes bytes = sym quiet.hears ∙ e in let none : ⊥ = cc in none)
-    by on e (inr loud) =
-        let same : loud.bytes ≡ bytes = same_bytes loud.bytes bytes (sym loud.hears ∙ e) in
-        let size : length bytes.items ≡ 8 + length loud.frame.payload =
-        ap (λ (b : ArrayVec ℕ). length b.items) (sym same) ∙ ap (λ (l : List ℕ). length l) loud.spelled
-        ∙ length-frame loud.frame on in
-        let few = loud.few in
-        omega (arith, size, few)
-
 pub no_alarm_in_file_together : (w : WorldState) → Headline w → NoAlarmInFileTogether w
 no_alarm_in_file_together w head most whole time healthy_a healthy_b =
-    let read = (is_read_back time w.bus.cluster.params w.bus.sealed (short_both w head healthy_a healthy_b)).1 in
+    let read = (is_read_back time w.bus.cluster.params w.bus.sealed (short_seen w head (both_healthy w healthy_a healthy_b))).1 in
     no_alarm_together w head most whole (records_in (capture_of time w.bus.cluster.params w.bus.sealed)) healthy_a
     healthy_b (subst (λ (l : List Record). AreInOrder l (packets_of_both w.bus.cluster.params w.bus.sealed)) (sym read)
     (read_order time w.bus.cluster.params [] w.bus.sealed))

@@ -1,32 +1,25 @@
 -- A capture of the bus of a run without faults, with a clock that keeps the schedule, has no finding with times.
-use Rattle.std.proofs.Common.{◌≡◌, ℕ, ◌+◌, ◌-◌, ◌*◌, ◌^◌, ◌<◌, ◌≤◌, Bool, true, false, cond, List, [], ◌∷◌, ◌++◌}
-use Rattle.std.proofs.Common.{length, Some, refl, sym, ap, subst, ◌∙◌, arith, inl, inr}
+use Rattle.std.proofs.Common.{◌≡◌, ℕ, ◌+◌, ◌-◌, ◌*◌, ◌^◌, ◌<◌, ◌≤◌, false, List, [], ◌∷◌, ◌++◌, Some, refl, sym, ap}
+use Rattle.std.proofs.Common.{subst, arith, inl, inr}
 use Rattle.std.proofs.lemmas.List.{append_assoc, append-nil}
 use Rattle.std.proofs.lemmas.Nat.{mul-le}
-use Rattle.arrayvec.specs.ArrayVec.{ArrayVec}
-use Rattle.fr_bus.proofs.AscendLemmas.{first_stays, later_stays}
-use Rattle.fr_bus.proofs.CourseLemmas.{course_more}
-use Rattle.fr_bus.proofs.NextLemmas.{next_is}
-use Rattle.fr_bus.specs.Courses.{IsCourse, course_of, course_after, first_passed, later_passed, opportunities}
-use Rattle.fr_bus.specs.Outcome.{longest}
+use Rattle.fr_bus.specs.Courses.{IsCourse, course_of, opportunities}
 use Rattle.fr_bus.specs.Record.{Recorded, heard}
 use Rattle.fr_bus.specs.States.{IsRecorded}
-use Rattle.fr_bus.specs.Windows.{cycles_begun, following}
+use Rattle.fr_bus.specs.Windows.{cycles_begun}
 use Rattle.fr_capture.specs.Moments.{start_of}
 use Rattle.fr_capture.specs.Pcap.{packet}
 use Rattle.fr_core.specs.Headline.{Headline}
 use Rattle.fr_core.specs.Worlds.{WorldState}
 use Rattle.fr_frame.specs.Refusal.{refusal}
-use Rattle.fr_guarantees.proofs.OfferLemmas.{length-frame}
-use Rattle.fr_hearing.proofs.FileLaws.{not_on}
-use Rattle.fr_hearing.proofs.HearingLemmas.{window_heard}
-use Rattle.fr_hearing.proofs.PassageLemmas.{IsHeardAt}
+use Rattle.fr_guarantees.proofs.ProgressLemmas.{course_none, course_next}
+use Rattle.fr_hearing.proofs.FileLaws.{not_on, short_seen}
 use Rattle.fr_hearing.proofs.punctual.RunLaws.{times_add_nothing, no_alarm_in_time}
 use Rattle.fr_hearing.proofs.punctual.TimeLemmas.{even_is_timeline}
 use Rattle.fr_hearing.proofs.punctual.WindowLemmas.{start_within, near_is_within}
 use Rattle.fr_hearing.proofs.ReadBackLaws.{is_read_back, time_is_kept}
 use Rattle.fr_hearing.specs.Files.{Clock, capture_of}
-use Rattle.fr_hearing.specs.ReadBack.{read_seen, read_window, AreShort}
+use Rattle.fr_hearing.specs.ReadBack.{read_seen, read_window}
 use Rattle.fr_hearing.specs.Runs.{IsHealthy, logged}
 use Rattle.fr_hearing.specs.Schedule.{Timeline, AreNear}
 use Rattle.fr_hearing.specs.TimedRuns.{Bounds, IsWithin, bounds_of, Packet, packets_at, packets_after, AreLoggedAt}
@@ -41,7 +34,6 @@ use Rattle.fr_slots.specs.declared.channel.Channel.{Channel}
 use Rattle.fr_slots.specs.declared.channel.Channel.TheVariants.{A, B}
 use Rattle.fr_slots.specs.History.{AllAfter, each_after}
 use Rattle.fr_slots.specs.Parameters.{Parameters, IsParameters}
-use Rattle.fr_slots.specs.Windows.{opens_cycle}
 use Rattle.fr_status.specs.declared.seen.Seen.TheVariants.{Silence, Own, Conflict, Noise, Overrun, Bytes}
 use Rattle.fr_status.specs.Forms.{Seen}
 
@@ -126,23 +118,6 @@ module _ (p : Parameters) (t : Timeline) (time : Clock) where
 
 -- ---- the file
 
-short_seen : (w : WorldState) → Headline w → ((on : Channel) → IsHealthy w on)
-    → AreShort w.bus.cluster.params w.bus.sealed
-short_seen w head healthy k r at channel bytes is = by (window_heard w head channel (healthy channel) k r at)
-  where
-    same_bytes : (x y : ArrayVec ℕ) → Bytes x ≡ Bytes y → x ≡ y
-    same_bytes x y e = cc
-
-    by : IsHeardAt w.bus.cluster channel r → length bytes.items ≤ 262
-    by (inl quiet) = absurd (let both : Silence ≡ Bytes bytes = sym quiet.hears ∙ is in let none : ⊥ = cc in none)
-    by (inr loud) =
-        let same : loud.bytes ≡ bytes = same_bytes loud.bytes bytes (sym loud.hears ∙ is) in
-        let size : length bytes.items ≡ 8 + length loud.frame.payload =
-        ap (λ (b : ArrayVec ℕ). length b.items) (sym same) ∙ ap (λ (l : List ℕ). length l) loud.spelled
-        ∙ length-frame loud.frame channel in
-        let few = loud.few in
-        omega (arith, size, few)
-
 file_logged : (w : WorldState) → Headline w → (t : Timeline) (time : Clock) → ((on : Channel) → IsHealthy w on)
     → KeepsTime w.bus.cluster.params t time w.bus.sealed → (channel : Channel)
     → AreLoggedAt t.slack channel (records_in (capture_of time w.bus.cluster.params w.bus.sealed))
@@ -164,33 +139,6 @@ times_add_nothing_in_file w head most whole only t time is healthy keeps =
     (λ channel mine. (healthy channel, file_logged w head t time healthy keeps channel))
 
 -- ---- exact times
-
-module _ (p : Parameters) (cycles : ℕ) where
-  course_none : IsParameters p → cycles * opportunities p < 2 ^ 32 → IsCourse (course_of p cycles [])
-  course_none lawful few = record {
-    used = 0;
-    lawful = lawful;
-    ahead_a = record { params_are = refl; later = λ row. omega arith };
-    ahead_b = record { params_are = refl; later = λ row. omega arith };
-    few_windows = few;
-    begun_fit = omega arith;
-    statics_fit = omega arith;
-    used_fit = omega arith;
-    under_way = λ some. absurd (let none : ⊥ = omega (arith, some) in none);
-  }
-
-  course_next : (rs : List Recorded) (r : Recorded) → IsCourse (course_of p cycles rs)
-      → following p cycles rs ≡ Some r.window → IsCourse (course_of p cycles (rs ++ r ∷ []))
-  course_next rs r course follows = subst IsCourse (sym (course_more p cycles rs r)) (by (opens_cycle r.window) refl)
-    where
-      by : (b : Bool) → opens_cycle r.window ≡ b → IsCourse (course_after (course_of p cycles rs) r)
-      by true e = subst (λ (t : Bool). IsCourse (cond t (first_passed (course_of p cycles rs))
-          (later_passed (course_of p cycles rs) r.window (longest A r.sent) (longest B r.sent)))) (sym e)
-          (first_stays (course_of p cycles rs) r.window course (next_is p cycles rs ∙ follows) e)
-      by false e = subst (λ (t : Bool). IsCourse (cond t (first_passed (course_of p cycles rs))
-          (later_passed (course_of p cycles rs) r.window (longest A r.sent) (longest B r.sent)))) (sym e)
-          (later_stays (course_of p cycles rs) r.window (longest A r.sent) (longest B r.sent) course
-          (next_is p cycles rs ∙ follows) e)
 
 -- the course up to a window of the record
 course_at : (d : Description) (cycles : ℕ) (before inner : List Recorded) (r : Recorded) (rest : List Recorded)

@@ -9,7 +9,7 @@ use Rattle.fr_core.specs.Headline.{Headline}
 use Rattle.fr_core.specs.Worlds.{WorldState}
 use Rattle.fr_frame.specs.declared.decode.DecodeError.{DecodeError}
 use Rattle.fr_frame.specs.Refusal.{refusal}
-use Rattle.fr_hearing.proofs.pairing.PairLaws.{no_alarm_together, no_alarm_in_file_together}
+use Rattle.fr_hearing.proofs.pairing.PairLaws.{no_alarm_together, no_alarm_in_file_together, both_healthy}
 use Rattle.fr_hearing.proofs.punctual.FileLaws.{times_add_nothing_in_file, windows_keep_time}
 use Rattle.fr_hearing.proofs.punctual.RunLaws.{times_add_nothing, bytes_at}
 use Rattle.fr_hearing.specs.Alarms.{is_on}
@@ -171,12 +171,8 @@ no_alarm_together_in_time w head most whole t records is healthy_a healthy_b ord
 
 pub no_alarm_in_timely_file_together : (w : WorldState) → Headline w → NoAlarmInTimelyFileTogether w
 no_alarm_in_timely_file_together w head most whole t time is healthy_a healthy_b keeps =
-    times_add_nothing_in_file w head most whole None t time is both keeps
+    times_add_nothing_in_file w head most whole None t time is (both_healthy w healthy_a healthy_b) keeps
     ∙ no_alarm_in_file_together w head most whole time healthy_a healthy_b
-  where
-    both : (channel : Channel) → IsHealthy w channel
-    both A = healthy_a
-    both B = healthy_b
 
 pub no_alarm_in_exact_file_together : (w : WorldState) → Headline w → NoAlarmInExactFileTogether w
 no_alarm_in_exact_file_together w head most whole healthy_a healthy_b =
