@@ -69,7 +69,7 @@ record IsNext (w : WorldState) (window : Opportunity) : Type 0 where
   place : ℕ
   follows : following w.bus.cluster.params w.bus.cycles (take place w.bus.sealed) ≡ Some window
 
-take_all : {X : Type 0} (xs : List X) → take (length xs) xs ≡ xs
+pub take_all : {X : Type 0} (xs : List X) → take (length xs) xs ≡ xs
 take_all [] = refl
 take_all (x ∷ xs) = ap (λ (l : List _). x ∷ l) (take_all xs)
 

@@ -354,7 +354,7 @@ module _ (r : Rules) (channel : Channel) (is : IsWhole r) (mine : judges r chann
       subst Told (sym (cond-true (judges s.rules channel) (finish_channel (turn s channel) true) s
       (ap (λ (q : Rules). judges q channel) rules ∙ mine))) told
 
-quiet_other : (r : Rules) (s : State) (other : Channel) → s.rules ≡ r → judges r other ≡ false
+pub quiet_other : (r : Rules) (s : State) (other : Channel) → s.rules ≡ r → judges r other ≡ false
     → finish_on s other true ≡ s
 unfolding finish_on
 quiet_other r s other rules none =

@@ -38,7 +38,7 @@ use Rattle.fr_timing.specs.Segments.{dynamic_start}
 
 -- ---- the start of a window
 
-row_within : (first count part k limit : ℕ) → first + count * part ≤ limit
+pub row_within : (first count part k limit : ℕ) → first + count * part ≤ limit
     → unwrap_or (start_in_row first count part k 0) 0 ≤ limit
 row_within first count part k limit fits =
     by (nat_le 1 k && nat_le k count && nat_lt 0 part) refl
