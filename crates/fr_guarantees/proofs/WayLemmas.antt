@@ -202,7 +202,8 @@ module _ (w : WorldState) (head : Headline w) (k : ℕ) (r : Recorded) (at : sli
       side.offer side.babble among.place t
       (ap (λ (l : List Sent). slice_get l among.place) (sym mine) ∙ among.at) silent in
       let within : t.node < length o.stations = node_known i t there in
-      let as_many = head.agrees.agrees.a_station_each ∙ head.run.one_each in
+      let as_many : length w.interfaces ≡ length w.bus.cluster.plans =
+      head.agrees.agrees.a_station_each ∙ head.run.one_each in
       let inside : t.node < length w.interfaces = omega (arith, within, as_many, o.one_each) in
       record {
         state = get_or w.interfaces t.node no_interface;

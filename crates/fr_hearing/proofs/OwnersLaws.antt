@@ -89,7 +89,7 @@ module _ (w : WorldState) (head : Headline w) (channel : Channel) (sound : AreSo
   here : slice_get w.interfaces owner ≡ Some s
   here =
       let small : owner < length d.plans = slice_get_within d.plans owner owns_it.plan owns_it.at in
-      let as_many = head.agrees.agrees.a_station_each ∙ head.run.one_each in
+      let as_many : length w.interfaces ≡ length d.plans = head.agrees.agrees.a_station_each ∙ head.run.one_each in
       slice_get-get_or w.interfaces owner no_interface (omega (arith, small, as_many))
 
   h : IsHanded d owner s r
