@@ -37,10 +37,6 @@ at_most_row : (first count part k : ℕ) → 1 ≤ k → k ≤ count → first +
 at_most_row first count part k from most =
     let rest = times_more (k - 1) count part (omega arith) in omega (arith, rest)
 
-row_within : (b : Bool) (m limit : ℕ) → (b ≡ true → m ≤ limit) → unwrap_or (cond b (Some m) None) 0 ≤ limit
-row_within true m limit small = small refl
-row_within false m limit small = omega arith
-
 module _ (p : Parameters) (lawful : IsParameters p) where
   place_within : (b : Bool) (slot minislot : ℕ)
       → unwrap_or (start_at p (cond b (Static slot 0) (Minislot minislot 0))) 0 ≤ p.cycle_mt

@@ -52,8 +52,8 @@ use Rattle.fr_slots.specs.Windows.{Opportunity, slot_of, is_static}
 
 -- the node's line for the slot
 pub record IsOwning (plan : Plan) (slot : ℕ) (channel : Channel) (cycle : ℕ) : Type 0 where
-  pub own : Own
-  pub line : line_in slot channel cycle plan ≡ Some own
+  pub value : Own
+  pub line : line_in slot channel cycle plan ≡ Some value
 
 module _ (d : Description) (n : ℕ) (s : State) (before : List Entry) (w : Opportunity) (x y : Offered)
     (channel : Channel) (slot : ℕ) (is_fetched : IsFetched d n s before w x y)
@@ -72,13 +72,13 @@ module _ (d : Description) (n : ℕ) (s : State) (before : List Entry) (w : Oppo
       (fetch_range d n s before w x y is_fetched).cycle_fits slot_is (offered_on channel x y) offer_here
       (not_nothing d.params s before w channel (offered_on channel x y) f slot slot_is handed) in
       let line = there (line_of s.plan w channel slot) owned in
-      record { own = line.value; line = sym (line_is s.plan w channel slot static) ∙ line.is }
+      record { value = line.value; line = sym (line_is s.plan w channel slot static) ∙ line.is }
 
   static_sends : is_static w ≡ true → IsSender d w.cycle slot channel n
   static_sends static =
       let o = owning static in
       static_sender d slot channel w.cycle n s.plan (static_here static) is_fetched.plan_at
-      (any_found_in (claims slot channel w.cycle) s.plan.owned o.own o.line)
+      (any_found_in (claims slot channel w.cycle) s.plan.owned o.value o.line)
 
   dynamic_sends : is_static w ≡ false → (o : Offered) → offered_on channel x y ≡ o → IsSender d w.cycle slot channel n
   dynamic_sends dynamic Nothing is =

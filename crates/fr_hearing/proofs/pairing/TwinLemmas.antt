@@ -173,16 +173,16 @@ module _ (w : WorldState) (head : Headline w) (k : ℕ) (r : Recorded) (at : sli
     sender_is few =
         let o = line_here few in
         static_sender w.bus.cluster slot channel r.window.cycle n s.plan static_here h.fetched_is.plan_at
-        (any_found_in (claims slot channel r.window.cycle) s.plan.owned o.own o.line)
+        (any_found_in (claims slot channel r.window.cycle) s.plan.owned o.value o.line)
 
     -- what is due there comes from its buffer
     due_here : slot ≤ 1023 → (due : Due) → due_of w.bus.cluster slot channel r.window.cycle ≡ Some due
         → due.both ≡ true → IsTwin slot channel r.window.cycle s.plan
     due_here few due due_is both =
         let o = line_here few in
-        let same : static_due w.bus.cluster.params n s.plan o.own (buffer_in slot channel r.window.cycle s.plan) ≡ due =
-        same_some (static_due w.bus.cluster.params n s.plan o.own (buffer_in slot channel r.window.cycle s.plan)) due
-        (sym (due_is_owners w.bus.cluster slot channel r.window.cycle n s.plan o.own head.run.lawful.one_sender
+        let same : static_due w.bus.cluster.params n s.plan o.value (buffer_in slot channel r.window.cycle s.plan) ≡ due =
+        same_some (static_due w.bus.cluster.params n s.plan o.value (buffer_in slot channel r.window.cycle s.plan)) due
+        (sym (due_is_owners w.bus.cluster slot channel r.window.cycle n s.plan o.value head.run.lawful.one_sender
         cycle_here static_here h.fetched_is.plan_at o.line) ∙ due_is) in
         is_twin slot channel r.window.cycle s.plan (ap (λ (y : Due). y.both) same ∙ both)
 

@@ -18,7 +18,6 @@ use Rattle.fr_guarantees.proofs.HeardLemmas.{offer_on, sent_by, none_pass, one_p
 use Rattle.fr_guarantees.proofs.HoldingLemmas.{nothing_kept}
 use Rattle.fr_guarantees.proofs.OfferLemmas.{length-frame}
 use Rattle.fr_guarantees.proofs.PassingLemmas.{IsAt, AreMute, past_silent, at_silent, none_commits}
-use Rattle.fr_guarantees.proofs.SilenceLemmas.{not_owned}
 use Rattle.fr_guarantees.proofs.WindowLemmas.{recorded_by, HasPassed}
 use Rattle.fr_guarantees.specs.Exactness.{HasRoom}
 use Rattle.fr_guarantees.specs.Leading.{Leads}
