@@ -167,7 +167,10 @@ module _ (d : Description) (w : Opportunity) where
 pub longest_none : (channel : Channel) (ts : List Sent) → all_passed channel ts ≡ [] → longest channel ts ≡ 0
 longest_none channel ts e = ap (λ (l : List Sent). fold max 0 (map (λ (t : Sent). length t.bytes.items) l)) e
 
+max_zero : (n : ℕ) → max 0 n ≡ n
+max_zero n = omega arith
+
 pub longest_one : (channel : Channel) (ts : List Sent) (t : Sent) → all_passed channel ts ≡ t ∷ []
     → longest channel ts ≡ length t.bytes.items
 longest_one channel ts t e =
-    ap (λ (l : List Sent). fold max 0 (map (λ (u : Sent). length u.bytes.items) l)) e ∙ omega arith
+    ap (λ (l : List Sent). fold max 0 (map (λ (u : Sent). length u.bytes.items) l)) e ∙ max_zero (length t.bytes.items)
