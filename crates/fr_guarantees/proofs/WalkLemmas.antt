@@ -28,6 +28,10 @@ use Rattle.fr_slots.specs.declared.channel.Channel.{Channel}
 use Rattle.fr_slots.specs.History.{AllAfter}
 use Rattle.fr_slots.specs.Windows.{opens_cycle, is_first_slot, Opportunity, slot_of, is_static}
 
+pub one_more : (w : WorldState) (rs : List Recorded) (r : Recorded) → w.bus.sealed ≡ rs ++ r ∷ []
+    → length w.bus.sealed ≡ length rs + 1
+one_more w rs r is = ap (λ (l : List Recorded). length l) is ∙ length-append rs (r ∷ [])
+
 module _ (d : Description) (lawful : IsCluster d) (cycles most : ℕ) (room : HasRoom d cycles most)
     (kept : ℕ → Keeps) where
   -- ---- to a cycle
@@ -65,10 +69,6 @@ module _ (d : Description) (lawful : IsCluster d) (cycles most : ℕ) (room : Ha
     next = start.next;
     opens = start.opens;
   }
-
-  pub one_more : (w : WorldState) (rs : List Recorded) (r : Recorded) → w.bus.sealed ≡ rs ++ r ∷ []
-      → length w.bus.sealed ≡ length rs + 1
-  one_more w rs r is = ap (λ (l : List Recorded). length l) is ∙ length-append rs (r ∷ [])
 
   -- A property of records that each window keeps before that cycle. In no such window a ready commit is sent.
   abbrev pub KeepsMute : ℕ → (List Recorded → Type 0) → Type 0

@@ -116,11 +116,10 @@ packets_are d t channel before (r ∷ rs) h each = by h.0 each (packets_are d t 
 
 -- each of them is a frame
 module _ (d : Description) (channel : Channel) (cluster : IsCluster d) where
-
   begin_frames : (cycle : ℕ) (fs : List Fields) → Begins d channel cycle fs → Each IsFrame fs
   begin_frames cycle fs b = subst (Each IsFrame) (sym b.is) (
     is_frame d channel cluster (cycle_start d.params b.frame.cycle) b.frame b.first.allowed,
-    follow_frames (after_frame d.params (cycle_start d.params b.frame.cycle) b.frame) b.rest b.after,
+    follow_frames d channel cluster (after_frame d.params (cycle_start d.params b.frame.cycle) b.frame) b.rest b.after,
   )
 
 placed_each : (d : Description) (t : Timeline) (channel : Channel) (before rs : List Recorded)
