@@ -36,7 +36,6 @@ use Rattle.fr_minislot.specs.DynamicRows.{minislots_filled_by}
 use Rattle.fr_schedule.specs.Descriptions.{Description}
 use Rattle.fr_slots.proofs.PlaceLemmas.{same_some}
 use Rattle.fr_slots.specs.declared.channel.Channel.{Channel}
-use Rattle.fr_slots.specs.declared.channel.Channel.TheVariants.{A}
 use Rattle.fr_slots.specs.Faults.{is_owned}
 use Rattle.fr_slots.specs.Parameters.{is_static_slot}
 use Rattle.fr_slots.specs.Plans.{Plan}
@@ -77,9 +76,9 @@ owner_sound n channel mute bytes babble some sound = by mute (length bytes.items
 -- ---- the windows of a record
 
 module _ (w : WorldState) (head : Headline w) (channel : Channel) (sound : AreSound channel w.bus.sealed)
-    (k slot owner : ℕ) (r : Recorded) (at : slice_get w.bus.sealed k ≡ Some r) (static : is_static r.window ≡ true)
-    (slot_is : slot_of r.window channel ≡ Some slot) (owns_it : IsOwner w.bus.cluster r.window.cycle slot channel owner)
-    where
+    (k slot owner : ℕ) (r : Recorded) (at : slice_get w.bus.sealed k ≡ Some r)
+    (static : is_static r.window ≡ true) (slot_is : slot_of r.window channel ≡ Some slot)
+    (owns_it : IsOwner w.bus.cluster r.window.cycle slot channel owner) where
   abbrev d : Description
   d = w.bus.cluster
 

@@ -16,7 +16,6 @@ use Rattle.fr_judging.specs.declared.rules.Rules.{Rules}
 use Rattle.fr_judging.specs.Judging.{State, settle, end_cycle, tell_nothing, tell_end}
 use Rattle.fr_judging.specs.Rules.{due_at, other_channel}
 use Rattle.fr_logged.specs.declared.due.Due.{Due}
-use Rattle.fr_logged.specs.declared.finding.Name.TheVariants as name
 use Rattle.fr_recording.specs.Numbers.{counted, most_counted}
 use Rattle.fr_slots.proofs.PlaceLemmas.{same_some}
 use Rattle.fr_slots.specs.declared.channel.Channel.{Channel}

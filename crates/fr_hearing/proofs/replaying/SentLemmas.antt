@@ -18,7 +18,6 @@ use Rattle.fr_hearing.proofs.replaying.GoneLemmas.{IsLone, IsGone, all_mute, who
 use Rattle.fr_hearing.proofs.replaying.GoneLemmas.{only_owner, passes_owner}
 use Rattle.fr_hearing.proofs.replaying.OfferLemmas.{none_here, data_here}
 use Rattle.fr_hearing.proofs.replaying.SenderLemmas.{CanHand}
-use Rattle.fr_journal.specs.declared.entry.Entry.TheVariants as entries
 use Rattle.fr_journal.specs.Offers.{owns}
 use Rattle.fr_schedule.specs.Clusters.{IsCluster}
 use Rattle.fr_schedule.specs.Descriptions.{Description}
