@@ -1,28 +1,25 @@
 -- All definitions of a cycle of the run name the same one.
-use Rattle.std.proofs.Common.{◌≡◌, ℕ, suc, ◌+◌, ◌-◌, ◌%◌, Bool, true, false, cond, List, [], ◌∷◌, ◌++◌, length}
-use Rattle.std.proofs.Common.{take, refl, sym, ap, ◌∙◌, arith, count_by, append_assoc}
+use Rattle.std.proofs.Common.{◌≡◌, ℕ, suc, ◌+◌, ◌-◌, ◌%◌, Bool, true, false, cond, List, [], ◌∷◌, ◌++◌, length, take}
+use Rattle.std.proofs.Common.{refl, sym, ap, ◌∙◌, arith, count_by, append_assoc, drop, subst, Option}
 use Rattle.std.proofs.Math.Seq.{take-append_seam, take-append-add}
 use Rattle.std.proofs.lemmas.Grind.{flat_map-append}
 use Rattle.std.proofs.lemmas.List.{take-map, take-append-drop}
 use Rattle.std.proofs.lemmas.List.Sums.{sum_by-cons, sum_by-append}
 use Rattle.std.specs.List.{flat_map}
 use Rattle.std.specs.Prelude.{option_to_list, IfSome, slice_get}
-use Rattle.std.proofs.Common.{drop, subst, Option}
 use Rattle.fr_bus.specs.Record.{Recorded}
 use Rattle.fr_bus.specs.Windows.{begins_cycle, cycles_begun}
-use Rattle.fr_slots.specs.Windows.{opens_cycle}
-use Rattle.fr_journal.specs.Cycles.{begins_cycle_at}
-use Rattle.fr_core.specs.Settling.{fetched_window, fetches_at, windows_fetched, windows_of, HasWindows, IfThere}
+use Rattle.fr_concord.specs.Cycles.{AreWindowCycles, AreSentCycles, AreCallCycles, AreLineCycles}
 use Rattle.fr_core.specs.declared.script.Line.{Line}
 use Rattle.fr_core.specs.Scripts.{Scripted}
+use Rattle.fr_core.specs.Settling.{fetched_window, fetches_at, windows_fetched, windows_of, HasWindows, IfThere}
 use Rattle.fr_interface.specs.State.{State}
+use Rattle.fr_journal.specs.Cycles.{begins_cycle_at, cycles_of}
 use Rattle.fr_journal.specs.declared.entry.Entry.TheVariants.{Commit, Withdraw, Read, Pop, Fetch, Observe}
 use Rattle.fr_journal.specs.Forms.{Entry}
 use Rattle.fr_runs.specs.Stepping.{is_fetch, is_by, lines_given, IsInStep, IsInTurn, IsStepped}
-use Rattle.fr_journal.specs.Cycles.{cycles_of}
 use Rattle.fr_slots.specs.History.{each_after}
-use Rattle.fr_slots.specs.Windows.{Opportunity}
-use Rattle.fr_concord.specs.Cycles.{AreWindowCycles, AreSentCycles, AreCallCycles, AreLineCycles}
+use Rattle.fr_slots.specs.Windows.{opens_cycle, Opportunity}
 
 -- ---- counts
 

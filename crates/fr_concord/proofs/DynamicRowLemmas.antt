@@ -1,13 +1,13 @@
 -- The lines of a plan for dynamic slots are the rows of the sender table.
-use Rattle.std.proofs.Common.{◌≡◌, ℕ, zero, suc, ◌+◌, Bool, true, false, cond, not, ◌&&◌, ◌==◌, inl, inr}
-use Rattle.std.proofs.Common.{List, [], ◌∷◌, ◌++◌, Some, refl, sym, ap, subst, ◌∙◌, arith, slice_get}
-use Rattle.std.proofs.lemmas.Bool.{and_parts, eqb-true, eq-eqb}
+use Rattle.std.proofs.Common.{◌≡◌, ℕ, zero, suc, ◌+◌, Bool, true, false, cond, not, ◌&&◌, ◌==◌, inl, inr, List, [], ◌∷◌}
+use Rattle.std.proofs.Common.{◌++◌, Some, refl, sym, ap, subst, ◌∙◌, arith, slice_get}
+use Rattle.std.proofs.lemmas.Bool.{and_parts, eqb-true, eq-eqb, and_from, not-true, not_from_false}
 use Rattle.std.proofs.lemmas.Grind.{flat_map-append}
 use Rattle.std.proofs.lemmas.List.{append-nil}
 use Rattle.std.specs.List.{flat_map, list_any}
 use Rattle.fr_commands.specs.PlanText.{buffer_text, node_text}
 use Rattle.fr_concord.proofs.PlanRowLemmas.{among_left, among_right, among_either, from_flat, to_flat, any_among}
-use Rattle.fr_concord.proofs.PlanRowLemmas.{both_true, found_any}
+use Rattle.fr_concord.proofs.PlanRowLemmas.{found_any}
 use Rattle.fr_concord.specs.DynamicRows.{DynamicRow, dynamic_row_line, IsRowFor, IsToldDynamic, AreDynamicRows}
 use Rattle.fr_concord.specs.DynamicRows.{AreDynamicTables}
 use Rattle.fr_concord.specs.PlanRows.{IsAmong}
@@ -42,14 +42,6 @@ own_row false row x is = absurd is
 row_own : (b : Bool) (row : DynamicRow) → b ≡ true → IsAmong row (cond b (row ∷ []) [])
 row_own true row is = inl refl
 row_own false row is = absurd (let none : ⊥ = cc is in none)
-
-not_true : (b : Bool) → not b ≡ true → b ≡ false
-not_true true is = absurd (let none : ⊥ = cc is in none)
-not_true false is = refl
-
-not_false : (b : Bool) → b ≡ false → not b ≡ true
-not_false true is = absurd (let none : ⊥ = cc is in none)
-not_false false is = refl
 
 module _ (p : Parameters) where
   abbrev buffer_rows : ℕ → Buffer → List DynamicRow
@@ -153,7 +145,7 @@ module _ (d : Description) where
   buffer_dynamic : (b : Buffer) → transmits_dynamic d.params b ≡ true → is_static_slot d.params b.filter.slot ≡ false
   buffer_dynamic b is =
       let parts = and_parts (transmits b) (not (is_static_slot d.params b.filter.slot)) is in
-      not_true (is_static_slot d.params b.filter.slot) parts.1
+      not-true (is_static_slot d.params b.filter.slot) parts.1
 
   row_dynamic : (row : DynamicRow) → IsAmong row rows → is_static_slot d.params row.slot ≡ false
   row_dynamic row is =
@@ -168,10 +160,10 @@ module _ (d : Description) where
       let same : place ≡ 0 + place = omega arith in
       let transmits_is = (and_parts (transmits b) (not (is_static_slot d.params b.filter.slot)) is).0 in
       let here : (b.filter.slot == slot) ≡ true = eq-eqb b.filter.slot slot for.slot_is in
-      let on_slot = both_true (b.filter.slot == slot) (includes b.filter.channels channel) here for.on_channel in
-      let admitted = both_true (b.filter.slot == slot && includes b.filter.channels channel)
+      let on_slot = and_from (b.filter.slot == slot) (includes b.filter.channels channel) here for.on_channel in
+      let admitted = and_from (b.filter.slot == slot && includes b.filter.channels channel)
       (cycle_admitted b.filter.cycles cycle) on_slot for.admits in
-      let sends = both_true (transmits b) (filter_admits b.filter cycle slot channel) transmits_is admitted in
+      let sends = and_from (transmits b) (filter_admits b.filter cycle slot channel) transmits_is admitted in
       let dynamic : is_static_slot d.params slot ≡ false =
       subst (λ (s : ℕ). is_static_slot d.params s ≡ false) for.slot_is (buffer_dynamic b is) in
       record {
@@ -205,8 +197,8 @@ module _ (d : Description) where
       let slot_is : b.filter.slot ≡ slot = eqb-true b.filter.slot slot on_slot.0 in
       let not_static : is_static_slot d.params b.filter.slot ≡ false =
       subst (λ (s : ℕ). is_static_slot d.params s ≡ false) (sym slot_is) dynamic in
-      let is_dynamic = both_true (transmits b) (not (is_static_slot d.params b.filter.slot)) sends.0
-      (not_false (is_static_slot d.params b.filter.slot) not_static) in
+      let is_dynamic = and_from (transmits b) (not (is_static_slot d.params b.filter.slot)) sends.0
+      (not_from_false (is_static_slot d.params b.filter.slot) not_static) in
       record {
         row = row_of (0 + node) b;
         among = to_rows d.params 0 node d.plans plan b sender.at found.among is_dynamic;

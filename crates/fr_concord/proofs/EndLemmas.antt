@@ -1,6 +1,6 @@
 -- Each transmission of a recorded window is heard with its end.
-use Rattle.std.proofs.Common.{◌≡◌, ℕ, ◌≤◌, ◌<◌, inl, inr, Bool, true, false, cond, ltb, List, [], ◌∷◌, ◌++◌}
-use Rattle.std.proofs.Common.{length, Option, Some, None, refl, sym, ap, ◌∙◌, arith, length-append}
+use Rattle.std.proofs.Common.{◌≡◌, ℕ, ◌≤◌, ◌<◌, inl, inr, Bool, true, false, cond, ltb, List, [], ◌∷◌, ◌++◌, length}
+use Rattle.std.proofs.Common.{Option, Some, None, refl, sym, ap, ◌∙◌, arith, length-append}
 use Rattle.std.specs.Prelude.{count_by}
 use Rattle.std.specs.List.{filter}
 use Rattle.std.proofs.lemmas.Bool.{cases_Bool, ltb-true, ltb-false}
@@ -12,18 +12,12 @@ use Rattle.fr_bus.specs.declared.outcome.SentFate.{SentFate}
 use Rattle.fr_bus.specs.declared.outcome.SentFate.TheVariants as fate
 use Rattle.fr_bus.specs.Outcome.{all_passed, heard_of, overruns, passed_on}
 use Rattle.fr_bus.specs.Record.{Recorded, corrupt_on, heard}
+use Rattle.fr_concord.specs.Ends.{IsHeardWith, AreEndsHeard}
+use Rattle.fr_guarantees.proofs.HeardLemmas.{same_channel}
 use Rattle.fr_showing.specs.Ends.{end_alone, end_by, is_turned}
-use Rattle.fr_slots.specs.Admission.{is_channel}
-use Rattle.fr_slots.specs.declared.channel.Channel.{Channel}
-use Rattle.fr_slots.specs.declared.channel.Channel.TheVariants.{A, B}
 use Rattle.fr_slots.specs.Parameters.{Parameters}
 use Rattle.fr_slots.specs.Windows.{Opportunity}
 use Rattle.fr_status.specs.declared.seen.Seen.TheVariants as seen
-use Rattle.fr_concord.specs.Ends.{IsHeardWith, AreEndsHeard}
-
-own_channel : (c : Channel) → is_channel c c ≡ true
-own_channel A = refl
-own_channel B = refl
 
 filtered : (f : Sent → Bool) (before : List Sent) (t : Sent) (after : List Sent) → f t ≡ true
     → filter f (before ++ t ∷ after) ≡ filter f before ++ t ∷ filter f after
@@ -84,7 +78,7 @@ module _ (p : Parameters) (r : Recorded) (t : Sent) where
   told before after is fate.Passed passed =
       let xs = filter (passed_on t.channel) before in
       let ys = filter (passed_on t.channel) after in
-      let here : passed_on t.channel t ≡ true = rw (own_channel t.channel, passed) refl in
+      let here : passed_on t.channel t ≡ true = rw (same_channel t.channel, passed) refl in
       let all : all_passed t.channel r.sent ≡ xs ++ t ∷ ys =
       ap (filter (passed_on t.channel)) is ∙ filtered (passed_on t.channel) before t after here in
       let count : length (xs ++ t ∷ ys) ≡ count_by (passed_on t.channel) r.sent =

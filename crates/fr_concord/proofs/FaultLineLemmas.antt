@@ -1,16 +1,21 @@
 -- Each babble and each muted offer of a record has the number of its fault line.
 use Rattle.std.proofs.Common.{◌≡◌, ℕ, zero, suc, ◌+◌, ◌<◌, ◌==◌, Bool, true, false, not, cond, ◌&&◌, ◌||◌, List, []}
 use Rattle.std.proofs.Common.{◌∷◌, length, Option, Some, None, inl, inr, refl, sym, ap, ◌∙◌, arith, slice_get, is_some}
-use Rattle.std.proofs.lemmas.Bool.{and_parts, cases_Bool, eqb-true, eq-eqb, le-ltb, lt-ltb}
+use Rattle.std.proofs.lemmas.Bool.{and_parts, cases_Bool, eqb-true, eq-eqb, le-ltb, lt-ltb, and_from, or_right, or_left}
+use Rattle.std.proofs.lemmas.Bool.{or_parts}
 use Rattle.std.specs.List.{list_any, position_or_len}
 use Rattle.std.specs.Option.{option_and_then, option_or}
 use Rattle.std.specs.Prelude.{position, nat_lt}
 use Rattle.arrayvec.specs.ArrayVec.{ArrayVec}
+use Rattle.std.proofs.Math.Bool.{and-false}
 use Rattle.fr_bus.specs.declared.fault.Fault.{Fault}
 use Rattle.fr_bus.specs.declared.fault.Fault.TheVariants.{Babble, Mute, Corrupt}
 use Rattle.fr_bus.specs.declared.outcome.Sent.{Sent}
 use Rattle.fr_bus.specs.Outcome.{is_of}
 use Rattle.fr_bus.specs.Record.{Recorded, recordable}
+use Rattle.fr_concord.specs.FaultLines.{is_fault, AreFaultsNumbered, AreOffersUnnumbered}
+use Rattle.fr_core.proofs.ScriptLemmas.{get_within}
+use Rattle.fr_guarantees.proofs.HeardLemmas.{same_channel}
 use Rattle.fr_runs.specs.declared.fault_line.FaultLine.{FaultLine}
 use Rattle.fr_runs.specs.Faulted.{bytes_babbled, loses, babble_by, babble_due, is_lost_by, is_loss_due, is_muted}
 use Rattle.fr_runs.specs.Faulted.{is_babble_of, babble_in, HasFaults}
@@ -21,7 +26,6 @@ use Rattle.fr_slots.specs.Admission.{is_channel}
 use Rattle.fr_slots.specs.declared.channel.Channel.{Channel}
 use Rattle.fr_slots.specs.declared.channel.Channel.TheVariants.{A, B}
 use Rattle.fr_slots.specs.Windows.{Opportunity, slot_of}
-use Rattle.fr_concord.specs.FaultLines.{is_fault, AreFaultsNumbered, AreOffersUnnumbered}
 
 -- ---- the first element that passes
 
@@ -33,7 +37,7 @@ record IsFirst {X : Type 0} (p : X → Bool) (xs : List X) : Type 0 where
   place_is : position_or_len p xs ≡ place
   within : place < length xs
 
-rest_passes : (b c : Bool) → b ≡ false → (b || c) ≡ true → c ≡ true
+pub rest_passes : (b c : Bool) → b ≡ false → (b || c) ≡ true → c ≡ true
 rest_passes true c fail any = absurd (let none : ⊥ = cc fail in none)
 rest_passes false c fail any = any
 
@@ -70,14 +74,10 @@ position_is p xs first =
     ap (λ (n : ℕ). cond (nat_lt n (length xs)) (Some n) None) first.place_is
     ∙ ap (λ (b : Bool). cond b (Some first.place) None) (lt-ltb first.place (length xs) first.within)
 
-neither : (b c : Bool) → (b || c) ≡ false → (b ≡ false) × (c ≡ false)
-neither true c none = absurd (let no_way : ⊥ = cc none in no_way)
-neither false c none = (refl, none)
-
 none_passes : {X : Type 0} (p : X → Bool) (xs : List X) → list_any p xs ≡ false → position_or_len p xs ≡ length xs
 none_passes p [] none = refl
 none_passes p (x ∷ xs) none =
-    let both = neither (p x) (list_any p xs) none in
+    let both = or_parts (p x) (list_any p xs) none in
     let rest = none_passes p xs both.1 in
     let next : 1 + position_or_len p xs ≡ suc (length xs) = omega (arith, rest) in
     ap (λ (b : Bool). cond (not b) (1 + position_or_len p xs) 0) both.0 ∙ next
@@ -87,24 +87,7 @@ no_position p xs none =
     ap (λ (n : ℕ). cond (nat_lt n (length xs)) (Some n) None) (none_passes p xs none)
     ∙ ap (λ (b : Bool). cond b (Some (length xs)) None) (le-ltb (length xs) (length xs) (omega arith))
 
-there_is : {X : Type 0} (xs : List X) (k : ℕ) → k < length xs → (x : X) × (slice_get xs k ≡ Some x)
-there_is [] k less = absurd (omega arith)
-there_is (x ∷ xs) zero less = (x, refl)
-there_is (x ∷ xs) (suc k) less = there_is xs k (omega arith)
-
 -- ---- faults and the transmissions that they bring
-
-both_true : (b c : Bool) → b ≡ true → c ≡ true → (b && c) ≡ true
-both_true true c first second = second
-both_true false c first second = absurd (let none : ⊥ = cc first in none)
-
-or_first : (b c : Bool) → b ≡ true → (b || c) ≡ true
-or_first true c is = refl
-or_first false c is = absurd (let none : ⊥ = cc is in none)
-
-or_rest : (b c : Bool) → c ≡ true → (b || c) ≡ true
-or_rest true c is = refl
-or_rest false c is = is
 
 turned : (c d : Channel) → is_channel c d ≡ true → is_channel d c ≡ true
 turned A A is = refl
@@ -120,13 +103,13 @@ sent_so : (t : Sent) (node : ℕ) (on : Channel) → (node == t.node && is_chann
     → is_sent_by node on t ≡ true
 sent_so t node on is =
     let both = and_parts (node == t.node) (is_channel on t.channel) is in
-    both_true (is_of node t) (is_channel t.channel on) (turned_number node t.node both.0)
+    and_from (is_of node t) (is_channel t.channel on) (turned_number node t.node both.0)
     (turned on t.channel both.1)
 
 lost_brings : (t : Sent) (f : Fault) → is_muted t.fate ≡ true → loses t.node t.channel f ≡ true → brings t f ≡ true
 lost_brings t (Babble node on bytes) muted is = absurd (let none : ⊥ = cc is in none)
 lost_brings t (Mute node on) muted is =
-    both_true (is_muted t.fate) (is_sent_by node on t) muted (sent_so t node on is)
+    and_from (is_muted t.fate) (is_sent_by node on t) muted (sent_so t node on is)
 lost_brings t (Corrupt on bit) muted is = absurd (let none : ⊥ = cc is in none)
 
 some_if : {X : Type 0} (b : Bool) (x : X) → is_some (cond b (Some x) None) ≡ true → b ≡ true
@@ -136,21 +119,17 @@ some_if false x is = absurd (let none : ⊥ = cc is in none)
 babbled_brings : (t : Sent) (f : Fault) → t.babble ≡ true → is_some (bytes_babbled t.node t.channel f) ≡ true
     → brings t f ≡ true
 babbled_brings t (Babble node on bytes) babble is =
-    both_true t.babble (is_sent_by node on t) babble
+    and_from t.babble (is_sent_by node on t) babble
     (sent_so t node on (some_if (node == t.node && is_channel on t.channel) bytes is))
 babbled_brings t (Mute node on) babble is = absurd (let none : ⊥ = cc is in none)
 babbled_brings t (Corrupt on bit) babble is = absurd (let none : ⊥ = cc is in none)
 
 no_fault_brings : (t : Sent) (f : Fault) → is_fault t ≡ false → brings t f ≡ false
 no_fault_brings t (Babble node on bytes) none =
-    ap (λ (b : Bool). b && is_sent_by node on t) (neither t.babble (is_muted t.fate) none).0
+    ap (λ (b : Bool). b && is_sent_by node on t) (or_parts t.babble (is_muted t.fate) none).0
 no_fault_brings t (Mute node on) none =
-    ap (λ (b : Bool). b && is_sent_by node on t) (neither t.babble (is_muted t.fate) none).1
+    ap (λ (b : Bool). b && is_sent_by node on t) (or_parts t.babble (is_muted t.fate) none).1
 no_fault_brings t (Corrupt on bit) none = refl
-
-false_rest : (b : Bool) → (b && false) ≡ false
-false_rest true = refl
-false_rest false = refl
 
 -- ---- the lines of a window
 
@@ -162,20 +141,20 @@ module _ (cycle : ℕ) (w : Opportunity) (t : Sent) where
       elim (cases_Bool (is_lost_by cycle w t.node t.channel line)) [
         | inl here ↦
             let both = and_parts (strikes line cycle w) (loses t.node t.channel line.fault) here in
-            or_first (has_brought cycle w t line) (list_any (has_brought cycle w t) lines)
-            (both_true (strikes line cycle w) (brings t line.fault) both.0
+            or_left (has_brought cycle w t line) (list_any (has_brought cycle w t) lines)
+            (and_from (strikes line cycle w) (brings t line.fault) both.0
             (lost_brings t line.fault muted both.1))
         | inr other ↦
             let later = rest_passes (is_lost_by cycle w t.node t.channel line)
             (is_loss_due lines cycle w t.node t.channel) other due in
-            or_rest (has_brought cycle w t line) (list_any (has_brought cycle w t) lines)
+            or_right (has_brought cycle w t line) (list_any (has_brought cycle w t) lines)
             (muted_due lines muted later)
       ]
 
   by_line : (b : Bool) (line : FaultLine) → strikes line cycle w ≡ b → t.babble ≡ true
       → is_some (cond b (bytes_babbled t.node t.channel line.fault) None) ≡ true → has_brought cycle w t line ≡ true
   by_line true line is babble some =
-      both_true (strikes line cycle w) (brings t line.fault) is (babbled_brings t line.fault babble some)
+      and_from (strikes line cycle w) (brings t line.fault) is (babbled_brings t line.fault babble some)
   by_line false line is babble some = absurd (let none : ⊥ = cc some in none)
 
   or_some : (x y : Option (ArrayVec ℕ)) → is_some x ≡ false → is_some (option_or x y) ≡ true → is_some y ≡ true
@@ -189,10 +168,10 @@ module _ (cycle : ℕ) (w : Opportunity) (t : Sent) where
   babble_is_due (line ∷ lines) babble due =
       elim (cases_Bool (is_some (babble_by line cycle w t.node t.channel))) [
         | inl here ↦
-            or_first (has_brought cycle w t line) (list_any (has_brought cycle w t) lines)
+            or_left (has_brought cycle w t line) (list_any (has_brought cycle w t) lines)
             (by_line (strikes line cycle w) line refl babble here)
         | inr other ↦
-            or_rest (has_brought cycle w t line) (list_any (has_brought cycle w t) lines)
+            or_right (has_brought cycle w t line) (list_any (has_brought cycle w t) lines)
             (babble_is_due lines babble (or_some (babble_by line cycle w t.node t.channel)
             (babble_due lines cycle w t.node t.channel) other due))
       ]
@@ -200,15 +179,11 @@ module _ (cycle : ℕ) (w : Opportunity) (t : Sent) where
   none_brought : (lines : List FaultLine) → is_fault t ≡ false → list_any (has_brought cycle w t) lines ≡ false
   none_brought [] none = refl
   none_brought (line ∷ lines) none =
-      rw (no_fault_brings t line.fault none, false_rest (strikes line cycle w), none_brought lines none) refl
-
-same_channel : (c : Channel) → is_channel c c ≡ true
-same_channel A = refl
-same_channel B = refl
+      rw (no_fault_brings t line.fault none, and-false (strikes line cycle w), none_brought lines none) refl
 
 own_babble : (t : Sent) → t.babble ≡ true → is_babble_of t.channel t.node t ≡ true
-own_babble t babble = both_true (t.node == t.node && is_channel t.channel t.channel) t.babble
-    (both_true (t.node == t.node) (is_channel t.channel t.channel) (eq-eqb t.node t.node refl)
+own_babble t babble = and_from (t.node == t.node && is_channel t.channel t.channel) t.babble
+    (and_from (t.node == t.node) (is_channel t.channel t.channel) (eq-eqb t.node t.node refl)
     (same_channel t.channel)) babble
 
 some_first : {X : Type 0} (b : Bool) (x : X) (o : Option X) → is_some o ≡ true → is_some (cond b (Some x) o) ≡ true
@@ -261,7 +236,7 @@ faults_numbered s cycle r k t same has at fault =
     let holds = has_brought cycle r.window t in
     let first = first_of holds s.faults (brought s cycle r k t has at fault) in
     let within = first.within in
-    let number = there_is s.numbers first.place (omega (arith, within, same)) in
+    let number = get_within s.numbers first.place (omega (arith, within, same)) in
     let both = and_parts (strikes first.element cycle r.window) (brings t first.element.fault) first.passes in
     record {
       place = first.place;

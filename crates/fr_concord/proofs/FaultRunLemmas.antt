@@ -1,23 +1,26 @@
 -- A session of fault lines leads to the world of the single-threaded run with these faults.
-use Rattle.std.proofs.Common.{◌≡◌, ◌≢◌, ℕ, zero, suc, ◌+◌, ◌-◌, ◌<◌, Bool, true, false, cond, inl, inr, List, []}
-use Rattle.std.proofs.Common.{◌∷◌, ◌++◌, length, map, Option, Some, None, Ok, Err, refl, sym, ap, subst, ◌∙◌, arith}
-use Rattle.std.proofs.Common.{append_assoc, append-nil, lt-ltb, option_map, slice_index_or, not, ◌≤◌}
+use Rattle.std.proofs.Common.{◌≡◌, ◌≢◌, ℕ, zero, suc, ◌+◌, ◌-◌, ◌<◌, Bool, true, false, cond, inl, inr, List, [], ◌∷◌}
+use Rattle.std.proofs.Common.{◌++◌, length, map, Option, Some, None, Ok, Err, refl, sym, ap, subst, ◌∙◌, arith}
+use Rattle.std.proofs.Common.{append_assoc, append-nil, lt-ltb, slice_index_or, not, ◌≤◌}
 use Rattle.std.specs.List.{flat_map, fold, range_with_len}
-use Rattle.fr_bus.specs.declared.error.BusError.{BusError}
 use Rattle.fr_bus.specs.declared.error.BusError.TheVariants.{UnknownNode as BusNode, NotCollecting, TooManyFaults}
 use Rattle.fr_bus.specs.declared.error.Phase.{Phase}
 use Rattle.fr_bus.specs.declared.error.Phase.TheVariants.{Collect, Sealed, Finished}
 use Rattle.fr_bus.specs.States.{collects, knows, has_fault, inject_refusal, seal_refusal}
 use Rattle.fr_bus.specs.Windows.{cycles_begun}
-use Rattle.fr_slots.specs.Windows.{opens_cycle}
+use Rattle.fr_concord.proofs.MoveLemmas.{passes_same}
+use Rattle.fr_concord.proofs.SpelledLemmas.{read_again}
+use Rattle.fr_concord.proofs.StepLemmas.{seal_collects, window_last, no_bus}
+use Rattle.fr_concord.specs.Determined.{HasShortCycles, MovesFreely, DoesFreely, ServesFreely, IsUnhindered}
+use Rattle.fr_concord.specs.FaultRuns.{fault_text, AreSessionsPlayed}
+use Rattle.fr_concord.specs.Spelled.{spelled}
 use Rattle.fr_core.specs.Carried.{Carried, Idle}
 use Rattle.fr_core.specs.declared.error.StepError.{StepError}
-use Rattle.fr_core.specs.declared.error.StepError.TheVariants.{UnknownNode, WrongTurn, Bus}
+use Rattle.fr_core.specs.declared.error.StepError.TheVariants.{UnknownNode, WrongTurn}
 use Rattle.fr_core.specs.declared.event.Event.{Event}
 use Rattle.fr_core.specs.declared.event.Event.TheVariants.{Observe, Inject, Advance}
 use Rattle.fr_core.specs.Runs.{Answer, StepsAll}
-use Rattle.fr_core.specs.Steps.{step_refusal, step_reply, observe_in_turn, look_in_turn}
-use Rattle.fr_core.specs.Steps.{unless_collecting}
+use Rattle.fr_core.specs.Steps.{step_refusal, step_reply, observe_in_turn, look_in_turn, unless_collecting}
 use Rattle.fr_core.specs.Worlds.{WorldState, carried_at, has_node, opening_world}
 use Rattle.fr_interface.specs.State.{State}
 use Rattle.fr_playing.proofs.CycleLemmas.{IsStage, stage_after}
@@ -27,8 +30,8 @@ use Rattle.fr_playing.proofs.WindowLemmas.{IsFresh, IsRecordedIn, window_recorde
 use Rattle.fr_playing.specs.Calls.{asked_of, DoesCalls}
 use Rattle.fr_playing.specs.declared.call.ExecutedCall.{ExecutedCall}
 use Rattle.fr_playing.specs.Moving.{observe_events, whole_window, window_events, run_cycle_after, struck_after}
-use Rattle.fr_playing.specs.Moving.{struck_events, first_refusal, Strikes, MovesOn, is_at_cycle}
-use Rattle.fr_playing.specs.Moving.{WithinCycle, EndsCycle, PassesCycles, RunsCycles}
+use Rattle.fr_playing.specs.Moving.{struck_events, first_refusal, Strikes, MovesOn, is_at_cycle, WithinCycle, EndsCycle}
+use Rattle.fr_playing.specs.Moving.{PassesCycles, RunsCycles}
 use Rattle.fr_playing.specs.Playing.{PlaysCycles, asked_by}
 use Rattle.fr_playing.specs.Striking.{Passes, strike_events}
 use Rattle.fr_playing.specs.Windows.{PlaysWindow, PlaysWithin, PlaysWindows}
@@ -37,21 +40,15 @@ use Rattle.fr_runs.specs.Striking.{strikes}
 use Rattle.fr_runs.specs.Suiting.{IsFaultAfter}
 use Rattle.fr_scenario.specs.Spelled.{IsSaidFaultLine}
 use Rattle.fr_schedule.specs.Descriptions.{Description}
+use Rattle.fr_session.specs.declared.noted.Noted.{Noted}
 use Rattle.fr_session.specs.declared.request.Request.{Request}
 use Rattle.fr_session.specs.declared.request.Request.TheVariants as request
 use Rattle.fr_session.specs.Keeping.{KeepsIf}
 use Rattle.fr_session.specs.Queries.{memory_text, moved_text}
-use Rattle.fr_session.specs.declared.noted.Noted.{Noted}
 use Rattle.fr_session.specs.Sessions.{SessionState, DoesIf, nothing_noted, state_of, terms_of, with_faults}
 use Rattle.fr_slots.specs.History.{AllAfter}
 use Rattle.fr_slots.specs.Plans.{Each}
-use Rattle.fr_slots.specs.Windows.{Opportunity}
-use Rattle.fr_concord.specs.Determined.{HasShortCycles, MovesFreely, DoesFreely, ServesFreely, IsUnhindered}
-use Rattle.fr_concord.specs.FaultRuns.{fault_text, AreSessionsPlayed}
-use Rattle.fr_concord.specs.Spelled.{spelled}
-use Rattle.fr_concord.proofs.MoveLemmas.{passes_same}
-use Rattle.fr_concord.proofs.SpelledLemmas.{read_again}
-use Rattle.fr_concord.proofs.StepLemmas.{seal_collects, window_last}
+use Rattle.fr_slots.specs.Windows.{opens_cycle, Opportunity}
 
 -- ---- accepted events
 
@@ -131,10 +128,6 @@ observes_first w start (suc count) events new refused done =
     (λ n below. refused n (let b = below in omega (arith, b))) done)
 
 -- ---- a bus that accepts the first event of a window collects
-
-no_bus : (o : Option BusError) → option_map Bus o ≡ None → o ≡ None
-no_bus None e = refl
-no_bus (Some x) e = absurd (let none : ⊥ = cc in none)
 
 known : (b : Bool) (found : Option StepError) → cond b found (Some UnknownNode) ≡ None → found ≡ None
 known true found free = free

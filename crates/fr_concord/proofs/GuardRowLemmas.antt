@@ -1,11 +1,12 @@
 -- The lines of a plan for guardians are the open macroticks of the cycles.
-use Rattle.std.proofs.Common.{◌≡◌, ◌≢◌, ℕ, zero, suc, ◌+◌, ◌-◌, ◌%◌, ◌<◌, ◌≤◌, ◌==◌, Bool, true, false, ◌&&◌, ◌||◌}
-use Rattle.std.proofs.Common.{not, inl, inr, List, [], ◌∷◌, ◌++◌, Option, Some, None, refl, sym, ap, subst, ◌∙◌, arith}
+use Rattle.std.proofs.Common.{◌≡◌, ◌≢◌, ℕ, zero, suc, ◌+◌, ◌-◌, ◌%◌, ◌<◌, ◌≤◌, ◌==◌, Bool, true, false, ◌&&◌, ◌||◌, not}
+use Rattle.std.proofs.Common.{inl, inr, List, [], ◌∷◌, ◌++◌, Option, Some, None, refl, sym, ap, subst, ◌∙◌, arith}
 use Rattle.std.proofs.Common.{length, slice_get}
 use Rattle.std.specs.Prelude.{Contains, slice_index_or}
 use Rattle.std.proofs.lemmas.Bool.{cases_Bool, eqb-true, eqb-false}
 use Rattle.std.proofs.lemmas.Grind.{flat_map-append}
 use Rattle.std.specs.List.{flat_map}
+use Rattle.std.proofs.lemmas.Option.{slice_get_within}
 use Rattle.fr_commands.specs.PlanText.{AreCycleTexts, AreGuardTexts, IsGuardText, cycles_told, guard_line}
 use Rattle.fr_concord.proofs.PlanRowLemmas.{among_left, among_right, among_either}
 use Rattle.fr_concord.specs.GuardRows.{GuardRow, guard_row_line, IsToldOpen, IsInSlot, ArePlansGuards}
@@ -39,11 +40,6 @@ among_at (y ∷ ys) x (inr later) =
     let rest = among_at ys x later in
     let below : rest.0 < length ys = rest.1 in
     (suc rest.0, omega arith, rest.2)
-
-some_below : {X : Type 0} (xs : List X) (i : ℕ) (x : X) → slice_get xs i ≡ Some x → i < length xs
-some_below [] i x is = absurd (let none : ⊥ = cc is in none)
-some_below (y ∷ ys) zero x is = omega arith
-some_below (y ∷ ys) (suc i) x is = let less = some_below ys i x is in omega (arith, less)
 
 -- ---- the rows of intervals
 
@@ -245,7 +241,7 @@ module _ (d : Description) where
         let some : 1 ≤ most = period_some (all_owned d.plans) in
         let few : cycle % most < most = omega arith in
         let here = (opens_again d lawful most refl node cycle m channel).1 opens in
-        h.told node (cycle % most) channel (some_below d.plans node opens.plan opens.of_node) few m here
+        h.told node (cycle % most) channel (slice_get_within d.plans node opens.plan opens.of_node) few m here
 
     told_opens : (node cycle m : ℕ) (channel : Channel) → IsToldOpen h.rows node channel (cycle % most) m
         → IsOpenMacrotick d node cycle channel m

@@ -9,6 +9,7 @@ use Rattle.std.specs.Prelude.{Contains, slice_get}
 use Rattle.fr_capture.specs.declared.takers.Taker.{Taker}
 use Rattle.fr_capture.specs.Takers.{buffers_from, taker_if}
 use Rattle.fr_capture.specs.Taking.{buffer_takes, is_from, queue_takes}
+use Rattle.fr_concord.specs.Linked.{AreTakersLinked, IsWindowOf, receiver_of}
 use Rattle.fr_frame.specs.Fields.{Fields}
 use Rattle.fr_journal.specs.Arrivals.{is_for_queue, queue_admits_slot, takes_window}
 use Rattle.fr_journal.specs.Counts.{seen_on}
@@ -34,7 +35,6 @@ use Rattle.fr_slots.specs.Parameters.{Parameters}
 use Rattle.fr_slots.specs.Plans.{Plan, admits_slot, admits_window, filter_admits, is_receive, queue_admits}
 use Rattle.fr_slots.specs.Windows.{Opportunity, slot_of}
 use Rattle.fr_status.specs.Forms.{Seen}
-use Rattle.fr_concord.specs.Linked.{AreTakersLinked, IsWindowOf, receiver_of}
 
 -- ---- a receive buffer stores only what it admits
 

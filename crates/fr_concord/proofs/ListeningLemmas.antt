@@ -1,38 +1,35 @@
 -- A listener hears what a silent node observes.
-use Rattle.std.proofs.Common.{◌≡◌, ℕ, ◌||◌, ◌⊎◌, inl, inr, Bool, true, false, cond, List, [], ◌∷◌, length, Option, refl}
-use Rattle.std.proofs.Common.{sym, ap, ◌∙◌}
+use Rattle.std.proofs.Common.{◌≡◌, ℕ, ◌⊎◌, inl, inr, Bool, true, false, cond, List, [], ◌∷◌, length, Option, refl, sym}
+use Rattle.std.proofs.Common.{ap, ◌∙◌}
 use Rattle.std.specs.List.{list_any}
 use Rattle.arrayvec.specs.ArrayVec.{ArrayVec}
-use Rattle.fr_bus.specs.declared.outcome.Sent.{Sent}
+use Rattle.std.proofs.Math.Bool.{or-false}
 use Rattle.fr_bus.specs.Corruption.{corrupted}
+use Rattle.fr_bus.specs.declared.outcome.Sent.{Sent}
 use Rattle.fr_bus.specs.Outcome.{all_passed, heard_of, is_of, overruns, received, seen_of}
 use Rattle.fr_bus.specs.Record.{corrupt_on}
 use Rattle.fr_capture.specs.Pcap.{record_seen}
+use Rattle.fr_concord.specs.Listening.{IsHeardAlike, IsCapturedAlike, IsOwnOrConflict}
 use Rattle.fr_showing.specs.Listening.{heard_record}
 use Rattle.fr_slots.specs.declared.channel.Channel.{Channel}
 use Rattle.fr_slots.specs.Parameters.{Parameters}
 use Rattle.fr_slots.specs.Windows.{Opportunity}
-use Rattle.fr_status.specs.Forms.{Seen}
 use Rattle.fr_status.specs.declared.seen.Seen.TheVariants.{Own, Conflict, Noise, Overrun, Bytes}
-use Rattle.fr_concord.specs.Listening.{IsHeardAlike, IsCapturedAlike, IsOwnOrConflict}
-
-only_first : (p : Bool) → (p || false) ≡ p
-only_first true = refl
-only_first false = refl
+use Rattle.fr_status.specs.Forms.{Seen}
 
 module _ (p : Parameters) (w : Opportunity) (corrupt : Option ℕ) (node : ℕ) where
   silent : (passed : List Sent) → list_any (is_of node) passed ≡ false
       → seen_of p w corrupt node passed ≡ heard_of p w corrupt passed
   silent [] none = refl
   silent (t ∷ []) none =
-      ap (λ (b : Bool). cond b Own (received p w corrupt t.bytes)) (sym (only_first (is_of node t)) ∙ none)
+      ap (λ (b : Bool). cond b Own (received p w corrupt t.bytes)) (sym (or-false (is_of node t)) ∙ none)
   silent (t ∷ u ∷ ts) none = ap (λ (b : Bool). cond b Conflict Noise) none
 
   own_or_conflict : (passed : List Sent) → list_any (is_of node) passed ≡ true
       → (seen_of p w corrupt node passed ≡ Own) ⊎ (seen_of p w corrupt node passed ≡ Conflict)
   own_or_conflict [] some = absurd (let none : ⊥ = cc some in none)
   own_or_conflict (t ∷ []) some =
-      inl (ap (λ (b : Bool). cond b Own (received p w corrupt t.bytes)) (sym (only_first (is_of node t)) ∙ some))
+      inl (ap (λ (b : Bool). cond b Own (received p w corrupt t.bytes)) (sym (or-false (is_of node t)) ∙ some))
   own_or_conflict (t ∷ u ∷ ts) some = inr (ap (λ (b : Bool). cond b Conflict Noise) some)
 
   -- a listener has no transmission of its own

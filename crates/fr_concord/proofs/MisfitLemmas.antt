@@ -1,10 +1,10 @@
 -- No line can be read with a word that `why` names as wrong.
-use Rattle.std.proofs.Common.{◌≡◌, ℕ, Bool, true, false, cond, ◌||◌, List, [], ◌∷◌}
-use Rattle.std.proofs.Common.{take, Option, Some, None}
-use Rattle.std.proofs.Common.{Ok, Err, inl, inr, refl, sym, ap, subst, ◌∙◌}
+use Rattle.std.proofs.Common.{◌≡◌, ℕ, Bool, true, false, cond, ◌||◌, List, [], ◌∷◌, take, Option, Some, None, Ok, Err}
+use Rattle.std.proofs.Common.{inl, inr, refl, sym, ap, subst, ◌∙◌}
 use Rattle.std.specs.Prelude.{codes, IsSome, option_map}
 use Rattle.std.specs.Str.{bytes_eq}
 use Rattle.std.proofs.lemmas.Slice.Eq.{bytes_eq-Decides}
+use Rattle.std.proofs.lemmas.Bool.{or_parts, false_from_ne_true}
 use Rattle.fr_concord.specs.Misfits.{IsAfterFirst, AreWrongWords}
 use Rattle.fr_lines.proofs.FormLaws.{wrong_so}
 use Rattle.fr_lines.specs.declared.forms.WordPlace.{WordPlace}
@@ -24,17 +24,9 @@ use Rattle.fr_why.specs.Reasons.{place_of, told_version}
 
 -- ---- tests
 
-or_false : (p q : Bool) → (p || q) ≡ false → (p ≡ false) × (q ≡ false)
-or_false true q is = absurd (let none : ⊥ = cc is in none)
-or_false false q is = (refl, is)
-
 none_if : {A : Type 0} (o : Option A) → (IsSome o → ⊥) → o ≡ None
 none_if None not_some = refl
 none_if (Some x) not_some = absurd (not_some refl)
-
-not_so : (b : Bool) → (b ≡ true → ⊥) → b ≡ false
-not_so true never = absurd (never refl)
-not_so false never = refl
 
 -- ---- the words up to the one that is named
 
@@ -82,10 +74,10 @@ plan_none v (kind ∷ words) other =
     let tx = bytes_eq kind (codes "tx") in
     let rx = bytes_eq kind (codes "rx") in
     let queue = bytes_eq kind (codes "queue") in
-    let four = or_false (own || tx || rx || queue) (bytes_eq kind (codes "begin")) other in
-    let three = or_false (own || tx || rx) queue four.0 in
-    let two = or_false (own || tx) rx three.0 in
-    let one = or_false own tx two.0 in
+    let four = or_parts (own || tx || rx || queue) (bytes_eq kind (codes "begin")) other in
+    let three = or_parts (own || tx || rx) queue four.0 in
+    let two = or_parts (own || tx) rx three.0 in
+    let one = or_parts own tx two.0 in
     let no_own : bytes_eq kind (codes "own") ≡ false = one.0 in
     let no_tx : bytes_eq kind (codes "tx") ≡ false = one.1 in
     let no_rx : bytes_eq kind (codes "rx") ≡ false = two.1 in
@@ -103,12 +95,12 @@ entry_none v (kind ∷ words) other =
     let pop = bytes_eq kind (codes "pop") in
     let fetch = bytes_eq kind (codes "fetch") in
     let see = bytes_eq kind (codes "see") in
-    let six = or_false (commit || withdraw || read || pop || fetch || see) (bytes_eq kind (codes "end")) other in
-    let five = or_false (commit || withdraw || read || pop || fetch) see six.0 in
-    let four = or_false (commit || withdraw || read || pop) fetch five.0 in
-    let three = or_false (commit || withdraw || read) pop four.0 in
-    let two = or_false (commit || withdraw) read three.0 in
-    let one = or_false commit withdraw two.0 in
+    let six = or_parts (commit || withdraw || read || pop || fetch || see) (bytes_eq kind (codes "end")) other in
+    let five = or_parts (commit || withdraw || read || pop || fetch) see six.0 in
+    let four = or_parts (commit || withdraw || read || pop) fetch five.0 in
+    let three = or_parts (commit || withdraw || read) pop four.0 in
+    let two = or_parts (commit || withdraw) read three.0 in
+    let one = or_parts commit withdraw two.0 in
     let no_commit : bytes_eq kind (codes "commit") ≡ false = one.0 in
     let no_withdraw : bytes_eq kind (codes "withdraw") ≡ false = one.1 in
     let no_read : bytes_eq kind (codes "read") ≡ false = two.1 in
@@ -155,7 +147,7 @@ module _ (v : Version) (line other : List ℕ) (place : WordPlace)
       → place_of v (misfit_of b) (words_of line) ≡ Some place
       → (bytes_eq other begin_line ≡ false) × (plan_line_in v (words_of other) ≡ None)
   plan_wrong true is at = (
-    not_so (bytes_eq other begin_line) (λ begins.
+    false_from_ne_true (bytes_eq other begin_line) (λ begins.
         form_of v (words_of line) (words_of other) place (wrong_in v (words_of line)) refl at same
         (inr (inr (inr (inl (ap words_of ((bytes_eq-Decides other begin_line).0 begins))))))),
     none_if (plan_line_in v (words_of other)) (λ known.
@@ -165,7 +157,7 @@ module _ (v : Version) (line other : List ℕ) (place : WordPlace)
   plan_wrong false is at =
       let first = word_of (words_of line) (words_of other) place at same in
       let outside = ap is_of_plan first ∙ is in (
-        not_so (bytes_eq other begin_line) (λ begins. both_no (is_of_plan (first_word (words_of other)))
+        false_from_ne_true (bytes_eq other begin_line) (λ begins. both_no (is_of_plan (first_word (words_of other)))
             (begin_of_plan other begins) outside),
         plan_none v (words_of other) outside,
       )
@@ -174,7 +166,7 @@ module _ (v : Version) (line other : List ℕ) (place : WordPlace)
       → place_of v (misfit_of b) (words_of line) ≡ Some place
       → (bytes_eq other end_line ≡ false) × (entry_in v (words_of other) ≡ None)
   entry_wrong true is at = (
-    not_so (bytes_eq other end_line) (λ ends.
+    false_from_ne_true (bytes_eq other end_line) (λ ends.
         form_of v (words_of line) (words_of other) place (wrong_in v (words_of line)) refl at same
         (inr (inr (inr (inr (inr (ap words_of ((bytes_eq-Decides other end_line).0 ends)))))))),
     none_if (entry_in v (words_of other)) (λ known.
@@ -184,7 +176,7 @@ module _ (v : Version) (line other : List ℕ) (place : WordPlace)
   entry_wrong false is at =
       let first = word_of (words_of line) (words_of other) place at same in
       let outside = ap is_of_journal first ∙ is in (
-        not_so (bytes_eq other end_line) (λ ends. both_no (is_of_journal (first_word (words_of other)))
+        false_from_ne_true (bytes_eq other end_line) (λ ends. both_no (is_of_journal (first_word (words_of other)))
             (end_of_journal other ends) outside),
         entry_none v (words_of other) outside,
       )

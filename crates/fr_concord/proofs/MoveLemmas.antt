@@ -1,21 +1,20 @@
 -- Windows and cycles that nothing hinders determine the world after them.
-use Rattle.std.proofs.Common.{◌⊎◌}
+use Rattle.std.proofs.Common.{◌⊎◌, ◌≡◌, ℕ, zero, suc, ◌<◌, Bool, true, false, inl, inr, List, Option, Some, None, Ok}
+use Rattle.std.proofs.Common.{Err, refl, sym, ap, subst, ◌∙◌, arith}
 use Rattle.std.specs.List.{fold}
-use Rattle.std.proofs.Common.{◌≡◌, ℕ, zero, suc, ◌<◌, Bool, true, false, inl, inr, List}
-use Rattle.std.proofs.Common.{Option, Some, None, Ok, Err, refl, sym, ap, subst, ◌∙◌, arith}
 use Rattle.std.proofs.lemmas.Bool.{cases_lt}
 use Rattle.fr_bus.specs.States.{collects, collecting_of}
+use Rattle.fr_concord.proofs.StepLemmas.{plain_step, plain_steps, seals_last, two_lists, struck_plain, advance_sealed}
+use Rattle.fr_concord.specs.Determined.{IsPastOffers, HasShortCycles}
 use Rattle.fr_core.specs.declared.error.StepError.{StepError}
 use Rattle.fr_core.specs.declared.event.Event.{Event}
 use Rattle.fr_core.specs.declared.event.Event.TheVariants.{Advance}
 use Rattle.fr_core.specs.Runs.{Answer, StepsAll}
 use Rattle.fr_core.specs.Steps.{Steps, step_done}
 use Rattle.fr_core.specs.Worlds.{WorldState}
+use Rattle.fr_playing.specs.Moving.{first_refusal, hindrance, Strikes, MovesOn, struck_events, WithinCycle, is_at_cycle}
+use Rattle.fr_playing.specs.Moving.{most_windows, LastWindow, EndsCycle, PassesCycles}
 use Rattle.fr_runs.specs.declared.fault_line.FaultLine.{FaultLine}
-use Rattle.fr_playing.specs.Moving.{first_refusal, hindrance, Strikes, MovesOn, struck_events, WithinCycle}
-use Rattle.fr_playing.specs.Moving.{is_at_cycle, most_windows, LastWindow, EndsCycle, PassesCycles}
-use Rattle.fr_concord.specs.Determined.{IsPastOffers, HasShortCycles}
-use Rattle.fr_concord.proofs.StepLemmas.{plain_step, plain_steps, seals_last, two_lists, struck_plain, advance_sealed}
 
 -- ---- one window
 
@@ -31,7 +30,7 @@ advance_done found between (Ok reply) new free step =
 advance_done None between (Err e) new free step = absurd (let none : ⊥ = cc free in none)
 advance_done (Some f) between (Err e) new free step = absurd (let none : ⊥ = cc free in none)
 
-no_both : (b : Bool) → b ≡ false → b ≡ true → ⊥
+pub no_both : (b : Bool) → b ≡ false → b ≡ true → ⊥
 no_both true h k = cc h
 no_both false h k = cc k
 

@@ -1,14 +1,15 @@
 -- The lines of a plan are the rows of the sender table.
-use Rattle.std.proofs.Common.{◌≡◌, ◌≢◌, ℕ, zero, suc, ◌+◌, ◌%◌, ◌<◌, ◌≤◌, ◌==◌, Bool, true, false, cond, ◌&&◌, ◌||◌}
-use Rattle.std.proofs.Common.{◌⊎◌}
-use Rattle.std.proofs.Common.{inl, inr, List, [], ◌∷◌, ◌++◌, Some, refl, sym, ap, subst, ◌∙◌, arith}
-use Rattle.std.proofs.Common.{slice_get}
-use Rattle.std.proofs.lemmas.Bool.{and_parts, cases_Bool, eqb-true, eqb-false, eq-eqb, le-leb}
+use Rattle.std.proofs.Common.{◌≡◌, ◌≢◌, ℕ, zero, suc, ◌+◌, ◌%◌, ◌<◌, ◌≤◌, ◌==◌, Bool, true, false, cond, ◌&&◌, ◌⊎◌, inl}
+use Rattle.std.proofs.Common.{inr, List, [], ◌∷◌, ◌++◌, Some, refl, sym, ap, subst, ◌∙◌, arith, slice_get}
+use Rattle.std.proofs.lemmas.Bool.{and_parts, cases_Bool, eqb-true, eqb-false, eq-eqb, le-leb, and_from, or_right}
+use Rattle.std.proofs.lemmas.Bool.{or_left}
 use Rattle.std.proofs.lemmas.Grind.{flat_map-append}
 use Rattle.std.proofs.Math.Nat.{mod-le}
 use Rattle.std.proofs.lemmas.List.{append-nil}
 use Rattle.std.specs.List.{flat_map, range_with_len, list_any}
 use Rattle.fr_commands.specs.PlanText.{begins_at, own_text, owner_text, base_text, owners_text, slot_text}
+use Rattle.fr_concord.proofs.FaultLineLemmas.{rest_passes}
+use Rattle.fr_concord.specs.PlanRows.{PlanRow, row_line, IsAmong, IsTold, ArePlanRows, ArePlansTables}
 use Rattle.fr_files.specs.NodeTexts.{of_nodes}
 use Rattle.fr_schedule.specs.Descriptions.{Description}
 use Rattle.fr_schedule.specs.SenderTable.{may_send, IsSender}
@@ -19,7 +20,6 @@ use Rattle.fr_slots.specs.declared.plan.Own.{Own}
 use Rattle.fr_slots.specs.Faults.{claims, is_owned, sends_at}
 use Rattle.fr_slots.specs.Parameters.{is_static_slot}
 use Rattle.fr_slots.specs.Plans.{Plan}
-use Rattle.fr_concord.specs.PlanRows.{PlanRow, row_line, IsAmong, IsTold, ArePlanRows, ArePlansTables}
 
 -- ---- elements of joined lists
 
@@ -205,26 +205,10 @@ module _ (slot : ℕ) (channel : Channel) where
 
 -- ---- owners
 
-or_first : (p q : Bool) → p ≡ true → (p || q) ≡ true
-or_first true q e = refl
-or_first false q e = absurd (let none : ⊥ = cc e in none)
-
-or_rest : (p q : Bool) → q ≡ true → (p || q) ≡ true
-or_rest true q e = refl
-or_rest false q e = e
-
-rest_of : (p q : Bool) → p ≡ false → (p || q) ≡ true → q ≡ true
-rest_of true q fail any = absurd (let none : ⊥ = cc fail in none)
-rest_of false q fail any = any
-
-pub both_true : (p q : Bool) → p ≡ true → q ≡ true → (p && q) ≡ true
-both_true true q first second = second
-both_true false q first second = absurd (let none : ⊥ = cc first in none)
-
 pub any_among : {X : Type 0} (p : X → Bool) (x : X) (xs : List X) → IsAmong x xs → p x ≡ true → list_any p xs ≡ true
 any_among p x [] is pass = absurd is
-any_among p x (y ∷ xs) (inl same) pass = or_first (p y) (list_any p xs) (sym (ap p same) ∙ pass)
-any_among p x (y ∷ xs) (inr later) pass = or_rest (p y) (list_any p xs) (any_among p x xs later pass)
+any_among p x (y ∷ xs) (inl same) pass = or_left (p y) (list_any p xs) (sym (ap p same) ∙ pass)
+any_among p x (y ∷ xs) (inr later) pass = or_right (p y) (list_any p xs) (any_among p x xs later pass)
 
 pub record IsFound {X : Type 0} (p : X → Bool) (xs : List X) : Type 0 where
   pub one : X
@@ -237,7 +221,7 @@ found_any p (x ∷ xs) any =
     elim (cases_Bool (p x)) [
       | inl pass ↦ record { one = x; among = inl refl; passes = pass }
       | inr fail ↦
-          let rest = found_any p xs (rest_of (p x) (list_any p xs) fail any) in
+          let rest = found_any p xs (rest_passes (p x) (list_any p xs) fail any) in
           record { one = rest.one; among = inr rest.among; passes = rest.passes }
     ]
 
@@ -317,7 +301,7 @@ module _ (d : Description) where
       let begun = and_parts in_slot (n.own.cycles.base == r.base) n.begins in
       subst (Sends cycle) (sym n.row_is) (λ admits.
       owner_sends cycle r.slot n.place r.channel n.plan n.own r.at_most n.at n.among
-      (both_true in_slot (cycle_admitted n.own.cycles cycle) begun.0 admits))
+      (and_from in_slot (cycle_admitted n.own.cycles cycle) begun.0 admits))
 
   row_static : (row : PlanRow) → IsAmong row rows → (1 ≤ row.slot) × (row.slot ≤ d.params.static_slots)
   row_static row is =
@@ -349,7 +333,7 @@ module _ (d : Description) where
       let base = own.cycles.base in
       let is_base : cycle % own.cycles.repetition ≡ base = eqb-true (cycle % own.cycles.repetition) base claimed.1 in
       let low : cycle % own.cycles.repetition ≤ cycle = mod-le cycle own.cycles.repetition in
-      let begins = both_true in_slot (base == base) claimed.0 (eq-eqb base base refl) in
+      let begins = and_from in_slot (base == base) claimed.0 (eq-eqb base base refl) in
       let row = row_of slot channel (0 + node) own in
       let of_node = to_nodes_rows slot channel base 0 node d.plans sender.plan own sender.at own_is.among begins in
       let of_channel = to_flat row (λ b. node_rows slot channel b 0 d.plans) base (range_with_len 0 64)

@@ -1,21 +1,23 @@
 -- The scenario of a single-threaded run determines its calls and its world.
-use Rattle.std.proofs.Common.{◌≡◌, ℕ, zero, suc, ◌<◌, Bool, true, false, inl, inr, List, [], ◌∷◌, ◌++◌, length}
-use Rattle.std.proofs.Common.{map, Some, refl, sym, ap, subst, ◌∙◌, arith, slice_get}
+use Rattle.std.proofs.Common.{◌≡◌, ℕ, zero, suc, ◌<◌, true, false, inl, inr, List, [], ◌∷◌, ◌++◌, length, map, refl}
+use Rattle.std.proofs.Common.{sym, ap, subst, ◌∙◌, arith, slice_get}
 use Rattle.std.proofs.lemmas.Bool.{cases_lt}
+use Rattle.fr_concord.proofs.MoveLemmas.{no_both}
+use Rattle.fr_concord.specs.Determined.{AreRunsDetermined}
 use Rattle.fr_core.specs.declared.event.Event.{Event}
 use Rattle.fr_core.specs.declared.event.Reply.{Reply}
 use Rattle.fr_core.specs.Scripts.{Scripted}
 use Rattle.fr_core.specs.Steps.{event_of, step_done, step_reply}
 use Rattle.fr_core.specs.Worlds.{WorldState, opening_world}
-use Rattle.fr_runs.specs.declared.fault_line.FaultLine.{FaultLine}
 use Rattle.fr_playing.specs.Calls.{Asked, asked_of, entries_in, DoesCall, DoesCalls}
 use Rattle.fr_playing.specs.declared.call.ExecutedCall.{ExecutedCall}
 use Rattle.fr_playing.specs.Moving.{is_at_cycle, whole_window}
 use Rattle.fr_playing.specs.Playing.{PlaysCycle, PlaysCycles}
 use Rattle.fr_playing.specs.Striking.{Passes}
 use Rattle.fr_playing.specs.Windows.{played_events, PlaysWindow, PlaysWithin, PlaysWindows}
+use Rattle.fr_runs.specs.declared.fault_line.FaultLine.{FaultLine}
+use Rattle.fr_slots.proofs.PlaceLemmas.{same_some}
 use Rattle.fr_slots.specs.Windows.{Opportunity}
-use Rattle.fr_concord.specs.Determined.{AreRunsDetermined}
 
 -- ---- accepted events
 
@@ -26,13 +28,6 @@ passes_same old [] x y first second = first ∙ sym second
 passes_same old (e ∷ events) x y first second =
     let start : first.0 ≡ second.0 = first.2.2 ∙ sym second.2.2 in
     passes_same first.0 events x y first.3 (subst (λ (w : WorldState). Passes w events y) (sym start) second.3)
-
-no_both : (b : Bool) → b ≡ false → b ≡ true → ⊥
-no_both true h k = cc h
-no_both false h k = cc k
-
-same_some : {A : Type 0} (x y : A) → Some x ≡ Some y → x ≡ y
-same_some x y e = cc e
 
 module _ (cycle : ℕ) (faults : List FaultLine) (due : List Event) where
   window_same : (old x y : WorldState) → PlaysWindow cycle faults due old x → PlaysWindow cycle faults due old y

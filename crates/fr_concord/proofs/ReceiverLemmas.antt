@@ -1,7 +1,7 @@
 -- Tables and `commits` name the receivers that journals have.
 use Rattle.std.proofs.Common.{◌≡◌, ℕ, ◌+◌, Bool, true, false, cond, ◌&&◌, List, [], ◌∷◌, ◌++◌, length, map, Option}
 use Rattle.std.proofs.Common.{Some, None, refl, sym, ap, ◌∙◌, option_map, is_some}
-use Rattle.std.proofs.lemmas.Bool.{and_parts}
+use Rattle.std.proofs.lemmas.Bool.{and_parts, and_from}
 use Rattle.std.proofs.lemmas.List.{map-append}
 use Rattle.std.specs.Option.{option_or, option_and_then}
 use Rattle.std.specs.Prelude.{option_to_list}
@@ -9,13 +9,16 @@ use Rattle.fr_bus.specs.Record.{seen_by}
 use Rattle.fr_capture.specs.declared.takers.Taker.{Taker}
 use Rattle.fr_capture.specs.Takers.{taker_if, buffers_from}
 use Rattle.fr_capture.specs.Taking.{is_from, buffer_takes, queue_takes}
+use Rattle.fr_concord.specs.Receivers.{IsStored, AreBuffersStored, AreQueuesFilled, of_node, AreReceiversSame}
+use Rattle.fr_core.proofs.LoneLemmas.{same_channel as channel_same}
 use Rattle.fr_frame.specs.Fields.{Fields}
+use Rattle.fr_guarantees.proofs.HeardLemmas.{same_channel}
 use Rattle.fr_journal.specs.Arrivals.{is_for_queue}
 use Rattle.fr_journal.specs.Counts.{seen_on}
 use Rattle.fr_journal.specs.Cycles.{moment_after}
 use Rattle.fr_journal.specs.declared.entry.Arrival.{Arrival}
-use Rattle.fr_journal.specs.declared.entry.Moment.{Moment}
 use Rattle.fr_journal.specs.declared.entry.Entry.TheVariants.{Observe}
+use Rattle.fr_journal.specs.declared.entry.Moment.{Moment}
 use Rattle.fr_journal.specs.Forms.{Entry}
 use Rattle.fr_journal.specs.Held.{data_frame_seen, arrival_of, arrival_on, arrival_in, arrival_at, held}
 use Rattle.fr_journal.specs.OpenWindow.{open_window}
@@ -29,7 +32,6 @@ use Rattle.fr_slots.specs.Parameters.{Parameters}
 use Rattle.fr_slots.specs.Plans.{is_receive, admits_window}
 use Rattle.fr_slots.specs.Windows.{Opportunity}
 use Rattle.fr_status.specs.Forms.{Seen}
-use Rattle.fr_concord.specs.Receivers.{IsStored, AreBuffersStored, AreQueuesFilled, of_node, AreReceiversSame}
 
 -- ---- receive buffers
 
@@ -58,16 +60,6 @@ moment_free p f m n a b w =
     (on_same (admits_window f w A) (data_frame_seen p w A a) A m n)
     (on_same (admits_window f w B) (data_frame_seen p w B b) B m n)
 
-channel_same : (c d : Channel) → is_channel c d ≡ true → c ≡ d
-channel_same A A is = refl
-channel_same A B is = absurd (let none : ⊥ = cc is in none)
-channel_same B A is = absurd (let none : ⊥ = cc is in none)
-channel_same B B is = refl
-
-same_channel : (c : Channel) → is_channel c c ≡ true
-same_channel A = refl
-same_channel B = refl
-
 abbrev is_of : Channel → Option Channel → Bool
 is_of channel None = false
 is_of channel (Some c) = is_channel c channel
@@ -85,10 +77,6 @@ has_arrival : (o : Option Arrival) (channel : Channel) → is_from channel o ≡
 has_arrival None channel is = absurd (let none : ⊥ = cc is in none)
 has_arrival (Some arrival) channel is =
     record { arrival = arrival; there = refl; channel_is = channel_same arrival.origin.channel channel is }
-
-both_true : (p q : Bool) → p ≡ true → q ≡ true → (p && q) ≡ true
-both_true true q first second = second
-both_true false q first second = absurd (let none : ⊥ = cc first in none)
 
 module _ (p : Parameters) (b : Buffer) (before : List Entry) (w : Opportunity) (number : ℕ) (on_a on_b : Seen)
     (channel : Channel) (open_is : open_window before ≡ Some w) where
@@ -126,7 +114,7 @@ module _ (p : Parameters) (b : Buffer) (before : List Entry) (w : Opportunity) (
       let comes : arrived (moment_after before) ≡ Some is.arrival = sym arrival_is ∙ is.arrives in
       let here : is_from channel (arrived (moment_after before)) ≡ true =
       ap (is_from channel) comes ∙ ap (λ (c : Channel). is_channel c channel) is.channel_is ∙ same_channel channel in
-      both_true (is_receive b.mode) (is_from channel (arrived (moment_after []))) receives (from_same ∙ here)
+      and_from (is_receive b.mode) (is_from channel (arrived (moment_after []))) receives (from_same ∙ here)
 
 pub buffers_stored : AreBuffersStored
 buffers_stored p b before w number on_a on_b channel receives open_is = (

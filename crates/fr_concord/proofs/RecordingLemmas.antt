@@ -7,21 +7,21 @@ use Rattle.fr_concord.specs.Recordings.{window_time, IsSameCapture, IsReadAgain,
 use Rattle.fr_core.specs.Headline.{Headline}
 use Rattle.fr_core.specs.Worlds.{WorldState}
 use Rattle.fr_hearing.proofs.FileLaws.{no_alarm_in_file}
+use Rattle.fr_hearing.proofs.punctual.FileLaws.{no_alarm_in_exact_file}
+use Rattle.fr_hearing.proofs.punctual.TogetherLaws.{no_alarm_in_exact_file_together}
 use Rattle.fr_hearing.proofs.ReadBackLaws.{is_read_back}
 use Rattle.fr_hearing.specs.Alarms.{judged}
 use Rattle.fr_hearing.specs.Files.{window_seen, capture_of as capture_at}
 use Rattle.fr_judging.specs.Judging.{fresh, finish, has_finding}
 use Rattle.fr_judging.specs.Rules.{rules_of}
-use Rattle.fr_punctual.proofs.FileLaws.{no_alarm_in_exact_file}
-use Rattle.fr_punctual.proofs.TogetherLaws.{no_alarm_in_exact_file_together}
 use Rattle.fr_recording.specs.Stream.{records_in, refusal_in}
 use Rattle.fr_showing.specs.Listening.{heard_record, window_records, capture_of}
 use Rattle.fr_slots.specs.declared.channel.Channel.{Channel}
 use Rattle.fr_slots.specs.declared.channel.Channel.TheVariants.{A, B}
 use Rattle.fr_slots.specs.History.{each_after}
 use Rattle.fr_slots.specs.Parameters.{Parameters}
-use Rattle.fr_status.specs.Forms.{Seen}
 use Rattle.fr_status.specs.declared.seen.Seen.TheVariants.{Silence, Own, Conflict, Noise, Overrun, Bytes}
+use Rattle.fr_status.specs.Forms.{Seen}
 
 seen_same : (time : ℕ) (channel : Channel) (o : Seen)
     → heard_record time channel o ≡ record_seen false time channel o None

@@ -1,7 +1,6 @@
 -- Each reply is one line, or a counted block of lines.
-use Rattle.std.proofs.Common.{◌≡◌, ℕ, zero, suc, ◌+◌, ◌/◌, ◌%◌, ◌==◌, Bool, true, false, not, cond, ◌⊎◌, inl, inr}
-use Rattle.std.proofs.Common.{List, [], ◌∷◌, ◌++◌, length, codes, Option, Some, None, Ok, Err, refl, sym, ap, subst}
-use Rattle.std.proofs.Common.{◌∙◌}
+use Rattle.std.proofs.Common.{◌≡◌, ℕ, zero, suc, ◌+◌, ◌/◌, ◌%◌, ◌==◌, Bool, true, false, not, cond, ◌⊎◌, inl, inr, List}
+use Rattle.std.proofs.Common.{[], ◌∷◌, ◌++◌, length, codes, Option, Some, None, Ok, Err, refl, sym, ap, subst, ◌∙◌}
 use Rattle.std.proofs.Common.{arith, slice_get, count_by}
 use Rattle.std.proofs.lemmas.Bool.{cases_Bool, eqb-true}
 use Rattle.std.proofs.lemmas.Bool.Decides.{nat_tests}
@@ -19,6 +18,7 @@ use Rattle.fr_bus.specs.Record.{Recorded}
 use Rattle.fr_bus.specs.States.{BusState}
 use Rattle.fr_bus.specs.Windows.{cycles_begun}
 use Rattle.fr_capture.specs.Moments.{start_of}
+use Rattle.fr_concord.specs.Replied.{begins_block, IsOneLine, HasLines, IsBlockReply, IsReplyTo, AreWhole}
 use Rattle.fr_core.specs.declared.error.StepError.{StepError}
 use Rattle.fr_core.specs.declared.error.StepError.TheVariants as step
 use Rattle.fr_core.specs.declared.event.Reply.TheVariants as reply
@@ -32,6 +32,7 @@ use Rattle.fr_interface.specs.declared.errors.SlotError.{SlotError}
 use Rattle.fr_interface.specs.declared.errors.SlotError.TheVariants as slot
 use Rattle.fr_interface.specs.ErrorNames.{host_error_name, slot_error_name}
 use Rattle.fr_interface.specs.State.{State, oldest_of, received_by}
+use Rattle.fr_journal.specs.Counts.{counts_of}
 use Rattle.fr_journal.specs.declared.entry.Arrival.{Arrival}
 use Rattle.fr_journal.specs.declared.entry.Origin.{Origin}
 use Rattle.fr_lines.specs.declared.versions.Version.{Version}
@@ -42,17 +43,17 @@ use Rattle.fr_runs.specs.declared.fault_line.FaultLine.{FaultLine}
 use Rattle.fr_session.specs.declared.request.Request.{Request}
 use Rattle.fr_session.specs.declared.request.Request.TheVariants as request
 use Rattle.fr_session.specs.Keeping.{KeepsIf}
-use Rattle.fr_session.specs.Lines.{with_feed, IsLine, AreLines}
-use Rattle.fr_session.specs.Queries.{now_words, moved_text, memory_text, IsBlock, IsBlockIf}
-use Rattle.fr_session.specs.Queries.{last_origin, origin_text, sent_line, corrupt_lines, sealed_text}
-use Rattle.fr_session.specs.Queries.{IsRecordOf, phase_word, at_words, cycle_at, moment_words, status_text}
-use Rattle.fr_session.specs.Reading.{asked_in}
-use Rattle.fr_session.specs.Replies.{refusal_words, bad_line_words, bad_fault_words, done_words, frame_words}
 use Rattle.fr_session.specs.Latest.{is_fresh, place_of}
-use Rattle.fr_session.specs.Replies.{age_word, answer_text, frame_reply, receipt_text, received_words, reply_words}
-use Rattle.fr_session.specs.Replies.{window_words, withdrawn_words}
-use Rattle.fr_session.specs.Sessions.{Terms, SessionState, DoesRequest, DoesIf}
+use Rattle.fr_session.specs.Lines.{with_feed, IsLine, AreLines}
+use Rattle.fr_session.specs.Queries.{now_words, moved_text, memory_text, IsBlock, IsBlockIf, last_origin, origin_text}
+use Rattle.fr_session.specs.Queries.{sent_line, corrupt_lines, sealed_text, IsRecordOf, phase_word, at_words, cycle_at}
+use Rattle.fr_session.specs.Queries.{moment_words, status_text}
+use Rattle.fr_session.specs.Reading.{asked_in}
 use Rattle.fr_session.specs.RecordWords.{kind_word, fate_word}
+use Rattle.fr_session.specs.Replies.{refusal_words, bad_line_words, bad_fault_words, done_words, frame_words, age_word}
+use Rattle.fr_session.specs.Replies.{answer_text, frame_reply, receipt_text, received_words, reply_words, window_words}
+use Rattle.fr_session.specs.Replies.{withdrawn_words}
+use Rattle.fr_session.specs.Sessions.{Terms, SessionState, DoesRequest, DoesIf}
 use Rattle.fr_slots.specs.Admission.{letter_of}
 use Rattle.fr_slots.specs.declared.channel.Channel.{Channel}
 use Rattle.fr_slots.specs.declared.channel.Channel.TheVariants as channel
@@ -64,8 +65,6 @@ use Rattle.fr_text.specs.Spaces.{line_of}
 use Rattle.fr_text.specs.Spelling.{hex_text}
 use Rattle.fr_trace.specs.ReportText.{report_text, reports_from, queue_report, channel_report, channel_words}
 use Rattle.fr_trace.specs.TraceText.{trace_text, body_text}
-use Rattle.fr_journal.specs.Counts.{counts_of}
-use Rattle.fr_concord.specs.Replied.{begins_block, IsOneLine, HasLines, IsBlockReply, IsReplyTo, AreWhole}
 
 -- ---- words without a line feed
 

@@ -1,27 +1,28 @@
 -- The observations of a legal interface have rising times.
-use Rattle.std.proofs.Common.{◌≡◌, ℕ, zero, suc, ◌+◌, ◌-◌, ◌*◌, ◌<◌, ◌≤◌, Bool, true, false, cond, ◌&&◌, inl, inr, List}
-use Rattle.std.proofs.Common.{[], ◌∷◌, ◌++◌, Option, Some, None, refl, sym, ap, subst, ◌∙◌, arith}
+use Rattle.std.proofs.Common.{◌≡◌, ℕ, zero, suc, ◌+◌, ◌-◌, ◌*◌, ◌<◌, ◌≤◌, Bool, true, false, cond, inl, inr, List, []}
+use Rattle.std.proofs.Common.{◌∷◌, ◌++◌, Option, Some, None, refl, sym, ap, subst, ◌∙◌, arith}
 use Rattle.std.proofs.Math.Nat.{suc-mul}
-use Rattle.std.proofs.lemmas.Bool.{and_parts, cases_Bool, leb-true, leb-false}
+use Rattle.std.proofs.lemmas.Bool.{cases_Bool, leb-false}
 use Rattle.std.specs.Option.{option_or}
-use Rattle.std.specs.Prelude.{nat_le, nat_lt, unwrap_or, IfSome}
+use Rattle.std.specs.Prelude.{nat_le, unwrap_or, IfSome}
 use Rattle.fr_capture.specs.Moments.{start_of, place_in_round, round_length, fetched, last_window, is_not_later}
 use Rattle.fr_capture.specs.Moments.{begins_round, rounds}
 use Rattle.fr_capture.specs.Sightings.{Sighting, in_window, sightings_at, sightings}
+use Rattle.fr_concord.specs.Rising.{AreRisingFrom, AreCapturesRising}
+use Rattle.fr_hearing.proofs.punctual.WindowLemmas.{row_within}
 use Rattle.fr_interface.specs.State.{State}
 use Rattle.fr_journal.specs.declared.entry.Entry.TheVariants.{Commit, Withdraw, Read, Pop, Fetch, Observe}
+use Rattle.fr_journal.specs.declared.entry.Offered.{Offered}
 use Rattle.fr_journal.specs.Entries.{IsEntry}
 use Rattle.fr_journal.specs.Forms.{Entry}
 use Rattle.fr_slots.proofs.HistoryLemmas.{last_after-snoc, count_after-snoc}
 use Rattle.fr_slots.specs.History.{AllAfter, each_after, last_after}
-use Rattle.fr_journal.specs.declared.entry.Offered.{Offered}
 use Rattle.fr_slots.specs.Parameters.{Parameters, IsParameters}
 use Rattle.fr_slots.specs.Windows.{Opportunity, is_static}
 use Rattle.fr_status.specs.Forms.{Seen}
 use Rattle.fr_timing.specs.declared.place.Place.TheVariants.{Static, Minislot}
-use Rattle.fr_timing.specs.Division.{start_in_row, start_at}
+use Rattle.fr_timing.specs.Division.{start_at}
 use Rattle.fr_timing.specs.Segments.{dynamic_start}
-use Rattle.fr_concord.specs.Rising.{AreRisingFrom, AreCapturesRising}
 
 -- ---- the start of a window lies in its cycle
 
@@ -36,31 +37,16 @@ at_most_row : (first count part k : ℕ) → 1 ≤ k → k ≤ count → first +
 at_most_row first count part k from most =
     let rest = times_more (k - 1) count part (omega arith) in omega (arith, rest)
 
-row_within : (b : Bool) (m limit : ℕ) → (b ≡ true → m ≤ limit) → unwrap_or (cond b (Some m) None) 0 ≤ limit
-row_within true m limit small = small refl
-row_within false m limit small = omega arith
-
-in_row : (first count part k limit : ℕ) → first + count * part ≤ limit
-    → unwrap_or (start_in_row first count part k 0) 0 ≤ limit
-in_row first count part k limit fits =
-    row_within (nat_le 1 k && nat_le k count && nat_lt 0 part) (first + (k - 1) * part + 0) limit (λ tests.
-    let both = and_parts (nat_le 1 k && nat_le k count) (nat_lt 0 part) tests in
-    let ends = and_parts (nat_le 1 k) (nat_le k count) both.0 in
-    let from = leb-true 1 k ends.0 in
-    let most = leb-true k count ends.1 in
-    let row = at_most_row first count part k from most in
-    omega (arith, row, fits))
-
 module _ (p : Parameters) (lawful : IsParameters p) where
   place_within : (b : Bool) (slot minislot : ℕ)
       → unwrap_or (start_at p (cond b (Static slot 0) (Minislot minislot 0))) 0 ≤ p.cycle_mt
   unfolding start_at
   place_within true slot minislot =
       let fills = lawful.fills_the_cycle in
-      in_row 0 p.static_slots p.static_mt slot p.cycle_mt (omega arith)
+      row_within 0 p.static_slots p.static_mt slot p.cycle_mt (omega arith)
   place_within false slot minislot =
       let fills = lawful.fills_the_cycle in
-      in_row (dynamic_start p) p.minislots p.minislot_mt minislot p.cycle_mt (omega arith)
+      row_within (dynamic_start p) p.minislots p.minislot_mt minislot p.cycle_mt (omega arith)
 
   round_within : (w : Opportunity) → w.cycle < 64 → place_in_round p w ≤ round_length p
   round_within w few =

@@ -9,11 +9,13 @@ use Rattle.std.proofs.lemmas.Option.{get_or_from_slice_get, slice_get_read, slic
 use Rattle.std.specs.List.{flat_map, range_with_len}
 use Rattle.std.specs.Prelude.{Contains, if◌then◌else◌, nat_lt, slice_get}
 use Rattle.fr_capture.specs.Takers.{takers_of}
+use Rattle.fr_concord.proofs.LinkedLemmas.{among, nothing, single, takers_linked}
+use Rattle.fr_concord.specs.Linked.{AreFramesLinked, AreSendersLinked, IsLinkOf}
 use Rattle.fr_guardian.proofs.PeriodLemmas.{at_most_64}
 use Rattle.fr_links.proofs.CycleLemmas.{none_common}
+use Rattle.fr_links.specs.Cycles.{rarer, rarer_if, shared}
 use Rattle.fr_links.specs.declared.links.Link.{Link}
 use Rattle.fr_links.specs.declared.links.Owner.{Owner}
-use Rattle.fr_links.specs.Cycles.{rarer, rarer_if, shared}
 use Rattle.fr_links.specs.Links.{base_links, begun_links, buffer_links, channel_links, dynamic_link, dynamic_links}
 use Rattle.fr_links.specs.Links.{filled_links, fills, link_if, link_of, links, node_links, node_owners, null_link}
 use Rattle.fr_links.specs.Links.{numbered, or_null, owner_if, owner_links, owners, plan_links, slot_links, static_links}
@@ -22,19 +24,16 @@ use Rattle.fr_schedule.specs.Clusters.{IsCluster, IsNode}
 use Rattle.fr_schedule.specs.Descriptions.{Description}
 use Rattle.fr_slots.proofs.FaultLemmas.{option_cases}
 use Rattle.fr_slots.proofs.FaultlessLemmas.{faultless}
+use Rattle.fr_slots.specs.Admission.{CycleClass, cycle_admitted, includes}
 use Rattle.fr_slots.specs.declared.channel.Channel.{Channel}
 use Rattle.fr_slots.specs.declared.channel.Channel.TheVariants.{A, B}
 use Rattle.fr_slots.specs.declared.plan.Buffer.{Buffer}
 use Rattle.fr_slots.specs.declared.plan.Own.{Own}
-use Rattle.fr_slots.specs.Admission.{CycleClass, cycle_admitted, includes}
-use Rattle.fr_slots.specs.Faults.{claims, first_common, is_owned, transmits, transmits_dynamic}
-use Rattle.fr_slots.specs.Faults.{transmits_static}
+use Rattle.fr_slots.specs.Faults.{claims, first_common, is_owned, transmits, transmits_dynamic, transmits_static}
 use Rattle.fr_slots.specs.Numbers.{cycle_count}
 use Rattle.fr_slots.specs.Parameters.{is_static_slot}
 use Rattle.fr_slots.specs.Plans.{IsBuffer, IsOwn, Plan, filter_admits}
 use Rattle.fr_slots.specs.Windows.{slot_of}
-use Rattle.fr_concord.proofs.LinkedLemmas.{among, nothing, single, takers_linked}
-use Rattle.fr_concord.specs.Linked.{AreFramesLinked, AreSendersLinked, IsLinkOf}
 
 -- ---- lists
 

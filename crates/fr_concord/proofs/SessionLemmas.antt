@@ -1,10 +1,13 @@
 -- The lines of a session determine its replies and its state.
-use Rattle.std.proofs.Common.{◌⊎◌}
-use Rattle.std.proofs.Common.{◌≡◌, ◌≢◌, ◌↔◌, ℕ, ◌+◌, Bool, true, false, inl, inr, List, [], ◌∷◌, ◌++◌, length}
+use Rattle.std.proofs.Common.{◌⊎◌, ◌≡◌, ◌≢◌, ◌↔◌, ℕ, ◌+◌, Bool, true, false, inl, inr, List, [], ◌∷◌, ◌++◌, length}
 use Rattle.std.proofs.Common.{Option, Some, None, refl, sym, ap, subst, ◌∙◌, slice_get, IsTrue}
 use Rattle.fr_bus.specs.declared.error.BusError.TheVariants.{Memory}
 use Rattle.fr_bus.specs.Record.{Recorded}
 use Rattle.fr_bus.specs.States.{BusState}
+use Rattle.fr_concord.proofs.MoveLemmas.{moved_same, passes_same}
+use Rattle.fr_concord.proofs.StepLemmas.{one_step, seals_last, window_last}
+use Rattle.fr_concord.specs.Determined.{refusal_text, HasMemory, IsUnhindered, IsPastOffers, HasShortCycles}
+use Rattle.fr_concord.specs.Determined.{MovesFreely, ServesFreely, AreSessionsDetermined}
 use Rattle.fr_core.specs.declared.error.StepError.{StepError}
 use Rattle.fr_core.specs.declared.error.StepError.TheVariants.{Bus}
 use Rattle.fr_core.specs.declared.event.Event.{Event}
@@ -19,23 +22,17 @@ use Rattle.fr_playing.specs.Moving.{MovesOn, RunsCycles, window_events}
 use Rattle.fr_runs.specs.declared.fault_line.FaultLine.{FaultLine}
 use Rattle.fr_runs.specs.Suiting.{IsFaultAfter}
 use Rattle.fr_schedule.specs.Descriptions.{Description}
+use Rattle.fr_session.specs.declared.noted.Noted.{Noted}
 use Rattle.fr_session.specs.declared.request.Request.{Request}
 use Rattle.fr_session.specs.declared.request.Request.TheVariants as request
 use Rattle.fr_session.specs.Keeping.{AreFaultsAfter, KeepsIf}
-use Rattle.fr_session.specs.Queries.{now_text, moved_text, memory_text, IsBlock, IsBlockIf}
-use Rattle.fr_session.specs.Queries.{IsRecordOf, sealed_text}
-use Rattle.fr_session.specs.Reading.{asked_in}
-use Rattle.fr_session.specs.declared.noted.Noted.{Noted}
 use Rattle.fr_session.specs.Latest.{is_fresh, place_of}
+use Rattle.fr_session.specs.Queries.{now_text, moved_text, memory_text, IsBlock, IsBlockIf, IsRecordOf, sealed_text}
+use Rattle.fr_session.specs.Reading.{asked_in}
 use Rattle.fr_session.specs.Replies.{answer_text, receipt_text}
 use Rattle.fr_session.specs.Sessions.{SessionState, after_receipt, state_of, DoesRequest, DoesIf, terms_of}
 use Rattle.fr_trace.specs.ReportText.{report_text}
 use Rattle.fr_trace.specs.TraceText.{trace_text}
-use Rattle.fr_concord.specs.Determined.{refusal_text, HasMemory, IsUnhindered, IsPastOffers, HasShortCycles}
-use Rattle.fr_concord.specs.Determined.{MovesFreely}
-use Rattle.fr_concord.specs.Determined.{ServesFreely, AreSessionsDetermined}
-use Rattle.fr_concord.proofs.MoveLemmas.{moved_same, passes_same}
-use Rattle.fr_concord.proofs.StepLemmas.{one_step, seals_last, window_last}
 
 -- the reply and the state are the same
 abbrev AreSame : (a b : List ℕ) (x y : SessionState) → Type 0

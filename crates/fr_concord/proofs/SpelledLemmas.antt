@@ -1,21 +1,25 @@
 -- The spelling of a request is read as this request.
-use Rattle.std.proofs.Common.{◌≡◌, ℕ, ◌<◌, ◌≤◌, false, List, [], ◌∷◌, length, codes, Some}
-use Rattle.std.proofs.Common.{None, refl, sym, ap, ap₂, ◌∙◌, arith}
+use Rattle.std.proofs.Common.{◌≡◌, ℕ, ◌<◌, ◌≤◌, false, List, [], ◌∷◌, length, codes, Some, None, refl, sym, ap, ap₂}
+use Rattle.std.proofs.Common.{◌∙◌, arith}
 use Rattle.std.specs.Fmt.{decimal}
+use Rattle.std.proofs.lemmas.Bool.{le-ltb}
+use Rattle.std.specs.Prelude.{nat_lt}
 use Rattle.fr_bus.specs.declared.fault.Fault.{Fault}
 use Rattle.fr_bus.specs.declared.fault.Fault.TheVariants.{Babble, Mute, Corrupt}
+use Rattle.fr_concord.specs.Spelled.{both_line_words, both_words, injected_words, event_words, request_words, spelled}
+use Rattle.fr_concord.specs.Spelled.{IsSpelledEvent, IsSpelledRequest, AreReadAgain}
 use Rattle.fr_core.specs.declared.event.Event.{Event}
 use Rattle.fr_core.specs.declared.event.Event.TheVariants as event
 use Rattle.fr_core.specs.Steps.{event_of}
+use Rattle.fr_frame.specs.Payload.{IsPayload}
 use Rattle.fr_interface.specs.declared.call.Call.{Call}
 use Rattle.fr_interface.specs.declared.call.Call.TheVariants.{Commit, Withdraw, Read, Pop}
+use Rattle.fr_journal.specs.Entries.{AreBytes}
+use Rattle.fr_lines.proofs.PlanPartLemmas.{payload_again}
 use Rattle.fr_lines.proofs.WordLemmas.{IsWord, number_word, payload_word, long_word}
 use Rattle.fr_runs.specs.declared.cycles.RunCycles.{RunCycles}
 use Rattle.fr_runs.specs.declared.fault_line.FaultLine.{FaultLine}
 use Rattle.fr_runs.specs.declared.fault_line.FaultPlace.{FaultPlace}
-use Rattle.fr_frame.specs.Payload.{IsPayload}
-use Rattle.fr_journal.specs.Entries.{AreBytes}
-use Rattle.fr_lines.proofs.PlanPartLemmas.{payload_again}
 use Rattle.fr_scenario.proofs.FaultLineLemmas.{babble_line, corrupt_line, mute_line, said_cycles_word, said_place_word}
 use Rattle.fr_scenario.proofs.FaultLineLemmas.{said_same}
 use Rattle.fr_scenario.proofs.PartLemmas.{channel_again, channel_plain}
@@ -32,8 +36,8 @@ use Rattle.fr_session.specs.declared.request.Request.TheVariants as request
 use Rattle.fr_session.specs.Lines.{longest_line}
 use Rattle.fr_session.specs.Reading.{host_request, node_in, step_of, step_request, babble_in, mute_in, corrupt_in}
 use Rattle.fr_session.specs.Reading.{fault_of, fault_request, run_in, record_in, report_in, status_in, trace_in}
-use Rattle.fr_session.specs.Reading.{origin_in, query_request, other_request, event_request, request_in}
-use Rattle.fr_session.specs.Reading.{next_in, receive_in, request_or_faults, with_faults}
+use Rattle.fr_session.specs.Reading.{origin_in, query_request, other_request, event_request, request_in, next_in}
+use Rattle.fr_session.specs.Reading.{receive_in, request_or_faults, with_faults}
 use Rattle.fr_slots.specs.declared.channel.Channel.TheVariants as channel
 use Rattle.fr_slots.specs.declared.channel.Channels.TheVariants as channels
 use Rattle.fr_text.proofs.HexTextLemmas.{bytes_again, length-hex_text}
@@ -43,11 +47,6 @@ use Rattle.fr_text.proofs.PlainLemmas.{IsPlain-hex_text}
 use Rattle.fr_text.specs.Plain.{ArePlain}
 use Rattle.fr_text.specs.Spaces.{line_of, words_of}
 use Rattle.fr_text.specs.Spelling.{hex_text}
-use Rattle.std.proofs.lemmas.Bool.{le-ltb}
-use Rattle.std.specs.Prelude.{nat_lt}
-use Rattle.fr_concord.specs.Spelled.{both_line_words, both_words, injected_words, event_words}
-use Rattle.fr_concord.specs.Spelled.{request_words, spelled, IsSpelledEvent}
-use Rattle.fr_concord.specs.Spelled.{IsSpelledRequest, AreReadAgain}
 
 -- ---- the words of a request are read as it
 

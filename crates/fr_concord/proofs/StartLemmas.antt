@@ -1,12 +1,14 @@
 -- Pictures, captures and latencies count from the starts of the layout.
-use Rattle.std.proofs.Common.{◌≡◌, ℕ, zero, suc, ◌+◌, ◌-◌, ◌*◌, ◌<◌, ◌≤◌, Bool, cond, List, [], ◌∷◌}
-use Rattle.std.proofs.Common.{◌++◌, append_assoc, Option, Some, refl, sym, ap, subst, ◌∙◌, arith}
+use Rattle.std.proofs.Common.{◌≡◌, ℕ, zero, suc, ◌+◌, ◌-◌, ◌*◌, ◌<◌, ◌≤◌, Bool, cond, List, [], ◌∷◌, ◌++◌, append_assoc}
+use Rattle.std.proofs.Common.{Option, Some, refl, sym, ap, subst, ◌∙◌, arith}
 use Rattle.std.proofs.Math.Nat.{suc-mul}
 use Rattle.std.proofs.lemmas.Bool.{le-leb, lt-ltb}
 use Rattle.std.specs.List.{range_with_len}
 use Rattle.std.specs.Prelude.{Contains, unwrap_or}
 use Rattle.fr_capture.specs.Moments.{place_of, start_of as start_in_capture}
-use Rattle.fr_exactness.specs.Delays.{run_cycle}
+use Rattle.fr_concord.specs.Starts.{ArePicturedSlots, IsSlotWindow, IsMinislotWindow, AreCapturedSlots, minislot_start}
+use Rattle.fr_concord.specs.Starts.{AreCapturedMinislots, AreStartsOfRun, AreMinislotsOfRun}
+use Rattle.fr_guarantees.specs.Delays.{run_cycle}
 use Rattle.fr_picture.specs.Owners.{start_of as start_in_picture, end_of as end_in_picture}
 use Rattle.fr_slots.specs.Parameters.{Parameters}
 use Rattle.fr_slots.specs.Windows.{Opportunity}
@@ -16,8 +18,6 @@ use Rattle.fr_timing.specs.Division.{start_in_row, start_at}
 use Rattle.fr_timing.specs.Layout.{Part, Stretch, Interval, numbered, laid_from, layout, static_slot, minislot}
 use Rattle.fr_timing.specs.Layout.{symbol_window, idle_time}
 use Rattle.fr_timing.specs.Segments.{dynamic_start}
-use Rattle.fr_concord.specs.Starts.{ArePicturedSlots, IsSlotWindow, IsMinislotWindow, AreCapturedSlots}
-use Rattle.fr_concord.specs.Starts.{minislot_start, AreCapturedMinislots, AreStartsOfRun, AreMinislotsOfRun}
 
 -- ---- the layout
 

@@ -1,30 +1,29 @@
 -- An event determines its answer and the world after it, unless an allocation fails.
-use Rattle.std.proofs.Common.{◌≡◌, ℕ, Bool, true, false, not, cond, ◌⊎◌, inl, inr, List, [], ◌∷◌}
-use Rattle.std.proofs.Common.{◌++◌, Option, Some, None, Ok, Err, refl, sym, ap, subst, ◌∙◌, option_map}
-use Rattle.std.proofs.lemmas.Bool.{and_parts}
+use Rattle.std.proofs.Common.{◌≡◌, ℕ, Bool, true, false, not, cond, ◌⊎◌, inl, inr, List, [], ◌∷◌, ◌++◌, Option, Some}
+use Rattle.std.proofs.Common.{None, Ok, Err, refl, sym, ap, subst, ◌∙◌, option_map, if◌then◌else◌}
+use Rattle.std.proofs.lemmas.Bool.{and_parts, not-true}
 use Rattle.std.proofs.lemmas.List.Folds.{list_all-append}
 use Rattle.std.specs.List.{list_all, flat_map, range_with_len}
 use Rattle.fr_bus.specs.declared.error.BusError.{BusError}
 use Rattle.fr_bus.specs.declared.error.BusError.TheVariants as bus
 use Rattle.fr_bus.specs.declared.error.Phase.{Phase}
 use Rattle.fr_bus.specs.declared.error.Phase.TheVariants.{Collect, Sealed as InSealed, Finished}
+use Rattle.fr_bus.specs.Record.{Recorded}
 use Rattle.fr_bus.specs.States.{BusState, collects, seals, seal_refusal, advance_refusal, all_put, all_taken}
 use Rattle.fr_core.specs.Carried.{Carried, Idle, Knows, Offers, Waits, Took}
 use Rattle.fr_core.specs.declared.error.StepError.{StepError}
 use Rattle.fr_core.specs.declared.error.StepError.TheVariants.{UnknownNode, WrongTurn, Host, Slot, Bus}
 use Rattle.fr_core.specs.declared.event.Event.{Event}
-use Rattle.fr_core.specs.declared.event.Event.TheVariants.{Commit, Withdraw, Read, Pop, Look, Fetch, Put, Take}
-use Rattle.fr_core.specs.declared.event.Event.TheVariants.{Observe, Inject, Seal, Advance}
+use Rattle.fr_core.specs.declared.event.Event.TheVariants.{Commit, Withdraw, Read, Pop, Look, Fetch, Put, Take, Observe}
+use Rattle.fr_core.specs.declared.event.Event.TheVariants.{Inject, Seal, Advance}
 use Rattle.fr_core.specs.Runs.{Answer, StepsAll}
 use Rattle.fr_core.specs.Steps.{Steps, step_refusal, step_done, taken, observed}
 use Rattle.fr_core.specs.Worlds.{WorldState, carried_at}
-use Rattle.fr_runs.specs.declared.fault_line.FaultLine.{FaultLine}
-use Rattle.fr_runs.specs.Striking.{strikes}
 use Rattle.fr_playing.specs.Moving.{for_nodes, observe_events, offer_events, see_events, whole_window, window_events}
 use Rattle.fr_playing.specs.Moving.{struck_after, run_cycle_after}
-use Rattle.fr_bus.specs.Record.{Recorded}
-use Rattle.std.proofs.Common.{if◌then◌else◌}
 use Rattle.fr_playing.specs.Striking.{strike_events}
+use Rattle.fr_runs.specs.declared.fault_line.FaultLine.{FaultLine}
+use Rattle.fr_runs.specs.Striking.{strikes}
 use Rattle.fr_slots.specs.Windows.{Opportunity}
 
 -- ---- one event
@@ -40,7 +39,7 @@ pub record IsStarved (w : WorldState) (event : Event) (answer : Answer) (new : W
   pub lawful : seal_refusal w.bus ≡ None
   pub same : new ≡ w
 
-no_bus : (o : Option BusError) → option_map Bus o ≡ None → o ≡ None
+pub no_bus : (o : Option BusError) → option_map Bus o ≡ None → o ≡ None
 no_bus None e = refl
 no_bus (Some x) e = absurd (let none : ⊥ = cc in none)
 
@@ -198,10 +197,6 @@ late_phases w (e ∷ events) (a ∷ answers) new late steps =
 abbrev pub is_plain : Event → Bool
 is_plain event = not (is_seal event)
 
-plain_is : (b : Bool) → not b ≡ true → b ≡ false
-plain_is true e = absurd (let none : ⊥ = cc e in none)
-plain_is false e = refl
-
 -- events without a seal
 pub plain_steps : (w : WorldState) (events : List Event) (us vs : List Answer) (x y : WorldState)
     → list_all is_plain events ≡ true → StepsAll w events us x → StepsAll w events vs y → (us ≡ vs) × (x ≡ y)
@@ -213,7 +208,7 @@ plain_steps w (e ∷ events) [] vs x y plain first second = absurd first
 plain_steps w (e ∷ events) (a ∷ us) [] x y plain first second = absurd second
 plain_steps w (e ∷ events) (a ∷ us) (b ∷ vs) x y plain first second =
     let both = and_parts (is_plain e) (list_all is_plain events) plain in
-    let one = plain_step w e a b first.0 second.0 (plain_is (is_seal e) both.0) first.1 second.1 in
+    let one = plain_step w e a b first.0 second.0 (not-true (is_seal e) both.0) first.1 second.1 in
     let later = subst (λ (v : WorldState). StepsAll v events vs y) (sym one.1) second.2 in
     let rest = plain_steps first.0 events us vs x y both.1 first.2 later in
     (ap (λ (z : Answer). z ∷ us) one.0 ∙ ap (λ (zs : List Answer). b ∷ zs) rest.0, rest.1)
@@ -261,7 +256,7 @@ late_last : (es : List Event) → list_all is_late es ≡ true → seals_last es
 late_last [] late = refl
 late_last (e ∷ es) late =
     let both = and_parts (is_late e) (list_all is_late es) late in
-    rw (plain_is (is_seal e) (late_plain e both.0), late_last es both.1) refl
+    rw (not-true (is_seal e) (late_plain e both.0), late_last es both.1) refl
 
 later_last : (b : Bool) (es : List Event) → cond b (list_all is_late es) (seals_last es) ≡ true → seals_last es ≡ true
 later_last true es last = late_last es last
@@ -303,7 +298,7 @@ plain_then : (xs ys : List Event) → list_all is_plain xs ≡ true → seals_la
 plain_then [] ys plain last = last
 plain_then (x ∷ xs) ys plain last =
     let both = and_parts (is_plain x) (list_all is_plain xs) plain in
-    rw (plain_is (is_seal x) both.0, plain_then xs ys both.1 last) refl
+    rw (not-true (is_seal x) both.0, plain_then xs ys both.1 last) refl
 
 whole_last : (nodes : ℕ) → seals_last (whole_window nodes) ≡ true
 whole_last nodes =

@@ -1,20 +1,18 @@
 -- The cycle of the run to which a window or a call belongs. Several modules define it, each for its own data, and all
 -- of them name the same cycle (project-defined).
-use Rattle.std.specs.Prelude.{◌≡◌, ℕ, ◌%◌, List, [], ◌∷◌, ◌++◌, length, count_by, ◌≤◌, take}
-use Rattle.std.specs.Prelude.{Some, slice_get}
+use Rattle.std.specs.Prelude.{◌≡◌, ℕ, ◌%◌, List, [], ◌∷◌, ◌++◌, length, count_by, ◌≤◌, take, Some, slice_get}
 use Rattle.fr_bus.specs.declared.error.Phase.TheVariants.{Collect, Sealed}
 use Rattle.fr_bus.specs.Record.{Recorded}
 use Rattle.fr_bus.specs.Windows.{cycles_begun}
 use Rattle.fr_core.specs.Accounts.{recorded_cycle}
-use Rattle.fr_journal.specs.Cycles.{run_cycle}
 use Rattle.fr_core.specs.declared.script.Line.{Line}
 use Rattle.fr_core.specs.Scripts.{Scripted}
 use Rattle.fr_core.specs.Settling.{windows_fetched, windows_of}
-use Rattle.fr_slots.specs.Numbers.{last_node}
 use Rattle.fr_core.specs.Worlds.{WorldState}
-use Rattle.fr_exactness.specs.Delays.{run_cycle as cycle_of_delay}
+use Rattle.fr_guarantees.specs.Delays.{run_cycle as cycle_of_delay}
 use Rattle.fr_guarantees.specs.Guarantees.{cycle_of as cycle_number}
 use Rattle.fr_interface.specs.State.{State}
+use Rattle.fr_journal.specs.Cycles.{run_cycle, cycles_of}
 use Rattle.fr_journal.specs.declared.entry.Entry.TheVariants.{Fetch}
 use Rattle.fr_journal.specs.declared.entry.Offered.{Offered}
 use Rattle.fr_journal.specs.Forms.{Entry}
@@ -27,7 +25,7 @@ use Rattle.fr_runs.specs.Faulted.{cycle_at}
 use Rattle.fr_runs.specs.Stepping.{is_fetch, task_of, is_by, lines_given, IsInStep}
 use Rattle.fr_schedule.specs.Descriptions.{Description}
 use Rattle.fr_session.specs.Queries.{cycle_at as cycle_of_time}
-use Rattle.fr_journal.specs.Cycles.{cycles_of}
+use Rattle.fr_slots.specs.Numbers.{last_node}
 use Rattle.fr_slots.specs.Windows.{Opportunity}
 
 -- ---- a window of the record

@@ -1,5 +1,7 @@
 -- A session of a scenario's fault lines, against the single-threaded run of the scenario (project-defined).
 use Rattle.std.specs.Prelude.{◌≡◌, ◌≤◌, ℕ, List, [], ◌∷◌, ◌++◌, map}
+use Rattle.fr_concord.specs.Determined.{ServesFreely}
+use Rattle.fr_concord.specs.Spelled.{spelled}
 use Rattle.fr_core.specs.Worlds.{opening_world}
 use Rattle.fr_playing.specs.declared.play.Played.{Played}
 use Rattle.fr_playing.specs.Playing.{IsPlayed}
@@ -11,8 +13,6 @@ use Rattle.fr_session.specs.declared.request.Request.TheVariants as request
 use Rattle.fr_session.specs.Sessions.{SessionState, opening, terms_of}
 use Rattle.fr_slots.specs.History.{AllAfter}
 use Rattle.fr_slots.specs.Plans.{Each}
-use Rattle.fr_concord.specs.Determined.{ServesFreely}
-use Rattle.fr_concord.specs.Spelled.{spelled}
 
 abbrev pub fault_text : FaultLine → List ℕ
 fault_text line = spelled (request.Fault line)

@@ -9,9 +9,9 @@ use Rattle.fr_links.specs.Links.{links}
 use Rattle.fr_links.specs.Receivers.{receivers}
 use Rattle.fr_schedule.specs.Clusters.{IsCluster}
 use Rattle.fr_schedule.specs.Descriptions.{Description}
+use Rattle.fr_slots.specs.Admission.{cycle_admitted}
 use Rattle.fr_slots.specs.declared.channel.Channel.{Channel}
 use Rattle.fr_slots.specs.declared.plan.Buffer.{Buffer}
-use Rattle.fr_slots.specs.Admission.{cycle_admitted}
 use Rattle.fr_slots.specs.Faults.{sends_at}
 use Rattle.fr_slots.specs.Numbers.{cycle_count}
 use Rattle.fr_slots.specs.Parameters.{Parameters}

@@ -1,15 +1,14 @@
 -- The receivers of a frame in `commits` and in tables, against the buffers and receive FIFOs of journals
 -- (project-defined).
-use Rattle.std.specs.Prelude.{◌≡◌, ◌↔◌, ℕ, true, List, [], ◌∷◌, ◌++◌, length, map, Some, None}
-use Rattle.std.specs.Prelude.{if◌then◌else◌}
+use Rattle.std.specs.Prelude.{◌≡◌, ◌↔◌, ℕ, true, List, [], ◌∷◌, ◌++◌, length, map, Some, None, if◌then◌else◌}
 use Rattle.fr_bus.specs.Record.{Recorded, seen_by}
 use Rattle.fr_capture.specs.declared.takers.Taker.{Taker}
 use Rattle.fr_capture.specs.Takers.{takers_of}
 use Rattle.fr_capture.specs.Taking.{buffer_takes, queue_takes}
 use Rattle.fr_journal.specs.Arrivals.{queue_arrival_on}
 use Rattle.fr_journal.specs.declared.entry.Arrival.{Arrival}
-use Rattle.fr_journal.specs.declared.entry.Moment.{Moment}
 use Rattle.fr_journal.specs.declared.entry.Entry.TheVariants.{Observe}
+use Rattle.fr_journal.specs.declared.entry.Moment.{Moment}
 use Rattle.fr_journal.specs.Forms.{Entry}
 use Rattle.fr_journal.specs.Held.{arrival_at, held}
 use Rattle.fr_journal.specs.OpenWindow.{open_window}

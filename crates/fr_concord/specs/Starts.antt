@@ -3,7 +3,7 @@
 use Rattle.std.specs.Prelude.{◌≡◌, ℕ, ◌+◌, ◌-◌, ◌*◌, ◌≤◌, ◌<◌, true, false, Contains, Some}
 use Rattle.fr_capture.specs.Moments.{start_of as start_in_capture}
 use Rattle.fr_core.specs.Worlds.{WorldState}
-use Rattle.fr_exactness.specs.Delays.{run_cycle, start_of as start_in_run}
+use Rattle.fr_guarantees.specs.Delays.{run_cycle, start_of as start_in_run}
 use Rattle.fr_picture.specs.Owners.{start_of as start_in_picture, end_of as end_in_picture}
 use Rattle.fr_slots.specs.Parameters.{Parameters}
 use Rattle.fr_slots.specs.Windows.{Opportunity, is_static}

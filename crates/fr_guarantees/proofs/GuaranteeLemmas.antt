@@ -1,23 +1,26 @@
 -- The guarantees of a schedule hold in every world.
-use Rattle.std.proofs.Common.{◌≡◌, ℕ, zero, suc, ◌+◌, ◌-◌, ◌%◌, ◌<◌, ◌≤◌, Bool, true, false, cond, ◌&&◌, ◌||◌, ◌⊎◌}
-use Rattle.std.proofs.Common.{inl, inr, List, [], ◌∷◌, ◌++◌, length, map, take, Option, Some, None, refl, sym, ap}
-use Rattle.std.proofs.Common.{subst}
-use Rattle.std.proofs.Common.{◌∙◌, arith, slice_get}
+use Rattle.std.proofs.Common.{◌≡◌, ℕ, zero, suc, ◌<◌, ◌≤◌, Bool, true, false, cond, ◌⊎◌, inl, inr, List, [], ◌∷◌, ◌++◌}
+use Rattle.std.proofs.Common.{length, map, take, Some, refl, sym, ap, subst, ◌∙◌, arith, slice_get}
 use Rattle.std.specs.Prelude.{nat_le}
-use Rattle.std.proofs.lemmas.Bool.{le-leb, leb-false, leb-true}
+use Rattle.std.proofs.lemmas.Bool.{le-leb, leb-false, leb-true, or_right, or_left}
+use Rattle.std.proofs.lemmas.Option.{slice_get_within, get_or_from_slice_get}
 use Rattle.fr_bus.specs.declared.error.Phase.{Phase}
 use Rattle.fr_bus.specs.declared.error.Phase.TheVariants.{Collect, Sealed as InSealed, Finished}
-use Rattle.fr_bus.specs.Record.{Recorded}
 use Rattle.fr_bus.specs.States.{BusState, IsRun, collects, Stands}
 use Rattle.fr_bus.specs.Windows.{this_cycle, counts_on, following}
 use Rattle.fr_core.proofs.CaseLemmas.{both}
-use Rattle.fr_core.proofs.FollowLemmas.{world_follows, world_configured, legal_at}
+use Rattle.fr_core.proofs.FollowLemmas.{legal_at}
 use Rattle.fr_core.proofs.JudgedLemmas.{recorded_at}
 use Rattle.fr_core.specs.Agreeing.{Handed, handed_at, fetched, offers_of}
-use Rattle.fr_core.specs.Agreement.{BusView, view_for, ahead, handed_as, NodeAgrees, Turn}
+use Rattle.fr_core.specs.Agreement.{view_for, ahead, handed_as, Turn}
 use Rattle.fr_core.specs.Carried.{Carried, Idle, Knows, Offers, Waits, Took}
 use Rattle.fr_core.specs.Headline.{Headline}
 use Rattle.fr_core.specs.Worlds.{WorldState, no_interface, interface_at, carried_at}
+use Rattle.fr_guarantees.proofs.NextRowLemmas.{row_is, cycle_is}
+use Rattle.fr_guarantees.proofs.ServedLemmas.{served}
+use Rattle.fr_guarantees.proofs.WayLemmas.{row_fits, goes_a_way}
+use Rattle.fr_guarantees.specs.Guarantees.{AlwaysOpens, OpensBy, ArePlain, IsTurn, IsServed, cycle_of, Guarantees}
+use Rattle.fr_guarantees.specs.Ways.{IsWay}
 use Rattle.fr_interface.specs.State.{State, IsLegalInterface}
 use Rattle.fr_journal.specs.declared.entry.Entry.TheVariants.{Fetch}
 use Rattle.fr_journal.specs.declared.entry.Offered.{Offered}
@@ -25,13 +28,7 @@ use Rattle.fr_journal.specs.Entries.{IsEntry}
 use Rattle.fr_journal.specs.Forms.{Entry}
 use Rattle.fr_journal.specs.Legal.{IsLegal, IsLegalFetch, AreEntries}
 use Rattle.fr_journal.specs.Offers.{may_begin}
-use Rattle.fr_guarantees.specs.Guarantees.{AlwaysOpens, OpensBy, ArePlain, IsTurn, IsServed, cycle_of, Guarantees}
-use Rattle.fr_guarantees.specs.Ways.{IsWay}
-use Rattle.fr_guarantees.proofs.NextRowLemmas.{row_is, cycle_is}
-use Rattle.fr_guarantees.proofs.ServedLemmas.{served}
-use Rattle.fr_guarantees.proofs.WayLemmas.{row_fits, goes_a_way}
 use Rattle.fr_minislot.specs.DynamicRows.{first_minislot, slot_after, has_row_after}
-use Rattle.fr_schedule.specs.Descriptions.{Description}
 use Rattle.fr_slots.proofs.FaultlessLemmas.{faultless}
 use Rattle.fr_slots.proofs.PlaceLemmas.{same_some, get-after, AllAfter-cut, each_after-cut, IsInSecond, place-append}
 use Rattle.fr_slots.proofs.PlaceLemmas.{get-map}
@@ -40,15 +37,6 @@ use Rattle.fr_slots.specs.Faults.{latest_on}
 use Rattle.fr_slots.specs.History.{AllAfter, each_after}
 use Rattle.fr_slots.specs.Parameters.{Parameters}
 use Rattle.fr_slots.specs.Windows.{Opportunity, slot_of, is_static}
-use Rattle.std.proofs.lemmas.Option.{slice_get_within, get_or_from_slice_get}
-
-or_first : (p q : Bool) → p ≡ true → (p || q) ≡ true
-or_first true q e = refl
-or_first false q e = absurd (let none : ⊥ = cc in none)
-
-or_rest : (p q : Bool) → q ≡ true → (p || q) ≡ true
-or_rest true q e = refl
-or_rest false q e = e
 
 -- ---- the fetch of a journal
 
@@ -81,7 +69,7 @@ record IsNext (w : WorldState) (window : Opportunity) : Type 0 where
   place : ℕ
   follows : following w.bus.cluster.params w.bus.cycles (take place w.bus.sealed) ≡ Some window
 
-take_all : {X : Type 0} (xs : List X) → take (length xs) xs ≡ xs
+pub take_all : {X : Type 0} (xs : List X) → take (length xs) xs ≡ xs
 take_all [] = refl
 take_all (x ∷ xs) = ap (λ (l : List _). x ∷ l) (take_all xs)
 
@@ -190,13 +178,7 @@ module _ (w : WorldState) (head : Headline w) where
       → IsWay w.bus.cluster (cycle_of (take k w.bus.sealed)) channel
       (counts_on channel (this_cycle (take k w.bus.sealed)))
   goes plain k channel =
-      let as_many = head.agrees.agrees.a_station_each in
-      goes_a_way w.bus.cluster w.bus.cycles w.bus.sealed head.run.recorded
-      (row_fits w.bus.cluster w.bus.cycles w.interfaces w.bus.sealed (legal_at w.interfaces head.legal)
-      (world_follows w head.agrees)
-      (λ n s at. let c = world_configured w head.agrees n s at in c.params_are)
-      (λ n s at. let c = world_configured w head.agrees n s at in c.plan_at)
-      (as_many ∙ head.run.one_each) head.run.recorded plain) k channel
+      goes_a_way w.bus.cluster w.bus.cycles w.bus.sealed head.run.recorded (row_fits w head plain) k channel
 
   -- a dynamic turn comes by the latest minislot, if its slot opens by it on each way
   in_time : ArePlain w.bus.sealed → (slot latest : ℕ) (window : Opportunity) (channel : Channel) → IsNext w window
@@ -220,7 +202,7 @@ module _ (w : WorldState) (head : Headline w) where
       let next = fetched_next n s here _ _ h in
       let early = in_time plain slot (latest_on s.plan channel) window channel next turn.slot_is dynamic opens in
       serves s (legal_at w.interfaces head.legal n s here) number slot window channel turn
-      (or_rest (is_static window) (nat_le window.minislot (latest_on s.plan channel))
+      (or_right (is_static window) (nat_le window.minislot (latest_on s.plan channel))
       (le-leb window.minislot (latest_on s.plan channel) early)) before after x y cut
 
   -- a slot that always opens has had its row, once there is no further one
@@ -238,7 +220,7 @@ module _ (w : WorldState) (head : Headline w) where
   guarantees = record {
     static = λ n number slot s window channel here turn still.
         serves s (legal_at w.interfaces head.legal n s here) number slot window channel turn
-        (or_first (is_static window) (nat_le window.minislot (latest_on s.plan channel)) still);
+        (or_left (is_static window) (nat_le window.minislot (latest_on s.plan channel)) still);
     dynamic = dynamic_served;
     ways = goes;
     opened = λ plain k slot channel most always over. row_came k slot channel most always (goes plain k channel) over;

@@ -1,38 +1,30 @@
 -- In every world a buffer is served in each cycle in which the table of latencies calls it guaranteed.
-use Rattle.std.proofs.Common.{◌≡◌, ℕ, ◌≤◌, Bool, true, false, not, cond, ◌&&◌, ◌||◌, List, [], ◌∷◌, ◌++◌, Option, Some}
-use Rattle.std.proofs.Common.{refl, sym, ap, subst, ◌∙◌, slice_get}
+use Rattle.std.proofs.Common.{◌≡◌, ℕ, ◌≤◌, Bool, true, false, not, cond, ◌&&◌, ◌||◌, [], ◌∷◌, ◌++◌, Some, refl, sym, ap}
+use Rattle.std.proofs.Common.{subst, ◌∙◌, slice_get}
 use Rattle.std.specs.Prelude.{◌==◌, nat_le}
 use Rattle.std.specs.List.{list_all}
-use Rattle.std.proofs.lemmas.Bool.{eqb-true, leb-true}
+use Rattle.std.proofs.lemmas.Bool.{eqb-true, leb-true, not-true}
 use Rattle.fr_core.proofs.CaseLemmas.{both, both_first, both_rest}
 use Rattle.fr_core.proofs.FollowLemmas.{world_configured, legal_at}
 use Rattle.fr_core.specs.Headline.{Headline}
 use Rattle.fr_core.specs.Worlds.{WorldState}
-use Rattle.fr_guarantees.proofs.GuaranteeLemmas.{HasFetch, has_fetch, guarantees}
+use Rattle.fr_guarantees.proofs.GuaranteeLemmas.{has_fetch, guarantees}
 use Rattle.fr_guarantees.proofs.TableLaws.{opens_by}
-use Rattle.fr_guarantees.specs.Guarantees.{ArePlain, IsTurn, IsServed, OpensBy, TableHolds}
+use Rattle.fr_guarantees.specs.Guarantees.{IsTurn, OpensBy, TableHolds}
 use Rattle.fr_interface.specs.State.{State}
-use Rattle.fr_journal.specs.declared.entry.Offered.{Offered}
 use Rattle.fr_journal.specs.declared.entry.Entry.TheVariants.{Fetch}
 use Rattle.fr_journal.specs.Fate.{tally_of}
-use Rattle.fr_journal.specs.Forms.{Entry}
 use Rattle.fr_latency.specs.Latencies.{channel_of, is_always_in_time, is_guaranteed, last_begin_of, latest_for}
 use Rattle.fr_latency.specs.Openings.{last_begin, slots_before}
-use Rattle.fr_schedule.specs.Descriptions.{Description}
 use Rattle.fr_slots.proofs.FaultlessLemmas.{faultless}
 use Rattle.fr_slots.specs.Admission.{includes, cycle_admitted}
 use Rattle.fr_slots.specs.declared.channel.Channel.{Channel}
 use Rattle.fr_slots.specs.declared.channel.Channel.TheVariants.{A, B}
 use Rattle.fr_slots.specs.declared.channel.Channels.{Channels}
 use Rattle.fr_slots.specs.declared.channel.Channels.TheVariants as lines
-use Rattle.fr_slots.specs.declared.plan.Buffer.{Buffer}
-use Rattle.fr_slots.specs.Faults.{channels, latest_on, sends_at, transmits}
+use Rattle.fr_slots.specs.Faults.{channels, latest_on, transmits}
 use Rattle.fr_slots.specs.Parameters.{Parameters, is_static_slot}
 use Rattle.fr_slots.specs.Windows.{Opportunity, dynamic_slot_fits, slot_of, static_slot_fits, is_static, window_fits}
-
-unset : (b : Bool) → not b ≡ true → b ≡ false
-unset true e = absurd (let none : ⊥ = cc in none)
-unset false e = refl
 
 -- the channel of a buffer that is for one
 only_channel : (cs : Channels) (channel : Channel) → includes cs channel ≡ true → list_all (includes cs) channels
@@ -45,7 +37,7 @@ only_channel lines.B B e one = refl
 only_channel lines.Both channel e one = absurd (let none : ⊥ = cc in none)
 
 -- a dynamic window has no static slot
-not_static : (p : Parameters) (w : Opportunity) (channel : Channel) (slot : ℕ) → window_fits p w ≡ true
+pub not_static : (p : Parameters) (w : Opportunity) (channel : Channel) (slot : ℕ) → window_fits p w ≡ true
     → is_static w ≡ false → slot_of w channel ≡ Some slot → is_static_slot p slot ≡ false
 not_static p w channel slot fits dynamic is = by channel is
   where
@@ -54,10 +46,10 @@ not_static p w channel slot fits dynamic is = by channel is
         (nat_le w.minislot p.minislots && dynamic_slot_fits p w.a && dynamic_slot_fits p w.b)) (sym dynamic) ∙ fits
 
     by : (c : Channel) → slot_of w c ≡ Some slot → is_static_slot p slot ≡ false
-    by A e = unset (is_static_slot p slot) (ap (dynamic_slot_fits p) (sym e)
+    by A e = not-true (is_static_slot p slot) (ap (dynamic_slot_fits p) (sym e)
         ∙ both_rest (nat_le w.minislot p.minislots) (dynamic_slot_fits p w.a)
         (both_first (nat_le w.minislot p.minislots && dynamic_slot_fits p w.a) (dynamic_slot_fits p w.b) rest))
-    by B e = unset (is_static_slot p slot) (ap (dynamic_slot_fits p) (sym e)
+    by B e = not-true (is_static_slot p slot) (ap (dynamic_slot_fits p) (sym e)
         ∙ both_rest (nat_le w.minislot p.minislots && dynamic_slot_fits p w.a) (dynamic_slot_fits p w.b) rest)
 
 module _ (w : WorldState) (head : Headline w) where

@@ -1,6 +1,6 @@
 -- The next dynamic window is the next row of each channel that has a slot in it.
-use Rattle.std.proofs.Common.{◌≡◌, ℕ, ◌+◌, ◌-◌, ◌%◌, ◌==◌, Bool, true, false, cond, ◌&&◌, List, [], ◌∷◌, length}
-use Rattle.std.proofs.Common.{Option, Some, None, refl, sym, ap, subst, ◌∙◌, option_map}
+use Rattle.std.proofs.Common.{◌≡◌, ℕ, ◌+◌, ◌%◌, ◌==◌, Bool, true, false, cond, ◌&&◌, List, [], ◌∷◌, length, Option}
+use Rattle.std.proofs.Common.{Some, None, refl, sym, ap, ◌∙◌, option_map}
 use Rattle.std.specs.Prelude.{nat_lt}
 use Rattle.std.specs.List.{find, range_with_len}
 use Rattle.std.specs.Option.{option_or}
@@ -8,8 +8,9 @@ use Rattle.std.proofs.lemmas.Bool.{eqb-true}
 use Rattle.fr_bus.specs.Record.{Recorded}
 use Rattle.fr_bus.specs.Windows.{cycles_begun, this_cycle, counts_on, opened_on, opens_any, window_at, next_dynamic}
 use Rattle.fr_bus.specs.Windows.{statics_of, next_in_cycle, first_of_cycle, following}
+use Rattle.fr_core.proofs.CaseLemmas.{differ}
 use Rattle.fr_guarantees.specs.Guarantees.{cycle_of}
-use Rattle.fr_minislot.specs.DynamicRows.{first_minislot, slot_after, has_row_after, opened_after}
+use Rattle.fr_minislot.specs.DynamicRows.{first_minislot, slot_after, has_row_after}
 use Rattle.fr_slots.proofs.PlaceLemmas.{same_some}
 use Rattle.fr_slots.specs.declared.channel.Channel.{Channel}
 use Rattle.fr_slots.specs.declared.channel.Channel.TheVariants.{A, B}
@@ -18,16 +19,13 @@ use Rattle.fr_slots.specs.Windows.{Opportunity, slot_of, is_static, static_windo
 
 -- ---- the window
 
-differ : {X : Type 0} (b : Bool) → b ≡ true → b ≡ false → X
-differ b e f = absurd (let none : ⊥ = cc in none)
-
 -- a static window isn't dynamic
 not_static : {X : Type 0} (number cycle slot : ℕ) (w : Opportunity)
     → ◌≡◌ {A = Option Opportunity} (Some (static_window number cycle slot)) (Some w) → is_static w ≡ false → X
 not_static number cycle slot w e dynamic =
     let still : is_static w ≡ true =
     ap (λ (o : Opportunity). is_static o) (sym (same_some (static_window number cycle slot) w e)) in
-    differ (is_static w) still dynamic
+    differ still dynamic
 
 not_first : {X : Type 0} (cycles number begun : ℕ) (w : Opportunity) → first_of_cycle cycles number begun ≡ Some w
     → is_static w ≡ false → X

@@ -1,22 +1,24 @@
 -- A node's offer in a dynamic window is a frame that can be sent there.
-use Rattle.std.proofs.Common.{◌≡◌, ℕ, ◌+◌, ◌*◌, ◌≤◌, ◌<◌, Bool, true, false, cond, ◌&&◌, ◌||◌, List, [], ◌∷◌, ◌++◌}
-use Rattle.std.proofs.Common.{length}
-use Rattle.std.proofs.Common.{Option, Some, None, refl, sym, ap, subst, ◌∙◌, arith, slice_get, length-append, is_some}
-use Rattle.std.proofs.Common.{take}
+use Rattle.std.proofs.Common.{◌≡◌, ℕ, ◌+◌, ◌*◌, ◌≤◌, Bool, true, false, cond, ◌&&◌, ◌||◌, List, [], ◌∷◌, ◌++◌, length}
+use Rattle.std.proofs.Common.{Option, Some, None, refl, sym, ap, subst, ◌∙◌, arith, slice_get, length-append}
 use Rattle.std.specs.Prelude.{nat_le, IfSome, IsSomeAnd}
 use Rattle.std.specs.Int.{bytes_high_first}
 use Rattle.std.specs.Option.{option_and_then}
 use Rattle.std.proofs.lemmas.Bool.{eqb-true, leb-true}
 use Rattle.arrayvec.specs.ArrayVec.{ArrayVec}
-use Rattle.fr_core.proofs.CaseLemmas.{both, both_rest, kept_if}
+use Rattle.std.proofs.lemmas.List.Quantifiers.{position-Some}
+use Rattle.std.proofs.lemmas.Option.{get_or_from_slice_get}
+use Rattle.fr_core.proofs.CaseLemmas.{kept_if}
 use Rattle.fr_core.proofs.HandingLemmas.{data_is, offer_is}
-use Rattle.fr_core.proofs.TakingLemmas.{IsOfferedBy, in_slot, transmitter_transmits}
+use Rattle.fr_core.proofs.TakingLemmas.{in_slot}
 use Rattle.fr_core.specs.Receivers.{offered_on}
 use Rattle.fr_frame.specs.Bits.{number_of}
 use Rattle.fr_frame.specs.Crc.{frame_check}
 use Rattle.fr_frame.specs.Encoding.{checked_bytes, encoded}
 use Rattle.fr_frame.specs.Fields.{Fields}
 use Rattle.fr_frame.specs.Spelling.{header}
+use Rattle.fr_guarantees.proofs.SilenceLemmas.{not_owned}
+use Rattle.fr_guarantees.specs.Ways.{CanSend}
 use Rattle.fr_interface.specs.State.{State, IsLegalInterface}
 use Rattle.fr_journal.proofs.LastCommitLemmas.{last_commit-there, IsCommitAt}
 use Rattle.fr_journal.specs.declared.entry.Entry.TheVariants.{Commit, Withdraw, Read, Pop, Fetch, Observe}
@@ -26,28 +28,24 @@ use Rattle.fr_journal.specs.Fate.{is_commit_on, last_commit}
 use Rattle.fr_journal.specs.Forms.{Entry}
 use Rattle.fr_journal.specs.Legal.{IsLegal, IsLegalFetch}
 use Rattle.fr_journal.specs.Offers.{transmitter, is_admitting, may_begin, ready, ready_in, commit_offered, owns}
-use Rattle.fr_journal.specs.Offers.{data_or}
-use Rattle.fr_journal.specs.Offers.{ownership, line_of, offered_at, offered, payload_in, payload_of, data_frame_of}
-use Rattle.fr_journal.specs.Offers.{frame_of_offer, frame_with, bytes_of}
-use Rattle.fr_guarantees.specs.Ways.{CanSend}
+use Rattle.fr_journal.specs.Offers.{data_or, offered_at, offered, payload_in, payload_of, data_frame_of, frame_of_offer}
+use Rattle.fr_journal.specs.Offers.{frame_with, bytes_of}
 use Rattle.fr_schedule.specs.Descriptions.{Description}
 use Rattle.fr_slots.proofs.PlaceLemmas.{same_some, get-append, AllAfter-at, AllAfter-cut}
 use Rattle.fr_slots.specs.declared.channel.Channel.{Channel}
 use Rattle.fr_slots.specs.declared.plan.Buffer.{Buffer}
-use Rattle.fr_slots.specs.Faults.{sends_at, transmits, latest_on, words_of}
+use Rattle.fr_slots.specs.Faults.{transmits, latest_on, words_of}
 use Rattle.fr_slots.specs.History.{AllAfter}
 use Rattle.fr_slots.specs.Parameters.{Parameters}
 use Rattle.fr_slots.specs.Plans.{Plan, buffer_at, admits_slot, is_receive}
 use Rattle.fr_slots.specs.Windows.{Opportunity, slot_of, is_static}
-use Rattle.std.proofs.lemmas.List.Quantifiers.{position-Some}
-use Rattle.std.proofs.lemmas.Option.{get_or_from_slice_get}
 
 -- ---- the bytes of a frame
 
-five : (n : ℕ) → length (bytes_high_first 5 n) ≡ 5
+pub five : (n : ℕ) → length (bytes_high_first 5 n) ≡ 5
 five n = refl
 
-three : (n : ℕ) → length (bytes_high_first 3 n) ≡ 3
+pub three : (n : ℕ) → length (bytes_high_first 3 n) ≡ 3
 three n = refl
 
 pub length-frame : (f : Fields) (channel : Channel) → length (encoded f channel) ≡ 8 + length f.payload
@@ -64,9 +62,9 @@ length-frame f channel =
 -- ---- the commit
 
 -- a commit has the words of its buffer, and a task made it
-record FitsBuffer (s : State) (before : List Entry) (commit : ℕ) (b : Buffer) : Type 0 where
-  words : length (payload_of before commit) ≡ 2 * words_of s.params b
-  some_task : 1 ≤ s.plan.tasks
+pub record FitsBuffer (s : State) (before : List Entry) (commit : ℕ) (b : Buffer) : Type 0 where
+  pub words : length (payload_of before commit) ≡ 2 * words_of s.params b
+  pub some_task : 1 ≤ s.plan.tasks
 
 module _ (s : State) (lawful : IsLegalInterface s) (number commit : ℕ) (before rest : List Entry)
     (cut : s.entries ≡ before ++ rest) (b : Buffer) (at : buffer_at s.plan number ≡ Some b) where
@@ -91,17 +89,17 @@ module _ (s : State) (lawful : IsLegalInterface s) (number commit : ℕ) (before
   by_entry (Some (Fetch w x y)) is on = absurd (let none : ⊥ = cc in none)
   by_entry (Some (Observe w x y)) is on = absurd (let none : ⊥ = cc in none)
 
-  fits_buffer : last_commit number before ≡ Some commit → FitsBuffer s before commit b
+  pub fits_buffer : last_commit number before ≡ Some commit → FitsBuffer s before commit b
   fits_buffer last = by_entry (slice_get before commit) refl
       (subst (λ (o : Option ℕ). IfSome o (λ k. IsCommitAt number before k)) last (last_commit-there number before))
 
 -- ---- the offer
 
-record IsBuffer (plan : Plan) (number : ℕ) : Type 0 where
-  buffer : Buffer
-  at : buffer_at plan number ≡ Some buffer
+pub record IsBuffer (plan : Plan) (number : ℕ) : Type 0 where
+  pub buffer : Buffer
+  pub at : buffer_at plan number ≡ Some buffer
 
-some_buffer : (plan : Plan) (before : List Entry) (number commit : ℕ) → ready_in plan before number ≡ Some commit
+pub some_buffer : (plan : Plan) (before : List Entry) (number commit : ℕ) → ready_in plan before number ≡ Some commit
     → IsBuffer plan number
 some_buffer plan before number commit e = by (buffer_at plan number) refl e
   where
@@ -110,12 +108,7 @@ some_buffer plan before number commit e = by (buffer_at plan number) refl e
     by None is f = absurd (let none : ⊥ = cc in none)
     by (Some b) is f = record { buffer = b; at = is }
 
-not_owned : (plan : Plan) (w : Opportunity) (channel : Channel) (slot : ℕ) → is_static w ≡ false
-    → owns plan w channel slot ≡ false
-not_owned plan w channel slot dynamic = ap (λ (b : Bool). is_some (cond b
-    (ownership plan.owned slot channel w.cycle) None)) dynamic
-
-in_time : (w : Opportunity) (latest : ℕ) → is_static w ≡ false → (is_static w || nat_le w.minislot latest) ≡ true
+pub in_time : (w : Opportunity) (latest : ℕ) → is_static w ≡ false → (is_static w || nat_le w.minislot latest) ≡ true
     → w.minislot ≤ latest
 in_time w latest dynamic e = leb-true w.minislot latest (ap (λ (b : Bool). b || nat_le w.minislot latest) (sym dynamic)
     ∙ e)

@@ -1,8 +1,8 @@
 -- A fetch in which a buffer may begin to send leaves no commit pending on it.
-use Rattle.std.proofs.Common.{◌≡◌, ℕ, Bool, true, false, not, cond, ◌&&◌, ◌||◌, List, [], ◌∷◌, ◌++◌, Option, Some, None}
-use Rattle.std.proofs.Common.{refl, sym, ap, ◌∙◌, is_some}
+use Rattle.std.proofs.Common.{◌≡◌, ℕ, true, cond, ◌&&◌, List, [], ◌∷◌, ◌++◌, Option, Some, refl, sym, ap, ◌∙◌, is_some}
+use Rattle.std.proofs.Common.{subst}
 use Rattle.std.specs.Prelude.{◌==◌}
-use Rattle.std.proofs.lemmas.Bool.{eqb-true}
+use Rattle.std.proofs.lemmas.Bool.{eqb-true, or_left, not-true}
 use Rattle.fr_core.proofs.CaseLemmas.{both_first, both_rest}
 use Rattle.fr_core.proofs.ReadyLemmas.{pending-gone, pending_is_ready}
 use Rattle.fr_core.proofs.SendingLemmas.{sends_on, transmits_there, offers_ready}
@@ -15,22 +15,13 @@ use Rattle.fr_journal.specs.Legal.{IsLegalFetch}
 use Rattle.fr_journal.specs.Offers.{may_begin}
 use Rattle.fr_slots.specs.Admission.{includes, cycle_admitted}
 use Rattle.fr_slots.specs.declared.channel.Channel.{Channel}
+use Rattle.fr_slots.specs.declared.channel.Channel.TheVariants.{A, B}
 use Rattle.fr_slots.specs.declared.plan.Buffer.{Buffer}
 use Rattle.fr_slots.specs.Faults.{sends_at, transmits, HasOneSender}
 use Rattle.fr_slots.specs.Numbers.{IsSlot}
 use Rattle.fr_slots.specs.Parameters.{Parameters}
 use Rattle.fr_slots.specs.Plans.{Plan, buffer_at, is_receive}
 use Rattle.fr_slots.specs.Windows.{Opportunity, IsInRange, IsSlotOrNone, slot_of}
-use Rattle.std.proofs.Common.{subst}
-use Rattle.fr_slots.specs.declared.channel.Channel.TheVariants.{A, B}
-
-unset : (b : Bool) → not b ≡ true → b ≡ false
-unset true e = absurd (let none : ⊥ = cc in none)
-unset false e = refl
-
-or_first : (p q : Bool) → p ≡ true → (p || q) ≡ true
-or_first true q e = refl
-or_first false q e = absurd (let none : ⊥ = cc in none)
 
 pub slot_range : (w : Opportunity) (channel : Channel) (slot : ℕ) → IsInRange w → slot_of w channel ≡ Some slot
     → IsSlot slot
@@ -57,8 +48,8 @@ module _ (p : Parameters) (plan : Plan) (number : ℕ) (b : Buffer) (at : buffer
       (both_rest there (includes b.filter.channels channel) in_slot)
       (both_rest (there && includes b.filter.channels channel) cycles admits) in
       let gone = pending-gone number before (Fetch w x y) refl
-      (λ commit pending. or_first (sends commit (Fetch w x y)) (takes_back commit (Fetch w x y))
+      (λ commit pending. or_left (sends commit (Fetch w x y)) (takes_back commit (Fetch w x y))
       (sends_on commit w x y plan before channel legal.offer_a legal.offer_b
       (offers_ready plan number b at transmitting one before w channel slot commit begins slot_is transmitter_is
-      (pending_is_ready b.mode number commit before (unset (is_receive b.mode) transmitting) pending)))) in
+      (pending_is_ready b.mode number commit before (not-true (is_receive b.mode) transmitting) pending)))) in
       pending-one number (before ++ Fetch w x y ∷ []) ∙ ap (λ (o : Option ℕ). cond {A = ℕ} (is_some o) 1 0) gone

@@ -1,22 +1,19 @@
 -- A slot that the table of latencies calls guaranteed opens in time on each way.
-use Rattle.std.proofs.Common.{◌≡◌, ℕ, zero, suc, ◌+◌, ◌-◌, ◌*◌, ◌<◌, ◌≤◌, Bool, true, false, cond, ◌&&◌, ◌||◌, ◌⊎◌}
-use Rattle.std.proofs.Common.{inl, inr}
-use Rattle.std.proofs.Common.{List, [], ◌∷◌, ◌++◌, length, length-append, Option, Some, None, refl, sym, ap, subst, ◌∙◌}
-use Rattle.std.proofs.Common.{arith, slice_get}
-use Rattle.std.specs.Prelude.{nat_le, ◌==◌}
+use Rattle.std.proofs.Common.{◌≡◌, ℕ, zero, suc, ◌+◌, ◌-◌, ◌<◌, ◌≤◌, Bool, true, false, cond, inl, inr, List, [], ◌∷◌}
+use Rattle.std.proofs.Common.{◌++◌, length, Option, Some, None, sym, ap, ◌∙◌, arith, slice_get}
+use Rattle.std.specs.Prelude.{nat_le}
 use Rattle.std.specs.Int.{div_ceil}
-use Rattle.std.specs.List.{list_any}
-use Rattle.std.proofs.lemmas.Bool.{leb-true}
+use Rattle.std.proofs.lemmas.Bool.{leb-true, or_left}
 use Rattle.std.proofs.lemmas.Grind.{div_ceil_times}
 use Rattle.std.proofs.Math.Nat.{le-mul_of_pos_right}
 use Rattle.fr_core.proofs.CaseLemmas.{both_first}
-use Rattle.fr_guarantees.proofs.WayLaws.{way_begins, not_above, first_more, row_is_frame, or_first}
+use Rattle.fr_guarantees.proofs.WayLaws.{way_begins, not_above, first_more, row_is_frame}
 use Rattle.fr_guarantees.specs.Guarantees.{AlwaysOpens, OpensBy}
-use Rattle.fr_guarantees.specs.Ways.{CanSend, IsRow, IsWay}
+use Rattle.fr_guarantees.specs.Ways.{IsRow, IsWay}
 use Rattle.fr_latency.proofs.BeginLemmas.{begins_more}
 use Rattle.fr_latency.proofs.GreatestLemmas.{greatest_bounds}
-use Rattle.fr_latency.specs.Openings.{frame_length, follows_node, can_begin, slots_before, horizon, last_begin}
-use Rattle.fr_minislot.specs.DynamicRows.{first_minislot, slot_after, row_length, is_row}
+use Rattle.fr_latency.specs.Openings.{frame_length, can_begin, slots_before, horizon, last_begin}
+use Rattle.fr_minislot.specs.DynamicRows.{first_minislot, slot_after, row_length}
 use Rattle.fr_schedule.proofs.ClusterLemmas.{each_at}
 use Rattle.fr_schedule.specs.Clusters.{IsCluster, IsNode}
 use Rattle.fr_schedule.specs.Descriptions.{Description}
@@ -26,11 +23,11 @@ use Rattle.fr_slots.specs.declared.channel.Channel.{Channel}
 use Rattle.fr_slots.specs.declared.plan.Buffer.{Buffer}
 use Rattle.fr_slots.specs.Faults.{words_of}
 use Rattle.fr_slots.specs.Parameters.{Parameters, is_static_slot}
-use Rattle.fr_slots.specs.Plans.{AllFit, Plan, buffer_at, buffer_fits, is_receive, words_fit}
+use Rattle.fr_slots.specs.Plans.{AllFit, Plan, buffer_at, buffer_fits, words_fit}
 
 -- ---- no frame takes more than 300 minislots
 
-fit_at : {X : Type 0} (fits : X → Bool) (xs : List X) (k : ℕ) (x : X) → AllFit fits xs → slice_get xs k ≡ Some x
+pub fit_at : {X : Type 0} (fits : X → Bool) (xs : List X) (k : ℕ) (x : X) → AllFit fits xs → slice_get xs k ≡ Some x
     → fits x ≡ true
 fit_at fits [] k x all at = absurd (let none : ⊥ = cc in none)
 fit_at fits (y ∷ xs) zero x all at = ap fits (sym (same_some y x at)) ∙ all.0
@@ -124,7 +121,7 @@ module _ (d : Description) (cluster : IsCluster d) (cycle : ℕ) (channel : Chan
       ap (λ (n : ℕ). can_begin d channel cycle n (minislot + suc more)) slots
       ∙ ap (can_begin d channel cycle ((earlier + more) + 1)) place
       ∙ begins_more d channel cycle (earlier + more) ((minislot + more) + 1)
-      ∙ or_first (can_begin d channel cycle (earlier + more) ((minislot + more) + 1 - 1)) _
+      ∙ or_left (can_begin d channel cycle (earlier + more) ((minislot + more) + 1 - 1)) _
       (ap (can_begin d channel cycle (earlier + more)) back ∙ before)
 
   -- a slot whose last minislot is in the segment always opens

@@ -1,44 +1,26 @@
 -- Each way of the lanes leads to a minislot at which the next slot can begin.
-use Rattle.std.proofs.Common.{◌≡◌, ℕ, zero, suc, ◌+◌, ◌-◌, ◌*◌, ◌/◌, ◌%◌, ◌<◌, ◌≤◌, Bool, true, false, cond, ◌&&◌, ◌||◌}
-use Rattle.std.proofs.Common.{◌⊎◌, inl, inr, List, [], ◌∷◌, ◌++◌, length, length-append, Some, refl, sym, ap, subst}
-use Rattle.std.proofs.Common.{◌∙◌, arith}
-use Rattle.std.proofs.Common.{slice_get}
-use Rattle.std.specs.Prelude.{◌==◌, nat_le, sum_by, min}
+use Rattle.std.proofs.Common.{◌≡◌, ℕ, zero, suc, ◌+◌, ◌-◌, ◌*◌, ◌<◌, ◌≤◌, Bool, true, false, cond, inl, inr, List, []}
+use Rattle.std.proofs.Common.{◌∷◌, ◌++◌, length, length-append, refl, sym, ap, subst, ◌∙◌, arith}
+use Rattle.std.specs.Prelude.{◌==◌, nat_le}
 use Rattle.std.specs.Int.{div_ceil}
 use Rattle.std.specs.List.{list_any}
-use Rattle.std.proofs.lemmas.Bool.{le-leb, leb-true, leb-false, ne_eqb}
+use Rattle.std.proofs.lemmas.Bool.{le-leb, leb-true, leb-false, ne_eqb, or_right, or_left}
 use Rattle.std.proofs.lemmas.Grind.{div_ceil_times}
 use Rattle.std.proofs.Math.Nat.{add-mul, mul-le-mul_right}
 use Rattle.std.proofs.lemmas.List.Sums.{sum_by-append}
+use Rattle.std.proofs.lemmas.Map.Keys.{any_passes_from_place}
 use Rattle.fr_core.proofs.CaseLemmas.{both}
-use Rattle.fr_guarantees.specs.Guarantees.{AlwaysOpens, OpensBy}
-use Rattle.fr_latency.specs.Openings.{frame_length, follows_frame, follows_buffer, follows_node, follows, can_begin}
 use Rattle.fr_guarantees.specs.Ways.{CanSend, IsRow, IsWay}
-use Rattle.fr_minislot.specs.DynamicRows.{first_minislot, minislots_filled_by, row_length, has_row_after, slot_after}
+use Rattle.fr_latency.specs.Openings.{frame_length, follows_frame, follows_buffer, follows_node, follows, can_begin}
+use Rattle.fr_minislot.specs.DynamicRows.{first_minislot, minislots_filled_by, row_length, slot_after}
 use Rattle.fr_schedule.specs.Descriptions.{Description}
 use Rattle.fr_slots.proofs.HistoryLemmas.{AllAfter-induction}
-use Rattle.fr_slots.proofs.PlaceLemmas.{same_some}
 use Rattle.fr_slots.specs.declared.channel.Channel.{Channel}
 use Rattle.fr_slots.specs.declared.plan.Buffer.{Buffer}
-use Rattle.fr_slots.specs.Faults.{latest_on, minislots_filled, sends_at, words_of}
-use Rattle.fr_slots.specs.Parameters.{Parameters, IsParameters}
-use Rattle.fr_slots.specs.Plans.{Plan}
+use Rattle.fr_slots.specs.Faults.{latest_on, sends_at, words_of}
+use Rattle.fr_slots.specs.Parameters.{Parameters}
 
 -- ---- lists and numbers
-
-pub or_first : (p q : Bool) → p ≡ true → (p || q) ≡ true
-or_first true q e = refl
-or_first false q e = absurd (let none : ⊥ = cc in none)
-
-or_rest : (p q : Bool) → q ≡ true → (p || q) ≡ true
-or_rest true q e = refl
-or_rest false q e = e
-
-any_at : {X : Type 0} (test : X → Bool) (xs : List X) (k : ℕ) (x : X) → slice_get xs k ≡ Some x → test x ≡ true
-    → list_any test xs ≡ true
-any_at test [] k x at passes = absurd (let none : ⊥ = cc in none)
-any_at test (y ∷ xs) zero x at passes = or_first (test y) (list_any test xs) (ap test (same_some y x at) ∙ passes)
-any_at test (y ∷ xs) (suc k) x at passes = or_rest (test y) (list_any test xs) (any_at test xs k x at passes)
 
 pub not_above : (x y n a : ℕ) → a ≤ x * n → y * n < a + n → y ≤ x
 not_above x y n a low high = by (nat_le y x) refl
@@ -51,12 +33,12 @@ not_above x y n a low high = by (nat_le y x) refl
         let sum : (x + 1) * n ≡ x * n + 1 * n = add-mul x 1 n in
         absurd (let none : ⊥ = omega (arith, low, high, more, sum) in none)
 
-twice : (x n : ℕ) → x * (2 * n) ≡ 2 * (x * n)
+pub twice : (x n : ℕ) → x * (2 * n) ≡ 2 * (x * n)
 twice zero n = omega arith
 twice (suc x) n = omega (arith, twice x n)
 
 -- halves of two numbers have their quotient, also if it is rounded up
-div_ceil-halves : (a n : ℕ) → 0 < n → div_ceil (2 * a) (2 * n) ≡ div_ceil a n
+pub div_ceil-halves : (a n : ℕ) → 0 < n → div_ceil (2 * a) (2 * n) ≡ div_ceil a n
 div_ceil-halves a n some =
     let x = div_ceil (2 * a) (2 * n) in
     let y = div_ceil a n in
@@ -95,7 +77,7 @@ module _ (d : Description) (some : 0 < d.params.words_per_minislot) (cycle : ℕ
       (can_begin d channel cycle (length before)) begins ≡ true
   after_silence before begins can is =
       let back : begins - 1 ≡ first_minislot d.params before = omega (arith, is) in
-      or_first (can_begin d channel cycle (length before) (begins - 1))
+      or_left (can_begin d channel cycle (length before) (begins - 1))
       (list_any (follows_node d.params (slot_after d.params before) channel cycle
       (can_begin d channel cycle (length before)) begins) d.plans)
       (ap (can_begin d channel cycle (length before)) back ∙ can)
@@ -123,9 +105,9 @@ module _ (d : Description) (some : 0 < d.params.words_per_minislot) (cycle : ℕ
       let node : follows_node p slot channel cycle here begins s.plan ≡ true =
       both (nat_le 1 s.plan.tasks) (list_any (follows_buffer p slot channel cycle here begins s.plan) s.plan.buffers)
       (le-leb 1 s.plan.tasks s.some_task)
-      (any_at (follows_buffer p slot channel cycle here begins s.plan) s.plan.buffers s.number s.buffer s.at buffer) in
-      or_rest (here (begins - 1)) (list_any (follows_node p slot channel cycle here begins) d.plans)
-      (any_at (follows_node p slot channel cycle here begins) d.plans s.node s.plan s.plan_at node)
+      (any_passes_from_place (follows_buffer p slot channel cycle here begins s.plan) s.plan.buffers s.number s.buffer s.at buffer) in
+      or_right (here (begins - 1)) (list_any (follows_node p slot channel cycle here begins) d.plans)
+      (any_passes_from_place (follows_node p slot channel cycle here begins) d.plans s.node s.plan s.plan_at node)
 
   begins_next : (before : List ℕ) (bytes : ℕ) → Begins before → IsRow d cycle channel before bytes
       → Begins (before ++ bytes ∷ [])

@@ -1,11 +1,10 @@
 -- In a run without faults of senders the rows of each cycle are one of the schedule's ways.
-use Rattle.std.proofs.Common.{◌≡◌, ℕ, zero, suc, ◌+◌, ◌-◌, ◌%◌, ◌<◌, ◌≤◌, ◌==◌, Bool, true, false, not, cond, ◌&&◌}
-use Rattle.std.proofs.Common.{◌||◌}
-use Rattle.std.proofs.Common.{◌⊎◌, inl, inr, List, [], ◌∷◌, ◌++◌, length, map, take, Option, Some, None, refl, sym, ap}
+use Rattle.std.proofs.Common.{◌≡◌, ℕ, zero, suc, ◌-◌, ◌%◌, ◌<◌, ◌==◌, Bool, true, false, not, cond, ◌&&◌, ◌||◌, ◌⊎◌}
+use Rattle.std.proofs.Common.{inl, inr, List, [], ◌∷◌, ◌++◌, length, map, take, Option, Some, None, refl, sym, ap}
 use Rattle.std.proofs.Common.{subst, ◌∙◌, arith, slice_get, get_or, is_some}
-use Rattle.std.specs.Prelude.{count_by, max, nat_le, nat_lt, slice_index_or}
+use Rattle.std.specs.Prelude.{max, nat_le, nat_lt, slice_index_or}
 use Rattle.std.specs.List.{filter, fold, list_all}
-use Rattle.std.proofs.lemmas.Bool.{eqb-true, eq-eqb, leb-true, leb-false, lt-ltb, ltb-true}
+use Rattle.std.proofs.lemmas.Bool.{eq-eqb, leb-true, leb-false, lt-ltb, ltb-true, not-true, or_parts}
 use Rattle.std.proofs.Math.Nat.{max-eq_left, max-eq_right}
 use Rattle.std.proofs.lemmas.List.{append-nil, append_assoc}
 use Rattle.std.proofs.lemmas.Option.{slice_get-get_or}
@@ -13,31 +12,30 @@ use Rattle.arrayvec.specs.ArrayVec.{ArrayVec}
 use Rattle.fr_bus.proofs.CourseLemmas.{fold_more, counts_more}
 use Rattle.fr_bus.specs.declared.outcome.Sent.{Sent}
 use Rattle.fr_bus.specs.declared.outcome.SentFate.{SentFate}
-use Rattle.fr_bus.specs.Outcome.{transmission, sent_in, is_of, passed_on, all_passed, longest, fate_of, is_passed}
-use Rattle.fr_bus.specs.Record.{Recorded, IsOutcome, is_offer_of, offer_in, side_on}
+use Rattle.fr_bus.specs.Outcome.{transmission, sent_in, is_of, passed_on, longest, fate_of, is_passed}
+use Rattle.fr_bus.specs.Record.{Recorded, IsOutcome, offer_in, side_on}
 use Rattle.fr_bus.specs.States.{IsRecorded, idle_station}
-use Rattle.fr_bus.specs.Windows.{begins_cycle, cycles_begun, with_window, this_cycle, is_row_of}
-use Rattle.fr_slots.specs.Windows.{is_first_slot}
-use Rattle.fr_bus.specs.Windows.{counts_on}
-use Rattle.fr_core.proofs.CaseLemmas.{both_first, both_rest, both}
-use Rattle.fr_core.proofs.HandingLemmas.{fetch_of, bytes_on, handed_on}
-use Rattle.fr_core.proofs.OwnLemmas.{own_from}
+use Rattle.fr_bus.specs.Windows.{begins_cycle, cycles_begun, with_window, this_cycle, is_row_of, counts_on}
+use Rattle.fr_core.proofs.CaseLemmas.{both_first, both_rest, both, differ}
+use Rattle.fr_core.proofs.FollowLemmas.{world_follows, world_configured, legal_at}
+use Rattle.fr_core.proofs.HandingLemmas.{fetch_of, bytes_on}
 use Rattle.fr_core.proofs.JudgedLemmas.{recorded_at}
+use Rattle.fr_core.proofs.OwnLemmas.{own_from}
 use Rattle.fr_core.proofs.ReceiverLemmas.{handed_is_offered}
 use Rattle.fr_core.proofs.SentLemmas.{of_all}
 use Rattle.fr_core.proofs.TimingLemmas.{count_more}
 use Rattle.fr_core.specs.Accounts.{own}
-use Rattle.fr_core.specs.Agreeing.{Handed, Follows, fetched, offers_of}
+use Rattle.fr_core.specs.Agreeing.{Handed, fetched, offers_of}
+use Rattle.fr_core.specs.Headline.{Headline}
 use Rattle.fr_core.specs.Receivers.{is_muted}
-use Rattle.fr_core.specs.Worlds.{no_interface}
-use Rattle.fr_guardian.specs.Guarding.{passes}
-use Rattle.fr_interface.specs.State.{State, IsLegalInterface}
-use Rattle.fr_journal.specs.declared.entry.Entry.TheVariants.{Fetch}
-use Rattle.fr_journal.specs.Forms.{Entry}
+use Rattle.fr_core.specs.Worlds.{no_interface, WorldState}
+use Rattle.fr_guarantees.proofs.NextRowLemmas.{row_is, cycle_is}
+use Rattle.fr_guarantees.proofs.OfferLemmas.{can_send}
 use Rattle.fr_guarantees.specs.Guarantees.{cycle_of, is_plain, ArePlain}
 use Rattle.fr_guarantees.specs.Ways.{CanSend, IsRow, IsWay}
-use Rattle.fr_guarantees.proofs.OfferLemmas.{can_send}
-use Rattle.fr_guarantees.proofs.NextRowLemmas.{row_is, cycle_is}
+use Rattle.fr_guardian.specs.Guarding.{passes}
+use Rattle.fr_interface.specs.State.{State}
+use Rattle.fr_journal.specs.Forms.{Entry}
 use Rattle.fr_minislot.specs.DynamicRows.{first_minislot, slot_after}
 use Rattle.fr_schedule.specs.Descriptions.{Description}
 use Rattle.fr_slots.proofs.HistoryLemmas.{AllAfter-snoc}
@@ -46,20 +44,9 @@ use Rattle.fr_slots.specs.Admission.{is_channel}
 use Rattle.fr_slots.specs.declared.channel.Channel.{Channel}
 use Rattle.fr_slots.specs.declared.channel.Channel.TheVariants.{A, B}
 use Rattle.fr_slots.specs.History.{AllAfter}
-use Rattle.fr_slots.specs.Windows.{Opportunity, slot_of, is_static}
+use Rattle.fr_slots.specs.Windows.{is_first_slot, Opportunity, slot_of, is_static}
 
 -- ---- lists
-
-differ : {X : Type 0} (b : Bool) → b ≡ true → b ≡ false → X
-differ b e f = absurd (let none : ⊥ = cc in none)
-
-unset : (b : Bool) → not b ≡ true → b ≡ false
-unset true e = absurd (let none : ⊥ = cc in none)
-unset false e = refl
-
-neither : (p q : Bool) → (p || q) ≡ false → p ≡ false
-neither true q e = absurd (let none : ⊥ = cc in none)
-neither false q e = refl
 
 pub all_at : {X : Type 0} (test : X → Bool) (xs : List X) (k : ℕ) (x : X) → list_all test xs ≡ true
     → slice_get xs k ≡ Some x → test x ≡ true
@@ -67,7 +54,7 @@ all_at test [] k x all at = absurd (let none : ⊥ = cc in none)
 all_at test (y ∷ xs) zero x all at = ap test (sym (same_some y x at)) ∙ both_first (test y) (list_all test xs) all
 all_at test (y ∷ xs) (suc k) x all at = all_at test xs k x (both_rest (test y) (list_all test xs) all) at
 
-filter_has : {X : Type 0} (test : X → Bool) (xs : List X) (k : ℕ) (x : X) → slice_get xs k ≡ Some x → test x ≡ true
+pub filter_has : {X : Type 0} (test : X → Bool) (xs : List X) (k : ℕ) (x : X) → slice_get xs k ≡ Some x → test x ≡ true
     → IsAmong (filter test xs) x
 filter_has test [] k x at passes = absurd (let none : ⊥ = cc in none)
 filter_has test (y ∷ xs) zero x at passes =
@@ -104,7 +91,7 @@ module _ {X : Type 0} (P : ℕ → Type 0) (size : X → ℕ) (test : X → Bool
 -- ---- the offer of a node
 
 -- a node's transmissions contain its offer
-offer_of_own : (channel : Channel) (n : ℕ) (xs : List Sent) → offer_in channel n xs ≡ offer_in channel n
+pub offer_of_own : (channel : Channel) (n : ℕ) (xs : List Sent) → offer_in channel n xs ≡ offer_in channel n
     (own channel n xs)
 offer_of_own channel n [] = refl
 offer_of_own channel n (t ∷ xs) = by (is_of n t && is_channel t.channel channel) refl (offer_of_own channel n xs)
@@ -118,7 +105,7 @@ offer_of_own channel n (t ∷ xs) = by (is_of n t && is_channel t.channel channe
     by false e rest = rest
 
 -- what a node sends on a channel without babbling is its offer
-offered_alone : (n : ℕ) (channel : Channel) (fate other : SentFate) (offer babble : Option (ArrayVec ℕ)) (k : ℕ)
+pub offered_alone : (n : ℕ) (channel : Channel) (fate other : SentFate) (offer babble : Option (ArrayVec ℕ)) (k : ℕ)
     (t : Sent) → slice_get (transmission n channel false fate offer ++ transmission n channel true other babble) k
     ≡ Some t
     → t.babble ≡ false
@@ -135,7 +122,7 @@ offered_alone n channel fate other offer babble k t at silent = by_offer offer a
             (record { node = n; channel = channel; babble = true; bytes = bytes; fate = other } ∷ []))
             i ≡ Some t → ⊥
         by true i e = let none : ⊥ = cc in none
-        by false zero e = differ t.babble (ap (λ (s : Sent). s.babble) (sym (same_some _ t e))) silent
+        by false zero e = differ (ap (λ (s : Sent). s.babble) (sym (same_some _ t e))) silent
         by false (suc i) e = let none : ⊥ = cc in none
 
     by_offer : (o : Option (ArrayVec ℕ))
@@ -165,6 +152,68 @@ offered_alone n channel fate other offer babble k t at silent = by_offer offer a
         by false zero e = found ∙ ap (λ (s : Sent). Some s.bytes) (same_some mine t e)
         by false (suc i) e = absurd (babbles babble i e)
 
+-- ---- the transmissions of a window
+
+-- the outcome of a window of a world
+abbrev pub outcome_at : (w : WorldState) → Headline w → (k : ℕ) (r : Recorded) → slice_get w.bus.sealed k ≡ Some r
+    → IsOutcome w.bus.cluster r
+outcome_at w head k r at = (recorded_at w.bus.cluster w.bus.cycles w.bus.sealed k r head.run.recorded at).1
+
+-- the state of the node of a transmission, and its offer
+pub record IsSentBy (interfaces : List State) (channel : Channel) (r : Recorded) (t : Sent) : Type 0 where
+  pub state : State
+  pub here : slice_get interfaces t.node ≡ Some state
+  pub offer : offer_in channel t.node r.sent ≡ Some t.bytes
+
+module _ (w : WorldState) (head : Headline w) (k : ℕ) (r : Recorded) (at : slice_get w.bus.sealed k ≡ Some r) where
+  -- each transmission is of a node of the cluster
+  pub node_known : (i : ℕ) (t : Sent) → slice_get r.sent i ≡ Some t
+      → t.node < length (outcome_at w head k r at).stations
+  node_known i t there =
+      let o : IsOutcome w.bus.cluster r = outcome_at w head k r at in
+      let count = length o.stations in
+      let known : list_all (λ (u : Sent). nat_lt u.node count) r.sent ≡ true =
+      ap (list_all (λ (u : Sent). nat_lt u.node count)) o.sent_is
+      ∙ of_all w.bus.cluster r.window (λ (u : Sent). nat_lt u.node count) count
+      (λ node channel babble muted bytes within. lt-ltb node count within) 0 o.stations (omega arith) in
+      ltb-true t.node count (all_at (λ (u : Sent). nat_lt u.node count) r.sent i t known there)
+
+  pub own_are : (channel : Channel) (i : ℕ) (t : Sent) → slice_get r.sent i ≡ Some t
+      → own channel t.node r.sent ≡ sent_in w.bus.cluster r.window t.node channel
+      (side_on channel (slice_index_or (outcome_at w head k r at).stations t.node idle_station))
+      (slot_of r.window channel)
+  own_are channel i t there =
+      let o : IsOutcome w.bus.cluster r = outcome_at w head k r at in
+      ap (own channel t.node) o.sent_is
+      ∙ own_from w.bus.cluster r.window channel t.node 0 t.node o.stations (omega arith) (node_known i t there)
+
+  -- what passed without a babble is the offer of its node
+  pub offered_by : (channel : Channel) (slot : ℕ) → slot_of r.window channel ≡ Some slot → (i : ℕ) (t : Sent)
+      → slice_get r.sent i ≡ Some t → passed_on channel t ≡ true → t.babble ≡ false
+      → IsSentBy w.interfaces channel r t
+  offered_by channel slot slot_is i t there through silent =
+      let o : IsOutcome w.bus.cluster r = outcome_at w head k r at in
+      let side = side_on channel (slice_index_or o.stations t.node idle_station) in
+      let mine = own_are channel i t there ∙ ap (sent_in w.bus.cluster r.window t.node channel side) slot_is in
+      let among = filter_has (λ (u : Sent). is_of t.node u && is_channel u.channel channel) r.sent i t there
+      (both (is_of t.node t) (is_channel t.channel channel) (eq-eqb t.node t.node refl)
+      (both_first (is_channel t.channel channel) (is_passed t.fate) through)) in
+      let alone = offered_alone t.node channel (fate_of side.mute (passes_of t.node)) (fate_of false (passes_of t.node))
+      side.offer side.babble among.place t
+      (ap (λ (l : List Sent). slice_get l among.place) (sym mine) ∙ among.at) silent in
+      let within : t.node < length o.stations = node_known i t there in
+      let as_many : length w.interfaces ≡ length w.bus.cluster.plans =
+      head.agrees.agrees.a_station_each ∙ head.run.one_each in
+      let inside : t.node < length w.interfaces = omega (arith, within, as_many, o.one_each) in
+      record {
+        state = get_or w.interfaces t.node no_interface;
+        here = slice_get-get_or w.interfaces t.node no_interface inside;
+        offer = offer_of_own channel t.node r.sent ∙ ap (offer_in channel t.node) mine ∙ alone;
+      }
+    where
+      passes_of : ℕ → Bool
+      passes_of node = passes w.bus.cluster node r.window channel
+
 -- ---- the rows of a window
 
 -- in the window the row of the slot is silent, or as long as a frame that can be sent there
@@ -173,70 +222,43 @@ FitsRow d r = (channel : Channel) (slot : ℕ) → is_static r.window ≡ false 
     → (longest channel r.sent ≡ 0)
     ⊎ CanSend d r.window.cycle slot channel r.window.minislot (longest channel r.sent)
 
-module _ (d : Description) (cycles : ℕ) (interfaces : List State) (rs : List Recorded)
-    (legal : (n : ℕ) (s : State) → slice_get interfaces n ≡ Some s → IsLegalInterface s)
-    (follow : (n : ℕ) (s : State) → slice_get interfaces n ≡ Some s → Follows d.params rs n s)
-    (params_are : (n : ℕ) (s : State) → slice_get interfaces n ≡ Some s → s.params ≡ d.params)
-    (plan_at : (n : ℕ) (s : State) → slice_get interfaces n ≡ Some s → slice_get d.plans n ≡ Some s.plan)
-    (as_many : length interfaces ≡ length d.plans) (recorded : AllAfter (IsRecorded d cycles) [] rs)
-    (plain : ArePlain rs) where
+module _ (w : WorldState) (head : Headline w) where
   -- the frame that a node handed to the bus can be sent there
   handed_fits : (n k : ℕ) (s : State) (r : Recorded) (channel : Channel) (slot : ℕ) (bytes : ArrayVec ℕ)
-      → slice_get interfaces n ≡ Some s → slice_get rs k ≡ Some r → is_static r.window ≡ false
+      → slice_get w.interfaces n ≡ Some s → slice_get w.bus.sealed k ≡ Some r → is_static r.window ≡ false
       → slot_of r.window channel ≡ Some slot → offer_in channel n r.sent ≡ Some bytes
-      → CanSend d r.window.cycle slot channel r.window.minislot (length bytes.items)
+      → CanSend w.bus.cluster r.window.cycle slot channel r.window.minislot (length bytes.items)
   handed_fits n k s r channel slot bytes here at dynamic slot_is offer =
-      let follows = follow n s here in
+      let follows = world_follows w head.agrees n s here in
+      let configured = world_configured w head.agrees n s here in
       let there : slice_get (fetched s) k ≡ Some (offers_of n r) =
-      ap (λ (l : List Handed). slice_get l k) follows.fetches ∙ get-append (map (offers_of n) rs) follows.under_way k
-      (offers_of n r) (map-get (offers_of n) rs k r at) in
+      ap (λ (l : List Handed). slice_get l k) follows.fetches
+      ∙ get-append (map (offers_of n) w.bus.sealed) follows.under_way k (offers_of n r)
+      (map-get (offers_of n) w.bus.sealed k r at) in
       let c = fetch_of s k (offers_of n r) there in
       let window : c.holds.window ≡ r.window = ap (λ (h : Handed). h.window) c.holds.handed_is in
-      subst (λ (w : Opportunity). CanSend d w.cycle slot channel w.minislot (length bytes.items)) window
-      (can_send d n s (legal n s here) (params_are n s here) (plan_at n s here) c.inner c.after c.holds.window c.holds.a
-      c.holds.b (c.cut ∙ ap (λ (e : Entry). c.inner ++ e ∷ c.after) c.holds.entry_is)
-      (ap (λ (w : Opportunity). is_static w) window ∙ dynamic) channel slot
-      (ap (λ (w : Opportunity). slot_of w channel) window ∙ slot_is) bytes
+      subst (λ (o : Opportunity). CanSend w.bus.cluster o.cycle slot channel o.minislot (length bytes.items)) window
+      (can_send w.bus.cluster n s (legal_at w.interfaces head.legal n s here) configured.params_are configured.plan_at
+      c.inner c.after c.holds.window c.holds.a c.holds.b
+      (c.cut ∙ ap (λ (e : Entry). c.inner ++ e ∷ c.after) c.holds.entry_is)
+      (ap (λ (o : Opportunity). is_static o) window ∙ dynamic) channel slot
+      (ap (λ (o : Opportunity). slot_of o channel) window ∙ slot_is) bytes
       (bytes_on s c.inner c.here (offers_of n r) channel c.holds ∙ handed_is_offered n r channel ∙ offer))
 
-  sent_fits : (k : ℕ) (r : Recorded) (channel : Channel) (slot : ℕ) → slice_get rs k ≡ Some r
-      → is_static r.window ≡ false → slot_of r.window channel ≡ Some slot
-      → (i : ℕ) (t : Sent) → slice_get r.sent i ≡ Some t → passed_on channel t ≡ true
-      → CanSend d r.window.cycle slot channel r.window.minislot (length t.bytes.items)
-  sent_fits k r channel slot at dynamic slot_is i t there through =
-      let outcome : IsOutcome d r = (recorded_at d cycles rs k r recorded at).1 in
-      let count = length outcome.stations in
-      let on = both_first (is_channel t.channel channel) (is_passed t.fate) through in
-      let silent = neither t.babble (is_muted t.fate) (unset (t.babble || is_muted t.fate)
-      (all_at is_plain r.sent i t (plain k r at) there)) in
-      let known : list_all (λ (u : Sent). nat_lt u.node count) r.sent ≡ true =
-      ap (list_all (λ (u : Sent). nat_lt u.node count)) outcome.sent_is
-      ∙ of_all d r.window (λ (u : Sent). nat_lt u.node count) count
-      (λ node channel babble muted bytes within. lt-ltb node count within) 0 outcome.stations (omega arith) in
-      let within : t.node < count = ltb-true t.node count
-      (all_at (λ (u : Sent). nat_lt u.node count) r.sent i t known there) in
-      let side = side_on channel (slice_index_or outcome.stations t.node idle_station) in
-      let mine = ap (own channel t.node) outcome.sent_is
-      ∙ own_from d r.window channel t.node 0 t.node outcome.stations (omega arith) within
-      ∙ ap (sent_in d r.window t.node channel side) slot_is in
-      let among = filter_has (λ (u : Sent). is_of t.node u && is_channel u.channel channel) r.sent i t there
-      (both (is_of t.node t) (is_channel t.channel channel) (eq-eqb t.node t.node refl) on) in
-      let alone = offered_alone t.node channel (fate_of side.mute (passes_of t.node)) (fate_of false (passes_of t.node))
-      side.offer side.babble among.place t
-      (ap (λ (l : List Sent). slice_get l among.place) (sym mine) ∙ among.at) silent in
-      let inside : t.node < length interfaces = omega (arith, within, as_many, outcome.one_each) in
-      handed_fits t.node k (get_or interfaces t.node no_interface) r channel slot t.bytes
-      (slice_get-get_or interfaces t.node no_interface inside) at dynamic slot_is
-      (offer_of_own channel t.node r.sent ∙ ap (offer_in channel t.node) mine ∙ alone)
-    where
-      passes_of : ℕ → Bool
-      passes_of node = passes d node r.window channel
-
-  pub row_fits : (k : ℕ) (r : Recorded) → slice_get rs k ≡ Some r → FitsRow d r
-  row_fits k r at channel slot dynamic slot_is =
-      most_is (λ m. (m ≡ 0) ⊎ CanSend d r.window.cycle slot channel r.window.minislot m)
+  pub row_fits : ArePlain w.bus.sealed → (k : ℕ) (r : Recorded) → slice_get w.bus.sealed k ≡ Some r
+      → FitsRow w.bus.cluster r
+  row_fits plain k r at channel slot dynamic slot_is =
+      most_is (λ m. (m ≡ 0) ⊎ CanSend w.bus.cluster r.window.cycle slot channel r.window.minislot m)
       (λ (t : Sent). length t.bytes.items) (passed_on channel) 0 (inl refl) r.sent
-      (λ i t there through. inr (sent_fits k r channel slot at dynamic slot_is i t there through))
+      (λ i t there through. inr (sent_fits i t there through))
+    where
+      sent_fits : (i : ℕ) (t : Sent) → slice_get r.sent i ≡ Some t → passed_on channel t ≡ true
+          → CanSend w.bus.cluster r.window.cycle slot channel r.window.minislot (length t.bytes.items)
+      sent_fits i t there through =
+          let silent = or_parts t.babble (is_muted t.fate) (not-true (t.babble || is_muted t.fate)
+          (all_at is_plain r.sent i t (plain k r at) there)) in
+          let by = offered_by w head k r at channel slot slot_is i t there through silent.0 in
+          handed_fits t.node k by.state r channel slot t.bytes by.here at dynamic slot_is by.offer
 
 -- ---- one more window
 
@@ -273,7 +295,7 @@ module _ (d : Description) (cycles : ℕ) where
       → is_row_of channel r ≡ true
       → IsRow d (cycle_of before) channel (counts_on channel (this_cycle before)) (longest channel r.sent)
   adds_row before r channel follows fits e =
-      let dynamic = unset (is_static r.window) (both_first (not (is_static r.window))
+      let dynamic = not-true (is_static r.window) (both_first (not (is_static r.window))
       (is_some (slot_of r.window channel)) e) in
       let s = slot_there (slot_of r.window channel) (both_rest (not (is_static r.window))
       (is_some (slot_of r.window channel)) e) in

@@ -1,19 +1,18 @@
 -- Slots that open in time whatever the hosts do, and what follows from it in every world (project-defined).
 use Rattle.std.specs.Prelude.{◌≡◌, ℕ, ◌-◌, ◌%◌, ◌<◌, ◌≤◌, not, Bool, true, false, ◌||◌, List, [], ◌∷◌, ◌++◌, take}
-use Rattle.std.specs.Prelude.{slice_get}
-use Rattle.std.specs.Prelude.{Some}
+use Rattle.std.specs.Prelude.{slice_get, Some}
 use Rattle.std.specs.List.{list_all}
 use Rattle.fr_bus.specs.declared.outcome.Sent.{Sent}
 use Rattle.fr_bus.specs.Record.{Recorded}
 use Rattle.fr_bus.specs.Windows.{cycles_begun, this_cycle, counts_on}
 use Rattle.fr_core.specs.Receivers.{is_muted}
 use Rattle.fr_core.specs.Worlds.{WorldState}
+use Rattle.fr_guarantees.specs.Ways.{IsWay}
 use Rattle.fr_interface.specs.State.{State}
 use Rattle.fr_journal.specs.declared.entry.Entry.TheVariants.{Fetch}
 use Rattle.fr_journal.specs.declared.entry.Offered.{Offered}
 use Rattle.fr_journal.specs.Fate.{tally_of}
 use Rattle.fr_journal.specs.Forms.{Entry}
-use Rattle.fr_guarantees.specs.Ways.{IsWay}
 use Rattle.fr_latency.specs.Latencies.{is_guaranteed}
 use Rattle.fr_minislot.specs.DynamicRows.{first_minislot, slot_after, has_row_after}
 use Rattle.fr_schedule.specs.Descriptions.{Description}

@@ -1,17 +1,39 @@
 -- A recording of a channel that has no finding holds some whole cycles of frames that the cluster allows there.
-use Rattle.std.proofs.Common.{◌≡◌, ℕ, zero, suc, ◌+◌, ◌<◌, ◌≤◌, Bool, true, false, cond, List, [], ◌∷◌}
-use Rattle.std.proofs.Common.{refl, sym, ap, subst, ◌∙◌, arith, length, ◌⊎◌, inl, inr}
+use Rattle.std.proofs.Common.{◌≡◌, ℕ, zero, suc, ◌+◌, ◌<◌, ◌≤◌, Bool, true, false, cond, List, [], ◌∷◌, refl, sym, ap}
+use Rattle.std.proofs.Common.{subst, ◌∙◌, arith, length, ◌⊎◌, inl, inr}
 use Rattle.std.proofs.lemmas.Bool.{cond-true, cond-false, ltb-false, eqb-false, and_from, or_right}
 use Rattle.std.specs.Prelude.{Some, None, Result, Ok, Err, nat_le, nat_lt, ◌==◌, not, ◌&&◌, ◌||◌}
 use Rattle.std.specs.Option.{is_some}
 use Rattle.fr_frame.specs.Fields.{Fields}
-use Rattle.fr_logged.specs.Findings.{bare, number_word}
-use Rattle.fr_logged.specs.Logged.{kind_of, spelled, cut, place_in, place_of as frame_place}
+use Rattle.fr_hearing.proofs.AlarmLaws.{alone, fresh_core, turn_rules, cluster_of, not_judged_alone, cleared}
+use Rattle.fr_hearing.proofs.CameLemmas.{core_at}
+use Rattle.fr_hearing.proofs.ConverseLemmas.{lawful_from}
+use Rattle.fr_hearing.proofs.CoreLemmas.{Core, core}
+use Rattle.fr_hearing.proofs.FoundLemmas.{end_is}
+use Rattle.fr_hearing.proofs.FrameFoundLemmas.{IsGood, IsWhole, Stage, before, begun, within, between, stage_core}
+use Rattle.fr_hearing.proofs.FrameFoundLemmas.{Sound, Rest, Leads, good_at, begun_settles, between_settles}
+use Rattle.fr_hearing.proofs.RecordLemmas.{turn_none, record_turn, other_record, at_record}
+use Rattle.fr_hearing.proofs.SpelledLemmas.{spelled_sized}
+use Rattle.fr_hearing.proofs.StepLemmas.{settle_none, settle_at}
+use Rattle.fr_hearing.proofs.ToldLemmas.{Told, find_told, ill_told, judged_keeps, finish_keeps, finish_on_keeps}
+use Rattle.fr_hearing.proofs.ToldLemmas.{tell_end_keeps, nothing_keeps}
+use Rattle.fr_hearing.specs.Accepted.{IsAside, AreDecoded, AcceptedIsHeard}
+use Rattle.fr_hearing.specs.Alarms.{is_on, Spells, judged}
+use Rattle.fr_hearing.specs.Heard.{Spot, IsOver, AreHeard, IsFirst, IsNext, cycle_start, after_frame}
+use Rattle.fr_judging.specs.declared.line.At.{At}
+use Rattle.fr_judging.specs.declared.rules.Rules.{Rules}
+use Rattle.fr_judging.specs.Judging.{State, turn, turned, judge, take_kind, next_record, frame_on, symbol_on}
+use Rattle.fr_judging.specs.Judging.{count_symbol, count_record, take_frame, spelled_frame, is_lawless, ill, good, find}
+use Rattle.fr_judging.specs.Judging.{symbol_place, settle, end_cycle, end_in, tell_nothing, tell_end, says_nothing}
+use Rattle.fr_judging.specs.Judging.{silence, fresh, finish, finish_on, finish_channel, has_finding, none_found}
+use Rattle.fr_judging.specs.Rules.{judges, other_channel, rules_of, has_sender, has_sender_in}
 use Rattle.fr_logged.specs.declared.finding.Finding.{Finding}
 use Rattle.fr_logged.specs.declared.finding.Name.TheVariants as name
 use Rattle.fr_logged.specs.declared.finding.Word.TheVariants.{Absent}
 use Rattle.fr_logged.specs.declared.record.Kind.{Kind}
 use Rattle.fr_logged.specs.declared.record.Kind.TheVariants.{Foreign, Symbol, Frame}
+use Rattle.fr_logged.specs.Findings.{bare, number_word}
+use Rattle.fr_logged.specs.Logged.{kind_of, spelled, cut, place_in, place_of as frame_place}
 use Rattle.fr_recording.specs.Numbers.{most_counted}
 use Rattle.fr_recording.specs.Records.{Record}
 use Rattle.fr_schedule.specs.Clusters.{IsCluster}
@@ -19,31 +41,6 @@ use Rattle.fr_schedule.specs.Descriptions.{Description}
 use Rattle.fr_slots.specs.Admission.{is_channel}
 use Rattle.fr_slots.specs.declared.channel.Channel.{Channel}
 use Rattle.fr_slots.specs.declared.channel.Channel.TheVariants.{A, B}
-use Rattle.fr_judging.specs.Judging.{State, turn, turned, judge, take_kind, next_record, frame_on, symbol_on}
-use Rattle.fr_judging.specs.Judging.{count_symbol}
-use Rattle.fr_judging.specs.Judging.{count_record, take_frame, spelled_frame, is_lawless, ill, good, find, symbol_place}
-use Rattle.fr_judging.specs.Judging.{settle, end_cycle, end_in, tell_nothing, tell_end, says_nothing, silence, fresh}
-use Rattle.fr_judging.specs.Judging.{finish, finish_on, finish_channel, has_finding, none_found}
-use Rattle.fr_judging.specs.Rules.{judges, other_channel, rules_of, has_sender, has_sender_in}
-use Rattle.fr_judging.specs.declared.line.At.{At}
-use Rattle.fr_judging.specs.declared.rules.Rules.{Rules}
-use Rattle.fr_hearing.specs.Accepted.{IsAside, AreDecoded, AcceptedIsHeard}
-use Rattle.fr_hearing.specs.Alarms.{is_on, Spells, judged}
-use Rattle.fr_hearing.specs.Heard.{Spot, IsOver, AreHeard, IsFirst, IsNext, cycle_start, after_frame}
-use Rattle.fr_hearing.proofs.AlarmLaws.{alone, fresh_core, turn_rules, cluster_of, not_judged_alone}
-use Rattle.fr_hearing.proofs.AlarmLaws.{cleared}
-use Rattle.fr_hearing.proofs.CameLemmas.{core_at}
-use Rattle.fr_hearing.proofs.ConverseLemmas.{lawful_from}
-use Rattle.fr_hearing.proofs.CoreLemmas.{Core, core}
-use Rattle.fr_hearing.proofs.FoundLemmas.{end_is}
-use Rattle.fr_hearing.proofs.FrameFoundLemmas.{IsGood, IsWhole, Stage, before, begun, within, between, stage_core}
-use Rattle.fr_hearing.proofs.FrameFoundLemmas.{Sound}
-use Rattle.fr_hearing.proofs.FrameFoundLemmas.{Rest, Leads, good_at, begun_settles, between_settles}
-use Rattle.fr_hearing.proofs.RecordLemmas.{turn_none, record_turn, other_record, at_record}
-use Rattle.fr_hearing.proofs.SpelledLemmas.{spelled_sized}
-use Rattle.fr_hearing.proofs.StepLemmas.{settle_none, settle_at}
-use Rattle.fr_hearing.proofs.ToldLemmas.{Told, find_told, ill_told, judged_keeps, finish_keeps, finish_on_keeps}
-use Rattle.fr_hearing.proofs.ToldLemmas.{tell_end_keeps, nothing_keeps}
 
 channel_same : (c d : Channel) → is_channel c d ≡ true → d ≡ c
 channel_same A A e = refl
@@ -357,7 +354,7 @@ module _ (r : Rules) (channel : Channel) (is : IsWhole r) (mine : judges r chann
       subst Told (sym (cond-true (judges s.rules channel) (finish_channel (turn s channel) true) s
       (ap (λ (q : Rules). judges q channel) rules ∙ mine))) told
 
-quiet_other : (r : Rules) (s : State) (other : Channel) → s.rules ≡ r → judges r other ≡ false
+pub quiet_other : (r : Rules) (s : State) (other : Channel) → s.rules ≡ r → judges r other ≡ false
     → finish_on s other true ≡ s
 unfolding finish_on
 quiet_other r s other rules none =

@@ -1,37 +1,35 @@
 -- A recording of some whole cycles without faults has no finding on a channel.
-use Rattle.std.proofs.Common.{◌≡◌, ℕ, Bool, true, false, cond, List, [], ◌∷◌, refl}
-use Rattle.std.proofs.Common.{sym}
-use Rattle.std.proofs.Common.{ap, subst, ◌∙◌, ◌⊎◌, inl, inr}
+use Rattle.std.proofs.Common.{◌≡◌, ℕ, Bool, true, false, cond, List, [], ◌∷◌, refl, sym, ap, subst, ◌∙◌, ◌⊎◌, inl, inr}
 use Rattle.std.proofs.lemmas.Bool.{cond-true, cond-false, and_left, and_right}
 use Rattle.std.specs.Prelude.{Some, None, not, ◌&&◌}
 use Rattle.std.specs.List.{list_any}
 use Rattle.fr_frame.specs.Fields.{Fields}
-use Rattle.fr_logged.specs.Findings.{bare}
+use Rattle.fr_guarantees.proofs.HeardLemmas.{same_channel}
+use Rattle.fr_hearing.proofs.CameLemmas.{IsPlain, core_at}
+use Rattle.fr_hearing.proofs.CoreLemmas.{Core, core}
+use Rattle.fr_hearing.proofs.CourseLemmas.{IsOn, next_frame}
+use Rattle.fr_hearing.proofs.OpenLemmas.{core_before, over_none, either_same}
+use Rattle.fr_hearing.proofs.RecordLemmas.{turn_none, record_turn, other_record, at_record, own_frame}
+use Rattle.fr_hearing.proofs.StepLemmas.{waiting, held_at, place_first, settle_none, good_is, spoken, settle_at}
+use Rattle.fr_hearing.proofs.StepLemmas.{settle_first, settle_next}
+use Rattle.fr_hearing.specs.Alarms.{is_on, Spells, AreOn, judged, NoFalseAlarm, NoFalseAlarmOfBoth}
+use Rattle.fr_hearing.specs.Heard.{Spot, cycle_start, after_frame, IsAllowed, IsOver, AreHeard, FollowOn}
+use Rattle.fr_judging.specs.declared.lane.Lane.{Lane}
+use Rattle.fr_judging.specs.declared.line.At.{At}
+use Rattle.fr_judging.specs.declared.rules.Rules.{Rules}
+use Rattle.fr_judging.specs.Judging.{State, turn, turned, judge, take_kind, next_record, frame_on, good, count_record}
+use Rattle.fr_judging.specs.Judging.{fresh, finish, finish_on, finish_channel, tell_end, tell_nothing, says_nothing}
+use Rattle.fr_judging.specs.Judging.{settle, end_cycle, end_in, has_finding, is_some_number, none_found, find}
+use Rattle.fr_judging.specs.Judging.{symbol_place, place_frame, speak, next_of}
+use Rattle.fr_judging.specs.Rules.{judges, other_channel, rules_of, has_sender_in, has_sender}
 use Rattle.fr_logged.specs.declared.finding.Name.TheVariants as name
+use Rattle.fr_logged.specs.Findings.{bare}
+use Rattle.fr_logged.specs.Logged.{kind_of}
 use Rattle.fr_recording.specs.Records.{Record}
 use Rattle.fr_schedule.specs.Descriptions.{Description}
 use Rattle.fr_slots.specs.Admission.{is_channel}
 use Rattle.fr_slots.specs.declared.channel.Channel.{Channel}
 use Rattle.fr_slots.specs.declared.channel.Channel.TheVariants.{A, B}
-use Rattle.fr_judging.specs.Judging.{State, turn, turned, judge, take_kind, next_record, frame_on, good, count_record}
-use Rattle.fr_judging.specs.Judging.{fresh, finish, finish_on, finish_channel, tell_end, tell_nothing, says_nothing}
-use Rattle.fr_judging.specs.Judging.{settle, end_cycle, end_in, has_finding, is_some_number, none_found, find}
-use Rattle.fr_judging.specs.Judging.{symbol_place}
-use Rattle.fr_judging.specs.Judging.{place_frame, speak, next_of}
-use Rattle.fr_judging.specs.Rules.{judges, other_channel, rules_of, has_sender_in, has_sender}
-use Rattle.fr_judging.specs.declared.lane.Lane.{Lane}
-use Rattle.fr_logged.specs.Logged.{kind_of}
-use Rattle.fr_judging.specs.declared.line.At.{At}
-use Rattle.fr_judging.specs.declared.rules.Rules.{Rules}
-use Rattle.fr_hearing.specs.Alarms.{is_on, Spells, AreOn, judged, NoFalseAlarm, NoFalseAlarmOfBoth}
-use Rattle.fr_hearing.specs.Heard.{Spot, cycle_start, after_frame, IsAllowed, IsOver, AreHeard, FollowOn}
-use Rattle.fr_hearing.proofs.CameLemmas.{IsPlain, core_at}
-use Rattle.fr_hearing.proofs.CoreLemmas.{Core, core}
-use Rattle.fr_hearing.proofs.CourseLemmas.{IsOn, next_frame}
-use Rattle.fr_hearing.proofs.OpenLemmas.{core_before, over_none}
-use Rattle.fr_hearing.proofs.RecordLemmas.{same_channel, turn_none, record_turn, other_record, at_record, own_frame}
-use Rattle.fr_hearing.proofs.StepLemmas.{waiting, held_at, place_first, settle_none, good_is, spoken}
-use Rattle.fr_hearing.proofs.StepLemmas.{settle_at, settle_first, settle_next}
 
 -- ---- one channel alone
 
@@ -325,11 +323,7 @@ at_end r channel s plain (inr (inr b)) = record {
   over = b.rest;
 }
 
-either_same : {X : Type 0} (b : Bool) (x y : X) → x ≡ y → cond b x y ≡ y
-either_same true x y e = e
-either_same false x y e = refl
-
-nothing_none : (s : State) → s.mine.heard ≡ true → tell_nothing s ≡ s
+pub nothing_none : (s : State) → s.mine.heard ≡ true → tell_nothing s ≡ s
 unfolding tell_nothing
 nothing_none s heard_is =
     cond-false (has_sender_in s.rules s.channel && says_nothing s)
@@ -390,7 +384,7 @@ turn_found s channel = by (is_channel s.channel channel)
     by true = refl
     by false = refl
 
-double : (c : Channel) → other_channel (other_channel c) ≡ c
+pub double : (c : Channel) → other_channel (other_channel c) ≡ c
 double A = refl
 double B = refl
 

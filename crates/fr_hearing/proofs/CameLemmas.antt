@@ -1,29 +1,26 @@
 -- The frame of a slot that the cluster allows leaves no finding, and the place after it.
-use Rattle.std.proofs.Common.{◌≡◌, ℕ, ◌+◌, ◌-◌, ◌/◌, ◌≤◌, Bool, true, false, cond}
-use Rattle.std.proofs.Common.{refl}
-use Rattle.std.proofs.Common.{ap, ◌∙◌, arith, length}
+use Rattle.std.proofs.Common.{◌≡◌, ℕ, ◌+◌, ◌-◌, ◌/◌, ◌≤◌, Bool, true, false, cond, refl, ap, ◌∙◌, arith, length}
 use Rattle.std.proofs.lemmas.Bool.{cond-true}
 use Rattle.std.specs.Prelude.{Option, Some, None, min, nat_le, ◌==◌}
 use Rattle.std.specs.Option.{option_or}
 use Rattle.fr_frame.specs.Fields.{Fields}
-use Rattle.fr_logged.specs.Rules.{static_finding, dynamic_finding, minislot_finding}
-use Rattle.fr_logged.specs.declared.due.Due.{Due}
-use Rattle.fr_logged.specs.declared.finding.Finding.{Finding}
-use Rattle.fr_recording.specs.Numbers.{counted, most_counted}
-use Rattle.fr_slots.specs.declared.channel.Channel.{Channel}
-use Rattle.fr_slots.specs.Faults.{minislots_filled}
+use Rattle.fr_hearing.proofs.CoreLemmas.{Core, core, back_core, show_core, fix_core, keep_core, no_channels}
+use Rattle.fr_hearing.proofs.FrameLemmas.{owners_fits, dynamic_fits, minislot_fits}
+use Rattle.fr_hearing.specs.Heard.{Spot, after_dynamic, after_frame, IsOwners, IsDynamic, IsAllowed, IsAllowedAs}
+use Rattle.fr_judging.specs.declared.line.At.{At}
+use Rattle.fr_judging.specs.declared.rules.Rules.{Rules}
 use Rattle.fr_judging.specs.Distances.{time_finding, time_from}
 use Rattle.fr_judging.specs.Judging.{State, static_came, static_found, static_with, dynamic_came, came, came_with, back}
 use Rattle.fr_judging.specs.Judging.{show, fix, keep_frame, channels_finding, placed_finding, is_placed, none_found}
 use Rattle.fr_judging.specs.Judging.{none_away}
 use Rattle.fr_judging.specs.Lanes.{after_dynamic as dynamic_lane}
 use Rattle.fr_judging.specs.Rules.{due_at, slot_time, are_both}
-use Rattle.fr_judging.specs.declared.line.At.{At}
-use Rattle.fr_judging.specs.declared.rules.Rules.{Rules}
-use Rattle.fr_hearing.specs.Heard.{Spot, after_dynamic, after_frame, IsOwners, IsDynamic, IsAllowed}
-use Rattle.fr_hearing.specs.Heard.{IsAllowedAs}
-use Rattle.fr_hearing.proofs.CoreLemmas.{Core, core, back_core, show_core, fix_core, keep_core, no_channels}
-use Rattle.fr_hearing.proofs.FrameLemmas.{owners_fits, dynamic_fits, minislot_fits}
+use Rattle.fr_logged.specs.declared.due.Due.{Due}
+use Rattle.fr_logged.specs.declared.finding.Finding.{Finding}
+use Rattle.fr_logged.specs.Rules.{static_finding, dynamic_finding, minislot_finding}
+use Rattle.fr_recording.specs.Numbers.{counted, most_counted}
+use Rattle.fr_slots.specs.declared.channel.Channel.{Channel}
+use Rattle.fr_slots.specs.Faults.{minislots_filled}
 
 -- one channel is judged, and times aren't
 pub record IsPlain (r : Rules) : Type 0 where
@@ -79,10 +76,10 @@ static_at r channel s at d spot f e plain is =
 pub still_least : (a b m : ℕ) → min (min a m + b) m ≡ min (a + b) m
 still_least a b m = omega arith
 
-least_below : (a b m n : ℕ) → a + b ≤ n → min (min a m + b) m ≤ n
+pub least_below : (a b m n : ℕ) → a + b ≤ n → min (min a m + b) m ≤ n
 least_below a b m n le = omega arith
 
-opens_by_limit : (n a b : ℕ) → a + b ≤ n → counted (min a most_counted) b ≤ n
+pub opens_by_limit : (n a b : ℕ) → a + b ≤ n → counted (min a most_counted) b ≤ n
 opens_by_limit n a b le = least_below a b most_counted n le
 
 dynamic_core : (s : State) (f : Fields) (at : At) (d : Option Due) → dynamic_finding d f ≡ None
@@ -116,7 +113,7 @@ placed_none r channel s d spot f e is =
     by false none = refl
 
 -- the limit is taken once
-limits : (a b c d : ℕ)
+pub limits : (a b c d : ℕ)
     → counted (counted (counted (min a most_counted) b) c) d ≡ min (a + b + c + d) most_counted
 limits a b c d =
     ap (λ (n : ℕ). counted (counted n c) d) (still_least a b most_counted)

@@ -1,6 +1,6 @@
 -- The record of a frame in a capture spells the frame.
-use Rattle.std.proofs.Common.{◌≡◌, ℕ, ◌+◌, ◌-◌, ◌*◌, ◌≤◌, Bool, true, false, cond, not, List}
-use Rattle.std.proofs.Common.{length, take, drop, refl, sym, ap, ◌∙◌, arith, Option, Some, None, length-take}
+use Rattle.std.proofs.Common.{◌≡◌, ℕ, ◌+◌, ◌-◌, ◌*◌, ◌≤◌, Bool, true, false, cond, not, List, length, take, drop, refl}
+use Rattle.std.proofs.Common.{sym, ap, ◌∙◌, arith, Option, Some, None, length-take}
 use Rattle.std.proofs.lemmas.Bool.{cond-true, cond-false, eqb-true, eq-eqb, le-ltb, ltb-false}
 use Rattle.std.proofs.lemmas.List.{take-take, drop-take}
 use Rattle.std.specs.Prelude.{Ok, Err, nat_lt, ◌==◌, is_some}
@@ -8,23 +8,22 @@ use Rattle.fr_capture.specs.Pcap.{packet, link_type}
 use Rattle.fr_frame.proofs.EncodingLemmas.{encoded_is_decoded}
 use Rattle.fr_frame.specs.Bits.{bits_of_bytes, number_of}
 use Rattle.fr_frame.specs.Crc.{header_check, frame_check}
-use Rattle.fr_frame.specs.Decoding.{decoded, fields_of, payload_of}
 use Rattle.fr_frame.specs.declared.decode.DecodeError.{DecodeError}
 use Rattle.fr_frame.specs.declared.decode.DecodeError.TheVariants.{TooShort, LengthMismatch, HeaderCrc, FrameCrc}
+use Rattle.fr_frame.specs.Decoding.{decoded, fields_of, payload_of}
 use Rattle.fr_frame.specs.Encoding.{encoded}
 use Rattle.fr_frame.specs.Fields.{Fields}
 use Rattle.fr_frame.specs.Header.{bits_at, number_at}
 use Rattle.fr_frame.specs.Refusal.{refusal}
 use Rattle.fr_hearing.specs.Captured.{ReadsBack}
-use Rattle.fr_logged.specs.Findings.{with_numbers}
-use Rattle.fr_logged.specs.Headers.{header_in, right_crc}
-use Rattle.fr_logged.specs.Logged.{kind_of, spelled, spelled_in, unless_logged, logged_in, logged_by, frame_by}
-use Rattle.fr_logged.specs.Logged.{or_else, length_finding, header_finding, frame_finding, trailer_finding, fields_by}
-use Rattle.fr_logged.specs.Logged.{cut}
-use Rattle.fr_logged.specs.Logged.{right_trailer, trailer_of}
 use Rattle.fr_logged.specs.declared.finding.Finding.{Finding}
 use Rattle.fr_logged.specs.declared.finding.Name.TheVariants as name
 use Rattle.fr_logged.specs.declared.record.Kind.TheVariants.{Frame}
+use Rattle.fr_logged.specs.Findings.{with_numbers}
+use Rattle.fr_logged.specs.Headers.{header_in, right_crc}
+use Rattle.fr_logged.specs.Logged.{kind_of, spelled, spelled_in, unless_logged, logged_in, logged_by, frame_by, or_else}
+use Rattle.fr_logged.specs.Logged.{length_finding, header_finding, frame_finding, trailer_finding, fields_by, cut}
+use Rattle.fr_logged.specs.Logged.{right_trailer, trailer_of}
 use Rattle.fr_slots.specs.declared.channel.Channel.{Channel}
 use Rattle.fr_slots.specs.declared.channel.Channel.TheVariants.{A, B}
 

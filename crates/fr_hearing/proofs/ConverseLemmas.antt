@@ -1,19 +1,17 @@
 -- A frame without a finding of its own is one that the cluster allows, and a count without one is the next.
-use Rattle.std.proofs.Common.{◌≡◌, ℕ, zero, suc, ◌+◌, ◌-◌, ◌/◌, ◌*◌, ◌%◌, ◌<◌, ◌≤◌, Bool, true, false, cond}
-use Rattle.std.proofs.Common.{refl, sym, ap, ◌∙◌, arith, length, inl, inr}
-use Rattle.std.proofs.lemmas.Bool.{and_parts, and_cases, not-true, eqb-true, eqb-false, ltb-false}
-use Rattle.std.proofs.lemmas.Bool.{lt-ltb, or_parts}
+use Rattle.std.proofs.Common.{◌≡◌, ℕ, zero, suc, ◌+◌, ◌-◌, ◌/◌, ◌*◌, ◌%◌, ◌<◌, ◌≤◌, Bool, true, false, cond, refl, sym}
+use Rattle.std.proofs.Common.{ap, ◌∙◌, arith, length, inl, inr}
+use Rattle.std.proofs.lemmas.Bool.{and_parts, and_cases, not-true, eqb-true, eqb-false, ltb-false, lt-ltb, or_parts}
 use Rattle.std.specs.Prelude.{Option, Some, None, min, nat_lt, ◌==◌, not, ◌&&◌, ◌||◌}
 use Rattle.std.specs.List.{list_all}
 use Rattle.fr_frame.specs.Fields.{Fields}
+use Rattle.fr_hearing.specs.Heard.{IsNull, HasContent, IsOwners}
 use Rattle.fr_judging.specs.Distances.{steps_of}
-use Rattle.fr_logged.specs.Findings.{bare, with_numbers}
-use Rattle.fr_logged.specs.Rules.{same, is_zero, preamble_finding, null_finding, buffer_finding, static_rules}
-use Rattle.fr_logged.specs.Rules.{kind_finding}
-use Rattle.fr_logged.specs.Rules.{words_finding, dynamic_rules, minislot_finding, bits_finding}
 use Rattle.fr_logged.specs.declared.due.Due.{Due}
 use Rattle.fr_logged.specs.declared.finding.Name.TheVariants as name
-use Rattle.fr_hearing.specs.Heard.{IsNull, HasContent, IsOwners}
+use Rattle.fr_logged.specs.Findings.{bare, with_numbers}
+use Rattle.fr_logged.specs.Rules.{same, is_zero, preamble_finding, null_finding, buffer_finding, static_rules}
+use Rattle.fr_logged.specs.Rules.{kind_finding, words_finding, dynamic_rules, minislot_finding, bits_finding}
 
 -- ---- a choice without a finding
 

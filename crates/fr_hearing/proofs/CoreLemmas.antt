@@ -1,24 +1,24 @@
 -- The part of a judge's state on which findings depend, and the steps that leave it as it is.
-use Rattle.std.proofs.Common.{◌≡◌, ℕ, zero, suc, ◌+◌, ◌-◌, ◌<◌, ◌≤◌, Bool, true, false, cond, List, refl}
-use Rattle.std.proofs.Common.{ap, ◌∙◌, arith, replicate, inl, inr}
+use Rattle.std.proofs.Common.{◌≡◌, ℕ, zero, suc, ◌+◌, ◌-◌, ◌<◌, ◌≤◌, Bool, true, false, cond, List, refl, ap, ◌∙◌}
+use Rattle.std.proofs.Common.{arith, replicate, inl, inr}
 use Rattle.std.proofs.lemmas.Bool.{cond-true, cond-false, eq-eqb, cases_lt}
 use Rattle.std.proofs.lemmas.List.{get_or-replicate, get_or_past, length-replicate}
 use Rattle.std.specs.Prelude.{Option, Some, None, nat_le, slice_index, ◌==◌, not, ◌&&◌, ◌||◌}
 use Rattle.fr_frame.specs.Fields.{Fields}
-use Rattle.fr_logged.specs.Logged.{place_of as frame_place}
-use Rattle.fr_logged.specs.declared.due.Due.{Due}
-use Rattle.fr_logged.specs.declared.finding.Finding.{Finding}
-use Rattle.fr_slots.specs.declared.channel.Channel.{Channel}
-use Rattle.fr_judging.specs.Judging.{State, add_back, back_of, back, away_at, with_away, none_away, show}
-use Rattle.fr_judging.specs.Judging.{show_frame, count_frame, find_some, keep_frame, fix, miss, miss_due, skipped}
-use Rattle.fr_judging.specs.Judging.{skip_to, channels_finding, differ, beside, is_beside, silence, shown_in, shown_at}
-use Rattle.fr_judging.specs.Lanes.{same_open}
-use Rattle.fr_judging.specs.Rules.{due_at, other_channel}
-use Rattle.fr_judging.specs.Tallies.{away_place}
 use Rattle.fr_judging.specs.declared.lane.Held.{Held}
 use Rattle.fr_judging.specs.declared.line.At.{At}
 use Rattle.fr_judging.specs.declared.line.Line.TheVariants as line
 use Rattle.fr_judging.specs.declared.rules.Rules.{Rules}
+use Rattle.fr_judging.specs.Judging.{State, add_back, back_of, back, away_at, with_away, none_away, show, show_frame}
+use Rattle.fr_judging.specs.Judging.{count_frame, find_some, keep_frame, fix, miss, miss_due, skipped, skip_to}
+use Rattle.fr_judging.specs.Judging.{channels_finding, differ, beside, is_beside, silence, shown_in, shown_at}
+use Rattle.fr_judging.specs.Lanes.{same_open}
+use Rattle.fr_judging.specs.Rules.{due_at, other_channel}
+use Rattle.fr_judging.specs.Tallies.{away_place}
+use Rattle.fr_logged.specs.declared.due.Due.{Due}
+use Rattle.fr_logged.specs.declared.finding.Finding.{Finding}
+use Rattle.fr_logged.specs.Logged.{place_of as frame_place}
+use Rattle.fr_slots.specs.declared.channel.Channel.{Channel}
 
 pub record Core : Type 0 where
   pub found : List ℕ

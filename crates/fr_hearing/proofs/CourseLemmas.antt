@@ -1,24 +1,22 @@
 -- All frames of some cycles of a channel leave no finding.
-use Rattle.std.proofs.Common.{◌≡◌, ℕ, ◌+◌, ◌%◌, ◌<◌, Bool, true, false, cond, List, ◌∷◌, refl}
-use Rattle.std.proofs.Common.{sym}
-use Rattle.std.proofs.Common.{ap, subst, ◌∙◌, ◌⊎◌, inl, inr}
+use Rattle.std.proofs.Common.{◌≡◌, ℕ, ◌+◌, ◌%◌, ◌<◌, Bool, true, false, cond, List, ◌∷◌, refl, sym, ap, subst, ◌∙◌, ◌⊎◌}
+use Rattle.std.proofs.Common.{inl, inr}
 use Rattle.std.specs.Prelude.{Option, Some, None, nat_le}
 use Rattle.fr_frame.specs.Fields.{Fields}
-use Rattle.fr_slots.specs.declared.channel.Channel.{Channel}
-use Rattle.fr_slots.specs.Parameters.{Parameters}
-use Rattle.fr_judging.specs.Judging.{State, place_frame, settle, next_of, speak, good}
-use Rattle.fr_judging.specs.Lanes.{opens}
-use Rattle.fr_judging.specs.declared.lane.Held.{Held}
-use Rattle.fr_judging.specs.declared.line.At.{At}
-use Rattle.fr_judging.specs.declared.rules.Rules.{Rules}
-use Rattle.fr_hearing.specs.Heard.{Spot, cycle_start, after_frame, after_dynamic, IsFirst, IsFurther, IsNext}
-use Rattle.fr_hearing.specs.Heard.{FollowOn}
 use Rattle.fr_hearing.proofs.CameLemmas.{IsPlain, core_at}
 use Rattle.fr_hearing.proofs.CoreLemmas.{core}
 use Rattle.fr_hearing.proofs.CountLemmas.{opens_same, opens_first, opens_next, next_fits}
 use Rattle.fr_hearing.proofs.OpenLemmas.{core_before}
-use Rattle.fr_hearing.proofs.StepLemmas.{waiting, held_at, place_further, place_next, settle_at}
-use Rattle.fr_hearing.proofs.StepLemmas.{settle_first, settle_next, good_is, spoken}
+use Rattle.fr_hearing.proofs.StepLemmas.{waiting, held_at, place_further, place_next, settle_at, settle_first}
+use Rattle.fr_hearing.proofs.StepLemmas.{settle_next, good_is, spoken}
+use Rattle.fr_hearing.specs.Heard.{Spot, cycle_start, after_frame, after_dynamic, IsFirst, IsFurther, IsNext, FollowOn}
+use Rattle.fr_judging.specs.declared.lane.Held.{Held}
+use Rattle.fr_judging.specs.declared.line.At.{At}
+use Rattle.fr_judging.specs.declared.rules.Rules.{Rules}
+use Rattle.fr_judging.specs.Judging.{State, place_frame, settle, next_of, speak, good}
+use Rattle.fr_judging.specs.Lanes.{opens}
+use Rattle.fr_slots.specs.declared.channel.Channel.{Channel}
+use Rattle.fr_slots.specs.Parameters.{Parameters}
 
 -- ---- places
 
@@ -29,7 +27,7 @@ same_cycle_after p s f = by (nat_le f.id p.static_slots)
     by true = refl
     by false = refl
 
-last_after_frame : (p : Parameters) (s : Spot) (f : Fields) → (after_frame p s f).last ≡ f.id
+pub last_after_frame : (p : Parameters) (s : Spot) (f : Fields) → (after_frame p s f).last ≡ f.id
 last_after_frame p s f = by (nat_le f.id p.static_slots)
   where
     by : (b : Bool) → (let t : Spot = cond b (record s { last = f.id }) (after_dynamic p s f) in t).last ≡ f.id

@@ -1,12 +1,11 @@
 -- The frames of a record of windows are those of a channel's cycles.
-use Rattle.std.proofs.Common.{◌≡◌, ℕ, zero, suc, ◌+◌, ◌-◌, ◌%◌, ◌<◌, ◌≤◌, Bool, true, false, ◌&&◌, ◌||◌, List, []}
-use Rattle.std.proofs.Common.{◌∷◌, ◌++◌, length, Some, None, refl, sym, ap, subst, ◌∙◌, arith, slice_get}
-use Rattle.std.proofs.Common.{inl, inr}
+use Rattle.std.proofs.Common.{◌≡◌, ℕ, ◌+◌, ◌-◌, ◌%◌, ◌<◌, ◌≤◌, true, ◌&&◌, List, [], ◌∷◌, ◌++◌, length, Some, None}
+use Rattle.std.proofs.Common.{refl, sym, ap, subst, ◌∙◌, arith, inl, inr}
 use Rattle.std.specs.Prelude.{◌==◌}
-use Rattle.std.specs.List.{list_any}
 use Rattle.std.proofs.lemmas.Bool.{eq-eqb, le-leb}
 use Rattle.std.proofs.lemmas.List.{append_assoc, append-nil}
 use Rattle.std.proofs.lemmas.Nat.{mod_below}
+use Rattle.std.proofs.lemmas.Map.Keys.{any_passes_from_place}
 use Rattle.fr_bus.specs.Courses.{Standpoint, course_of, cycle_of}
 use Rattle.fr_bus.specs.Record.{Recorded}
 use Rattle.fr_bus.specs.States.{IsRecorded}
@@ -23,12 +22,11 @@ use Rattle.fr_hearing.specs.Heard.{FollowOn}
 use Rattle.fr_judging.specs.Rules.{due_at, is_clocked, owns_some, owns_in}
 use Rattle.fr_logged.proofs.DueLemmas.{due_is_owners}
 use Rattle.fr_logged.proofs.FirstLemmas.{some_found_in}
-use Rattle.fr_logged.specs.Dues.{static_due, buffer_in}
 use Rattle.fr_logged.specs.declared.due.Due.{Due}
+use Rattle.fr_logged.specs.Dues.{static_due, buffer_in}
 use Rattle.fr_schedule.specs.Clusters.{IsCluster, IsNode}
 use Rattle.fr_schedule.specs.Descriptions.{Description}
 use Rattle.fr_slots.proofs.FaultlessLemmas.{faultless}
-use Rattle.fr_slots.proofs.PlaceLemmas.{same_some}
 use Rattle.fr_slots.specs.Admission.{includes, cycle_admitted}
 use Rattle.fr_slots.specs.declared.channel.Channel.{Channel}
 use Rattle.fr_slots.specs.Faults.{claims}
@@ -57,17 +55,6 @@ pub record HasOwner (d : Description) (channel : Channel) (cycle : ℕ) : Type 0
   pub due : Due
   pub due_is : due_at d slot channel cycle ≡ Some due
 
-any_at : {X : Type 0} (test : X → Bool) (xs : List X) (k : ℕ) (x : X) → slice_get xs k ≡ Some x → test x ≡ true
-    → list_any test xs ≡ true
-any_at test [] k x at passes = absurd (let none : ⊥ = cc in none)
-any_at test (y ∷ xs) zero x at passes =
-    ap (λ (b : Bool). b || list_any test xs) (ap test (same_some y x at) ∙ passes)
-any_at test (y ∷ xs) (suc k) x at passes = by (test y) (any_at test xs k x at passes)
-  where
-    by : (b : Bool) → list_any test xs ≡ true → (b || list_any test xs) ≡ true
-    by true rest = refl
-    by false rest = rest
-
 pub has_owner : (d : Description) (channel : Channel) (cycle : ℕ) → IsCluster d → cycle < 64
     → is_clocked d channel cycle ≡ true → HasOwner d channel cycle
 has_owner d channel cycle cluster fits clocked =
@@ -90,7 +77,7 @@ has_owner d channel cycle cluster fits clocked =
     (both_first (includes line.value.channels channel) (cycle_admitted line.value.cycles cycle) there.passes))
     (both_rest (includes line.value.channels channel) (cycle_admitted line.value.cycles cycle) there.passes) in
     let owner = some_found_in (claims line.value.slot channel cycle) node.value.owned
-    (any_at (claims line.value.slot channel cycle) node.value.owned there.place line.value there.at claimed) in
+    (any_passes_from_place (claims line.value.slot channel cycle) node.value.owned there.place line.value there.at claimed) in
     let due = due_is_owners d line.value.slot channel cycle here.place node.value owner.value cluster.one_sender fits
     (le-leb line.value.slot d.params.static_slots few) here.at owner.is in
     record {

@@ -1,48 +1,45 @@
 -- Each step of the judgement has a finding, or the cluster allows its frame.
-use Rattle.std.proofs.Common.{◌≡◌, ℕ, zero, suc, ◌+◌, ◌-◌, ◌/◌, ◌*◌, ◌%◌, ◌<◌, ◌≤◌, Bool, true, false, cond, List}
-use Rattle.std.proofs.Common.{refl, sym, ap, subst, ◌∙◌, arith, length, ◌⊎◌, inl, inr}
+use Rattle.std.proofs.Common.{◌≡◌, ℕ, zero, suc, ◌+◌, ◌-◌, ◌/◌, ◌*◌, ◌%◌, ◌<◌, ◌≤◌, Bool, true, false, cond, List, refl}
+use Rattle.std.proofs.Common.{sym, ap, subst, ◌∙◌, arith, length, ◌⊎◌, inl, inr}
 use Rattle.std.proofs.lemmas.Bool.{cond-true, cond-false, cases_lt, eqb-true, leb-false, eq-eqb}
 use Rattle.std.proofs.lemmas.List.{get_or-set_same, length-replicate}
 use Rattle.std.specs.Prelude.{Option, Some, None, min, nat_le, nat_lt, ◌==◌, ◌||◌, slice_index, pos}
 use Rattle.std.specs.Option.{option_or}
 use Rattle.fr_frame.specs.Fields.{Fields}
-use Rattle.fr_logged.specs.Findings.{bare, with_numbers}
-use Rattle.fr_logged.specs.Logged.{place_of as frame_place}
-use Rattle.fr_logged.specs.Rules.{static_finding, static_rules, dynamic_finding, dynamic_rules, minislot_finding}
-use Rattle.fr_logged.specs.declared.due.Due.{Due}
-use Rattle.fr_logged.specs.declared.finding.Finding.{Finding}
-use Rattle.fr_logged.specs.declared.finding.Name.TheVariants as name
-use Rattle.fr_logged.specs.declared.finding.Word.TheVariants.{Absent, Number}
-use Rattle.fr_recording.specs.Numbers.{counted, most_counted}
-use Rattle.fr_slots.specs.declared.channel.Channel.{Channel}
-use Rattle.fr_slots.specs.declared.channel.Channel.TheVariants.{A, B}
-use Rattle.fr_judging.specs.Distances.{distance_to, by_counts, steps_of, steps_from, time_finding}
-use Rattle.fr_judging.specs.Judging.{State, find, find_some, miss, miss_due, miss_of, tell_missing, skipped, skip_to}
-use Rattle.fr_judging.specs.Judging.{skip_before, end_cycle, end_in, static_end, count_missing, with_away, away_at}
-use Rattle.fr_judging.specs.Judging.{slot_place, none_found, none_away, back, show, fix, keep_frame, static_came}
-use Rattle.fr_judging.specs.Judging.{static_found, dynamic_came, came_with, came, channels_finding}
-use Rattle.fr_judging.specs.Judging.{placed_finding, is_placed, listen, open_first, tell_gap, enter, leave, open_after}
-use Rattle.fr_judging.specs.Judging.{open_closed, open_next}
-use Rattle.fr_judging.specs.Lanes.{passed, opens_at, after_dynamic as dynamic_lane}
-use Rattle.fr_judging.specs.Rules.{due_at, are_both}
-use Rattle.fr_judging.specs.Tallies.{away_place, channel_number, span_between, long_counted}
-use Rattle.fr_judging.specs.declared.lane.Held.{Held}
-use Rattle.fr_judging.specs.declared.lane.Lane.{Lane}
-use Rattle.fr_judging.specs.declared.line.At.{At}
-use Rattle.fr_judging.specs.declared.rules.Rules.{Rules}
-use Rattle.fr_hearing.specs.Heard.{Spot, cycle_start, AreFree, IsAllowed, IsAllowedAs, IsFirst, IsNext, IsOver}
-use Rattle.fr_hearing.specs.Heard.{IsDynamic}
-use Rattle.fr_hearing.specs.Heard.{static_end as end_of}
 use Rattle.fr_hearing.proofs.CameLemmas.{IsPlain, core_at}
 use Rattle.fr_hearing.proofs.ConverseLemmas.{owners_from, senders_from, minislot_from, sum_within, sum_in_time}
-use Rattle.fr_hearing.proofs.ConverseLemmas.{IsLawful}
-use Rattle.fr_hearing.proofs.ConverseLemmas.{next_from}
+use Rattle.fr_hearing.proofs.ConverseLemmas.{IsLawful, next_from}
 use Rattle.fr_hearing.proofs.CoreLemmas.{Core, core, skip_none, none_at}
 use Rattle.fr_hearing.proofs.OpenLemmas.{core_before, begin_core, before_none, over_none, listen_none, untimed_distance}
 use Rattle.fr_hearing.proofs.SpelledLemmas.{IsSized}
 use Rattle.fr_hearing.proofs.ToldLemmas.{Told, find_told, miss_keeps, came_keeps, listen_keeps, keep_told}
-use Rattle.fr_hearing.proofs.ToldLemmas.{static_before}
-use Rattle.fr_hearing.proofs.ToldLemmas.{begun_at, closed_keeps, after_told}
+use Rattle.fr_hearing.proofs.ToldLemmas.{static_before, begun_at, closed_keeps, after_told}
+use Rattle.fr_hearing.specs.Heard.{Spot, cycle_start, AreFree, IsAllowed, IsAllowedAs, IsFirst, IsNext, IsOver}
+use Rattle.fr_hearing.specs.Heard.{IsDynamic, static_end as end_of}
+use Rattle.fr_judging.specs.declared.lane.Held.{Held}
+use Rattle.fr_judging.specs.declared.lane.Lane.{Lane}
+use Rattle.fr_judging.specs.declared.line.At.{At}
+use Rattle.fr_judging.specs.declared.rules.Rules.{Rules}
+use Rattle.fr_judging.specs.Distances.{distance_to, by_counts, steps_of, steps_from, time_finding}
+use Rattle.fr_judging.specs.Judging.{State, find, find_some, miss, miss_due, miss_of, tell_missing, skipped, skip_to}
+use Rattle.fr_judging.specs.Judging.{skip_before, end_cycle, end_in, static_end, count_missing, with_away, away_at}
+use Rattle.fr_judging.specs.Judging.{slot_place, none_found, none_away, back, show, fix, keep_frame, static_came}
+use Rattle.fr_judging.specs.Judging.{static_found, dynamic_came, came_with, came, channels_finding, placed_finding}
+use Rattle.fr_judging.specs.Judging.{is_placed, listen, open_first, tell_gap, enter, leave, open_after, open_closed}
+use Rattle.fr_judging.specs.Judging.{open_next}
+use Rattle.fr_judging.specs.Lanes.{passed, opens_at, after_dynamic as dynamic_lane}
+use Rattle.fr_judging.specs.Rules.{due_at, are_both}
+use Rattle.fr_judging.specs.Tallies.{away_place, channel_number, span_between, long_counted}
+use Rattle.fr_logged.specs.declared.due.Due.{Due}
+use Rattle.fr_logged.specs.declared.finding.Finding.{Finding}
+use Rattle.fr_logged.specs.declared.finding.Name.TheVariants as name
+use Rattle.fr_logged.specs.declared.finding.Word.TheVariants.{Absent, Number}
+use Rattle.fr_logged.specs.Findings.{bare, with_numbers}
+use Rattle.fr_logged.specs.Logged.{place_of as frame_place}
+use Rattle.fr_logged.specs.Rules.{static_finding, static_rules, dynamic_finding, dynamic_rules, minislot_finding}
+use Rattle.fr_recording.specs.Numbers.{counted, most_counted}
+use Rattle.fr_slots.specs.declared.channel.Channel.{Channel}
+use Rattle.fr_slots.specs.declared.channel.Channel.TheVariants.{A, B}
 
 -- ---- a static slot without a frame
 

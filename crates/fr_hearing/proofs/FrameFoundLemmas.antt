@@ -1,28 +1,10 @@
 -- Each frame of a channel leaves a finding, or follows the frames before it as the cluster allows.
-use Rattle.std.proofs.Common.{◌≡◌, ℕ, ◌+◌, ◌<◌, ◌≤◌, Bool, true, false, cond, List, ◌∷◌}
-use Rattle.std.proofs.Common.{refl, sym, ap, subst, ◌∙◌, arith, length, ◌⊎◌, inl, inr}
+use Rattle.std.proofs.Common.{◌≡◌, ℕ, ◌+◌, ◌<◌, ◌≤◌, Bool, true, false, cond, List, ◌∷◌, refl, sym, ap, subst, ◌∙◌}
+use Rattle.std.proofs.Common.{arith, length, ◌⊎◌, inl, inr}
 use Rattle.std.proofs.lemmas.Bool.{cond-true, cond-false, eqb-true, leb-false}
 use Rattle.std.specs.Prelude.{Option, Some, min, nat_le, ◌==◌}
 use Rattle.std.specs.Option.{is_none}
 use Rattle.fr_frame.specs.Fields.{Fields}
-use Rattle.fr_logged.specs.Findings.{with_numbers}
-use Rattle.fr_logged.specs.Logged.{place_of as frame_place}
-use Rattle.fr_logged.specs.declared.finding.Finding.{Finding}
-use Rattle.fr_logged.specs.declared.finding.Name.TheVariants as name
-use Rattle.fr_recording.specs.Numbers.{most_counted}
-use Rattle.fr_slots.specs.declared.channel.Channel.{Channel}
-use Rattle.fr_judging.specs.Distances.{is_anew}
-use Rattle.fr_judging.specs.Judging.{State, find, came, skip_before, member, mark_odd, disturb, open_first, open_next}
-use Rattle.fr_judging.specs.Judging.{open_cycle, wrong_count, decide, settle, settle_with, hold, place_frame}
-use Rattle.fr_judging.specs.Judging.{speak, good, next_of, none_found}
-use Rattle.fr_judging.specs.Lanes.{same_open, opens}
-use Rattle.fr_judging.specs.Rules.{has_sender_in}
-use Rattle.fr_judging.specs.declared.lane.Held.{Held}
-use Rattle.fr_judging.specs.declared.lane.Next.{Next}
-use Rattle.fr_judging.specs.declared.line.At.{At}
-use Rattle.fr_judging.specs.declared.rules.Rules.{Rules}
-use Rattle.fr_hearing.specs.Heard.{Spot, cycle_start, after_frame, IsAllowed, IsFirst, IsFurther, IsNext, AreFree}
-use Rattle.fr_hearing.specs.Heard.{FollowOn, AreHeard, static_end as end_of}
 use Rattle.fr_hearing.proofs.CameLemmas.{IsPlain, core_at}
 use Rattle.fr_hearing.proofs.ConverseLemmas.{IsLawful}
 use Rattle.fr_hearing.proofs.CoreLemmas.{Core, core}
@@ -34,6 +16,24 @@ use Rattle.fr_hearing.proofs.StepLemmas.{waiting, held_at, freed, free_core, set
 use Rattle.fr_hearing.proofs.StepLemmas.{settle_next, place_further, place_other, place_first, good_is, spoken}
 use Rattle.fr_hearing.proofs.StepLemmas.{untimed_anew}
 use Rattle.fr_hearing.proofs.ToldLemmas.{Told, find_told, came_keeps, place_keeps}
+use Rattle.fr_hearing.specs.Heard.{Spot, cycle_start, after_frame, IsAllowed, IsFirst, IsFurther, IsNext, AreFree}
+use Rattle.fr_hearing.specs.Heard.{FollowOn, AreHeard, static_end as end_of}
+use Rattle.fr_judging.specs.declared.lane.Held.{Held}
+use Rattle.fr_judging.specs.declared.lane.Next.{Next}
+use Rattle.fr_judging.specs.declared.line.At.{At}
+use Rattle.fr_judging.specs.declared.rules.Rules.{Rules}
+use Rattle.fr_judging.specs.Distances.{is_anew}
+use Rattle.fr_judging.specs.Judging.{State, find, came, skip_before, member, mark_odd, disturb, open_first, open_next}
+use Rattle.fr_judging.specs.Judging.{open_cycle, wrong_count, decide, settle, settle_with, hold, place_frame, speak}
+use Rattle.fr_judging.specs.Judging.{good, next_of, none_found}
+use Rattle.fr_judging.specs.Lanes.{same_open, opens}
+use Rattle.fr_judging.specs.Rules.{has_sender_in}
+use Rattle.fr_logged.specs.declared.finding.Finding.{Finding}
+use Rattle.fr_logged.specs.declared.finding.Name.TheVariants as name
+use Rattle.fr_logged.specs.Findings.{with_numbers}
+use Rattle.fr_logged.specs.Logged.{place_of as frame_place}
+use Rattle.fr_recording.specs.Numbers.{most_counted}
+use Rattle.fr_slots.specs.declared.channel.Channel.{Channel}
 
 -- a good frame: spelled, and in a slot of the cluster
 pub record IsGood (r : Rules) (f : Fields) : Type 0 where

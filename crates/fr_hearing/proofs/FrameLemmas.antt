@@ -1,22 +1,19 @@
 -- A frame that the cluster allows has no finding of its own.
-use Rattle.std.proofs.Common.{◌≡◌, ℕ, ◌/◌, ◌*◌, ◌≤◌, Bool, true, false, cond}
-use Rattle.std.proofs.Common.{refl, sym}
-use Rattle.std.proofs.Common.{ap, ◌∙◌, arith, length}
+use Rattle.std.proofs.Common.{◌≡◌, ℕ, ◌/◌, ◌*◌, ◌≤◌, Bool, true, false, cond, refl, sym, ap, ◌∙◌, arith, length}
 use Rattle.std.proofs.lemmas.Bool.{cond-true, cond-false, eq-eqb, le-ltb, and_from}
 use Rattle.std.specs.Prelude.{Option, Some, None, nat_lt, ◌==◌, not, ◌&&◌, ◌||◌}
 use Rattle.std.specs.List.{list_all}
 use Rattle.fr_frame.specs.Fields.{Fields}
-use Rattle.fr_logged.specs.Findings.{bare, with_numbers}
-use Rattle.fr_logged.specs.Rules.{same, is_zero, preamble_finding, null_finding, buffer_finding, static_rules}
-use Rattle.fr_logged.specs.Rules.{words_finding}
-use Rattle.fr_logged.specs.Rules.{dynamic_rules, minislot_finding, bits_finding}
+use Rattle.fr_hearing.specs.Heard.{IsNull, HasContent, IsOwners, IsDynamic, Spot}
 use Rattle.fr_logged.specs.declared.due.Due.{Due}
 use Rattle.fr_logged.specs.declared.finding.Finding.{Finding}
 use Rattle.fr_logged.specs.declared.finding.Name.TheVariants as name
-use Rattle.fr_hearing.specs.Heard.{IsNull, HasContent, IsOwners, IsDynamic, Spot}
+use Rattle.fr_logged.specs.Findings.{bare, with_numbers}
+use Rattle.fr_logged.specs.Rules.{same, is_zero, preamble_finding, null_finding, buffer_finding, static_rules}
+use Rattle.fr_logged.specs.Rules.{words_finding, dynamic_rules, minislot_finding, bits_finding}
 use Rattle.fr_slots.specs.Parameters.{Parameters}
 
-same_self : (b : Bool) → same b b ≡ true
+pub same_self : (b : Bool) → same b b ≡ true
 same_self true = refl
 same_self false = refl
 

@@ -1,21 +1,23 @@
 -- In a run without faults on a channel a listener receives silence or the frame that is due, window by window.
 use Rattle.std.proofs.Common.{◌≡◌, ℕ, zero, suc, ◌+◌, ◌-◌, ◌*◌, ◌<◌, ◌≤◌, Bool, true, false, List, [], ◌∷◌, length}
 use Rattle.std.proofs.Common.{Option, Some, None, refl, sym, ap, ◌∙◌, arith, slice_get, get_or, ◌⊎◌, inl, inr}
-use Rattle.std.proofs.Common.{map}
-use Rattle.std.specs.Prelude.{nat_lt, max, ◌==◌}
-use Rattle.std.specs.List.{fold, list_any}
+use Rattle.std.specs.Prelude.{nat_lt, ◌==◌}
+use Rattle.std.specs.List.{list_any}
 use Rattle.std.proofs.lemmas.Bool.{cond-true, cond-false, le-ltb}
 use Rattle.std.proofs.lemmas.Option.{slice_get-get_or}
 use Rattle.fr_bus.specs.declared.outcome.Sent.{Sent}
-use Rattle.fr_bus.specs.Outcome.{all_passed, heard_of, received, overruns, longest}
+use Rattle.fr_bus.specs.Outcome.{all_passed, heard_of, received, overruns}
 use Rattle.fr_bus.specs.Record.{Recorded, corrupt_on, heard}
-use Rattle.fr_core.proofs.FollowLemmas.{world_follows, world_configured, legal_at}
 use Rattle.fr_core.specs.Headline.{Headline}
 use Rattle.fr_core.specs.Worlds.{WorldState, no_interface}
 use Rattle.fr_frame.specs.Fields.{Fields}
+use Rattle.fr_guarantees.proofs.DelayLemmas.{static_fits}
+use Rattle.fr_guarantees.proofs.HeardLemmas.{longest_none, longest_one}
+use Rattle.fr_guarantees.proofs.HeldTableLaws.{not_static}
+use Rattle.fr_guarantees.proofs.OfferLemmas.{length-frame}
 use Rattle.fr_hearing.proofs.CycleLemmas.{AreHeardAt}
-use Rattle.fr_hearing.proofs.ListenLaws.{handed_by, fetch_fits, static_slot_is, dynamic_slot_is}
-use Rattle.fr_hearing.proofs.OwnersLaws.{owners_are_heard, length-frame}
+use Rattle.fr_hearing.proofs.ListenLaws.{handed_by, fetch_fits}
+use Rattle.fr_hearing.proofs.OwnersLaws.{owners_are_heard}
 use Rattle.fr_hearing.proofs.PassageLemmas.{IsQuiet, IsLoud, IsHeardAt}
 use Rattle.fr_hearing.proofs.SingleLemmas.{none_there, alone, IsLone}
 use Rattle.fr_hearing.proofs.SizeLemmas.{filled_same, static_words, dynamic_sized}
@@ -33,19 +35,6 @@ use Rattle.fr_slots.specs.Parameters.{is_static_slot}
 use Rattle.fr_slots.specs.Windows.{Opportunity, slot_of, is_static, window_fits}
 use Rattle.fr_status.specs.declared.seen.Seen.TheVariants.{Silence, Overrun, Bytes}
 
--- ---- the length of a transmission
-
-pub longest_none : (channel : Channel) (r : Recorded) → all_passed channel r.sent ≡ [] → longest channel r.sent ≡ 0
-longest_none channel r e = ap (λ (l : List Sent). fold max 0 (map (λ (t : Sent). length t.bytes.items) l)) e
-
-max_zero : (n : ℕ) → max 0 n ≡ n
-max_zero n = omega arith
-
-pub longest_one : (channel : Channel) (r : Recorded) (t : Sent) → all_passed channel r.sent ≡ t ∷ []
-    → longest channel r.sent ≡ length t.bytes.items
-longest_one channel r t e =
-    ap (λ (l : List Sent). fold max 0 (map (λ (u : Sent). length u.bytes.items) l)) e ∙ max_zero (length t.bytes.items)
-
 module _ (d : Description) (cluster : IsCluster d) (w : Opportunity) (channel : Channel) (slot : ℕ)
     (fits : window_fits d.params w ≡ true) (slot_is : slot_of w channel ≡ Some slot) (f : Fields) where
   -- a frame that is due ends within its slot, or within the dynamic segment
@@ -54,14 +43,14 @@ module _ (d : Description) (cluster : IsCluster d) (w : Opportunity) (channel : 
   ends true static there bytes size =
       let words = there.owners.words in
       let due_words = static_words d slot channel w.cycle there.due
-      (static_slot_is d.params w channel slot fits static slot_is) there.due_is in
+      (static_fits d.params w channel slot fits static slot_is) there.due_is in
       cond-true (is_static w) (nat_lt (8 + 2 * d.params.static_words) bytes)
       (nat_lt d.params.minislots (w.minislot - 1 + minislots_filled_by d.params bytes)) static
       ∙ le-ltb (8 + 2 * d.params.static_words) bytes (omega (arith, size, words, due_words))
   ends false dynamic there bytes size =
       let words = there.words in
       let sized = dynamic_sized d slot channel w.cycle there.due cluster
-      (dynamic_slot_is d.params w channel slot fits dynamic slot_is) there.due_is in
+      (not_static d.params w channel slot fits dynamic slot_is) there.due_is in
       let some : 1 ≤ w.minislot = by_zero w.minislot dynamic in
       let in_time = there.in_time in
       let last = sized.ends (omega (arith, some, in_time)) in
@@ -80,13 +69,13 @@ module _ (d : Description) (cluster : IsCluster d) (w : Opportunity) (channel : 
   few_bytes true static there =
       let words = there.owners.words in
       let due_words = static_words d slot channel w.cycle there.due
-      (static_slot_is d.params w channel slot fits static slot_is) there.due_is in
+      (static_fits d.params w channel slot fits static slot_is) there.due_is in
       let most : d.params.static_words ≤ 127 = cluster.params_are.static_words_fit.at_most in
       omega (arith, words, due_words, most)
   few_bytes false dynamic there =
       let words = there.words in
       let sized = dynamic_sized d slot channel w.cycle there.due cluster
-      (dynamic_slot_is d.params w channel slot fits dynamic slot_is) there.due_is in
+      (not_static d.params w channel slot fits dynamic slot_is) there.due_is in
       let most = sized.words_fit in
       omega (arith, words, most)
 
@@ -101,11 +90,7 @@ module _ (w : WorldState) (head : Headline w) (channel : Channel) (healthy : IsH
       let as_many : length w.interfaces ≡ length d.plans = head.agrees.agrees.a_station_each ∙ head.run.one_each in
       let some : 0 < length w.interfaces = (let nodes = cluster.some_nodes in omega (arith, as_many, nodes)) in
       let s = get_or w.interfaces 0 no_interface in
-      let h = handed_by d w.bus.cycles w.interfaces w.bus.sealed cluster (legal_at w.interfaces head.legal)
-      (world_follows w head.agrees)
-      (λ n s here. let c = world_configured w head.agrees n s here in c.params_are)
-      (λ n s here. let c = world_configured w head.agrees n s here in c.plan_at)
-      as_many head.run.recorded channel healthy.sound 0 k s r (slice_get-get_or w.interfaces 0 no_interface some) at in
+      let h = handed_by w head 0 k s r (slice_get-get_or w.interfaces 0 no_interface some) at in
       fetch_fits d 0 s h.before r.window h.a h.b h.fetched_is
 
   silent : all_passed channel r.sent ≡ [] → heard w.bus.cluster.params r channel ≡ Silence
@@ -119,7 +104,7 @@ module _ (w : WorldState) (head : Headline w) (channel : Channel) (healthy : IsH
     where
       owned : (node : ℕ) → IsSender w.bus.cluster r.window.cycle slot channel node → ⊥
       owned node sender =
-          let static_slot = static_slot_is w.bus.cluster.params r.window channel slot window_here static slot_is in
+          let static_slot = static_fits w.bus.cluster.params r.window channel slot window_here static slot_is in
           let heard_is = owners_are_heard w head channel healthy.sound k slot node r at (healthy.intact k r at) static
           slot_is
           (record {
@@ -133,7 +118,7 @@ module _ (w : WorldState) (head : Headline w) (channel : Channel) (healthy : IsH
           let none : ⊥ = cc in none
 
   quiet : all_passed channel r.sent ≡ [] → IsQuiet w.bus.cluster channel r
-  quiet e = record { hears = silent e; none = longest_none channel r e; free = no_owner e }
+  quiet e = record { hears = silent e; none = longest_none channel r.sent e; free = no_owner e }
 
   loud : (slot : ℕ) → slot_of r.window channel ≡ Some slot → IsLone w.bus.cluster r channel slot
       → IsLoud w.bus.cluster channel r
@@ -156,7 +141,7 @@ module _ (w : WorldState) (head : Headline w) (channel : Channel) (healthy : IsH
             (Bytes lone.sender.bytes) short;
         spelled = due.spelled;
         is_there = due.is_there;
-        size = longest_one channel r lone.sender lone.only ∙ size;
+        size = longest_one channel r.sent lone.sender lone.only ∙ size;
         few = few_bytes d head.run.lawful r.window channel slot window_here slot_is due.frame (is_static r.window) refl
             due.is_there;
       }
@@ -171,17 +156,8 @@ module _ (w : WorldState) (head : Headline w) (channel : Channel) (healthy : IsH
       either slot slot_is (inr lone) = inr (loud slot slot_is lone)
 
       by : (o : Option ℕ) → slot_of r.window channel ≡ o → IsHeardAt w.bus.cluster channel r
-      by None none = inl (quiet (none_there w.bus.cluster w.bus.cycles w.interfaces w.bus.sealed head.run.lawful
-          (legal_at w.interfaces head.legal) (world_follows w head.agrees)
-          (λ n s here. let c = world_configured w head.agrees n s here in c.params_are)
-          (λ n s here. let c = world_configured w head.agrees n s here in c.plan_at)
-          (head.agrees.agrees.a_station_each ∙ head.run.one_each) head.run.recorded channel healthy.sound k r at none))
-      by (Some slot) is = either slot is (alone w.bus.cluster w.bus.cycles w.interfaces w.bus.sealed head.run.lawful
-          (legal_at w.interfaces head.legal) (world_follows w head.agrees)
-          (λ n s here. let c = world_configured w head.agrees n s here in c.params_are)
-          (λ n s here. let c = world_configured w head.agrees n s here in c.plan_at)
-          (head.agrees.agrees.a_station_each ∙ head.run.one_each) head.run.recorded channel healthy.sound k r at slot
-          is)
+      by None none = inl (quiet (none_there w head channel healthy.sound k r at none))
+      by (Some slot) is = either slot is (alone w head channel healthy.sound k r at slot is)
 
 pub each_heard : (d : Description) (channel : Channel) (rs : List Recorded)
     → ((k : ℕ) (r : Recorded) → slice_get rs k ≡ Some r → IsHeardAt d channel r) → AreHeardAt d channel rs

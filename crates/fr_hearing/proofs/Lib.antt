@@ -30,3 +30,6 @@ pub mod ReadingLemmas
 pub mod FileLaws
 pub mod ReadBackLaws
 pub mod WorkedLemmas
+pub mod pairing
+pub mod punctual
+pub mod replaying

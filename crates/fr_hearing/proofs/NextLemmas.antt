@@ -1,18 +1,17 @@
 -- The window that follows those of a record: the first of a cycle, a further static one, or a dynamic one.
-use Rattle.std.proofs.Common.{◌≡◌, ℕ, ◌+◌, ◌%◌, ◌<◌, ◌≤◌, Bool, true, false, not, cond, ◌&&◌, List, []}
-use Rattle.std.proofs.Common.{◌∷◌, ◌++◌, Option, Some, None, refl, sym, ap, subst, ◌∙◌, arith, ◌⊎◌, inl, inr}
+use Rattle.std.proofs.Common.{◌≡◌, ℕ, ◌+◌, ◌%◌, ◌<◌, ◌≤◌, Bool, true, false, not, cond, ◌&&◌, List, [], ◌∷◌, ◌++◌}
+use Rattle.std.proofs.Common.{Option, Some, None, refl, sym, ap, subst, ◌∙◌, arith, ◌⊎◌, inl, inr}
 use Rattle.std.specs.Prelude.{nat_lt, nat_le, ◌==◌, is_some, min, option_map}
 use Rattle.std.specs.Option.{option_or}
 use Rattle.std.proofs.lemmas.Bool.{ltb-true, ltb-false, leb-true, eqb-true, ne_eqb}
 use Rattle.std.proofs.lemmas.Bool.Decides.{eqb_tells}
 use Rattle.fr_bus.proofs.CourseLemmas.{course_more}
 use Rattle.fr_bus.proofs.NextLemmas.{next_is}
-use Rattle.fr_bus.specs.Courses.{Standpoint, first_passed, passed, course_of, first_next}
-use Rattle.fr_bus.specs.Courses.{inner_next, dynamic_next, opening, cycle_of, next_of}
+use Rattle.fr_bus.specs.Courses.{Standpoint, first_passed, passed, course_of, first_next, inner_next, dynamic_next}
+use Rattle.fr_bus.specs.Courses.{opening, cycle_of, next_of}
 use Rattle.fr_bus.specs.Outcome.{longest}
 use Rattle.fr_bus.specs.Record.{Recorded}
 use Rattle.fr_bus.specs.Windows.{least_of, following}
-use Rattle.fr_slots.specs.Windows.{is_first_slot}
 use Rattle.fr_core.proofs.CaseLemmas.{both_first, both_rest}
 use Rattle.fr_minislot.specs.DynamicRows.{is_row, last_slot}
 use Rattle.fr_minislot.specs.Lanes.{Standing, closed, opened_in, next_in}
@@ -20,7 +19,7 @@ use Rattle.fr_slots.proofs.PlaceLemmas.{same_some}
 use Rattle.fr_slots.specs.declared.channel.Channel.{Channel}
 use Rattle.fr_slots.specs.declared.channel.Channel.TheVariants.{A, B}
 use Rattle.fr_slots.specs.Parameters.{Parameters}
-use Rattle.fr_slots.specs.Windows.{Opportunity, slot_of, static_window}
+use Rattle.fr_slots.specs.Windows.{is_first_slot, Opportunity, slot_of, static_window}
 
 -- ---- the three ways in which a window is next
 

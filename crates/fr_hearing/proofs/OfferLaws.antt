@@ -1,10 +1,8 @@
 -- In each static window its owner hands over the frame that is due.
-use Rattle.std.proofs.Common.{◌≡◌, ℕ, zero, suc, ◌*◌, ◌≤◌, Bool, true, false, cond, ◌&&◌, List, [], ◌∷◌}
-use Rattle.std.proofs.Common.{◌++◌}
-use Rattle.std.proofs.Common.{length, refl, sym, ap, subst, ◌∙◌, arith, Option, Some, None, slice_get}
-use Rattle.std.proofs.Common.{replicate}
-use Rattle.std.proofs.lemmas.Bool.{cond-true, cond-false, eqb-true, ne_eqb, leb-true}
-use Rattle.std.specs.Prelude.{IfSome, IsSomeAnd, is_some, ◌==◌, ◌||◌, nat_le}
+use Rattle.std.proofs.Common.{◌≡◌, ℕ, zero, suc, ◌*◌, ◌≤◌, Bool, true, false, cond, ◌&&◌, List, [], ◌∷◌, length, refl}
+use Rattle.std.proofs.Common.{sym, ap, subst, ◌∙◌, arith, Option, Some, None, slice_get, replicate}
+use Rattle.std.proofs.lemmas.Bool.{cond-true, cond-false, ne_eqb}
+use Rattle.std.specs.Prelude.{is_some, ◌==◌}
 use Rattle.std.specs.List.{position, list_all}
 use Rattle.std.specs.Option.{option_and_then}
 use Rattle.fr_core.proofs.CaseLemmas.{kept_if}
@@ -12,86 +10,37 @@ use Rattle.fr_core.proofs.HandingLemmas.{offer_is, data_is}
 use Rattle.fr_core.proofs.TakingLemmas.{in_slot, transmitter_admits}
 use Rattle.fr_core.specs.Receivers.{offered_on}
 use Rattle.fr_frame.specs.Fields.{Fields}
+use Rattle.fr_guarantees.proofs.OfferLemmas.{some_buffer, fits_buffer, in_time}
 use Rattle.fr_hearing.specs.Heard.{IsOwners}
-use Rattle.fr_interface.specs.State.{State, IsLegalInterface}
-use Rattle.fr_journal.proofs.LastCommitLemmas.{last_commit-there, IsCommitAt}
-use Rattle.fr_journal.specs.declared.entry.Entry.TheVariants.{Commit, Withdraw, Read, Pop, Fetch, Observe}
+use Rattle.fr_hearing.specs.Offering.{IsFetched, IsOwnWindow, HandsDue, OwnersSend, IsOpenWindow, IsDueThere}
+use Rattle.fr_hearing.specs.Offering.{SendersSend}
+use Rattle.fr_interface.specs.State.{State}
+use Rattle.fr_journal.specs.declared.entry.Entry.TheVariants.{Fetch}
 use Rattle.fr_journal.specs.declared.entry.Offered.{Offered}
 use Rattle.fr_journal.specs.declared.entry.Offered.TheVariants.{Nothing, Null, Data}
-use Rattle.fr_journal.specs.Fate.{is_commit_on, last_commit}
 use Rattle.fr_journal.specs.Forms.{Entry}
 use Rattle.fr_journal.specs.Legal.{IsLegal, IsLegalFetch}
-use Rattle.fr_journal.specs.Offers.{may_begin}
-use Rattle.fr_journal.specs.Offers.{transmitter, ready, ready_in, commit_offered, owns, ownership}
-use Rattle.fr_journal.specs.Offers.{line_of}
-use Rattle.fr_journal.specs.Offers.{data_or, offered_at, offered, payload_in, payload_of, sync_of, startup_of}
-use Rattle.fr_journal.specs.Offers.{preamble_of, null_frame, data_frame_of, frame_of_offer, frame_with}
+use Rattle.fr_journal.specs.Offers.{may_begin, transmitter, ready_in, commit_offered, owns, ownership, line_of, data_or}
+use Rattle.fr_journal.specs.Offers.{offered_at, offered, sync_of, startup_of, preamble_of, null_frame, data_frame_of}
+use Rattle.fr_journal.specs.Offers.{frame_of_offer, frame_with}
 use Rattle.fr_logged.proofs.DueLemmas.{due_is_owners, due_is_senders}
 use Rattle.fr_logged.proofs.FirstLemmas.{find_position, there}
-use Rattle.fr_hearing.specs.Offering.{IsFetched, IsOwnWindow, HandsDue, OwnersSend, IsOpenWindow}
-use Rattle.fr_hearing.specs.Offering.{IsDueThere, SendersSend}
+use Rattle.fr_logged.specs.declared.due.Due.{Due}
 use Rattle.fr_logged.specs.Dues.{line_in, buffer_in, static_due, dynamic_due, preamble_of as due_preamble, due_of}
 use Rattle.fr_logged.specs.Rules.{is_zero}
-use Rattle.fr_logged.specs.declared.due.Due.{Due}
 use Rattle.fr_schedule.specs.Clusters.{IsCluster}
 use Rattle.fr_schedule.specs.Descriptions.{Description}
-use Rattle.fr_slots.proofs.PlaceLemmas.{same_some, get-append, AllAfter-at, AllAfter-cut}
+use Rattle.fr_slots.proofs.PlaceLemmas.{same_some, AllAfter-cut}
 use Rattle.fr_slots.specs.declared.channel.Channel.{Channel}
 use Rattle.fr_slots.specs.declared.plan.Buffer.{Buffer}
 use Rattle.fr_slots.specs.declared.plan.Own.{Own}
 use Rattle.fr_slots.specs.Faults.{claims, sends_at, transmits, words_of, latest_on}
 use Rattle.fr_slots.specs.History.{AllAfter}
 use Rattle.fr_slots.specs.Parameters.{Parameters, is_static_slot}
-use Rattle.fr_slots.specs.Plans.{Plan, buffer_at, admits_slot, is_receive}
+use Rattle.fr_slots.specs.Plans.{Plan, buffer_at, admits_slot}
 use Rattle.fr_slots.specs.Windows.{Opportunity, slot_of, is_static}
 
--- ---- the commit of a buffer
-
-record FitsBuffer (s : State) (before : List Entry) (commit : ℕ) (b : Buffer) : Type 0 where
-  words : length (payload_of before commit) ≡ 2 * words_of s.params b
-  some_task : 1 ≤ s.plan.tasks
-
-module _ (s : State) (lawful : IsLegalInterface s) (number commit : ℕ) (before rest : List Entry)
-    (cut : s.entries ≡ before ++ rest) (b : Buffer) (at : buffer_at s.plan number ≡ Some b) where
-  by_entry : (o : Option Entry) → slice_get before commit ≡ o → IsSomeAnd o (λ e. is_commit_on number e ≡ true)
-      → FitsBuffer s before commit b
-  by_entry None is on = absurd on
-  by_entry (Some (Commit task j payload)) is on =
-      let same : j ≡ number = eqb-true j number on in
-      let here = ap (λ (l : List Entry). slice_get l commit) cut
-      ∙ get-append before rest commit (Commit task j payload) is in
-      let legal = AllAfter-at (IsLegal s.params s.plan) s.entries commit (Commit task j payload) lawful.legal here in
-      let fits = subst (λ (o : Option Buffer). IsSomeAnd o (λ c. (is_receive c.mode ≡ false)
-      × (length payload ≡ 2 * words_of s.params c))) (ap (buffer_at s.plan) same ∙ at) legal.transmits in
-      let payload_is : payload_of before commit ≡ payload = ap payload_in is in
-      record {
-        words = ap (λ (l : List ℕ). length l) payload_is ∙ fits.1;
-        some_task = omega (arith, legal.task_is);
-      }
-  by_entry (Some (Withdraw task j of)) is on = absurd (let none : ⊥ = cc in none)
-  by_entry (Some (Read task j from)) is on = absurd (let none : ⊥ = cc in none)
-  by_entry (Some (Pop task from)) is on = absurd (let none : ⊥ = cc in none)
-  by_entry (Some (Fetch w x y)) is on = absurd (let none : ⊥ = cc in none)
-  by_entry (Some (Observe w x y)) is on = absurd (let none : ⊥ = cc in none)
-
-  fits_buffer : last_commit number before ≡ Some commit → FitsBuffer s before commit b
-  fits_buffer last = by_entry (slice_get before commit) refl
-      (subst (λ (o : Option ℕ). IfSome o (λ k. IsCommitAt number before k)) last (last_commit-there number before))
-
 -- ---- the buffer and the ownership line
-
-pub record IsBuffer (plan : Plan) (number : ℕ) : Type 0 where
-  pub buffer : Buffer
-  pub at : buffer_at plan number ≡ Some buffer
-
-pub some_buffer : (plan : Plan) (before : List Entry) (number commit : ℕ) → ready_in plan before number ≡ Some commit
-    → IsBuffer plan number
-some_buffer plan before number commit e = by (buffer_at plan number) refl e
-  where
-    by : (o : Option Buffer) → buffer_at plan number ≡ o
-        → option_and_then (λ (b : Buffer). ready b.mode number before) o ≡ Some commit → IsBuffer plan number
-    by None is f = absurd (let none : ⊥ = cc in none)
-    by (Some b) is f = record { buffer = b; at = is }
 
 -- the first buffer that sends in the slot is the transmitter of its window
 pub transmitter_is : (plan : Plan) (w : Opportunity) (channel : Channel) (slot : ℕ) → slot_of w channel ≡ Some slot
@@ -227,11 +176,6 @@ pub not_owned : (plan : Plan) (w : Opportunity) (channel : Channel) (slot : ℕ)
 not_owned plan w channel slot dynamic =
     cond-false (is_static w) (ownership plan.owned slot channel w.cycle) None dynamic
 
-begins_in_time : (w : Opportunity) (latest : ℕ) → is_static w ≡ false
-    → (is_static w || nat_le w.minislot latest) ≡ true → w.minislot ≤ latest
-begins_in_time w latest dynamic e =
-    leb-true w.minislot latest (ap (λ (b : Bool). b || nat_le w.minislot latest) (sym dynamic) ∙ e)
-
 module _ (d : Description) (node : ℕ) (s : State) (before : List Entry) (w : Opportunity) (x y : Offered)
     (channel : Channel) (slot : ℕ) (cluster : IsCluster d) (fetched : IsFetched d node s before w x y)
     (window : IsOpenWindow d w channel slot) where
@@ -266,7 +210,7 @@ module _ (d : Description) (node : ℕ) (s : State) (before : List Entry) (w : O
         no_startup = ap startup_of line;
         words = fits.words ∙ ap (λ (p : Parameters). 2 * words_of p b.buffer) fetched.params_are;
         preamble = ap Some (sym (ap preamble_of buffer_is));
-        in_time = begins_in_time w (latest_on s.plan channel) window.dynamic begins;
+        in_time = in_time w (latest_on s.plan channel) window.dynamic begins;
       }
     where
       due_in : Buffer → Due

@@ -1,25 +1,23 @@
 -- A frame that opens the first cycle, or the next one.
-use Rattle.std.proofs.Common.{◌≡◌, ℕ, ◌+◌, ◌<◌, ◌≤◌, Bool, true, false, cond, refl}
-use Rattle.std.proofs.Common.{sym}
-use Rattle.std.proofs.Common.{ap, subst, ◌∙◌, ◌*◌}
+use Rattle.std.proofs.Common.{◌≡◌, ℕ, ◌+◌, ◌<◌, ◌≤◌, Bool, true, false, cond, refl, sym, ap, subst, ◌∙◌, ◌*◌}
 use Rattle.std.proofs.lemmas.Bool.{cond-true, cond-false, and_left}
 use Rattle.std.specs.Prelude.{Option, Some, None, min, nat_lt, ◌==◌, ℤ, ◌&&◌}
 use Rattle.std.specs.Option.{is_none}
 use Rattle.fr_frame.specs.Fields.{Fields}
-use Rattle.fr_slots.specs.declared.channel.Channel.{Channel}
+use Rattle.fr_hearing.proofs.CameLemmas.{IsPlain, core_at, came_at}
+use Rattle.fr_hearing.proofs.CoreLemmas.{Core, core, skip_none}
+use Rattle.fr_hearing.proofs.CountLemmas.{one_step}
+use Rattle.fr_hearing.specs.Heard.{Spot, cycle_start, after_frame, IsFirst, IsNext, IsOver}
+use Rattle.fr_judging.specs.declared.distance.Distance.{Distance}
+use Rattle.fr_judging.specs.declared.line.At.{At}
+use Rattle.fr_judging.specs.declared.rules.Rules.{Rules}
 use Rattle.fr_judging.specs.Distances.{by_times, by_counts, steps_from, distance_to, distance_by, time_between}
 use Rattle.fr_judging.specs.Judging.{State, came, listen, tell_silent, with_alone, skip_before, open_first, open_after}
 use Rattle.fr_judging.specs.Judging.{open_closed, open_next, open_cycle, end_cycle, end_in, enter, leave, tell_gap}
 use Rattle.fr_judging.specs.Judging.{find_some, none_found, none_away, static_end}
 use Rattle.fr_judging.specs.Lanes.{begun}
 use Rattle.fr_judging.specs.Rules.{due_at, are_both}
-use Rattle.fr_judging.specs.declared.distance.Distance.{Distance}
-use Rattle.fr_judging.specs.declared.line.At.{At}
-use Rattle.fr_judging.specs.declared.rules.Rules.{Rules}
-use Rattle.fr_hearing.specs.Heard.{Spot, cycle_start, after_frame, IsFirst, IsNext, IsOver}
-use Rattle.fr_hearing.proofs.CameLemmas.{IsPlain, core_at, came_at}
-use Rattle.fr_hearing.proofs.CoreLemmas.{Core, core, skip_none}
-use Rattle.fr_hearing.proofs.CountLemmas.{one_step}
+use Rattle.fr_slots.specs.declared.channel.Channel.{Channel}
 
 -- ---- the other channel doesn't fall silent where one is judged
 
@@ -72,7 +70,7 @@ begun_core : (s : State) (f : Fields) (at : At) → core (record s { mine = begu
     })
 begun_core s f at = refl
 
-either_same : {X : Type 0} (b : Bool) (x y : X) → x ≡ y → cond b x y ≡ y
+pub either_same : {X : Type 0} (b : Bool) (x y : X) → x ≡ y → cond b x y ≡ y
 either_same true x y e = e
 either_same false x y e = refl
 

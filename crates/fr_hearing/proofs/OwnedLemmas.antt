@@ -1,7 +1,6 @@
 -- In a static window a node offers something only if it owns the slot.
-use Rattle.std.proofs.Common.{◌≡◌, ℕ, ◌<◌, Bool, true, false, cond, ◌&&◌, List, [], ◌∷◌, refl}
-use Rattle.std.proofs.Common.{sym}
-use Rattle.std.proofs.Common.{ap, ◌∙◌, Option, Some, None}
+use Rattle.std.proofs.Common.{◌≡◌, ℕ, ◌<◌, Bool, true, false, cond, ◌&&◌, List, [], ◌∷◌, refl, sym, ap, ◌∙◌, Option}
+use Rattle.std.proofs.Common.{Some, None}
 use Rattle.std.proofs.lemmas.Bool.{eqb-true, and_from}
 use Rattle.std.proofs.lemmas.List.Quantifiers.{position-Some}
 use Rattle.std.proofs.lemmas.Option.{get_or_from_slice_get}
@@ -9,12 +8,12 @@ use Rattle.std.specs.Prelude.{is_some, ◌==◌, ◌||◌}
 use Rattle.std.specs.List.{find, list_any}
 use Rattle.fr_core.proofs.CaseLemmas.{both_first, both_rest}
 use Rattle.fr_core.proofs.TakingLemmas.{in_slot}
-use Rattle.fr_hearing.proofs.OfferLaws.{some_buffer, line_is}
+use Rattle.fr_guarantees.proofs.OfferLemmas.{some_buffer}
+use Rattle.fr_hearing.proofs.OfferLaws.{line_is}
 use Rattle.fr_journal.specs.declared.entry.Offered.{Offered}
 use Rattle.fr_journal.specs.declared.entry.Offered.TheVariants.{Nothing, Null, Data}
 use Rattle.fr_journal.specs.Forms.{Entry}
-use Rattle.fr_journal.specs.Offers.{is_admitting, commit_offered, owns, data_or, offered_at}
-use Rattle.fr_journal.specs.Offers.{offered}
+use Rattle.fr_journal.specs.Offers.{is_admitting, commit_offered, owns, data_or, offered_at, offered}
 use Rattle.fr_slots.proofs.FaultlessLemmas.{faultless}
 use Rattle.fr_slots.specs.Admission.{includes, cycle_admitted}
 use Rattle.fr_slots.specs.declared.channel.Channel.{Channel}

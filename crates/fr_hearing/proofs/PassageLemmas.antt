@@ -1,6 +1,6 @@
 -- Each window leads from one place of a channel's cycle to the next, with or without a frame.
-use Rattle.std.proofs.Common.{◌≡◌, ℕ, ◌+◌, ◌-◌, ◌/◌, ◌%◌, ◌<◌, ◌≤◌, Bool, true, false, cond, List}
-use Rattle.std.proofs.Common.{◌∷◌, length, Some, None, refl, sym, ap, subst, ◌∙◌, arith, ◌⊎◌, inl, inr}
+use Rattle.std.proofs.Common.{◌≡◌, ℕ, ◌+◌, ◌-◌, ◌/◌, ◌%◌, ◌<◌, ◌≤◌, Bool, true, false, cond, List, ◌∷◌, length, Some}
+use Rattle.std.proofs.Common.{None, refl, sym, ap, subst, ◌∙◌, arith, ◌⊎◌, inl, inr}
 use Rattle.std.specs.Prelude.{nat_le, ◌&&◌, is_some}
 use Rattle.std.proofs.lemmas.Bool.{cond-true, cond-false, le-leb, lt-leb, leb-true, leb-false, ne_eqb}
 use Rattle.std.proofs.lemmas.Nat.{mod_below}
@@ -14,13 +14,13 @@ use Rattle.fr_frame.specs.Fields.{Fields}
 use Rattle.fr_hearing.proofs.NextLemmas.{static_passed, lane_passed, dynamic_passed, lane_of, slot_opened, IsOpened}
 use Rattle.fr_hearing.proofs.NextLemmas.{opened_is}
 use Rattle.fr_hearing.proofs.SizeLemmas.{row_same}
-use Rattle.fr_hearing.specs.Heard.{Spot, cycle_start, begins_at, after_frame, after_dynamic, IsOwners}
-use Rattle.fr_hearing.specs.Heard.{IsAllowedAs, IsDynamic, AreFree, IsFurther, FollowOn}
+use Rattle.fr_hearing.specs.Heard.{Spot, cycle_start, begins_at, after_frame, after_dynamic, IsOwners, IsAllowedAs}
+use Rattle.fr_hearing.specs.Heard.{IsDynamic, AreFree, IsFurther, FollowOn}
 use Rattle.fr_hearing.specs.Listening.{IsThere, IsOwnersThere}
 use Rattle.fr_hearing.specs.Offering.{IsDueThere}
 use Rattle.fr_judging.specs.Rules.{due_at, due_or}
-use Rattle.fr_logged.specs.Dues.{due_of}
 use Rattle.fr_logged.specs.declared.due.Due.{Due}
+use Rattle.fr_logged.specs.Dues.{due_of}
 use Rattle.fr_minislot.specs.DynamicRows.{row_length}
 use Rattle.fr_minislot.specs.Lanes.{Standing, closed, opened_in}
 use Rattle.fr_schedule.specs.Clusters.{IsCluster}
@@ -109,7 +109,7 @@ cycle_below c = mod_below (c.begun - 1) 64 (omega arith)
 
 -- ---- a static window
 
-slot_static : (channel : Channel) (number cycle slot : ℕ) → slot_of (static_window number cycle slot) channel
+pub slot_static : (channel : Channel) (number cycle slot : ℕ) → slot_of (static_window number cycle slot) channel
     ≡ Some slot
 slot_static A number cycle slot = refl
 slot_static B number cycle slot = refl

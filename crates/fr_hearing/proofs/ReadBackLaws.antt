@@ -1,27 +1,30 @@
 -- What is written of a bus is read back as what a listener received there.
-use Rattle.std.proofs.Common.{◌≡◌, ℕ, ℤ, suc, ◌+◌, ◌*◌, ◌/◌, ◌%◌, ◌<◌, ◌≤◌, List, [], ◌∷◌, ◌++◌, length}
-use Rattle.std.proofs.Common.{Option, Some, None, false, refl, sym, ap, ◌∙◌, arith}
+use Rattle.std.proofs.Common.{◌≡◌, ℕ, ℤ, suc, ◌+◌, ◌*◌, ◌/◌, ◌%◌, ◌<◌, ◌≤◌, List, [], ◌∷◌, ◌++◌, length, Option, Some}
+use Rattle.std.proofs.Common.{None, false, refl, sym, ap, ◌∙◌, arith, ◌-◌, take, length-take}
 use Rattle.std.proofs.lemmas.List.{append_assoc}
 use Rattle.std.specs.Prelude.{◌^◌, pos}
 use Rattle.arrayvec.specs.ArrayVec.{ArrayVec}
 use Rattle.fr_bus.specs.Record.{Recorded, heard}
-use Rattle.fr_capture.specs.Pcap.{file_header, record_seen, packet, record_header}
+use Rattle.fr_capture.specs.Pcap.{file_header, record_seen, packet, record_header, captured_bytes}
+use Rattle.fr_frame.specs.declared.decode.DecodeError.{DecodeError}
+use Rattle.fr_frame.specs.declared.decode.DecodeError.TheVariants.{TooShort, LengthMismatch, HeaderCrc, FrameCrc}
 use Rattle.fr_frame.specs.Refusal.{refusal}
-use Rattle.fr_hearing.proofs.FileLaws.{captured_short, not_refused}
 use Rattle.fr_hearing.proofs.ReadingLemmas.{bytes_more, records_more, IsReady, read_item, head_of, started, none_yet}
 use Rattle.fr_hearing.specs.Files.{window_seen, Clock}
 use Rattle.fr_hearing.specs.ReadBack.{read_time, read_seen, read_window, AreShort, IsReadBack, TimeIsKept}
 use Rattle.fr_hearing.specs.Runs.{logged}
+use Rattle.fr_recording.specs.declared.numbers.Order.TheVariants.{LowFirst}
+use Rattle.fr_recording.specs.declared.phase.Phase.{Phase}
+use Rattle.fr_recording.specs.declared.phase.Phase.TheVariants.{RecordHeader}
 use Rattle.fr_recording.specs.Numbers.{long}
 use Rattle.fr_recording.specs.Records.{Record}
 use Rattle.fr_recording.specs.Stream.{Progress, fresh, take_bytes, records_from, end_in}
-use Rattle.fr_recording.specs.declared.numbers.Order.TheVariants.{LowFirst}
 use Rattle.fr_slots.specs.declared.channel.Channel.{Channel}
 use Rattle.fr_slots.specs.declared.channel.Channel.TheVariants.{A, B}
 use Rattle.fr_slots.specs.History.{each_after}
 use Rattle.fr_slots.specs.Parameters.{Parameters}
-use Rattle.fr_status.specs.Forms.{Seen}
 use Rattle.fr_status.specs.declared.seen.Seen.TheVariants.{Silence, Own, Conflict, Noise, Overrun, Bytes}
+use Rattle.fr_status.specs.Forms.{Seen}
 
 -- ---- the time of a record
 
@@ -45,6 +48,16 @@ pub time_is_kept : TimeIsKept
 time_is_kept time few = ap pos (few_seconds time few)
 
 -- ---- an observation
+
+front_short : (bytes : List ℕ) → length (take (length bytes - 3) bytes) ≤ length bytes
+front_short bytes = omega (arith, length-take (length bytes - 3) bytes)
+
+captured_short : (error : Option DecodeError) (bytes : List ℕ) → length (captured_bytes error bytes) ≤ length bytes
+captured_short None bytes = front_short bytes
+captured_short (Some TooShort) bytes = omega arith
+captured_short (Some LengthMismatch) bytes = omega arith
+captured_short (Some HeaderCrc) bytes = front_short bytes
+captured_short (Some FrameCrc) bytes = front_short bytes
 
 abbrev Short : Seen → Type 0
 Short o = (bytes : ArrayVec ℕ) → o ≡ Bytes bytes → length bytes.items ≤ 262
@@ -122,6 +135,12 @@ module _ (p : Parameters) (time : Clock) where
       }
 
 -- ---- the file
+
+not_refused : (q : Progress) → IsReady q → end_in q.state.phase q.state q.held ≡ None
+not_refused q is =
+    ap (λ (phase : Phase). end_in phase q.state q.held) is.phase_is
+    ∙ ap (λ (held : List ℕ). end_in (RecordHeader 1000 210)
+    q.state held) is.none_held
 
 pub is_read_back : IsReadBack
 is_read_back time p rs short =

@@ -1,22 +1,22 @@
 -- The records of a classic capture file are those that were written.
-use Rattle.std.proofs.Common.{◌≡◌, ℕ, ℤ, ◌+◌, ◌*◌, ◌<◌, ◌≤◌, cond, List, []}
-use Rattle.std.proofs.Common.{◌∷◌, ◌++◌, length, take, Option, Some, None, refl, sym, ap, ◌∙◌, arith}
-use Rattle.std.proofs.Common.{length-append}
+use Rattle.std.proofs.Common.{◌≡◌, ℕ, ℤ, ◌+◌, ◌*◌, ◌<◌, ◌≤◌, cond, List, [], ◌∷◌, ◌++◌, length, Option, Some, None}
+use Rattle.std.proofs.Common.{refl, sym, ap, ◌∙◌, arith, length-append}
 use Rattle.std.specs.Prelude.{◌==◌, ◌^◌, nat_lt, pos, option_map, option_to_list}
 use Rattle.std.proofs.lemmas.Bool.{cond-true, cond-false, lt-ltb, le-ltb, ne_eqb}
 use Rattle.std.proofs.lemmas.List.{append_assoc, append-nil}
 use Rattle.fr_capture.specs.Pcap.{file_header, record_header}
+use Rattle.fr_guarantees.proofs.GuaranteeLemmas.{take_all}
 use Rattle.fr_hearing.specs.Runs.{logged}
 use Rattle.fr_recording.specs.Captures.{record_head}
-use Rattle.fr_recording.specs.Numbers.{long, most_captured}
-use Rattle.fr_recording.specs.Records.{Record}
-use Rattle.fr_recording.specs.Stream.{State, Progress, fresh, go, tell, needed, after_part, after_record_head, read_on}
-use Rattle.fr_recording.specs.Stream.{take_byte, take_bytes, told_of, records_from, record_of}
 use Rattle.fr_recording.specs.declared.numbers.Order.{Order}
 use Rattle.fr_recording.specs.declared.numbers.Order.TheVariants.{LowFirst}
 use Rattle.fr_recording.specs.declared.phase.Head.{Head}
 use Rattle.fr_recording.specs.declared.phase.Phase.{Phase}
 use Rattle.fr_recording.specs.declared.phase.Phase.TheVariants.{RecordHeader, RecordBytes}
+use Rattle.fr_recording.specs.Numbers.{long, most_captured}
+use Rattle.fr_recording.specs.Records.{Record}
+use Rattle.fr_recording.specs.Stream.{State, Progress, fresh, go, tell, needed, after_part, after_record_head, read_on}
+use Rattle.fr_recording.specs.Stream.{take_byte, take_bytes, told_of, records_from, record_of}
 
 -- ---- bytes after bytes
 
@@ -130,10 +130,6 @@ head_is time count few =
 length_head : (time count : ℕ) → length (record_header time count) ≡ 16
 unfolding record_header
 length_head time count = refl
-
-take_all : (xs : List ℕ) → take (length xs) xs ≡ xs
-take_all [] = refl
-take_all (x ∷ xs) = ap (λ (l : List ℕ). x ∷ l) (take_all xs)
 
 -- one record was read
 pub record IsItemRead (p : Progress) (bytes packet : List ℕ) (due : Option ℤ) : Type 0 where

@@ -1,37 +1,31 @@
 -- The records of a recording: those of the channel spell its frames, and the others leave the channel as it is.
-use Rattle.std.proofs.Common.{◌≡◌, ℕ, ◌≤◌, Bool, true, false, cond, List, refl}
-use Rattle.std.proofs.Common.{sym}
-use Rattle.std.proofs.Common.{ap, ◌∙◌, arith, ◌⊎◌, inl, inr}
+use Rattle.std.proofs.Common.{◌≡◌, ℕ, ◌≤◌, Bool, true, false, cond, List, refl, sym, ap, ◌∙◌, arith, ◌⊎◌, inl, inr}
 use Rattle.std.proofs.lemmas.Bool.{cond-true, cond-false, le-ltb, leb-true, ne_eqb, and_left, and_right}
 use Rattle.std.specs.Prelude.{Ok, nat_le, nat_lt, ◌==◌, ◌&&◌}
 use Rattle.fr_frame.specs.Fields.{Fields}
-use Rattle.fr_logged.specs.Logged.{kind_of, spelled}
+use Rattle.fr_guarantees.proofs.HeardLemmas.{same_channel}
+use Rattle.fr_hearing.proofs.CoreLemmas.{core}
+use Rattle.fr_hearing.specs.Alarms.{is_on}
+use Rattle.fr_hearing.specs.Heard.{Spot, IsAllowed, IsAllowedAs}
+use Rattle.fr_judging.specs.declared.line.At.{At}
+use Rattle.fr_judging.specs.declared.rules.Rules.{Rules}
+use Rattle.fr_judging.specs.Judging.{State, turn, turned, judge, take_kind, next_record, frame_on, take_frame, good}
+use Rattle.fr_judging.specs.Judging.{count_record, spelled_frame, is_lawless, symbol_on, count_symbol, ill}
+use Rattle.fr_judging.specs.Rules.{judges, other_channel}
+use Rattle.fr_logged.specs.declared.finding.Name.TheVariants as name
+use Rattle.fr_logged.specs.declared.finding.Word.TheVariants.{Absent}
 use Rattle.fr_logged.specs.declared.record.Kind.{Kind}
 use Rattle.fr_logged.specs.declared.record.Kind.TheVariants.{Foreign, Symbol, Frame}
+use Rattle.fr_logged.specs.Findings.{number_word}
+use Rattle.fr_logged.specs.Logged.{kind_of, spelled, place_of as frame_place}
 use Rattle.fr_recording.specs.Numbers.{counted}
 use Rattle.fr_recording.specs.Records.{Record}
 use Rattle.fr_schedule.specs.Descriptions.{Description}
 use Rattle.fr_slots.specs.Admission.{is_channel}
 use Rattle.fr_slots.specs.declared.channel.Channel.{Channel}
 use Rattle.fr_slots.specs.declared.channel.Channel.TheVariants.{A, B}
-use Rattle.fr_judging.specs.Judging.{State, turn, turned, judge, take_kind, next_record, frame_on, take_frame, good}
-use Rattle.fr_judging.specs.Judging.{count_record, spelled_frame, is_lawless, symbol_on, count_symbol, ill}
-use Rattle.fr_logged.specs.Findings.{number_word}
-use Rattle.fr_logged.specs.Logged.{place_of as frame_place}
-use Rattle.fr_logged.specs.declared.finding.Name.TheVariants as name
-use Rattle.fr_logged.specs.declared.finding.Word.TheVariants.{Absent}
-use Rattle.fr_judging.specs.Rules.{judges, other_channel}
-use Rattle.fr_judging.specs.declared.line.At.{At}
-use Rattle.fr_judging.specs.declared.rules.Rules.{Rules}
-use Rattle.fr_hearing.specs.Alarms.{is_on}
-use Rattle.fr_hearing.specs.Heard.{Spot, IsAllowed, IsAllowedAs}
-use Rattle.fr_hearing.proofs.CoreLemmas.{core}
 
 -- ---- the channel that stands first
-
-pub same_channel : (c : Channel) → is_channel c c ≡ true
-same_channel A = refl
-same_channel B = refl
 
 pub turn_none : (s : State) (channel : Channel) → s.channel ≡ channel → turn s channel ≡ s
 turn_none s channel e =

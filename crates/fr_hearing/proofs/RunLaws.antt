@@ -1,17 +1,17 @@
 -- In a run without faults on a channel the frames that a listener receives are those of whole cycles, and a recording
 -- of them has no finding.
-use Rattle.std.proofs.Common.{◌≡◌, ℕ, zero, suc, ◌+◌, ◌*◌, ◌%◌, ◌<◌, ◌≤◌, Bool, true, false, cond, List, [], ◌∷◌}
-use Rattle.std.proofs.Common.{◌++◌, length, map, Option, Some, None, refl, sym, ap, subst, ◌∙◌, arith, ◌⊎◌, inl, inr}
+use Rattle.std.proofs.Common.{◌≡◌, ℕ, zero, suc, ◌+◌, ◌*◌, ◌%◌, ◌<◌, ◌≤◌, Bool, true, false, cond, List, [], ◌∷◌, ◌++◌}
+use Rattle.std.proofs.Common.{length, map, Option, Some, None, refl, sym, ap, subst, ◌∙◌, arith, ◌⊎◌, inl, inr}
 use Rattle.std.specs.Option.{option_or}
 use Rattle.std.specs.Prelude.{nat_le, nat_lt, ◌-◌, ◌&&◌}
 use Rattle.std.proofs.lemmas.Bool.{leb-true, leb-false, ltb-false, cond-true}
 use Rattle.arrayvec.specs.ArrayVec.{ArrayVec}
-use Rattle.fr_bus.specs.Record.{Recorded}
-use Rattle.fr_capture.specs.Pcap.{packet}
 use Rattle.fr_bus.specs.declared.error.Phase.{Phase}
 use Rattle.fr_bus.specs.declared.error.Phase.TheVariants.{Finished}
+use Rattle.fr_bus.specs.Record.{Recorded}
 use Rattle.fr_bus.specs.States.{Stands}
 use Rattle.fr_bus.specs.Windows.{following, this_cycle, statics_of, cycles_begun, next_dynamic, first_of_cycle}
+use Rattle.fr_capture.specs.Pcap.{packet}
 use Rattle.fr_core.proofs.CaseLemmas.{both_rest, both}
 use Rattle.fr_core.specs.Headline.{Headline}
 use Rattle.fr_core.specs.Worlds.{WorldState}
@@ -20,23 +20,23 @@ use Rattle.fr_frame.specs.declared.decode.DecodeError.{DecodeError}
 use Rattle.fr_frame.specs.Encoding.{encoded}
 use Rattle.fr_frame.specs.Fields.{Fields, IsFrame}
 use Rattle.fr_frame.specs.Refusal.{refusal}
+use Rattle.fr_guarantees.proofs.HeardLemmas.{same_channel}
 use Rattle.fr_hearing.proofs.AlarmLaws.{no_false_alarm, no_false_alarm_of_both}
 use Rattle.fr_hearing.proofs.CaptureLaws.{read, reads_back}
 use Rattle.fr_hearing.proofs.CycleLemmas.{AreHeardAt, frames_of, Begins, from_start, are_heard}
 use Rattle.fr_hearing.proofs.HearingLemmas.{window_heard, each_heard}
 use Rattle.fr_hearing.proofs.PassageLemmas.{IsHeardAt, with_frame}
-use Rattle.fr_hearing.proofs.RecordLemmas.{same_channel}
 use Rattle.fr_hearing.proofs.SilenceLaws.{no_alarm_in_silence, nothing_due}
 use Rattle.fr_hearing.proofs.SizeLemmas.{static_words, dynamic_sized}
 use Rattle.fr_hearing.specs.Alarms.{Spells, AreOn, judged}
 use Rattle.fr_hearing.specs.Heard.{Spot, after_frame, cycle_start, IsAllowed, IsAllowedAs, FollowOn, AreHeard}
-use Rattle.fr_hearing.specs.Runs.{AreReceived, CyclesAreHeard, packets_seen, packets_of, logged}
-use Rattle.fr_hearing.specs.Runs.{AreLogged, NoAlarmInRun, NoAlarmOfBoth, IsComplete, FinishedIsComplete, ClockIsTold}
+use Rattle.fr_hearing.specs.Runs.{AreReceived, CyclesAreHeard, packets_seen, packets_of, logged, AreLogged}
+use Rattle.fr_hearing.specs.Runs.{NoAlarmInRun, NoAlarmOfBoth, IsComplete, FinishedIsComplete, ClockIsTold}
 use Rattle.fr_judging.specs.Judging.{fresh, finish, has_finding}
 use Rattle.fr_judging.specs.Rules.{other_channel, due_at, due_or, rules_of, judges, has_sender, has_sender_in}
 use Rattle.fr_judging.specs.Rules.{is_clocked, unclocked}
-use Rattle.fr_logged.specs.Dues.{due_of}
 use Rattle.fr_logged.specs.declared.due.Due.{Due}
+use Rattle.fr_logged.specs.Dues.{due_of}
 use Rattle.fr_recording.specs.Records.{Record}
 use Rattle.fr_schedule.specs.Clusters.{IsCluster}
 use Rattle.fr_schedule.specs.Descriptions.{Description}
@@ -122,7 +122,7 @@ module _ (d : Description) (channel : Channel) (cluster : IsCluster d) where
         payload_fits = record { short = omega (arith, words, most); even = omega (arith, words) };
       }
 
-  follow_frames : (s : Spot) (fs : List Fields) → FollowOn d channel s fs → Each IsFrame fs
+  pub follow_frames : (s : Spot) (fs : List Fields) → FollowOn d channel s fs → Each IsFrame fs
   follow_frames s [] over = tt
   follow_frames s (f ∷ fs) (inl further) =
       (is_frame s f further.0.allowed, follow_frames (after_frame d.params s f) fs further.1)

@@ -1,30 +1,30 @@
 -- A channel without a sender has no frame and no finding.
-use Rattle.std.proofs.Common.{◌≡◌, ℕ, zero, suc, Bool, true, false, not, cond, ◌&&◌, ◌||◌, List, [], ◌∷◌, refl}
-use Rattle.std.proofs.Common.{sym, ap, ◌∙◌, inl, inr, Some, None, slice_get}
-use Rattle.std.proofs.lemmas.Bool.{cond-false, eqb-true}
+use Rattle.std.proofs.Common.{◌≡◌, ℕ, Bool, true, false, not, cond, ◌&&◌, ◌||◌, List, [], ◌∷◌, refl, sym, ap, ◌∙◌, inl}
+use Rattle.std.proofs.Common.{inr, Some, None}
+use Rattle.std.proofs.lemmas.Bool.{eqb-true}
 use Rattle.std.specs.Prelude.{◌==◌}
 use Rattle.std.specs.List.{list_any}
+use Rattle.std.proofs.lemmas.Map.Keys.{any_passes_from_place}
 use Rattle.fr_bus.specs.Record.{Recorded}
 use Rattle.fr_core.proofs.CaseLemmas.{both, both_first, both_rest, differ}
 use Rattle.fr_frame.specs.Fields.{Fields}
+use Rattle.fr_hearing.proofs.AcceptedLaws.{quiet_other}
 use Rattle.fr_hearing.proofs.AlarmLaws.{IsAlone, alone, core_fresh, fresh_core, turn_rules, found_none, silent_end}
 use Rattle.fr_hearing.proofs.AlarmLaws.{end_channel, cleared, aside_record, not_judged_alone}
 use Rattle.fr_hearing.proofs.CoreLemmas.{Core, core}
 use Rattle.fr_hearing.proofs.PassageLemmas.{IsLoud}
 use Rattle.fr_hearing.specs.Alarms.{AreOn, judged, NoAlarmInSilence}
 use Rattle.fr_hearing.specs.Listening.{IsThere}
-use Rattle.fr_judging.specs.Judging.{State, turn, turned, judge, fresh, finish, finish_on, finish_channel}
-use Rattle.fr_judging.specs.Judging.{has_finding}
+use Rattle.fr_judging.specs.declared.rules.Rules.{Rules}
+use Rattle.fr_judging.specs.Judging.{State, turn, turned, judge, fresh, finish, finish_on, has_finding}
 use Rattle.fr_judging.specs.Rules.{judges, other_channel, rules_of, has_sender, has_sender_in, sends_on, own_includes}
 use Rattle.fr_judging.specs.Rules.{transmits_on}
-use Rattle.fr_judging.specs.declared.rules.Rules.{Rules}
 use Rattle.fr_logged.proofs.SenderLemmas.{due_nobody}
-use Rattle.fr_logged.specs.Dues.{due_of}
 use Rattle.fr_logged.specs.declared.due.Due.{Due}
+use Rattle.fr_logged.specs.Dues.{due_of}
 use Rattle.fr_recording.specs.Records.{Record}
 use Rattle.fr_schedule.specs.Descriptions.{Description}
 use Rattle.fr_schedule.specs.SenderTable.{IsSender}
-use Rattle.fr_slots.proofs.PlaceLemmas.{same_some}
 use Rattle.fr_slots.specs.Admission.{is_channel, includes, cycle_admitted}
 use Rattle.fr_slots.specs.declared.channel.Channel.{Channel}
 use Rattle.fr_slots.specs.declared.channel.Channel.TheVariants.{A, B}
@@ -51,17 +51,6 @@ any_more p q (x ∷ xs) more some = by (p x) refl some (any_more p q xs more)
     by true is e rest = ap (λ (b : Bool). b || list_any q xs) (more x is)
     by false is e rest = ap (λ (b : Bool). q x || b) (rest e) ∙ or_true (q x)
 
-any_at : {X : Type 0} (test : X → Bool) (xs : List X) (k : ℕ) (x : X) → slice_get xs k ≡ Some x → test x ≡ true
-    → list_any test xs ≡ true
-any_at test [] k x at passes = absurd (let none : ⊥ = cc in none)
-any_at test (y ∷ xs) zero x at passes =
-    ap (λ (b : Bool). b || list_any test xs) (ap test (same_some y x at) ∙ passes)
-any_at test (y ∷ xs) (suc k) x at passes = by (test y) (any_at test xs k x at passes)
-  where
-    by : (b : Bool) → list_any test xs ≡ true → (b || list_any test xs) ≡ true
-    by true rest = refl
-    by false rest = rest
-
 module _ (d : Description) (channel : Channel) (slot cycle : ℕ) where
   owner_sends : (own : Own) → claims slot channel cycle own ≡ true → own_includes channel own ≡ true
   owner_sends own e =
@@ -84,7 +73,7 @@ module _ (d : Description) (channel : Channel) (slot cycle : ℕ) where
 
   some_sender : (node : ℕ) → IsSender d cycle slot channel node → has_sender d channel ≡ true
   some_sender node s =
-      any_at (sends_on d.params channel) d.plans node s.plan s.at (by (is_static_slot d.params slot) refl s.sends)
+      any_passes_from_place (sends_on d.params channel) d.plans node s.plan s.at (by (is_static_slot d.params slot) refl s.sends)
     where
       or_rest : (p q : Bool) → q ≡ true → (p || q) ≡ true
       or_rest true q e = refl
@@ -129,13 +118,6 @@ all_others r channel (rec ∷ rs) s aside (inr own) e =
     let no : ◌≡◌ {A = List Fields} [] (own.0 ∷ own.1) = own.2 in
     absurd (let none : ⊥ = cc in none)
 
-skip_channel : (r : Rules) (s : State) (other : Channel) → s.rules ≡ r → judges r other ≡ false
-    → finish_on s other true ≡ s
-unfolding finish_on
-skip_channel r s other rules_are none =
-    cond-false (judges s.rules other) (finish_channel (turn s other) true) s
-    (ap (λ (q : Rules). judges q other) rules_are ∙ none)
-
 cleared_core : (s : State) (channel : Channel) → core (turn (cleared s) channel) ≡ core (turn s channel)
 cleared_core s channel = by (is_channel s.channel channel)
   where
@@ -159,12 +141,12 @@ unfolding finish
 silent_finish r A s is_alone aside none e =
     let here : core (turn (cleared s) A) ≡ core_fresh r A = cleared_core s A ∙ e in
     ap (λ (t : State). has_finding (finish_on t B true)) (silent_here r A (cleared s) is_alone none here)
-    ∙ ap has_finding (skip_channel r (turn (cleared s) A) B (ap (λ (c : Core). c.rules) here) aside)
+    ∙ ap has_finding (quiet_other r (turn (cleared s) A) B (ap (λ (c : Core). c.rules) here) aside)
     ∙ found_none (turn (cleared s) A) (ap (λ (c : Core). c.found) here)
 silent_finish r B s is_alone aside none e =
     let here : core (turn (cleared s) B) ≡ core_fresh r B = cleared_core s B ∙ e in
     let rules_are : s.rules ≡ r = sym (turn_rules s B) ∙ ap (λ (c : Core). c.rules) e in
-    ap (λ (t : State). has_finding (finish_on t B true)) (skip_channel r (cleared s) A rules_are aside)
+    ap (λ (t : State). has_finding (finish_on t B true)) (quiet_other r (cleared s) A rules_are aside)
     ∙ ap has_finding (silent_here r B (cleared s) is_alone none here)
     ∙ found_none (turn (cleared s) B) (ap (λ (c : Core). c.found) here)
 

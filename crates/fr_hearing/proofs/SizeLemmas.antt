@@ -1,15 +1,15 @@
 -- The size of a frame that is due: its words, its minislots and its bytes.
-use Rattle.std.proofs.Common.{◌≡◌, ℕ, zero, suc, ◌+◌, ◌-◌, ◌*◌, ◌<◌, ◌≤◌, Bool, true, false, cond, not, ◌&&◌}
-use Rattle.std.proofs.Common.{List, [], ◌∷◌, Option, Some, None, refl, sym, ap, subst, ◌∙◌, arith, slice_get}
-use Rattle.std.proofs.lemmas.Bool.{cond-true, cond-false, eqb-true, ne_eqb, leb-true, leb-false}
-use Rattle.std.proofs.lemmas.Grind.{div_ceil_times}
-use Rattle.std.proofs.Math.Nat.{add-mul, mul-le-mul_right}
+use Rattle.std.proofs.Common.{◌≡◌, ℕ, suc, ◌+◌, ◌-◌, ◌*◌, ◌≤◌, Bool, true, false, cond, not, ◌&&◌, List, [], ◌∷◌}
+use Rattle.std.proofs.Common.{Option, Some, None, refl, sym, ap, subst, ◌∙◌, arith, slice_get}
+use Rattle.std.proofs.lemmas.Bool.{cond-true, cond-false, eqb-true, ne_eqb, leb-true}
 use Rattle.std.specs.Int.{div_ceil}
 use Rattle.std.specs.List.{find}
-use Rattle.std.specs.Prelude.{◌==◌, ◌||◌, nat_le, is_some, unwrap_or}
+use Rattle.std.specs.Prelude.{◌==◌, ◌||◌, is_some, unwrap_or}
 use Rattle.fr_core.proofs.CaseLemmas.{both, both_first, both_rest}
-use Rattle.fr_logged.specs.Dues.{line_in, buffer_in, owner_or, owner_from, sender_or, sender_from, dynamic_due, due_of}
+use Rattle.fr_guarantees.proofs.TableLaws.{fit_at}
+use Rattle.fr_guarantees.proofs.WayLaws.{div_ceil-halves}
 use Rattle.fr_logged.specs.declared.due.Due.{Due}
+use Rattle.fr_logged.specs.Dues.{line_in, buffer_in, owner_or, owner_from, sender_or, sender_from, dynamic_due, due_of}
 use Rattle.fr_minislot.specs.DynamicRows.{minislots_filled_by, row_length}
 use Rattle.fr_schedule.specs.Clusters.{IsCluster, IsNode}
 use Rattle.fr_schedule.specs.Descriptions.{Description}
@@ -21,37 +21,9 @@ use Rattle.fr_slots.specs.declared.plan.Buffer.{Buffer}
 use Rattle.fr_slots.specs.declared.plan.Own.{Own}
 use Rattle.fr_slots.specs.Faults.{minislots_filled, sends_at, transmits, transmits_dynamic, words_of, latest_on}
 use Rattle.fr_slots.specs.Parameters.{Parameters, is_static_slot}
-use Rattle.fr_slots.specs.Plans.{Plan, Each, AllFit, buffer_fits, filter_admits, words_fit, is_receive}
+use Rattle.fr_slots.specs.Plans.{Plan, Each, buffer_fits, filter_admits, words_fit, is_receive}
 
 -- ---- quotients that are rounded up
-
-not_above : (x y n a : ℕ) → a ≤ x * n → y * n < a + n → y ≤ x
-not_above x y n a low high = by (nat_le y x) refl
-  where
-    by : (b : Bool) → nat_le y x ≡ b → y ≤ x
-    by true e = leb-true y x e
-    by false e =
-        let less : x + 1 ≤ y = (let above = leb-false y x e in omega (arith, above)) in
-        let more : (x + 1) * n ≤ y * n = mul-le-mul_right n less in
-        let sum : (x + 1) * n ≡ x * n + 1 * n = add-mul x 1 n in
-        absurd (let none : ⊥ = omega (arith, low, high, more, sum) in none)
-
-twice : (x n : ℕ) → x * (2 * n) ≡ 2 * (x * n)
-twice zero n = omega arith
-twice (suc x) n = omega (arith, twice x n)
-
-div_ceil-halves : (a n : ℕ) → 0 < n → div_ceil (2 * a) (2 * n) ≡ div_ceil a n
-div_ceil-halves a n some =
-    let x = div_ceil (2 * a) (2 * n) in
-    let y = div_ceil a n in
-    let whole = div_ceil_times (2 * a) (2 * n) (omega (arith, some)) in
-    let half = div_ceil_times a n some in
-    let doubled = twice x n in
-    let low : a ≤ x * n = omega (arith, whole.0, doubled) in
-    let high : x * n < a + n = omega (arith, whole.1, doubled) in
-    let up : y ≤ x = not_above x y n a low half.1 in
-    let down : x ≤ y = not_above y x n a half.0 high in
-    omega (arith, up, down)
 
 -- the bytes of a frame fill the minislots of its words
 pub filled_same : (p : Parameters) (bytes words : ℕ) → 1 ≤ p.words_per_minislot → bytes ≡ 8 + 2 * words
@@ -105,12 +77,6 @@ found_at test (y ∷ xs) x e = by (test y) refl e (found_at test xs x)
         → (find test xs ≡ Some x → IsFoundAt test xs x) → IsFoundAt test (y ∷ xs) x
     by true is f more = record { place = 0; at = f; passes = ap test (sym (same_some y x f)) ∙ is }
     by false is f more = let m = more f in record { place = suc m.place; at = m.at; passes = m.passes }
-
-fit_at : {X : Type 0} (fits : X → Bool) (xs : List X) (k : ℕ) (x : X) → AllFit fits xs → slice_get xs k ≡ Some x
-    → fits x ≡ true
-fit_at fits [] k x all at = absurd (let none : ⊥ = cc in none)
-fit_at fits (y ∷ xs) zero x all at = ap fits (sym (same_some y x at)) ∙ all.0
-fit_at fits (y ∷ xs) (suc k) x all at = fit_at fits xs k x all.1 at
 
 few_words : (o : Option ℕ) → words_fit o ≡ true → unwrap_or o 0 ≤ 127
 few_words None fit = omega arith

@@ -8,15 +8,14 @@ use Rattle.fr_frame.proofs.NumberLemmas.{number_of-fits, length-bits_of_bytes}
 use Rattle.fr_frame.specs.Bits.{bits_of_bytes, number_of}
 use Rattle.fr_frame.specs.Fields.{Fields}
 use Rattle.fr_frame.specs.Header.{number_at}
-use Rattle.fr_logged.specs.Findings.{with_numbers}
-use Rattle.fr_logged.specs.Headers.{header_in, right_crc}
-use Rattle.fr_logged.specs.Logged.{spelled, spelled_in, frame_by, fields_by, length_finding, header_finding}
-use Rattle.fr_logged.specs.Logged.{frame_finding}
-use Rattle.fr_logged.specs.Logged.{or_else, unless_logged, logged_in, cut}
 use Rattle.fr_logged.specs.declared.finding.Finding.{Finding}
 use Rattle.fr_logged.specs.declared.finding.Name.{Name}
 use Rattle.fr_logged.specs.declared.finding.Name.TheVariants as name
 use Rattle.fr_logged.specs.declared.frame.Header.{Header}
+use Rattle.fr_logged.specs.Findings.{with_numbers}
+use Rattle.fr_logged.specs.Headers.{header_in, right_crc}
+use Rattle.fr_logged.specs.Logged.{spelled, spelled_in, frame_by, fields_by, length_finding, header_finding}
+use Rattle.fr_logged.specs.Logged.{frame_finding, or_else, unless_logged, logged_in, cut}
 use Rattle.fr_slots.specs.declared.channel.Channel.{Channel}
 
 pub record IsSized (f : Fields) : Type 0 where

@@ -1,27 +1,25 @@
 -- The next frame of a channel: it is one of the open cycle, or waits for the frame after it.
-use Rattle.std.proofs.Common.{◌≡◌, ◌+◌, ◌%◌, ◌<◌, true, false, cond, refl}
-use Rattle.std.proofs.Common.{sym}
-use Rattle.std.proofs.Common.{ap, ◌∙◌, ◌*◌}
+use Rattle.std.proofs.Common.{◌≡◌, ◌+◌, ◌%◌, ◌<◌, true, false, cond, refl, sym, ap, ◌∙◌, ◌*◌}
 use Rattle.std.proofs.lemmas.Bool.{cond-true, cond-false, eq-eqb, ne_eqb, lt-leb}
 use Rattle.std.specs.Prelude.{Option, Some, None, nat_le, ◌==◌, ℤ, ◌-ℤ◌}
 use Rattle.fr_frame.specs.Fields.{Fields}
-use Rattle.fr_logged.specs.Findings.{with_numbers}
-use Rattle.fr_logged.specs.Logged.{place_of as frame_place}
-use Rattle.fr_logged.specs.declared.finding.Name.TheVariants as name
-use Rattle.fr_slots.specs.declared.channel.Channel.{Channel}
-use Rattle.fr_judging.specs.Distances.{is_anew, anew_by, is_long}
-use Rattle.fr_judging.specs.Judging.{State, came, member, place_frame, hold, open_cycle, settle, settle_with, decide}
-use Rattle.fr_judging.specs.Judging.{wrong_count, next_of, speak, good, skip_before, find, mark_odd, disturb}
-use Rattle.fr_judging.specs.Lanes.{same_open, opens}
-use Rattle.fr_judging.specs.declared.lane.Held.{Held}
-use Rattle.fr_judging.specs.declared.lane.Next.{Next}
-use Rattle.fr_judging.specs.declared.line.At.{At}
-use Rattle.fr_judging.specs.declared.rules.Rules.{Rules}
-use Rattle.fr_hearing.specs.Heard.{Spot, cycle_start, after_frame, IsFirst, IsFurther, IsNext}
 use Rattle.fr_hearing.proofs.CameLemmas.{IsPlain, core_at, came_at}
 use Rattle.fr_hearing.proofs.CoreLemmas.{Core, core}
 use Rattle.fr_hearing.proofs.CountLemmas.{not_same}
 use Rattle.fr_hearing.proofs.OpenLemmas.{core_before, before_none, cycle_first, cycle_next}
+use Rattle.fr_hearing.specs.Heard.{Spot, cycle_start, after_frame, IsFirst, IsFurther, IsNext}
+use Rattle.fr_judging.specs.declared.lane.Held.{Held}
+use Rattle.fr_judging.specs.declared.lane.Next.{Next}
+use Rattle.fr_judging.specs.declared.line.At.{At}
+use Rattle.fr_judging.specs.declared.rules.Rules.{Rules}
+use Rattle.fr_judging.specs.Distances.{is_anew, anew_by, is_long}
+use Rattle.fr_judging.specs.Judging.{State, came, member, place_frame, hold, open_cycle, settle, settle_with, decide}
+use Rattle.fr_judging.specs.Judging.{wrong_count, next_of, speak, good, skip_before, find, mark_odd, disturb}
+use Rattle.fr_judging.specs.Lanes.{same_open, opens}
+use Rattle.fr_logged.specs.declared.finding.Name.TheVariants as name
+use Rattle.fr_logged.specs.Findings.{with_numbers}
+use Rattle.fr_logged.specs.Logged.{place_of as frame_place}
+use Rattle.fr_slots.specs.declared.channel.Channel.{Channel}
 
 -- a frame waits at a place
 abbrev pub waiting : Core → Held → Core

@@ -1,7 +1,6 @@
 -- A finding stays: no step of the judgement takes one back.
 use Rattle.std.proofs.Common.{◌≡◌, ℕ, zero, suc, ◌+◌, ◌-◌, ◌/◌, ◌<◌, ◌≤◌, Bool, true, false, cond, List, [], ◌∷◌}
-use Rattle.std.proofs.Common.{length}
-use Rattle.std.proofs.Common.{refl, ap, ◌∙◌, arith, inl, inr}
+use Rattle.std.proofs.Common.{length, refl, ap, ◌∙◌, arith, inl, inr}
 use Rattle.std.proofs.lemmas.Bool.{or_left, or_right, or_cases, ne_eqb, not_from_false}
 use Rattle.std.proofs.lemmas.List.{length-set, get_or-set_same, length-replicate}
 use Rattle.std.proofs.lemmas.List.Folds.{list_any_at}
@@ -10,9 +9,29 @@ use Rattle.std.specs.Prelude.{slice_set}
 use Rattle.std.specs.List.{list_any}
 use Rattle.std.specs.Option.{is_none, option_or}
 use Rattle.fr_frame.specs.Fields.{Fields}
-use Rattle.fr_logged.specs.Findings.{bare, with_numbers, number_word}
-use Rattle.fr_logged.specs.Logged.{cut, place_in, place_of as frame_place, spelled}
-use Rattle.fr_logged.specs.Rules.{static_finding, dynamic_finding}
+use Rattle.fr_hearing.specs.Alarms.{judged}
+use Rattle.fr_judging.specs.declared.distance.Distance.{Distance}
+use Rattle.fr_judging.specs.declared.lane.Held.{Held}
+use Rattle.fr_judging.specs.declared.lane.Next.{Next}
+use Rattle.fr_judging.specs.declared.line.At.{At}
+use Rattle.fr_judging.specs.declared.line.Line.{Line}
+use Rattle.fr_judging.specs.declared.line.Line.TheVariants as line
+use Rattle.fr_judging.specs.Distances.{distance_to, is_anew, time_finding}
+use Rattle.fr_judging.specs.Judging.{State, turn, turned, add_line, count_name, count_other, count_place, tell_line}
+use Rattle.fr_judging.specs.Judging.{find, find_some, tell_missing, miss_of, miss_due, miss, skipped, skip_to, away_at}
+use Rattle.fr_judging.specs.Judging.{skip_before, end_in, end_cycle, static_end, slot_place, count_missing, with_away}
+use Rattle.fr_judging.specs.Judging.{back_line, add_back, back_of, back, show, show_frame, fix, keep_plain, keep_frame}
+use Rattle.fr_judging.specs.Judging.{count_frame, static_came, dynamic_came, came_with, came, channels_finding}
+use Rattle.fr_judging.specs.Judging.{placed_finding, leave, tell_silent, with_alone, listen, open_first, tell_gap}
+use Rattle.fr_judging.specs.Judging.{enter, open_after, open_closed, open_next, open_cycle, disturb, mark_odd, member}
+use Rattle.fr_judging.specs.Judging.{wrong_count, next_of, decide, settle_with, settle, hold, place_frame, speak, good}
+use Rattle.fr_judging.specs.Judging.{ill, is_lawless, spelled_frame, take_frame, count_record, frame_on, symbol_on}
+use Rattle.fr_judging.specs.Judging.{symbol_place, count_symbol, take_kind, next_record, judge, says_nothing}
+use Rattle.fr_judging.specs.Judging.{tell_nothing, tell_end, finish_channel, finish_on, finish, has_finding}
+use Rattle.fr_judging.specs.Judging.{is_some_number, none_found, silent_place, count_word, silence}
+use Rattle.fr_judging.specs.Lanes.{opens, begun, same_open, after_dynamic}
+use Rattle.fr_judging.specs.Names.{index_of, is_missing}
+use Rattle.fr_judging.specs.Rules.{due_at, judges, are_both, has_sender_in}
 use Rattle.fr_logged.specs.declared.due.Due.{Due}
 use Rattle.fr_logged.specs.declared.finding.Finding.{Finding}
 use Rattle.fr_logged.specs.declared.finding.Name.{Name}
@@ -20,37 +39,14 @@ use Rattle.fr_logged.specs.declared.finding.Name.TheVariants as name
 use Rattle.fr_logged.specs.declared.finding.Place.{Place}
 use Rattle.fr_logged.specs.declared.record.Kind.{Kind}
 use Rattle.fr_logged.specs.declared.record.Kind.TheVariants.{Foreign, Symbol, Frame}
+use Rattle.fr_logged.specs.Findings.{bare, with_numbers, number_word}
+use Rattle.fr_logged.specs.Logged.{cut, place_in, place_of as frame_place, spelled}
+use Rattle.fr_logged.specs.Rules.{static_finding, dynamic_finding}
 use Rattle.fr_recording.specs.Numbers.{counted, most_counted}
 use Rattle.fr_recording.specs.Records.{Record}
 use Rattle.fr_slots.specs.Admission.{is_channel}
 use Rattle.fr_slots.specs.declared.channel.Channel.{Channel}
 use Rattle.fr_slots.specs.declared.channel.Channel.TheVariants.{A, B}
-use Rattle.fr_judging.specs.Judging.{State, turn, turned, add_line, count_name, count_other, count_place, tell_line}
-use Rattle.fr_judging.specs.Judging.{find}
-use Rattle.fr_judging.specs.Judging.{find_some, tell_missing, miss_of, miss_due, miss, skipped, skip_to, away_at}
-use Rattle.fr_judging.specs.Judging.{skip_before, end_in, end_cycle, static_end, slot_place, count_missing, with_away}
-use Rattle.fr_judging.specs.Judging.{back_line, add_back, back_of, back, show, show_frame, fix, keep_plain, keep_frame}
-use Rattle.fr_judging.specs.Judging.{count_frame, static_came, dynamic_came, came_with, came}
-use Rattle.fr_judging.specs.Judging.{channels_finding, placed_finding, leave, tell_silent, with_alone, listen}
-use Rattle.fr_judging.specs.Judging.{open_first}
-use Rattle.fr_judging.specs.Judging.{tell_gap, enter, open_after, open_closed, open_next, open_cycle, disturb, mark_odd}
-use Rattle.fr_judging.specs.Judging.{member, wrong_count, next_of, decide, settle_with, settle, hold}
-use Rattle.fr_judging.specs.Judging.{place_frame, speak, good, ill, is_lawless, spelled_frame, take_frame, count_record}
-use Rattle.fr_judging.specs.Judging.{frame_on, symbol_on, symbol_place, count_symbol, take_kind, next_record, judge}
-use Rattle.fr_judging.specs.Judging.{says_nothing, tell_nothing, tell_end, finish_channel, finish_on, finish}
-use Rattle.fr_judging.specs.Judging.{has_finding}
-use Rattle.fr_judging.specs.Judging.{is_some_number, none_found, silent_place, count_word, silence}
-use Rattle.fr_judging.specs.Distances.{distance_to, is_anew, time_finding}
-use Rattle.fr_judging.specs.Lanes.{opens, begun, same_open, after_dynamic}
-use Rattle.fr_judging.specs.Names.{index_of, is_missing}
-use Rattle.fr_judging.specs.Rules.{due_at, judges, are_both, has_sender_in}
-use Rattle.fr_judging.specs.declared.distance.Distance.{Distance}
-use Rattle.fr_judging.specs.declared.lane.Held.{Held}
-use Rattle.fr_judging.specs.declared.lane.Next.{Next}
-use Rattle.fr_judging.specs.declared.line.At.{At}
-use Rattle.fr_judging.specs.declared.line.Line.{Line}
-use Rattle.fr_judging.specs.declared.line.Line.TheVariants as line
-use Rattle.fr_hearing.specs.Alarms.{judged}
 
 -- there is a finding
 abbrev pub Told : State → Type 0

@@ -1,6 +1,5 @@
 -- Two cycles of a channel worked out: two static slots with owners, and a dynamic frame after a silent slot.
-use Rattle.std.proofs.Common.{◌≡◌, ℕ, ◌≤◌, Bool, true, false, List, [], ◌∷◌, Option, Some, None, refl, arith}
-use Rattle.std.proofs.Common.{inl, inr}
+use Rattle.std.proofs.Common.{◌≡◌, ℕ, ◌≤◌, Bool, true, false, List, [], ◌∷◌, Option, Some, None, refl, arith, inl, inr}
 use Rattle.fr_frame.specs.Fields.{Fields}
 use Rattle.fr_hearing.specs.Heard.{begins_at, after_frame, AreFree, AreHeard}
 use Rattle.fr_judging.specs.Rules.{is_clocked}

@@ -5,8 +5,8 @@ use Rattle.fr_hearing.specs.Alarms.{is_on, Spells, judged}
 use Rattle.fr_hearing.specs.Heard.{AreHeard}
 use Rattle.fr_judging.specs.Judging.{fresh, finish, has_finding}
 use Rattle.fr_judging.specs.Rules.{rules_of, has_sender}
-use Rattle.fr_logged.specs.Logged.{kind_of}
 use Rattle.fr_logged.specs.declared.record.Kind.TheVariants.{Symbol}
+use Rattle.fr_logged.specs.Logged.{kind_of}
 use Rattle.fr_recording.specs.Records.{Record}
 use Rattle.fr_schedule.specs.Clusters.{IsCluster}
 use Rattle.fr_schedule.specs.Descriptions.{Description}

@@ -1,12 +1,12 @@
 -- A recording of a bus without faults has no finding (project-defined).
 use Rattle.std.specs.Prelude.{◌≡◌, ℕ, Bool, false, true, List, [], ◌∷◌, ◌⊎◌, Some, None, Ok}
 use Rattle.fr_frame.specs.Fields.{Fields}
+use Rattle.fr_hearing.specs.Heard.{AreHeard}
 use Rattle.fr_judging.specs.Judging.{State, fresh, judge, finish, has_finding}
 use Rattle.fr_judging.specs.Rules.{rules_of, has_sender, other_channel}
-use Rattle.fr_hearing.specs.Heard.{AreHeard}
-use Rattle.fr_logged.specs.Logged.{kind_of, spelled}
 use Rattle.fr_logged.specs.declared.record.Kind.{Kind}
 use Rattle.fr_logged.specs.declared.record.Kind.TheVariants.{Foreign, Symbol, Frame}
+use Rattle.fr_logged.specs.Logged.{kind_of, spelled}
 use Rattle.fr_recording.specs.Records.{Record}
 use Rattle.fr_schedule.specs.Descriptions.{Description}
 use Rattle.fr_slots.specs.Admission.{is_channel}

@@ -1,12 +1,12 @@
 -- The frames that a listener hears on a channel of a bus without faults (chapters 4 and 5). The division of a static
 -- slot by cycles and the length of dynamic frames are project-defined. Nothing here speaks of a monitor.
-use Rattle.std.specs.Prelude.{◌≡◌, ℕ, ◌+◌, ◌-◌, ◌*◌, ◌/◌, ◌%◌, ◌<◌, ◌≤◌, min, nat_le, Bool, true, false}
-use Rattle.std.specs.Prelude.{if◌then◌else◌, List, [], ◌∷◌, length, ◌⊎◌, Some, None}
+use Rattle.std.specs.Prelude.{◌≡◌, ℕ, ◌+◌, ◌-◌, ◌*◌, ◌/◌, ◌%◌, ◌<◌, ◌≤◌, min, nat_le, Bool, true, false, if◌then◌else◌}
+use Rattle.std.specs.Prelude.{List, [], ◌∷◌, length, ◌⊎◌, Some, None}
 use Rattle.std.specs.List.{list_all}
 use Rattle.fr_frame.specs.Fields.{Fields}
-use Rattle.fr_logged.specs.Rules.{is_zero}
-use Rattle.fr_logged.specs.declared.due.Due.{Due}
 use Rattle.fr_judging.specs.Rules.{due_at}
+use Rattle.fr_logged.specs.declared.due.Due.{Due}
+use Rattle.fr_logged.specs.Rules.{is_zero}
 use Rattle.fr_schedule.specs.Descriptions.{Description}
 use Rattle.fr_slots.specs.declared.channel.Channel.{Channel}
 use Rattle.fr_slots.specs.Faults.{minislots_filled}

@@ -7,3 +7,9 @@ pub mod Listening
 pub mod Runs
 pub mod Files
 pub mod ReadBack
+pub mod Pairs
+pub mod Schedule
+pub mod Untimed
+pub mod TimedRuns
+pub mod Together
+pub mod Replays

@@ -10,8 +10,8 @@ use Rattle.fr_frame.specs.Encoding.{encoded}
 use Rattle.fr_frame.specs.Fields.{Fields}
 use Rattle.fr_hearing.specs.Heard.{IsOwners}
 use Rattle.fr_hearing.specs.Offering.{IsDueThere}
-use Rattle.fr_logged.specs.Dues.{due_of}
 use Rattle.fr_logged.specs.declared.due.Due.{Due}
+use Rattle.fr_logged.specs.Dues.{due_of}
 use Rattle.fr_schedule.specs.Descriptions.{Description}
 use Rattle.fr_slots.specs.Admission.{is_channel}
 use Rattle.fr_slots.specs.declared.channel.Channel.{Channel}

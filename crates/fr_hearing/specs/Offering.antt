@@ -8,8 +8,8 @@ use Rattle.fr_journal.specs.declared.entry.Entry.TheVariants.{Fetch}
 use Rattle.fr_journal.specs.declared.entry.Offered.{Offered}
 use Rattle.fr_journal.specs.Forms.{Entry}
 use Rattle.fr_journal.specs.Offers.{frame_with, owns}
-use Rattle.fr_logged.specs.Dues.{due_of}
 use Rattle.fr_logged.specs.declared.due.Due.{Due}
+use Rattle.fr_logged.specs.Dues.{due_of}
 use Rattle.fr_schedule.specs.Clusters.{IsCluster}
 use Rattle.fr_schedule.specs.Descriptions.{Description}
 use Rattle.fr_slots.specs.declared.channel.Channel.{Channel}

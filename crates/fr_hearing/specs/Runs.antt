@@ -1,8 +1,7 @@
 -- A run without faults on a channel, what a logger on its bus records, and the law that this has no finding
 -- (project-defined).
 use Rattle.std.specs.Prelude.{◌≡◌, ℕ, ℤ, ◌<◌, ◌≤◌, Bool, true, false, List, [], ◌∷◌, ◌++◌, length, slice_get, ◌⊎◌}
-use Rattle.std.specs.Prelude.{Option}
-use Rattle.std.specs.Prelude.{Some, None}
+use Rattle.std.specs.Prelude.{Option, Some, None}
 use Rattle.arrayvec.specs.ArrayVec.{ArrayVec}
 use Rattle.fr_bus.specs.declared.error.Phase.TheVariants.{Finished}
 use Rattle.fr_bus.specs.Record.{Recorded, corrupt_on, heard}
@@ -22,8 +21,8 @@ use Rattle.fr_recording.specs.Records.{Record}
 use Rattle.fr_schedule.specs.Descriptions.{Description}
 use Rattle.fr_slots.specs.declared.channel.Channel.{Channel}
 use Rattle.fr_slots.specs.Parameters.{Parameters}
-use Rattle.fr_status.specs.Forms.{Seen}
 use Rattle.fr_status.specs.declared.seen.Seen.TheVariants.{Silence, Own, Conflict, Noise, Overrun, Bytes}
+use Rattle.fr_status.specs.Forms.{Seen}
 
 -- ---- runs
 

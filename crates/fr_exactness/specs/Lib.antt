@@ -1,4 +1,0 @@
-pub mod Leading
-pub mod Exactness
-pub mod Delays
-pub mod Chances

@@ -1,4 +1,0 @@
-pub mod Schedule
-pub mod Untimed
-pub mod Runs
-pub mod Together
