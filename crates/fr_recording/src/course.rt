@@ -1,6 +1,6 @@
 //! The course of a capture file: the part that comes next, and the effect of each whole part.
 
-ghost use Rattle.std.specs.Prelude.{◌≡◌, ◌-◌, ◌≤◌, ◌<◌, length, take, max, min, None, Some, IfOk, IfSome, IsTrue};
+ghost use Rattle.std.specs.Prelude.{◌≡◌, ◌-◌, ◌≤◌, ◌<◌, [], length, take, max, min, None, Some, IfOk, IfSome, IsTrue};
 ghost use Rattle.fr_recording.specs.Captures.{magic_in, order_in, record_head};
 ghost use Rattle.fr_recording.specs.Numbers.{most_captured};
 ghost use Rattle.fr_recording.specs.Stream.{needed, less, fresh, read_on, go, bad, start, with_captured, after_magic};
@@ -8,8 +8,10 @@ ghost use Rattle.fr_recording.specs.Stream.{tell, after_record_head, skip, after
 ghost use Rattle.fr_recording.specs.Stream.{next_option, after_option_header, after_option, after_head, after_packet};
 ghost use Rattle.fr_recording.specs.Stream.{after_simple, after_bytes, after_trailer, enter, after_block_header};
 ghost use Rattle.fr_recording.specs.Stream.{after_part, end_in};
+ghost use Rattle.fr_recording.specs.Classics.{BeginsClassic};
 ghost use Rattle.fr_recording.specs.Steps.{IsWholeHead, TakesRecord, tell_next};
 
+use crate::classic::Classic;
 use crate::heads::{
     Magic, SECTION, is_bad_front, is_length_of, link_of, magic_of, order_of, packet_head,
     record_head, simple_head, source_of, with_option,
@@ -242,6 +244,20 @@ impl Course {
         self.read_on(whole as u64);
         self.tell_next(head, &bytes[16..whole]);
         whole
+    }
+
+    /// Returns what the records of a classic file have in common, if one begins with the next byte or has begun.
+    pub(crate) fn classic(&self) -> Option<Classic>
+        ensures { IfSome result (λ classic. BeginsClassic (record { state = self.now; held = [] }) classic) }
+    {
+        match self.phase {
+            Phase::RecordHeader(scale, link) => Some(Classic {
+                order: self.order,
+                scale,
+                link,
+            }),
+            _ => None,
+        }
     }
 
     /// Goes to the end of a block, without a look at the bytes before it.
