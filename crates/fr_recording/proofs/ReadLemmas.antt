@@ -322,7 +322,7 @@ refused_piece old s read held piece refusal is phase_is few some read_is =
 
 -- ---- a record of a classic file whose head and captured bytes are there
 
-counted_twice : (a m n : ℕ) → counted (counted a m) n ≡ counted a (m + n)
+pub counted_twice : (a m n : ℕ) → counted (counted a m) n ≡ counted a (m + n)
 counted_twice a m n = omega arith
 
 pub record_parts : (s : State) (scale link : ℕ) (head : Head) (bytes : List ℕ) → s.phase ≡ RecordHeader scale link

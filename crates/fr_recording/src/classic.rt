@@ -1,7 +1,8 @@
 //! Records of a classic file that lie whole in a piece, read in place.
 
-ghost use Rattle.std.specs.Prelude.{◌≡◌, IfSome};
+ghost use Rattle.std.specs.Prelude.{◌≡◌, ◌≤◌, length, IfSome};
 ghost use Rattle.fr_recording.specs.Classics.{captured_in, original_in, time_in, IsWhole};
+ghost use Rattle.fr_recording.specs.Steps.{AreWhole};
 
 use crate::numbers::{MOST_CAPTURED, Moment, Order, long};
 
@@ -52,5 +53,19 @@ impl Classic {
             return None;
         }
         Some(head)
+    }
+
+    /// Returns the place of the last record that is whole in these bytes, after others that are, or 0 if none is.
+    pub(crate) fn last_whole(self, bytes: &[u8]) -> usize
+        ensures within { result ≤ length bytes.now }
+        ensures whole { AreWhole self bytes.now result }
+    {
+        let mut last = 0;
+        let mut next = 0;
+        while let Some(head) = self.head(&bytes[next..]) {
+            last = next;
+            next += 16 + self.captured(head) as usize;
+        }
+        last
     }
 }

@@ -7,7 +7,7 @@ ghost use Rattle.fr_recording.specs.Stream.{needed, less, fresh, read_on, go, ba
 ghost use Rattle.fr_recording.specs.Stream.{tell, after_record_head, skip, after_section, after_mark, add_source};
 ghost use Rattle.fr_recording.specs.Stream.{next_option, after_option_header, after_option, after_head, after_packet};
 ghost use Rattle.fr_recording.specs.Stream.{after_simple, after_bytes, after_trailer, enter, after_block_header};
-ghost use Rattle.fr_recording.specs.Stream.{after_part, end_in};
+ghost use Rattle.fr_recording.specs.Stream.{after_part, end_in, take_bytes};
 ghost use Rattle.fr_recording.specs.Classics.{BeginsClassic};
 ghost use Rattle.fr_recording.specs.Steps.{IsWholeHead, TakesRecord, tell_next};
 
@@ -258,6 +258,27 @@ impl Course {
             }),
             _ => None,
         }
+    }
+
+    /// Takes the records of a classic file that are whole at the front of these bytes, and returns the number of their
+    /// bytes. Only the last one is copied.
+    pub(crate) fn pass_whole(&mut self, bytes: &[u8]) -> usize
+        ensures within { result ≤ length bytes.now }
+        ensures state { record { state = self.new; held = [] }
+            ≡ take_bytes (record { state = self.old; held = [] }) (take result bytes.now) }
+    {
+        let Some(classic) = self.classic() else {
+            return 0;
+        };
+        let last = classic.last_whole(bytes);
+        let rest = &bytes[last..];
+        let Some(head) = whole_head(classic.order, classic.scale, classic.link, rest) else {
+            return 0;
+        };
+        let whole = 16 + head.captured.number() as usize;
+        self.read_on((last + whole) as u64);
+        self.tell_next(head, &rest[16..whole]);
+        last + whole
     }
 
     /// Goes to the end of a block, without a look at the bytes before it.

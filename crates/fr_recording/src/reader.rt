@@ -125,9 +125,22 @@ impl Reader {
     pub fn pass(&mut self, bytes: &[u8])
         ensures { self.new ≡ take_bytes self.old bytes.now }
     {
-        let mut taken = 0;
+        let mut taken = self.pass_whole(bytes);
         while taken < bytes.len() {
             taken += self.next(&bytes[taken..]);
+        }
+    }
+
+    /// Takes the records of a classic file that are whole at the front of these bytes, and returns the number of their
+    /// bytes.
+    fn pass_whole(&mut self, bytes: &[u8]) -> usize
+        ensures within { result ≤ length bytes.now }
+        ensures state { self.new ≡ take_bytes self.old (take result bytes.now) }
+    {
+        if self.held.is_empty() {
+            self.course.pass_whole(bytes)
+        } else {
+            0
         }
     }
 
