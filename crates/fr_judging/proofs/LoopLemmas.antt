@@ -1,5 +1,5 @@
 -- The loops of a judge.
-use Rattle.std.proofs.Common.{◌≡◌, ℕ, suc, ◌+◌, ◌-◌, ◌≤◌, ◌%◌, Bool, sym, ap, ◌∙◌, arith, Option}
+use Rattle.std.proofs.Common.{◌≡◌, ℕ, zero, suc, true, refl, ◌+◌, ◌-◌, ◌≤◌, ◌%◌, Bool, sym, ap, ◌∙◌, arith, Option}
 use Rattle.std.specs.Prelude.{not, ◌&&◌}
 use Rattle.fr_judging.specs.Judging.{State, skipped, skip_to, miss, quiet}
 use Rattle.fr_judging.specs.Rules.{is_sent}
@@ -34,3 +34,10 @@ quiet_more s slot from k so_far sent next cycle so_far_is sent_is cycle_is is =
     ∙ ap (λ (b : Bool). b && not sent) so_far_is
     ∙ ap (λ (b : Bool). quiet s slot from k && not b) sent_is
     ∙ ap (λ (n : ℕ). quiet s slot from k && not (is_sent s.rules slot s.channel n)) cycle_is
+
+-- between the open cycle and the one before lies none
+pub quiet_none : (s : State) (slot from n : ℕ) → n ≤ 1 → true ≡ quiet s slot from (n - 1)
+unfolding quiet
+quiet_none s slot from zero few = refl
+quiet_none s slot from (suc zero) few = refl
+quiet_none s slot from (suc (suc n)) few = absurd (omega (arith, few))

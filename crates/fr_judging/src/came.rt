@@ -32,6 +32,7 @@ use fr_slots::params::Params;
 pub(crate) const SILENCE: u64 = 3;
 
 /// Returns whether the channels have the same cycle open.
+#[inline(always)]
 pub(crate) fn same_open(one: Option<Cycle>, other: Option<Cycle>) -> bool
     ensures { result ≡ same_open one other }
 {
@@ -52,6 +53,7 @@ fn first_of(one: Option<Finding>, other: Option<Finding>) -> Option<Finding>
 }
 
 /// Returns whether the bytes are the same.
+#[inline(always)]
 fn are_equal(one: &[u8], other: &[u8]) -> bool
     ensures { result ≡ are_equal one.now other.now }
 {
@@ -59,6 +61,7 @@ fn are_equal(one: &[u8], other: &[u8]) -> bool
 }
 
 /// Returns the finding of a frame beside one on the other channel.
+#[inline(always)]
 fn differ(frame: &LentFrame<'_>, shown: &Shown) -> Option<Finding>
     ensures { result ≡ differ frame.now (Some shown.now.frame) }
 {
@@ -90,6 +93,7 @@ fn pass_dynamic(params: &Params, lane: &mut Lane, frame: &LentFrame<'_>, words: 
 }
 
 /// Counts a frame with data, or a null frame.
+#[inline(always)]
 fn count_kind(frame: &LentFrame<'_>, tally: &mut SlotTally)
     ensures { tally.new ≡ with_frame frame.now tally.old }
 {
@@ -101,6 +105,7 @@ fn count_kind(frame: &LentFrame<'_>, tally: &mut SlotTally)
 }
 
 /// Returns whether the frame is like the one on the other channel.
+#[inline(always)]
 fn is_alike(frame: &LentFrame<'_>, shown: &Shown) -> bool
     ensures { result ≡ is_none (differ frame.now (Some shown.now.frame)) }
 {
@@ -121,6 +126,7 @@ impl Judge {
 
     /// Tells a slot that came back for its owner.
     #[tactic(auto, unfolding(crate::specs::Judging::back))]
+    #[inline(always)]
     fn back(&mut self, frame: &LentFrame<'_>, at: &At, due: Option<Due>)
         ensures state { self.new ≡ back self.old frame.now at.now due }
         ensures rules { self.new.rules ≡ self.old.rules }
@@ -146,6 +152,7 @@ impl Judge {
     }
 
     /// Returns whether the other channel has the cycle of the frame open.
+    #[inline(always)]
     fn is_beside(&self, frame: &LentFrame<'_>) -> bool
         ensures { result ≡ is_beside self.now frame.now }
     {
@@ -172,6 +179,7 @@ impl Judge {
 
     /// Keeps the frame of a buffer for both channels.
     #[tactic(auto, unfolding(crate::specs::Judging::show))]
+    #[inline(always)]
     fn show(&mut self, frame: &LentFrame<'_>, due: Option<Due>)
         ensures state { self.new ≡ show self.old frame.now due }
         ensures rules { self.new.rules ≡ self.old.rules }
@@ -191,6 +199,7 @@ impl Judge {
 
     /// Returns whether none of so many cycles after one has a sender in the slot.
     #[tactic(auto, unfolding(crate::specs::Judging::quiet))]
+    #[inline(never)]
     fn quiet(&self, slot: u16, from: Cycle, count: u8) -> bool
         requires { count ≤ 64 }
         ensures { result ≡ quiet self.now slot from count }
@@ -204,6 +213,8 @@ impl Judge {
     }
 
     /// Returns whether the frame that came last in the slot was of the due cycle before.
+    #[tactic(auto, using(crate::proofs::LoopLemmas::quiet_none))]
+    #[inline(always)]
     fn follows(&self, frame: &LentFrame<'_>, latest: &Option<Came>) -> bool
         ensures { result ≡ follows self.now frame.now latest.now }
     {
@@ -211,6 +222,10 @@ impl Judge {
             return false;
         };
         let cycles = self.mine.number.saturating_sub(came.number).min(65);
+        // The frame before is most often of the cycle before.
+        if cycles <= 1 {
+            return true;
+        }
         self.quiet(frame.id, came.cycle, (cycles as u8).saturating_sub(1))
     }
 
@@ -257,6 +272,7 @@ impl Judge {
     }
 
     /// Keeps the frame of a slot that has a sender.
+    #[inline(always)]
     fn keep_timed(&mut self, frame: &LentFrame<'_>, at: &At)
         requires { is_sent self.old.rules frame.now.id self.old.channel frame.now.cycle ≡ true }
         ensures { self.new ≡ keep_plain self.old frame.now at.now }
@@ -267,14 +283,23 @@ impl Judge {
     }
 
     /// Makes the frame of a static slot without a finding the reference for the next one.
+    #[inline(always)]
     fn fix_plain(&mut self, frame: &LentFrame<'_>, at: &At)
         ensures { self.new ≡ fix self.old frame.now at.now None }
     {
         // Without times nothing is stored, since the copy of a reference takes as long as the rest.
         if self.rules.macrotick != 0 {
-            let fixed = fixed_after(&self.rules, &self.mine, frame.id, at.time, None);
-            self.mine.fixed = fixed;
+            self.fix_timed(frame, at);
         }
+    }
+
+    /// Makes the frame of a static slot without a finding the reference for the next one, where times are judged.
+    #[inline(never)]
+    fn fix_timed(&mut self, frame: &LentFrame<'_>, at: &At)
+        ensures { self.new ≡ fix self.old frame.now at.now None }
+    {
+        let fixed = fixed_after(&self.rules, &self.mine, frame.id, at.time, None);
+        self.mine.fixed = fixed;
     }
 
     /// Keeps the frame of a slot, and tells its finding.
@@ -288,6 +313,7 @@ impl Judge {
     }
 
     /// Returns whether the frame of a static slot isn't unlike the other channel's.
+    #[inline(always)]
     fn are_channels_well(&self, frame: &LentFrame<'_>, due: &Due) -> bool
         ensures { result ≡ is_none (both_finding self.now frame.now due.now) }
     {
@@ -303,6 +329,7 @@ impl Judge {
     }
 
     /// Returns whether the frame of a static slot has no finding. It makes none, which would take longer than the rest.
+    #[inline(always)]
     fn is_fine(&self, frame: &LentFrame<'_>, at: &At, due: &Option<Due>) -> bool
         ensures { result ≡ is_fine self.now frame.now at.now due.now }
     {
@@ -318,6 +345,7 @@ impl Judge {
 
     /// Takes the frame of a static slot that has an owner and no finding.
     #[tactic(auto, unfolding(crate::specs::Judging::plain_came))]
+    #[inline(always)]
     fn plain_came(&mut self, frame: &LentFrame<'_>, at: &At, due: Option<Due>)
         requires { is_sent self.old.rules frame.now.id self.old.channel frame.now.cycle ≡ true }
         ensures { self.new ≡ plain_came self.old frame.now at.now due }
@@ -348,6 +376,7 @@ impl Judge {
 
     /// Takes the frame of a static slot.
     #[tactic(auto, using(crate::proofs::PlainLemmas::plain_is, crate::proofs::SenderLemmas::fine_sent))]
+    #[inline(always)]
     fn static_came(&mut self, frame: &LentFrame<'_>, at: &At, due: Option<Due>)
         requires { due ≡ due_at self.old.rules.cluster frame.now.id self.old.channel frame.now.cycle }
         ensures { self.new ≡ static_came self.old frame.now at.now due }
@@ -389,6 +418,7 @@ impl Judge {
 
     /// Takes the frame of a slot of the open cycle.
     #[tactic(auto, unfolding(crate::specs::Judging::came))]
+    #[inline(always)]
     pub(crate) fn came(&mut self, frame: &LentFrame<'_>, at: &At)
         ensures { self.new ≡ came self.old frame.now at.now }
     {
@@ -401,5 +431,13 @@ impl Judge {
                 .due(u32::from(frame.id), self.channel, frame.cycle);
             self.dynamic_came(frame, at, due);
         }
+    }
+
+    /// Takes the first frame of a cycle. It isn't inlined, since the frames after it are far more.
+    #[inline(never)]
+    pub(crate) fn first_came(&mut self, frame: &LentFrame<'_>, at: &At)
+        ensures { self.new ≡ came self.old frame.now at.now }
+    {
+        self.came(frame, at);
     }
 }

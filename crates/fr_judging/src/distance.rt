@@ -47,6 +47,7 @@ fn steps_from(from: Option<Cycle>, to: Cycle) -> u8
 }
 
 /// Returns the time from one moment to another.
+#[inline(always)]
 pub(crate) fn since(from: Moment, to: Moment) -> i128
     ensures value { result ≡ to -ℤ from }
     ensures low { neg_ℤ (pos (2 ^ 96)) ≤ℤ result }
@@ -184,6 +185,7 @@ pub(crate) fn distance_to(
 }
 
 /// Returns whether a time is 63 cycles and a half or more.
+#[inline(always)]
 fn is_long(cycle_ns: u64, time: i128) -> bool
     requires few { cycle_ns < 2 ^ 48 }
     requires low { neg_ℤ (pos (2 ^ 96)) ≤ℤ time }
@@ -194,6 +196,7 @@ fn is_long(cycle_ns: u64, time: i128) -> bool
 }
 
 /// Returns whether a frame with the count of the open cycle comes so late that it opens a cycle.
+#[inline(always)]
 pub(crate) fn is_anew(rules: &Rules, lane: &Lane, time: Option<Moment>) -> bool
     ensures { result ≡ is_anew rules.now lane.now time }
 {
@@ -271,11 +274,20 @@ pub(crate) fn fixed_after(
 }
 
 /// Returns whether the time of a static frame has no finding.
+#[inline(always)]
 pub(crate) fn is_timely(rules: &Rules, lane: &Lane, slot: u16, time: Option<Moment>) -> bool
     ensures { result ≡ is_none (time_finding rules.now lane.now slot time None) }
 {
     if rules.macrotick == 0 {
         return true;
     }
+    is_on_time(rules, lane, slot, time)
+}
+
+/// Returns whether the time of a static frame has no finding. It isn't inlined, since it makes room for one.
+#[inline(never)]
+fn is_on_time(rules: &Rules, lane: &Lane, slot: u16, time: Option<Moment>) -> bool
+    ensures { result ≡ is_none (time_finding rules.now lane.now slot time None) }
+{
     time_finding(rules, lane, slot, time, None).is_none()
 }

@@ -12,6 +12,7 @@ use fr_slots::numbers::Cycle;
 use std::alloc::{AllocError, Global};
 
 /// Returns the number of places of a cycle: two for each static slot, and for slot 0.
+#[inline(always)]
 fn width_of(slots: u32) -> usize
     requires { slots < 2 ^ 16 }
     ensures { result ≡ width_of slots }
@@ -20,6 +21,7 @@ fn width_of(slots: u32) -> usize
 }
 
 /// Returns the place of a slot on a channel in a cycle, if a cycle has so many places.
+#[inline(always)]
 fn due_place(width: usize, slot: u32, channel: Channel, cycle: Cycle) -> usize
     requires { width < 2 ^ 18 }
     ensures value { result ≡ due_place width slot channel cycle }
@@ -63,6 +65,7 @@ pub(crate) fn all_dues(alloc: Global, rules: &Rules) -> Result<Vec<Option<Due>>,
 
 impl Judge {
     /// Returns what may be sent in a static slot of this number on the channel, if anything, by the table.
+    #[inline(always)]
     pub(crate) fn static_due(&self, slot: u32, cycle: Cycle) -> Option<Due>
         requires { slot ≤ self.now.rules.cluster.params.static_slots }
         ensures { result ≡ due_at self.now.rules.cluster slot self.now.channel cycle }

@@ -31,6 +31,7 @@ fn keep_line(lines: &mut Vec<Line>, line: &Line)
 
 impl Judge {
     /// Moves a channel to the front.
+    #[inline(always)]
     pub(crate) fn turn(&mut self, channel: Channel)
         ensures { self.new ≡ turn self.old channel }
     {

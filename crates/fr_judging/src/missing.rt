@@ -33,6 +33,7 @@ impl Judge {
     }
 
     /// Returns how often a slot was missing since the node's last frame.
+    #[inline(always)]
     pub(crate) fn away_at(&self, slot: u32, node: u8) -> u64
         ensures { result ≡ away_at self.now slot node }
     {
@@ -108,6 +109,7 @@ impl Judge {
 
     /// Counts and tells the static slots without a frame before this one.
     #[tactic(auto, unfolding(crate::specs::Judging::skip_before), using(crate::proofs::LoopLemmas::skip_nothing))]
+    #[inline(always)]
     pub(crate) fn skip_before(&mut self, frame: &LentFrame<'_>, at: &At)
         ensures { self.new ≡ skip_before self.old frame.now at.now }
     {

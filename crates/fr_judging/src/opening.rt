@@ -110,7 +110,7 @@ impl Judge {
             self.skip_before(frame, at);
         }
         self.listen(frame, at);
-        self.came(frame, at);
+        self.first_came(frame, at);
     }
 
     /// Tells the cycles between, if there are some.
@@ -144,7 +144,7 @@ impl Judge {
         self.tell_gap(frame, at, distance.past);
         self.find_some(&Some(*at), &place, distance.clock);
         self.listen(frame, at);
-        self.came(frame, at);
+        self.first_came(frame, at);
     }
 
     /// Opens a cycle, which closes the one before.

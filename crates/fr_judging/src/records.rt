@@ -25,6 +25,7 @@ use fr_recording::numbers::Moment;
 use fr_slots::channel::Channel;
 
 /// Returns the count and the slot of a frame.
+#[inline(always)]
 fn next_of(frame: &LentFrame<'_>) -> Next
     ensures { result ≡ next_of frame.now }
 {
@@ -61,6 +62,7 @@ impl Judge {
 
     /// Takes a frame of the open cycle.
     #[tactic(auto, unfolding(crate::specs::Judging::member))]
+    #[inline(always)]
     fn member(&mut self, frame: &LentFrame<'_>, at: &At)
         ensures { self.new ≡ member self.old frame.now at.now }
     {
@@ -116,6 +118,7 @@ impl Judge {
 
     /// Decides the frame that waits, by the next good one.
     #[tactic(auto, unfolding(crate::specs::Judging::settle))]
+    #[inline(always)]
     pub(crate) fn settle(&mut self, next: Option<Next>)
         ensures { self.new ≡ settle self.old next }
     {
@@ -153,6 +156,7 @@ impl Judge {
 
     /// Takes a good frame, when none waits.
     #[tactic(auto, unfolding(crate::specs::Judging::place_frame))]
+    #[inline(always)]
     fn place_frame(&mut self, frame: &LentFrame<'_>, at: &At)
         ensures { self.new ≡ place_frame self.old frame.now at.now }
     {
@@ -167,6 +171,7 @@ impl Judge {
 
     /// Takes a good frame.
     #[tactic(auto, unfolding(crate::specs::Judging::good))]
+    #[inline(always)]
     fn good(&mut self, frame: &LentFrame<'_>, at: &At)
         ensures { self.new ≡ good self.old frame.now at.now }
     {
@@ -189,6 +194,7 @@ impl Judge {
     }
 
     /// Returns whether no slot of the cluster has this frame ID.
+    #[inline(always)]
     fn is_lawless(&self, id: u16) -> bool
         ensures { result ≡ is_lawless self.now id }
     {
@@ -228,6 +234,7 @@ impl Judge {
 
     /// Takes a record of a frame on the channel.
     #[tactic(auto, unfolding(crate::specs::Judging::frame_on))]
+    #[inline(always)]
     fn frame_on(&mut self, at: &At, original: u32, bytes: &[u8])
         ensures { self.new ≡ frame_on self.old at.now original bytes.now }
     {
@@ -275,6 +282,7 @@ impl Judge {
 
     /// Takes a record of this kind.
     #[tactic(auto, unfolding(crate::specs::Judging::take_kind))]
+    #[inline(always)]
     fn take_kind(&mut self, at: &At, original: u32, bytes: &[u8], kind: Kind)
         ensures { self.new ≡ take_kind self.old at.now original bytes.now kind }
     {
@@ -297,6 +305,7 @@ impl Judge {
     ///
     /// Afterwards `lines` has what the record shows.
     #[tactic(auto, unfolding(crate::specs::Judging::judge))]
+    #[inline(always)]
     pub fn judge(&mut self, time: Option<Moment>, link: u16, original: u32, bytes: &[u8])
         ensures { self.new ≡ judge self.old (record {
           time = time;

@@ -85,6 +85,7 @@ fn with_span(span: Option<Span>, time: i128) -> Span
 }
 
 /// Adds a time to a span, which stays in its place.
+#[inline(always)]
 fn lengthen(span: &mut Option<Span>, time: i128)
     ensures { span.new ≡ Some (with_span span.old time) }
 {
@@ -107,6 +108,7 @@ fn lengthen(span: &mut Option<Span>, time: i128)
 }
 
 /// Adds the time between these two to a span, if both are known.
+#[inline(always)]
 fn lengthen_between(span: &mut Option<Span>, from: Option<Moment>, to: Option<Moment>)
     ensures { span.new ≡ span_between span.old from to }
 {
@@ -116,6 +118,7 @@ fn lengthen_between(span: &mut Option<Span>, from: Option<Moment>, to: Option<Mo
 }
 
 /// Keeps the frame that came last in a slot. If it follows the one before, the time between them is added to the span.
+#[inline(always)]
 pub(crate) fn time_frame(tally: &mut SlotTally, follows: bool, came: &Came)
     ensures { tally.new ≡ timed tally.old follows came.now }
 {
@@ -141,6 +144,7 @@ pub(crate) fn span_between(
 }
 
 /// Returns the time of the frame that came last.
+#[inline(always)]
 fn latest_time(tally: &SlotTally) -> Option<Moment>
     ensures { result ≡ time_of tally.now.latest }
 {

@@ -1,5 +1,5 @@
 -- The bits that the header CRC covers, as fields of the header.
-use Rattle.std.proofs.Common.{◌≡◌, ℕ, ◌+◌, ◌*◌, ◌/◌, ◌^◌, ◌≤◌, Bool, eqb, List, ◌∷◌, ◌++◌, length, take, drop}
+use Rattle.std.proofs.Common.{◌≡◌, ℕ, ◌+◌, ◌*◌, ◌/◌, ◌^◌, ◌≤◌, Bool, eqb, List, ◌∷◌, ◌++◌, length, take, drop, [], get_or, refl}
 use Rattle.std.proofs.Common.{sym, ap, ◌∙◌, arith, bit_and, length-append}
 use Rattle.std.proofs.lemmas.List.{append_assoc, length-take, length-drop, take-append-drop, drop-drop, take_at}
 use Rattle.fr_frame.specs.Bits.{bits_of, number_of, bits_of_bytes}
@@ -100,9 +100,8 @@ header_read h cycle bytes e cycle_is =
       cycle = (cycle_is ∙ cycle_read) i;
     }
 
--- the five bytes of a header
-pub five_read : (h : ℕ) (bytes part : List ℕ) → 5 ≤ length bytes → part ≡ take 5 bytes
-    → bits_of (8 * length part) h ≡ bits_of_bytes part → bits_of 40 h ≡ bits_of_bytes (take 5 bytes)
-five_read h bytes part long is e =
-    let five : 40 ≡ 8 * length (take 5 bytes) = omega (arith, length-take 5 bytes) in
-    ap (λ (m : ℕ). bits_of m h) five ∙ ap (λ (t : List ℕ). bits_of (8 * length t) h) (sym is) ∙ e ∙ ap bits_of_bytes is
+-- the first four bytes of a header
+pub front_four : (bytes : List ℕ) → 4 ≤ length bytes
+    → take 4 bytes ≡ get_or bytes 0 0 ∷ get_or bytes 1 0 ∷ get_or bytes 2 0 ∷ get_or bytes 3 0 ∷ []
+front_four (a ∷ b ∷ c ∷ d ∷ bytes) long = refl
+front_four bytes long = absurd (omega arith)

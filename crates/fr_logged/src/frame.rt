@@ -44,14 +44,26 @@ fn number_from(bytes: &[u8]) -> u64
     number
 }
 
+/// Returns the first five bytes as one number, the first byte highest.
+#[inline(always)]
+fn header_number(bytes: &[u8]) -> u64
+    requires { 5 ≤ length bytes.now }
+    ensures { bits_of 40 result ≡ bits_of_bytes (take 5 bytes.now) }
+{
+    // Each frame is read here, and the first four bytes of a header are one word.
+    let front = u32::from_be_bytes([bytes[0], bytes[1], bytes[2], bytes[3]]);
+    u64::from(front) << 8 | u64::from(bytes[4])
+}
+
 /// Returns the header in the first five bytes.
+#[inline(always)]
 pub(crate) fn header_in(bytes: &[u8]) -> Header
     requires { 5 ≤ length bytes.now }
     ensures value { result ≡ header_in bytes.now }
     ensures id_fits { result.id < 2 ^ 11 }
     ensures words_fit { result.words < 2 ^ 7 }
 {
-    let header = number_from(&bytes[..5]);
+    let header = header_number(bytes);
     Header {
         preamble: header >> 38 & 1 == 1,
         has_data: header >> 37 & 1 == 1,
@@ -65,6 +77,7 @@ pub(crate) fn header_in(bytes: &[u8]) -> Header
 }
 
 /// Returns the frame of a header and its bytes, whose payload stays among the bytes.
+#[inline(always)]
 fn lent_from<'a>(header: &Header, bytes: &'a [u8]) -> LentFrame<'a>
     requires id_fits { header.now.id < 2 ^ 11 }
     requires words_fit { header.now.words < 2 ^ 7 }
@@ -83,6 +96,7 @@ fn lent_from<'a>(header: &Header, bytes: &'a [u8]) -> LentFrame<'a>
 }
 
 /// Returns the header CRC of the bits that it covers in these bytes.
+#[inline(always)]
 fn right_crc(header: &Header, bytes: &[u8]) -> u16
     requires header { header.now ≡ header_in bytes.now }
     requires id_fits { header.now.id < 2 ^ 11 }
@@ -154,6 +168,7 @@ fn frame_finding(channel: Channel, words: u16, bytes: &[u8]) -> Option<Finding>
 }
 
 /// Returns whether a record may have so many bytes, by its header.
+#[inline(always)]
 fn is_length_well(due: usize, there: usize) -> bool
     requires { due < 300 }
     ensures { result ≡ is_none (length_finding due there) }
@@ -162,6 +177,7 @@ fn is_length_well(due: usize, there: usize) -> bool
 }
 
 /// Returns whether the trailer is right, or isn't there.
+#[inline(always)]
 fn is_trailer_well(channel: Channel, words: u16, bytes: &[u8]) -> bool
     requires words_fit { words < 2 ^ 7 }
     requires long { 3 ≤ length bytes.now }
@@ -170,11 +186,22 @@ fn is_trailer_well(channel: Channel, words: u16, bytes: &[u8]) -> bool
     if bytes.len() == 5 + 2 * usize::from(words) {
         return true;
     }
+    is_trailer_right(channel, words, bytes)
+}
+
+/// Returns whether the trailer is right, which is computed from all bytes.
+#[inline(never)]
+fn is_trailer_right(channel: Channel, words: u16, bytes: &[u8]) -> bool
+    requires words_fit { words < 2 ^ 7 }
+    requires long { 3 ≤ length bytes.now }
+    ensures { result ≡ is_none (frame_finding channel words bytes.now) }
+{
     frame_finding(channel, words, bytes).is_none()
 }
 
 /// Returns the frame that the bytes of a record spell after its first two, if there is no finding. It makes none, which
 /// would take longer than the rest.
+#[inline(always)]
 pub(crate) fn plain_by<'a>(
     channel: Channel,
     header: &Header,

@@ -15,6 +15,7 @@ const HEADER_INITIAL: u16 = 0x01A;
 // `fr_frame` computes the header CRC of a frame with a payload of its own, and to make one would take longer than the
 // CRC.
 /// Returns the header CRC of a frame: 11 bits.
+#[inline(always)]
 pub(crate) fn header_crc(frame: &LentFrame<'_>) -> u16
     ensures { result ≡ number_of (header_check (covered frame.now)) }
 {
@@ -22,6 +23,7 @@ pub(crate) fn header_crc(frame: &LentFrame<'_>) -> u16
 }
 
 /// Returns the 20 bits that the header CRC of a frame covers.
+#[inline(always)]
 fn covered_bits(frame: &LentFrame<'_>) -> u32
     ensures bits { bits_of 20 result ≡ covered frame.now }
     ensures fits { result < 2 ^ 20 }
@@ -32,6 +34,7 @@ fn covered_bits(frame: &LentFrame<'_>) -> u32
 }
 
 /// Returns the header CRC of 20 bits.
+#[inline(always)]
 fn crc_of_header(covered: u32) -> u16
     requires { covered < 2 ^ 20 }
     ensures bits { bits_of 11 result ≡ header_check (bits_of 20 covered) }
@@ -44,6 +47,7 @@ fn crc_of_header(covered: u32) -> u16
 }
 
 /// Returns the header CRC, from an empty register, of a byte and so many bytes of zeros.
+#[inline(always)]
 fn header_entry(zeros: usize, byte: u8) -> u32
     requires { zeros < 3 }
     ensures bits { bits_of 11 result ≡ left_by header_divisor 11 (bits_of 8 byte ++ replicate (8 * zeros) false) }

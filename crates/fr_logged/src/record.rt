@@ -25,6 +25,7 @@ pub enum Kind {
 }
 
 /// Returns the channel in the first byte of a record.
+#[inline(always)]
 fn channel_in(byte: u8) -> Channel
     ensures { result ≡ channel_in byte }
 {
@@ -32,6 +33,7 @@ fn channel_in(byte: u8) -> Channel
 }
 
 /// Returns the kind of a record with this link type and these bytes.
+#[inline(always)]
 pub fn kind_of(link: u16, bytes: &[u8]) -> Kind
     ensures { result ≡ kind_of link bytes.now }
 {
@@ -68,6 +70,7 @@ fn logged_by(flags: u8) -> Option<Name>
 }
 
 /// Returns the first flag that the logger set in a record of a frame.
+#[inline(always)]
 fn logged_in(bytes: &[u8]) -> Option<Name>
     ensures { result ≡ logged_in bytes.now }
 {
@@ -108,6 +111,7 @@ pub fn spelled(channel: Channel, original: u32, bytes: &[u8]) -> Result<LentFram
 
 /// Returns the frame that a record of a frame spells on the channel, with so many bytes that there were, if it has no
 /// finding.
+#[inline(always)]
 pub fn plain(channel: Channel, original: u32, bytes: &[u8]) -> Option<LentFrame<'_>>
     ensures { result ≡ result_ok (spelled channel original bytes.now) }
 {

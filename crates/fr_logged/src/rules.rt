@@ -66,6 +66,7 @@ fn preamble_finding(preamble: bool, frame: &LentFrame<'_>) -> Option<Finding>
 }
 
 /// Returns whether eight bytes are zero, which is one comparison.
+#[inline(always)]
 fn is_zero_word(word: &[u8; 8]) -> bool
     ensures { result ≡ list_all is_zero word.now }
 {
@@ -74,6 +75,7 @@ fn is_zero_word(word: &[u8; 8]) -> bool
 
 /// Returns whether all bytes are zero.
 #[tactic(auto, using(crate::proofs::ZeroLemmas::all_chunks))]
+#[inline(always)]
 fn are_zeros(bytes: &[u8]) -> bool
     ensures { result ≡ list_all is_zero bytes.now }
 {
@@ -82,6 +84,7 @@ fn are_zeros(bytes: &[u8]) -> bool
 }
 
 /// Returns whether all bytes in groups of eight are zero.
+#[inline(always)]
 fn are_zero_words(words: &[[u8; 8]]) -> bool
     ensures { result ≡ list_all (list_all is_zero) words.now }
 {
@@ -89,6 +92,7 @@ fn are_zero_words(words: &[[u8; 8]]) -> bool
 }
 
 /// Returns whether bytes, which are few, are zero.
+#[inline(always)]
 fn are_zero_bytes(bytes: &[u8]) -> bool
     ensures { result ≡ list_all is_zero bytes.now }
 {
@@ -120,6 +124,7 @@ fn buffer_finding(node: u8, preamble: Option<bool>, frame: &LentFrame<'_>) -> Op
 }
 
 /// Returns whether a data frame has the payload preamble indicator of its transmit buffer.
+#[inline(always)]
 fn is_preamble_well(preamble: Option<bool>, frame: &LentFrame<'_>) -> bool
     ensures { (node : ℕ) → result ≡ is_none (buffer_finding node preamble frame.now) }
 {
@@ -129,19 +134,29 @@ fn is_preamble_well(preamble: Option<bool>, frame: &LentFrame<'_>) -> bool
     }
 }
 
+/// Returns whether a null frame in a static slot has no finding.
+#[inline(always)]
+fn is_null_well(frame: &LentFrame<'_>) -> bool
+    ensures { result ≡ is_none (null_finding frame.now) }
+{
+    !frame.preamble && are_zeros(frame.payload)
+}
+
 /// Returns whether the frame of a static slot has no finding by its kind.
+#[inline(always)]
 fn is_kind_well(due: &Due, frame: &LentFrame<'_>) -> bool
     ensures { result ≡ is_none (kind_finding due.now frame.now) }
 {
     if frame.has_data {
         is_preamble_well(due.preamble, frame)
     } else {
-        null_finding(frame).is_none()
+        is_null_well(frame)
     }
 }
 
 /// Returns whether the frame of a static slot has no finding, by what is due there. It makes no finding, which would
 /// take longer than all the rest.
+#[inline(always)]
 pub fn is_well(due: &Due, frame: &LentFrame<'_>) -> bool
     ensures { result ≡ is_none (static_rules due.now frame.now) }
 {

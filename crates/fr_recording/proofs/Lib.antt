@@ -1,2 +1,3 @@
+pub mod ClassicLemmas
 mod PartLemmas
-mod ReadLemmas
+pub mod ReadLemmas

@@ -44,7 +44,7 @@ steps_one p b = (refl, append-nil (option_to_list (told_of (take_byte p b))))
 steps_to : (p : Progress) (bytes : List ℕ) (x y : Progress) → x ≡ y → Steps p bytes x → Steps p bytes y
 steps_to p bytes x y is steps = subst (λ (q : Progress). Steps p bytes q) is steps
 
-steps_from : (p q : Progress) (bytes : List ℕ) (x : Progress) → p ≡ q → Steps p bytes x → Steps q bytes x
+pub steps_from : (p q : Progress) (bytes : List ℕ) (x : Progress) → p ≡ q → Steps p bytes x → Steps q bytes x
 steps_from p q bytes x is steps = subst (λ (r : Progress). Steps r bytes x) is steps
 
 -- ---- a part
@@ -322,10 +322,10 @@ refused_piece old s read held piece refusal is phase_is few some read_is =
 
 -- ---- a record of a classic file whose head and captured bytes are there
 
-counted_twice : (a m n : ℕ) → counted (counted a m) n ≡ counted a (m + n)
+pub counted_twice : (a m n : ℕ) → counted (counted a m) n ≡ counted a (m + n)
 counted_twice a m n = omega arith
 
-record_parts : (s : State) (scale link : ℕ) (head : Head) (bytes : List ℕ) → s.phase ≡ RecordHeader scale link
+pub record_parts : (s : State) (scale link : ℕ) (head : Head) (bytes : List ℕ) → s.phase ≡ RecordHeader scale link
     → IsWholeHead s.order scale link bytes head
     → Steps (record { state = s; held = [] }) (take (16 + head.captured) bytes) (record {
       state = tell (read_on s (16 + head.captured)) scale link head (take head.captured (drop 16 bytes));

@@ -1,4 +1,5 @@
 pub mod Captures
+pub mod Classics
 pub mod Numbers
 pub mod Records
 pub mod Steps

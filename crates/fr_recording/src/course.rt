@@ -1,15 +1,17 @@
 //! The course of a capture file: the part that comes next, and the effect of each whole part.
 
-ghost use Rattle.std.specs.Prelude.{◌≡◌, ◌-◌, ◌≤◌, ◌<◌, length, take, max, min, None, Some, IfOk, IfSome, IsTrue};
+ghost use Rattle.std.specs.Prelude.{◌≡◌, ◌-◌, ◌≤◌, ◌<◌, [], length, take, max, min, None, Some, IfOk, IfSome, IsTrue};
 ghost use Rattle.fr_recording.specs.Captures.{magic_in, order_in, record_head};
 ghost use Rattle.fr_recording.specs.Numbers.{most_captured};
 ghost use Rattle.fr_recording.specs.Stream.{needed, less, fresh, read_on, go, bad, start, with_captured, after_magic};
 ghost use Rattle.fr_recording.specs.Stream.{tell, after_record_head, skip, after_section, after_mark, add_source};
 ghost use Rattle.fr_recording.specs.Stream.{next_option, after_option_header, after_option, after_head, after_packet};
 ghost use Rattle.fr_recording.specs.Stream.{after_simple, after_bytes, after_trailer, enter, after_block_header};
-ghost use Rattle.fr_recording.specs.Stream.{after_part, end_in};
+ghost use Rattle.fr_recording.specs.Stream.{after_part, end_in, take_bytes};
+ghost use Rattle.fr_recording.specs.Classics.{BeginsClassic};
 ghost use Rattle.fr_recording.specs.Steps.{IsWholeHead, TakesRecord, tell_next};
 
+use crate::classic::Classic;
 use crate::heads::{
     Magic, SECTION, is_bad_front, is_length_of, link_of, magic_of, order_of, packet_head,
     record_head, simple_head, source_of, with_option,
@@ -242,6 +244,41 @@ impl Course {
         self.read_on(whole as u64);
         self.tell_next(head, &bytes[16..whole]);
         whole
+    }
+
+    /// Returns what the records of a classic file have in common, if one begins with the next byte or has begun.
+    pub(crate) fn classic(&self) -> Option<Classic>
+        ensures { IfSome result (λ classic. BeginsClassic (record { state = self.now; held = [] }) classic) }
+    {
+        match self.phase {
+            Phase::RecordHeader(scale, link) => Some(Classic {
+                order: self.order,
+                scale,
+                link,
+            }),
+            _ => None,
+        }
+    }
+
+    /// Takes the records of a classic file that are whole at the front of these bytes, and returns the number of their
+    /// bytes. Only the last one is copied.
+    pub(crate) fn pass_whole(&mut self, bytes: &[u8]) -> usize
+        ensures within { result ≤ length bytes.now }
+        ensures state { record { state = self.new; held = [] }
+            ≡ take_bytes (record { state = self.old; held = [] }) (take result bytes.now) }
+    {
+        let Some(classic) = self.classic() else {
+            return 0;
+        };
+        let last = classic.last_whole(bytes);
+        let rest = &bytes[last..];
+        let Some(head) = whole_head(classic.order, classic.scale, classic.link, rest) else {
+            return 0;
+        };
+        let whole = 16 + head.captured.number() as usize;
+        self.read_on((last + whole) as u64);
+        self.tell_next(head, &rest[16..whole]);
+        last + whole
     }
 
     /// Goes to the end of a block, without a look at the bytes before it.

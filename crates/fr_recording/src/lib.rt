@@ -13,6 +13,7 @@
 //! - `Numbers`, `Times`: numbers in a file, and its limits; times of records in nanoseconds.
 //! - `Records`, `Captures`: a record; the parts of a file, each as a function of its bytes.
 //! - `Stream`: the progress after each byte of a file, its records, and its refusal.
+//! - `Classics`: a record of a classic file that lies whole in a piece.
 //!
 //! Modules that follow the steps of the code, for private functions, with the module that has the meaning:
 //!
@@ -27,6 +28,7 @@
 //! record are kept, since a block is complete only with its last four bytes. All memory is taken by `Reader::new`.
 #![tactic(auto)]
 
+pub mod classic;
 pub mod course;
 mod heads;
 pub mod numbers;

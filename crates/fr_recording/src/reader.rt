@@ -1,12 +1,14 @@
 //! A reader of a capture file that comes in pieces of any length.
 
 ghost use Rattle.std.specs.Prelude.{◌≡◌, ◌+◌, ◌<◌, ◌≤◌, ◌⊎◌, length, take, IfOk, max, [], option_map};
-ghost use Rattle.std.specs.Prelude.{option_to_list, ◌==◌, IsSome, if◌then◌else◌};
+ghost use Rattle.std.specs.Prelude.{option_to_list, ◌==◌, IsSome, IfSome, if◌then◌else◌};
+ghost use Rattle.fr_recording.specs.Classics.{BeginsClassic};
 ghost use Rattle.fr_recording.specs.Stream.{fresh, take_bytes, records_from, told_of, refusal_of, record_of, needed};
 ghost use Rattle.fr_recording.specs.Stream.{is_refused};
 ghost use Rattle.fr_recording.specs.Numbers.{most_captured};
 ghost use Rattle.fr_recording.specs.Steps.{Steps};
 
+use crate::classic::Classic;
 use crate::course::{Course, needed};
 use crate::numbers::MOST_CAPTURED;
 use crate::phase::{Head, Phase, Refusal};
@@ -101,6 +103,42 @@ impl Reader {
     {
         if self.held.is_empty() {
             self.course.take_record(bytes)
+        } else {
+            0
+        }
+    }
+
+    /// Returns what the records of a classic file have in common, if one begins with the next byte.
+    ///
+    /// Records that lie whole in a piece can be read there. Afterwards `pass` takes their bytes.
+    pub fn classic(&self) -> Option<Classic>
+        ensures { IfSome result (λ classic. BeginsClassic self.now classic) }
+    {
+        if self.held.is_empty() {
+            self.course.classic()
+        } else {
+            None
+        }
+    }
+
+    /// Takes all of these bytes, and whatever records they complete.
+    pub fn pass(&mut self, bytes: &[u8])
+        ensures { self.new ≡ take_bytes self.old bytes.now }
+    {
+        let mut taken = self.pass_whole(bytes);
+        while taken < bytes.len() {
+            taken += self.next(&bytes[taken..]);
+        }
+    }
+
+    /// Takes the records of a classic file that are whole at the front of these bytes, and returns the number of their
+    /// bytes.
+    fn pass_whole(&mut self, bytes: &[u8]) -> usize
+        ensures within { result ≤ length bytes.now }
+        ensures state { self.new ≡ take_bytes self.old (take result bytes.now) }
+    {
+        if self.held.is_empty() {
+            self.course.pass_whole(bytes)
         } else {
             0
         }
