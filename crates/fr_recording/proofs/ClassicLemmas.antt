@@ -1,23 +1,5 @@
 -- Records of a classic file that lie whole in a piece.
-use Rattle.std.proofs.Common.{
-  ◌≡◌,
-  ℕ,
-  ◌+◌,
-  ◌<◌,
-  ◌≤◌,
-  false,
-  List,
-  [],
-  ◌++◌,
-  take,
-  drop,
-  sym,
-  ap,
-  ◌∙◌,
-  arith,
-  refl,
-  subst,
-}
+use Rattle.std.proofs.Common.{◌≡◌, ℕ, ◌+◌, false, List, [], take, drop, sym, ap, ◌∙◌, arith, refl, subst}
 use Rattle.std.specs.Prelude.{Some, None, Option, nat_lt}
 use Rattle.std.proofs.Math.Seq.{take-add}
 use Rattle.std.proofs.lemmas.Bool.{cond-false}
@@ -31,7 +13,6 @@ use Rattle.fr_recording.specs.Stream.{Progress, State, read_on, tell, take_byte,
 use Rattle.fr_recording.specs.declared.classic.Classic.{Classic}
 use Rattle.fr_recording.specs.declared.numbers.Order.{Order}
 use Rattle.fr_recording.specs.declared.phase.Head.{Head}
-use Rattle.fr_recording.specs.declared.phase.Phase.TheVariants.{RecordHeader}
 use Rattle.fr_recording.proofs.ReadLemmas.{record_parts, steps_from, counted_twice}
 
 whole_head : (c : Classic) (bytes head : List ℕ) → IsWhole c bytes head

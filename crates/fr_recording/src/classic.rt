@@ -1,6 +1,6 @@
 //! Records of a classic file that lie whole in a piece, read in place.
 
-ghost use Rattle.std.specs.Prelude.{◌≡◌, ◌≤◌, length, IfSome};
+ghost use Rattle.std.specs.Prelude.{◌≡◌, ◌≤◌, length, take, IfSome, IfNone};
 ghost use Rattle.fr_recording.specs.Classics.{captured_in, original_in, time_in, IsWhole};
 ghost use Rattle.fr_recording.specs.Steps.{AreWhole};
 
@@ -45,7 +45,8 @@ impl Classic {
     /// Returns the head at the front of these bytes, if the record has captured bytes and is whole there.
     #[inline(always)]
     pub fn head<'a>(self, bytes: &'a [u8]) -> Option<&'a [u8; 16]>
-        ensures { IfSome result (λ head. IsWhole self bytes.entry.now head.now) }
+        ensures some { IfSome result (λ head. IsWhole self bytes.entry.now head.now) }
+        ensures none { IfNone result (IsWhole self bytes.entry.now (take 16 bytes.entry.now) → ⊥) }
     {
         let head = bytes.first_chunk::<16>()?;
         let captured = self.captured(head);

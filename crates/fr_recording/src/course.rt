@@ -1,6 +1,6 @@
 //! The course of a capture file: the part that comes next, and the effect of each whole part.
 
-ghost use Rattle.std.specs.Prelude.{◌≡◌, ◌-◌, ◌≤◌, ◌<◌, [], length, take, max, min, None, Some, IfOk, IfSome, IsTrue};
+ghost use Rattle.std.specs.Prelude.{◌≡◌, ◌-◌, ◌≤◌, ◌<◌, [], length, take, max, min, None, Some, IfOk, IfSome, IfNone, IsTrue};
 ghost use Rattle.fr_recording.specs.Captures.{magic_in, order_in, record_head};
 ghost use Rattle.fr_recording.specs.Numbers.{most_captured};
 ghost use Rattle.fr_recording.specs.Stream.{needed, less, fresh, read_on, go, bad, start, with_captured, after_magic};
@@ -9,6 +9,7 @@ ghost use Rattle.fr_recording.specs.Stream.{next_option, after_option_header, af
 ghost use Rattle.fr_recording.specs.Stream.{after_simple, after_bytes, after_trailer, enter, after_block_header};
 ghost use Rattle.fr_recording.specs.Stream.{after_part, end_in, take_bytes};
 ghost use Rattle.fr_recording.specs.Classics.{BeginsClassic};
+ghost use Rattle.fr_recording.specs.declared.classic.Classic.{Classic};
 ghost use Rattle.fr_recording.specs.Steps.{IsWholeHead, TakesRecord, tell_next};
 
 use crate::classic::Classic;
@@ -248,7 +249,8 @@ impl Course {
 
     /// Returns what the records of a classic file have in common, if one begins with the next byte or has begun.
     pub(crate) fn classic(&self) -> Option<Classic>
-        ensures { IfSome result (λ classic. BeginsClassic (record { state = self.now; held = [] }) classic) }
+        ensures some { IfSome result (λ classic. BeginsClassic (record { state = self.now; held = [] }) classic) }
+        ensures none { IfNone result ((c : Classic) → BeginsClassic (record { state = self.now; held = [] }) c → ⊥) }
     {
         match self.phase {
             Phase::RecordHeader(scale, link) => Some(Classic {

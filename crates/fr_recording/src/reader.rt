@@ -1,11 +1,12 @@
 //! A reader of a capture file that comes in pieces of any length.
 
 ghost use Rattle.std.specs.Prelude.{◌≡◌, ◌+◌, ◌<◌, ◌≤◌, ◌⊎◌, length, take, IfOk, max, [], option_map};
-ghost use Rattle.std.specs.Prelude.{option_to_list, ◌==◌, IsSome, IfSome, if◌then◌else◌};
+ghost use Rattle.std.specs.Prelude.{option_to_list, ◌==◌, IsSome, IfSome, IfNone, if◌then◌else◌};
 ghost use Rattle.fr_recording.specs.Classics.{BeginsClassic};
 ghost use Rattle.fr_recording.specs.Stream.{fresh, take_bytes, records_from, told_of, refusal_of, record_of, needed};
 ghost use Rattle.fr_recording.specs.Stream.{is_refused};
 ghost use Rattle.fr_recording.specs.Numbers.{most_captured};
+ghost use Rattle.fr_recording.specs.declared.classic.Classic.{Classic};
 ghost use Rattle.fr_recording.specs.Steps.{Steps};
 
 use crate::classic::Classic;
@@ -112,7 +113,8 @@ impl Reader {
     ///
     /// Records that lie whole in a piece can be read there. Afterwards `pass` takes their bytes.
     pub fn classic(&self) -> Option<Classic>
-        ensures { IfSome result (λ classic. BeginsClassic self.now classic) }
+        ensures some { IfSome result (λ classic. BeginsClassic self.now classic) }
+        ensures none { IfNone result ((c : Classic) → BeginsClassic self.now c → ⊥) }
     {
         if self.held.is_empty() {
             self.course.classic()

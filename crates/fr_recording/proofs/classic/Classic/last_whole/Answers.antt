@@ -20,7 +20,7 @@ loop-head-preserved c =
     let rest : List ℕ = take (length bytes - next) (drop next bytes) in
     let rest_is : rest ≡ drop next bytes = take_rest bytes next in
     let long : length rest ≡ length bytes - next = ap length rest_is ∙ length-drop next bytes in
-    let whole : IsWhole c.args.self rest c.in-Some.head.now = c.in-Some.ensures in
+    let whole : IsWhole c.args.self rest c.in-Some.head.now = c.in-Some.ensures.some in
     record {
       within = omega (arith, whole.whole, long, c.captured.ensures, c.loop-head.invariant.within);
       last_within = c.loop-head.invariant.within;

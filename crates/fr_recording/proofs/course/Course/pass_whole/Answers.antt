@@ -20,7 +20,7 @@ returns-clause-state c =
     ∙ ap (λ (r : State). tell_next r head captured) c.read_on.ensures
     ∙ ap (λ (k : ℕ). tell_next (read_on s (last + (16 + k))) head captured) c.number.ensures.value in
     ap (λ (t : State). let p : Progress = record { state = t; held = [] } in p) state_is
-    ∙ passed s c.in-Some.classic bytes rest captured head last c.in-Some.ensures c.last_whole-last.ensures.whole
+    ∙ passed s c.in-Some.classic bytes rest captured head last c.in-Some.ensures.some c.last_whole-last.ensures.whole
     (take_rest bytes last) c.in-Some-whole_head.ensures (ap (λ (k : ℕ). take k (drop 16 rest)) count)
     ∙ ap (λ (k : ℕ). take_bytes (record { state = s; held = [] }) (take (last + (16 + k)) bytes))
     (sym c.number.ensures.value)
