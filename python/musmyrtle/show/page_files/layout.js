@@ -3,10 +3,10 @@
 /** More cells than this share of the pixels are drawn as columns of a pixel. */
 const DENSE = 0.5;
 
-/** Returns the first cell that ends after a time. Few cells overlap, and never more than two. */
+/** Returns the first cell that ends after a time, or of several that overlap there the first one. */
 function firstAfter(cells, time) {
   let cell = below(cells.begin, time);
-  for (let back = 0; back < 2 && cell > 0 && cells.end[cell - 1] > time; back += 1) {
+  while (cell > 0 && cells.end[cell - 1] > time) {
     cell -= 1;
   }
   return cell;
