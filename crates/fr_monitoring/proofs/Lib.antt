@@ -1,3 +1,4 @@
 mod FollowLemmas
 mod LineLemmas
 mod TextLemmas
+mod WholeLemmas

@@ -40,7 +40,7 @@ judged_more s a b = fold-append judge s a b
 
 -- ---- bytes, one part after another
 
-records_more : (a b : List ℕ) (p : Progress)
+pub records_more : (a b : List ℕ) (p : Progress)
     → records_from p (a ++ b) ≡ records_from p a ++ records_from (take_bytes p a) b
 records_more [] b p = refl
 records_more (x ∷ a) b p =
@@ -98,3 +98,13 @@ followed_next frames p q q' s t t' old mid new piece rest a b so_far rest_is pro
     } in
     subst (λ (front : List ℕ). IsFollowed frames p s q' t' old new front) cut
     (followed_more frames p q q' s t t' old mid new (take a piece) (take b rest) so_far one)
+
+-- the bytes after them
+pub followed_further : (frames : Bool) (p q q' : Progress) (s t t' : State) (old mid new : Option (List ℕ))
+    (piece rest : List ℕ) (a b : ℕ) → IsFollowed frames p s q t old mid (take a piece) → rest ≡ drop a piece
+    → IsFollowed frames q t q' t' mid new (take b rest) → IsFollowed frames p s q' t' old new (take (a + b) piece)
+followed_further frames p q q' s t t' old mid new piece rest a b so_far rest_is more =
+    let cut : take a piece ++ take b rest ≡ take (a + b) piece =
+    ap (λ (r : List ℕ). take a piece ++ take b r) rest_is ∙ sym (take-add a b piece) in
+    subst (λ (front : List ℕ). IsFollowed frames p s q' t' old new front) cut
+    (followed_more frames p q q' s t t' old mid new (take a piece) (take b rest) so_far more)

@@ -1,13 +1,14 @@
 //! The audit of a recording between a reader and a writer.
 
-ghost use Rattle.std.specs.Prelude.{◌≡◌, ◌<◌, length, IfOk, IfSome, Err, OnOk, option_to_list, [], if◌then◌else◌};
+ghost use Rattle.std.specs.Prelude.{◌≡◌, ◌<◌, ◌≤◌, false, length, take, IfOk, IfSome, Err, OnOk, option_to_list, [], if◌then◌else◌};
 ghost use Rattle.fr_monitoring.specs.FrameText.{last_text};
 ghost use Rattle.fr_text.specs.Writing.{Writes};
 ghost use Rattle.fr_recording.specs.Stream.{take_bytes, records_from, told_of};
 ghost use Rattle.fr_judging.specs.Judging.{judge as state_after};
 ghost use Rattle.fr_recording.specs.Records.{Record};
+ghost use Rattle.fr_monitoring.specs.LineText.{lines_text};
 ghost use Rattle.fr_monitoring.specs.Monitoring.{judged, record_text, told, end_with, Monitors, Follows, Ends};
-ghost use Rattle.fr_monitoring.specs.Monitoring.{clock_refusal};
+ghost use Rattle.fr_monitoring.specs.Monitoring.{clock_refusal, IsFollowed};
 
 use crate::error::{MonitorError, StreamError};
 use crate::frames::{Waiting, waiting_at, waiting_now, write_frames, write_last};
@@ -75,6 +76,63 @@ fn take_record<W: Write>(
     }
 }
 
+/// Judges the records of a classic file that lie whole at the front of a piece, up to the first one that shows
+/// something, and returns the number of their bytes.
+///
+/// They are read in place. The capture doesn't go on, and would copy each one.
+#[inline(never)]
+fn judge_whole(capture: &Reader, judge: &mut Judge, piece: &[u8]) -> usize
+    ensures within { result ≤ length piece.now }
+    ensures judge { judge.new ≡ judged judge.old (records_from capture.now (take result piece.now)) }
+    ensures text { 0 < result → lines_text judge.new.lines
+        ≡ told false judge.old (records_from capture.now (take result piece.now)) }
+{
+    let Some(classic) = capture.classic() else {
+        return 0;
+    };
+    let mut taken = 0;
+    while let Some(head) = classic.head(&piece[taken..]) {
+        let begin = taken + 16;
+        taken = begin + classic.captured(head) as usize;
+        let time = Some(classic.time(head));
+        judge.judge(
+            time,
+            classic.link,
+            classic.original(head),
+            &piece[begin..taken],
+        );
+        if !judge.lines().is_empty() {
+            return taken;
+        }
+    }
+    taken
+}
+
+/// Judges records at the front of a piece in place, if frames have no lines, and writes what they show. Returns the
+/// number of their bytes.
+fn take_whole<W: Write>(
+    capture: &mut Reader,
+    judge: &mut Judge,
+    frames: bool,
+    piece: &[u8],
+    writer: &mut W,
+) -> io::Result<usize>
+    ensures within { IfOk result (λ taken. taken ≤ length piece.now) }
+    ensures followed { IfOk result (λ taken. IsFollowed frames capture.old judge.old capture.new judge.new
+        (W.contents writer.old) (W.contents writer.new) (take taken piece.now)) }
+{
+    if frames {
+        return Ok(0);
+    }
+    let taken = judge_whole(capture, judge, piece);
+    if taken == 0 {
+        return Ok(0);
+    }
+    capture.pass(&piece[..taken]);
+    write_lines(writer, judge.lines())?;
+    Ok(taken)
+}
+
 /// Judges the records that a piece completes, one after another, and writes what they show.
 fn take_piece<W: Write>(
     capture: &mut Reader,
@@ -92,6 +150,7 @@ fn take_piece<W: Write>(
     while taken < piece.len() {
         taken += capture.next(&piece[taken..]);
         take_record(capture, judge, frames, writer)?;
+        taken += take_whole(capture, judge, frames, &piece[taken..], writer)?;
     }
     Ok(())
 }
