@@ -288,7 +288,8 @@ pub passes_sending : (d : Description) → IsCluster d → (cycles most : ℕ) �
     (channel : Channel) (calls : ℕ) → calls + 3 ≤ most → (w : WorldState) → IsAt d cycles kept calls w
     → (window : Opportunity) → following d.params cycles w.bus.sealed ≡ Some window → AreMute d kept window
     → is_static window ≡ false → (slot : ℕ) → slot_of window channel ≡ Some slot → window.cycle < 64 → (bytes : ℕ)
-    → CanSend d window.cycle slot channel window.minislot bytes → IsPast d cycles kept (calls + 3) w window channel bytes
+    → CanSend d window.cycle slot channel window.minislot bytes
+    → IsPast d cycles kept (calls + 3) w window channel bytes
 passes_sending d lawful cycles most room kept channel calls few w here window next mute dynamic slot slot_is cycle_fits
     bytes can =
     let payload : List ℕ = replicate (2 * words_of d.params can.buffer) 0 in

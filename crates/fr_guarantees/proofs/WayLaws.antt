@@ -105,7 +105,8 @@ module _ (d : Description) (some : 0 < d.params.words_per_minislot) (cycle : ℕ
       let node : follows_node p slot channel cycle here begins s.plan ≡ true =
       both (nat_le 1 s.plan.tasks) (list_any (follows_buffer p slot channel cycle here begins s.plan) s.plan.buffers)
       (le-leb 1 s.plan.tasks s.some_task)
-      (any_passes_from_place (follows_buffer p slot channel cycle here begins s.plan) s.plan.buffers s.number s.buffer s.at buffer) in
+      (any_passes_from_place (follows_buffer p slot channel cycle here begins s.plan) s.plan.buffers s.number s.buffer
+      s.at buffer) in
       or_right (here (begins - 1)) (list_any (follows_node p slot channel cycle here begins) d.plans)
       (any_passes_from_place (follows_node p slot channel cycle here begins) d.plans s.node s.plan s.plan_at node)
 

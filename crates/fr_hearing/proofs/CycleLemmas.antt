@@ -77,7 +77,8 @@ has_owner d channel cycle cluster fits clocked =
     (both_first (includes line.value.channels channel) (cycle_admitted line.value.cycles cycle) there.passes))
     (both_rest (includes line.value.channels channel) (cycle_admitted line.value.cycles cycle) there.passes) in
     let owner = some_found_in (claims line.value.slot channel cycle) node.value.owned
-    (any_passes_from_place (claims line.value.slot channel cycle) node.value.owned there.place line.value there.at claimed) in
+    (any_passes_from_place (claims line.value.slot channel cycle) node.value.owned there.place line.value there.at
+    claimed) in
     let due = due_is_owners d line.value.slot channel cycle here.place node.value owner.value cluster.one_sender fits
     (le-leb line.value.slot d.params.static_slots few) here.at owner.is in
     record {

@@ -74,8 +74,8 @@ module _ (p : Parameters) (time : Clock) where
       own_read t A (heard p r A) (read_seen t B (heard p r B) ++ more) packets
       (other_read t A B (heard p r B) more packets refl rest)
   window_read B t r more packets rest =
-      other_read t B A (heard p r A) (read_seen t B (heard p r B) ++ more) (packets_seen B (heard p r B) ++ packets) refl
-      (own_read t B (heard p r B) more packets rest)
+      other_read t B A (heard p r A) (read_seen t B (heard p r B) ++ more) (packets_seen B (heard p r B) ++ packets)
+      refl (own_read t B (heard p r B) more packets rest)
 
   read_logged : (channel : Channel) (before rs : List Recorded)
       → AreLogged channel

@@ -1,7 +1,7 @@
 -- A channel without a sender has no frame and no finding.
 use Rattle.std.proofs.Common.{◌≡◌, ℕ, Bool, true, false, not, cond, ◌&&◌, ◌||◌, List, [], ◌∷◌, refl, sym, ap, ◌∙◌, inl}
 use Rattle.std.proofs.Common.{inr, Some, None}
-use Rattle.std.proofs.lemmas.Bool.{eqb-true}
+use Rattle.std.proofs.lemmas.Bool.{eqb-true, or_right}
 use Rattle.std.specs.Prelude.{◌==◌}
 use Rattle.std.specs.List.{list_any}
 use Rattle.std.proofs.lemmas.Map.Keys.{any_passes_from_place}
@@ -73,18 +73,15 @@ module _ (d : Description) (channel : Channel) (slot cycle : ℕ) where
 
   some_sender : (node : ℕ) → IsSender d cycle slot channel node → has_sender d channel ≡ true
   some_sender node s =
-      any_passes_from_place (sends_on d.params channel) d.plans node s.plan s.at (by (is_static_slot d.params slot) refl s.sends)
+      any_passes_from_place (sends_on d.params channel) d.plans node s.plan s.at
+      (by (is_static_slot d.params slot) refl s.sends)
     where
-      or_rest : (p q : Bool) → q ≡ true → (p || q) ≡ true
-      or_rest true q e = refl
-      or_rest false q e = e
-
       by : (b : Bool) → is_static_slot d.params slot ≡ b
           → cond b (is_owned s.plan.owned slot channel cycle) (list_any (sends_at slot channel cycle) s.plan.buffers)
           ≡ true → sends_on d.params channel s.plan ≡ true
       by true is e = ap (λ (b : Bool). b || list_any (transmits_on d.params channel) s.plan.buffers)
           (any_more (claims slot channel cycle) (own_includes channel) s.plan.owned owner_sends e)
-      by false is e = or_rest (list_any (own_includes channel) s.plan.owned)
+      by false is e = or_right (list_any (own_includes channel) s.plan.owned)
           (list_any (transmits_on d.params channel) s.plan.buffers)
           (any_more (sends_at slot channel cycle) (transmits_on d.params channel) s.plan.buffers (buffer_sends is) e)
 

@@ -245,8 +245,8 @@ module _ (w : WorldState) (head : Headline w) (channel : Channel) (sound : AreSo
         let side = side_on channel (slice_index_or (outcome_at w head k r at).stations t.node idle_station) in
         let mine = sender_is i t there_is through in
         let passed_are : all_passed channel r.sent ≡ all_passed channel (own channel t.node r.sent) =
-        passed_mine channel t.node r.sent (λ j u here passing. head.run.lawful.one_sender r.window.cycle slot channel u.node
-        t.node mine.0 (sender_is j u here passing).1 mine.1) in
+        passed_mine channel t.node r.sent (λ j u here passing. head.run.lawful.one_sender r.window.cycle slot channel
+        u.node t.node mine.0 (sender_is j u here passing).1 mine.1) in
         let one = own_are w head k r at channel i t there_is ∙ ap (sent_in d r.window t.node channel side) slot_is in
         let all_sound : list_all is_sound (sent_in d r.window t.node channel side (Some slot)) ≡ true =
         ap (list_all is_sound) (sym one)

@@ -63,7 +63,8 @@ both_send w head most whole records healthy_a healthy_b some_a some_b in_order =
     let few = few_cycles w.bus.cycles (opportunities d.params) (w.bus.cycles * opportunities d.params) product
     head.run.few_windows in
     none_found_in (rules_of w.bus.cluster most whole None 0) (record { untimed = refl }) greatest (IsInRun w)
-    (are_alike w head (both_healthy w healthy_a healthy_b)) head.run.lawful all w.bus.cycles few clocked w.bus.sealed head.run.recorded
+    (are_alike w head (both_healthy w healthy_a healthy_b)) head.run.lawful all w.bus.cycles few clocked w.bus.sealed
+    head.run.recorded
     (each_heard w.bus.cluster A w.bus.sealed (window_heard w head A healthy_a))
     (each_heard w.bus.cluster B w.bus.sealed (window_heard w head B healthy_b))
     (each_in_run w [] w.bus.sealed refl) healthy_a.complete.some_window healthy_a.complete.static_over
@@ -150,7 +151,8 @@ read_order time p before (r ∷ rs) =
 
 pub no_alarm_in_file_together : (w : WorldState) → Headline w → NoAlarmInFileTogether w
 no_alarm_in_file_together w head most whole time healthy_a healthy_b =
-    let read = (is_read_back time w.bus.cluster.params w.bus.sealed (short_seen w head (both_healthy w healthy_a healthy_b))).1 in
+    let read = (is_read_back time w.bus.cluster.params w.bus.sealed
+    (short_seen w head (both_healthy w healthy_a healthy_b))).1 in
     no_alarm_together w head most whole (records_in (capture_of time w.bus.cluster.params w.bus.sealed)) healthy_a
     healthy_b (subst (λ (l : List Record). AreInOrder l (packets_of_both w.bus.cluster.params w.bus.sealed)) (sym read)
     (read_order time w.bus.cluster.params [] w.bus.sealed))

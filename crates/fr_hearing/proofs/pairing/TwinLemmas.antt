@@ -180,7 +180,8 @@ module _ (w : WorldState) (head : Headline w) (k : ℕ) (r : Recorded) (at : sli
         → due.both ≡ true → IsTwin slot channel r.window.cycle s.plan
     due_here few due due_is both =
         let o = line_here few in
-        let same : static_due w.bus.cluster.params n s.plan o.value (buffer_in slot channel r.window.cycle s.plan) ≡ due =
+        let same : static_due w.bus.cluster.params n s.plan o.value (buffer_in slot channel r.window.cycle s.plan)
+        ≡ due =
         same_some (static_due w.bus.cluster.params n s.plan o.value (buffer_in slot channel r.window.cycle s.plan)) due
         (sym (due_is_owners w.bus.cluster slot channel r.window.cycle n s.plan o.value head.run.lawful.one_sender
         cycle_here static_here h.fetched_is.plan_at o.line) ∙ due_is) in

@@ -456,7 +456,8 @@ module _ (d : Description) (lawful : IsCluster d) (cycles most : ℕ) (room : Ha
           at = subst (λ (c : Standpoint). IsAtSpot d channel c (after_frame d.params s g)) (sym e) spot_is;
           follow = follow;
           ahead = subst (λ (c : Standpoint). Ahead c (after_frame d.params s g) gs follow) (sym e)
-              (ahead_then gone.recorded (after_frame d.params s g) g.id (last_after_frame d.params s g) high opened gs follow);
+              (ahead_then gone.recorded (after_frame d.params s g) g.id (last_after_frame d.params s g) high opened gs
+              follow);
           unopened = subst IsUnopened (sym e)
               (unopened_now (longest A gone.recorded.sent) (longest B gone.recorded.sent));
         }) (omega (arith, begun, left, counted, left_after)) (omega (arith, enough)) (omega (arith, count, one)))
