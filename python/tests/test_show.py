@@ -309,6 +309,15 @@ class Runs(Shows):
         self.assertEqual([(it["line"], it["fault"]) for it in rows if it["kind"] == "idle"], [(4, "corrupt AB 1 m9 0")])
         self.assertEqual([it["why"] for it in rows if it["kind"] == "undelivered"], ["lost on A in cycle 0, by line 3"])
 
+    def test_lines_after_the_end_of_the_run(self) -> None:
+        """Lines for cycles that the run doesn't have are left out, also if their node isn't there."""
+        lines = "commit 0 0 0 0 x0a0b\ncommit 9 0 4 0 x0000\nmute 7 A 4 s1\n"
+        scenario = self.written("scenario", f"frscenario 3\n{lines}end\n")
+        status, output, told = self.asked("run", THREE[0], scenario, "--cycles", "4", "--json")
+        self.assertEqual((status, told), (0, "line 3 names no cycle of the run\nline 4 names no cycle of the run\n"))
+        total = json.loads(output.splitlines()[0])
+        self.assertEqual([total[key] for key in ("nodes", "cycles", "time_mt", "commits")], [3, 4, 360, 1])
+
     def test_a_run_in_which_nothing_is_wrong(self) -> None:
         scene = "frscenario 1\ncommit 0 0 0 0 x0001\nend\n"
         network = NETWORK.replace('  {name = "unused", kind = "receive", slot = 5, channels = "B"},\n', "")

@@ -102,10 +102,10 @@ class Inputs:
         """Returns what `fr_view` prints about the run."""
         return self.ask("fr_view", self.words_of_run(command, *words))
 
-    def words_of_run(self, command: str, *words: str, more: int = 0) -> list[str]:
-        """Returns the words with which `fr_view` is asked about the run, or about one with MORE cycles."""
+    def words_of_run(self, command: str, *words: str) -> list[str]:
+        """Returns the words with which `fr_view` is asked about the run."""
         files = self.task.file(self.task.cluster), self.task.file(self.task.scenario or "")
-        return [command, *words, "--cycles", str(self.cycles + more), "--", *files]
+        return [command, *words, "--cycles", str(self.task.cycles), "--", *files]
 
     def ask(self, name: str, words: list[str], data: bytes = b"") -> Printed:
         """Returns what a program prints. Raises `Stop` where it refuses the inputs, which are then explained, and where
@@ -124,13 +124,10 @@ class Inputs:
         self.keep(program, name)
         return found
 
-    def lines_of_run(self, command: str, *words: str, more: int = 0) -> Iterator[str]:
-        """Yields the lines that `fr_view` prints about the run, or about one with MORE cycles, as it prints them.
-
-        Raises what `ask` raises.
-        """
+    def lines_of_run(self, command: str, *words: str) -> Iterator[str]:
+        """Yields the lines that `fr_view` prints about the run, as it prints them. Raises what `ask` raises."""
         name, pipe = "fr_view", subprocess.PIPE
-        program, words_of_run = self.program(name), self.words_of_run(command, *words, more=more)
+        program, words_of_run = self.program(name), self.words_of_run(command, *words)
         with temporary_file() as told:
             try:
                 with self.children.started([program, *words_of_run], stdin=subprocess.DEVNULL, stdout=pipe,

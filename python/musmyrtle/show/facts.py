@@ -12,6 +12,7 @@ from musmyrtle.output import Stop
 from musmyrtle.scenario import Reading, Scenario
 from musmyrtle.show.causes import Causes
 from musmyrtle.show.engines import ENDLESS, Inputs
+from musmyrtle.show.idle_cycle import cycle_begins_of, idle_cycle_of
 from musmyrtle.show.network import Network
 from musmyrtle.show.received import errors_in
 from musmyrtle.show.windows import Windows
@@ -195,10 +196,12 @@ class Facts:
     def windows(self) -> Windows:
         """Returns the windows of the run, and its end.
 
-        The end is the begin of a further cycle, so the program is asked about a run that has one. Its windows before
-        are the same.
+        The end is the begin of a further cycle. A run of the scenario with one may be refused for lines that name it,
+        so it is taken from a run without them.
         """
-        return Windows(self.inputs.lines_of_run("windows", ENDLESS, more=1), self.inputs.cycles)
+        found = Windows(self.inputs.lines_of_run("windows", ENDLESS))
+        found.cycle_begins.append(cycle_begins_of(self.inputs, idle_cycle_of(self.inputs), self.inputs.cycles)[-1])
+        return found
 
     @cached_property
     def sending(self) -> dict[tuple[int, int], list[str]]:

@@ -12,6 +12,8 @@ from musmyrtle.show.windows import CHANNELS, Windows
 IDLE_RUN = "a run in which nothing is done"
 IDLE, FULL = "frscenario 2\nend\n", f"frscenario 3\nbabble 0 AB * m* x{'00' * 262}\nend\n"
 """Scenarios in which nothing is sent, and in which the longest bytes fill the dynamic segment with few windows."""
+MOST_BEGIN = 2**64 - 1
+"""A macrotick at which no cycle of a run begins."""
 
 
 class IdleCycle:
@@ -48,10 +50,10 @@ def idle_inputs(inputs: Inputs, cycles: int, text: str) -> Iterator[Inputs]:
 def idle_cycle_of(inputs: Inputs) -> IdleCycle:
     """Returns the windows of the first cycle."""
     with idle_inputs(inputs, 1, IDLE) as idle:
-        return IdleCycle(Windows(idle.of_run("windows", ENDLESS).lines, 1))
+        return IdleCycle(Windows(idle.of_run("windows", ENDLESS).lines))
 
 
-def cycle_begins_of(inputs: Inputs, cycle: IdleCycle, cycles: int, most: int) -> "array[int]":
+def cycle_begins_of(inputs: Inputs, cycle: IdleCycle, cycles: int, most: int = MOST_BEGIN) -> "array[int]":
     """Returns the macroticks at which so many cycles begin, and the one after them, up to the first one above MOST.
 
     CYCLE is one of the cluster. The run has as few windows as can be, since each has a line.

@@ -8,22 +8,20 @@ CHANNELS = "AB"
 class Windows:
     """The windows of a run, by their numbers. Times and lengths are in macroticks. A slot 0 stands for none.
 
-    LINES are those of a run with one cycle more than CYCLES. Of this last cycle only the begin is kept, with which the
-    run ends.
+    LINES are those of `fr_view windows`, which don't say when the run ends.
     """
 
-    def __init__(self, lines: Iterable[str] = (), cycles: int = 0) -> None:
+    def __init__(self, lines: Iterable[str] = ()) -> None:
         self.cycles, self.minislots, self.begins = array("I"), array("H"), array("Q")
         self.slots = {it: array("H") for it in CHANNELS}
         self.lengths = {it: array("H") for it in CHANNELS}
         self.cycle_begins = array("Q")
-        """The macrotick of the run at which each cycle begins, also the one after the last."""
+        """The macrotick of the run at which each cycle begins, and at which the last one ends once this is added."""
         for line in lines:
             words = line.split(" ")
             if int(words[1]) == len(self.cycle_begins):
                 self.cycle_begins.append(int(words[3]))
-            if int(words[1]) < cycles:
-                self.add(words)
+            self.add(words)
 
     def add(self, words: list[str]) -> None:
         """Adds a window by the words of its line."""
