@@ -1,7 +1,7 @@
 //! The outcome of the transmissions of a window, and each node's observation.
 
 ghost use Rattle.std.specs.Prelude.{◌≡◌, ◌<◌, ◌≤◌, [], ◌∷◌, ◌++◌, List, length, IfOk, OnOk, OnErr, None, ◌&&◌, ◌+◌};
-ghost use Rattle.std.specs.Prelude.{◌↔◌, IsTrue, IfSome, IfNone, if◌then◌else◌, slice_index_or};
+ghost use Rattle.std.specs.Prelude.{◌↔◌, IsTrue, IfSome, IfNone, if◌then◌else◌, slice_index_or, ◌-◌, ◌^◌, min};
 ghost use Rattle.std.specs.List.{list_any};
 ghost use Rattle.std.specs.Option.{option_copied};
 ghost use Rattle.fr_bus.specs.Outcome.{fate_of, transmission, sent_on, sent_in, sent_of, sent_from, passed_on, is_of};
@@ -11,7 +11,7 @@ ghost use Rattle.fr_bus.specs.States.{idle_station};
 ghost use Rattle.fr_bus.specs.Corruption.{turned, with_bit_turned, corrupted};
 ghost use Rattle.fr_slots.specs.declared.channel.Channel.TheVariants as Channel;
 ghost use Rattle.fr_guardian.specs.Guarding.{passes};
-ghost use Rattle.fr_slots.specs.Windows.{slot_of};
+ghost use Rattle.fr_slots.specs.Windows.{slot_of, cycles_with};
 ghost use Rattle.fr_status.specs.Forms.{whole_seen};
 ghost use Rattle.fr_status.specs.declared.seen.Seen.TheVariants as Sees;
 
@@ -22,7 +22,7 @@ use fr_interface::sight::{Heard, Sight};
 use fr_slots::channel::Channel;
 use fr_slots::numbers::NodeId;
 use fr_slots::params::Params;
-use fr_slots::window::Window;
+use fr_slots::window::{Window, opens_cycle};
 use fr_status::seen::{LentSeen, Seen};
 use std::alloc::{AllocError, Global};
 use std::marker::Model;
@@ -91,6 +91,17 @@ impl Model for Sealed {
     ghost use Rattle.fr_bus.specs.SealedFields.{recorded_in};
 
     ghost view = { recorded_in };
+}
+
+impl Sealed {
+    /// Returns the number of cycles of a record that have begun with this window, from the number before it
+    /// (project-defined). At `usize::MAX` it stays.
+    pub fn cycles_with(&self, begun: usize) -> usize
+        ensures most { result ≡ min (cycles_with begun self.now.window) (2 ^ 64 - 1) }
+        ensures counted { begun + 1 < 2 ^ 64 → result ≡ cycles_with begun self.now.window }
+    {
+        begun.saturating_add(usize::from(opens_cycle(&self.window)))
+    }
 }
 
 /// Returns the outcome of a transmission, by its mute and by its guardian.

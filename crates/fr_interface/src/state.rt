@@ -1,8 +1,6 @@
 //! The data that an interface keeps for its calls, without the calls before.
 
-ghost use Rattle.std.specs.Prelude.{◌≡◌, ◌+◌, ◌<◌, ◌^◌, if◌then◌else◌};
 ghost use Rattle.fr_interface.specs.Standing.{IsHistory, ForEachHistory};
-ghost use Rattle.fr_slots.specs.Windows.{opens_cycle};
 
 use crate::call::{Answer, Call};
 use crate::errors::{HostError, InterfaceError, SlotError};
@@ -32,23 +30,11 @@ use fr_slots::channel::Channel;
 use fr_slots::numbers::TaskId;
 use fr_slots::params::Params;
 use fr_slots::plan::NodePlan;
-use fr_slots::window::{Window, opens_cycle};
+use fr_slots::window::{Window, cycles_with};
 use fr_status::counters::Counters;
 use fr_status::seen::Seen;
 use std::alloc::Global;
 use std::marker::Model;
-
-/// Returns the number of cycles that have begun once the window is fetched.
-fn cycles_with(cycles: u32, window: &Window) -> u32
-    requires { cycles + 1 < 2 ^ 32 }
-    ensures { result ≡ cycles + (if opens_cycle window.now then 1 else 0) }
-{
-    if opens_cycle(window) {
-        cycles + 1
-    } else {
-        cycles
-    }
-}
 
 // No call scans the journal. The results are kept here, and the invariant of `Interface` states that they are those of
 // the journal. With a scan at each call, the audits of two traces took 21.5 s and 276 s; without scans they take less

@@ -1,6 +1,6 @@
 -- Windows: one transmission opportunity on both channels (project-defined).
-use Rattle.std.specs.Prelude.{◌≡◌, ℕ, ◌≤◌, ◌<◌, ◌^◌, ◌==◌, nat_le, not, Bool, true, false, ◌&&◌, ◌||◌, Option}
-use Rattle.std.specs.Prelude.{Some, None, is_some, if◌then◌else◌}
+use Rattle.std.specs.Prelude.{◌≡◌, ℕ, ◌≤◌, ◌<◌, ◌+◌, ◌-◌, ◌^◌, ◌==◌, nat_le, min, not, Bool, true, false, ◌&&◌, ◌||◌}
+use Rattle.std.specs.Prelude.{Option, Some, None, is_some, if◌then◌else◌}
 use Rattle.fr_slots.specs.declared.channel.Channel.{Channel}
 use Rattle.fr_slots.specs.declared.channel.Channel.TheVariants.{A, B}
 use Rattle.fr_slots.specs.Numbers.{IsSlot, last_minislot, cycle_count}
@@ -58,6 +58,18 @@ is_first_slot (Some slot) = slot == 1
 -- a cycle begins with static slot 1
 abbrev pub opens_cycle : Opportunity → Bool
 opens_cycle w = is_static w && is_first_slot w.a
+
+-- the number of cycles of a run that have begun with the window, from the number before it
+abbrev pub cycles_with : ℕ → Opportunity → ℕ
+cycles_with begun w = begun + (if opens_cycle w then 1 else 0)
+
+-- a count that stays at the greatest number of its type
+abbrev pub most_cycles : ℕ → ℕ
+most_cycles n = min n (2 ^ 32 - 1)
+
+-- the cycle of the run, from 0, in which the window lies, from the number of cycles that began before it
+abbrev pub run_cycle : ℕ → Opportunity → ℕ
+run_cycle begun w = if opens_cycle w then begun else begun - 1
 
 -- ---- the windows of a cluster
 

@@ -1,7 +1,7 @@
 //! Windows: transmission opportunities.
 
-ghost use Rattle.std.specs.Prelude.{◌≡◌};
-ghost use Rattle.fr_slots.specs.Windows.{opens_cycle};
+ghost use Rattle.std.specs.Prelude.{◌≡◌, ◌+◌, ◌<◌, ◌^◌};
+ghost use Rattle.fr_slots.specs.Windows.{opens_cycle, cycles_with, most_cycles, run_cycle};
 
 use crate::channel::Channel;
 use crate::numbers::{Cycle, SlotId};
@@ -100,4 +100,27 @@ pub fn opens_cycle(window: &Window) -> bool
     ensures { result ≡ opens_cycle window.now }
 {
     window.is_static() && window.a.is_some_and(|slot| slot.number() == 1)
+}
+
+/// Returns the number of cycles of a run that have begun with this window, from the number before it
+/// (project-defined).
+///
+/// At `u32::MAX`, which no run reaches, it stays.
+pub fn cycles_with(begun: u32, window: &Window) -> u32
+    ensures most { result ≡ most_cycles (cycles_with begun window.now) }
+    ensures counted { begun + 1 < 2 ^ 32 → result ≡ cycles_with begun window.now }
+{
+    begun.saturating_add(u32::from(opens_cycle(window)))
+}
+
+/// Returns the cycle of the run, from 0, in which a window lies, from the number of cycles that began before it
+/// (project-defined).
+pub fn run_cycle(begun: u32, window: &Window) -> u32
+    ensures { result ≡ run_cycle begun window.now }
+{
+    if opens_cycle(window) {
+        begun
+    } else {
+        begun.saturating_sub(1)
+    }
 }
