@@ -145,9 +145,11 @@ impl Bus {
         ensures value { result.now ≡ self.now.sealed }
         ensures run { IsRun self.now }
         ensures one_sender { OneSenderEach self.now.cluster self.now.sealed }
+        ensures few { cycles_begun self.now.sealed ≤ 1024 }
     {
-        // For the prover: the clause of this call.
+        // For the prover: the clauses of these calls.
         self.known();
+        let _begun = self.kept.begun();
         self.record.as_slice()
     }
 

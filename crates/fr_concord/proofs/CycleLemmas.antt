@@ -19,7 +19,7 @@ use Rattle.fr_journal.specs.declared.entry.Entry.TheVariants.{Commit, Withdraw, 
 use Rattle.fr_journal.specs.Forms.{Entry}
 use Rattle.fr_runs.specs.Stepping.{is_fetch, is_by, lines_given, IsInStep, IsInTurn, IsStepped}
 use Rattle.fr_slots.specs.History.{each_after}
-use Rattle.fr_slots.specs.Windows.{opens_cycle, Opportunity}
+use Rattle.fr_slots.specs.Windows.{opens_cycle, Opportunity, run_cycle as run_cycle_by}
 
 -- ---- counts
 
@@ -47,10 +47,6 @@ moved : (b : Bool) (n : ℕ) → cond b n (n - 1) ≡ (n + one_if b) - 1
 moved true n = omega arith
 moved false n = omega arith
 
-delayed : (b : Bool) (n : ℕ) → n - cond b 0 1 ≡ (n + one_if b) - 1
-delayed true n = omega arith
-delayed false n = omega arith
-
 pub window_cycles : AreWindowCycles
 window_cycles before r after =
     let whole = ap (λ (l : List Recorded). cycles_begun l - 1) (up_to before r after) in
@@ -63,8 +59,8 @@ window_cycles before r after =
       of_time = moved (opens_cycle r.window) (cycles_begun before) ∙ back;
       of_sealed_time = sym whole;
       of_delays = λ w same.
-          ap (λ (l : List Recorded). cycles_begun l - cond (opens_cycle r.window) 0 1) same
-          ∙ delayed (opens_cycle r.window) (cycles_begun before) ∙ back;
+          ap (λ (l : List Recorded). run_cycle_by (cycles_begun l) r.window) same
+          ∙ moved (opens_cycle r.window) (cycles_begun before) ∙ back;
       of_number = ap (λ (n : ℕ). n % 64) (sym whole);
     }
 

@@ -28,7 +28,7 @@ use Rattle.fr_core.specs.Steps.{Applies, Steps, answered, step_done, step_refusa
 use Rattle.fr_live.specs.LiveSteps.{Accepts}
 use Rattle.fr_core.specs.Worlds.{WorldState}
 use Rattle.fr_endless.proofs.AlikeLemmas.{opened_same, begun_same, collecting_is}
-use Rattle.fr_endless.specs.Alike.{run_cycle_by}
+use Rattle.fr_slots.specs.Windows.{run_cycle}
 use Rattle.fr_endless.specs.Taps.{TapsState, ToldAlike, ToldState, with_taps}
 use Rattle.fr_playing.proofs.MovingLemmas.{does_none, does_more, found_so, strikes_none, strikes_some, within_none}
 use Rattle.fr_playing.proofs.MovingLemmas.{within_more}
@@ -100,13 +100,13 @@ module _ (cycle : ℕ) (window : Opportunity) where
 -- ---- the open window
 
 pub strikes_open : (l new : ToldState) (faults : List FaultLine) (window : Opportunity) (cycle : ℕ)
-    → collecting_of (bare l.live.bus.bus) ≡ Some window → cycle ≡ run_cycle_by l.live.bus.bus.course.begun window
+    → collecting_of (bare l.live.bus.bus) ≡ Some window → cycle ≡ run_cycle l.live.bus.bus.course.begun window
     → ToldAlike l (λ w v. Tries w (flat_map (strike_events cycle window) faults) v) new
     → ToldAlike l (λ w v. Strikes faults w v) new
 strikes_open l new faults window cycle opened cycle_is tries s w is =
     let got = tries s w is in
-    let run_cycle = cycle_is ∙ ap (λ (n : ℕ). run_cycle_by n window) (sym (begun_same l.live w is.leads)) in
-    (got.0, strikes_some faults w window cycle got.0 (collecting_is l.live w is.leads ∙ opened) run_cycle got.1, got.2)
+    let cycle_there = cycle_is ∙ ap (λ (n : ℕ). run_cycle n window) (sym (begun_same l.live w is.leads)) in
+    (got.0, strikes_some faults w window cycle got.0 (collecting_is l.live w is.leads ∙ opened) cycle_there got.1, got.2)
 
 pub strikes_nothing : (l : ToldState) (faults : List FaultLine) → collecting_of (bare l.live.bus.bus) ≡ None
     → ToldAlike l (λ w v. Strikes faults w v) l

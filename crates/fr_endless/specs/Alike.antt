@@ -1,11 +1,9 @@
 -- What happens to each world with its whole history, when only the data that a world keeps are there (project-defined).
-use Rattle.std.specs.Prelude.{ℕ, ◌-◌, List, length, map, if◌then◌else◌}
-use Rattle.fr_slots.specs.Windows.{opens_cycle}
+use Rattle.std.specs.Prelude.{ℕ, List, length, map}
 use Rattle.fr_core.specs.Worlds.{WorldState}
 use Rattle.fr_interface.specs.State.{State}
 use Rattle.fr_live.specs.LiveWorlds.{LiveState, IsWorldHistory}
 use Rattle.fr_slots.specs.Plans.{Plan}
-use Rattle.fr_slots.specs.Windows.{Opportunity}
 
 -- Each world that leads to the data before a call is in this relation to one that leads to the data after it.
 abbrev pub Alike : LiveState → (WorldState → WorldState → Type 0) → LiveState → Type 0
@@ -18,7 +16,3 @@ buffers_in plans = map (λ (p : Plan). length p.buffers) plans
 
 abbrev pub buffers_each : List State → List ℕ
 buffers_each interfaces = map (λ (s : State). length s.plan.buffers) interfaces
-
--- the number of the run's cycle of the open window, which isn't sealed, when so many cycles have begun
-abbrev pub run_cycle_by : ℕ → Opportunity → ℕ
-run_cycle_by begun window = if opens_cycle window then begun else begun - 1

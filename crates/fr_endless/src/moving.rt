@@ -4,20 +4,18 @@ ghost use Rattle.fr_endless.specs.Fronts.{AreLate, HasNothing, IsLate, IsUntrace
 ghost use Rattle.fr_endless.specs.Taps.{ToldAlike, with_taps};
 ghost use Rattle.fr_live.specs.LiveSteps.{Accepts};
 ghost use Rattle.fr_live.specs.LiveWorlds.{ForEachWorld};
-ghost use Rattle.fr_playing.specs.Moving.{DoesAll, MovesOn, is_at_cycle, EndsCycle, RunsCycles};
+ghost use Rattle.fr_playing.specs.Moving.{DoesAll, MovesOn, EndsCycle, RunsCycles};
 
 use crate::front::{Front, front_of};
 use crate::striking::strike_open;
 use crate::taps::Taps;
 use crate::telling::apply_told;
 use crate::world::EndlessWorld;
-use fr_bus::live::LiveBus;
 use fr_core::controller::{Controller, Due};
 use fr_core::error::StepError;
 use fr_core::event::Event;
-use fr_playing::moving::{MOST_WINDOWS, first_refusal, hindrance};
+use fr_playing::moving::{MOST_WINDOWS, first_refusal, hindrance, is_at_cycle};
 use fr_runs::fault_line::FaultLine;
-use fr_slots::window::opens_cycle;
 use std::io::Write;
 
 /// Returns whether a trace gets lines of these events.
@@ -126,16 +124,6 @@ pub(crate) fn finish_window<F: Write + Drop>(
     hindrance(found, last)
 }
 
-/// Returns whether the open window is the first of its cycle, or the run is over.
-fn is_at_cycle(bus: &LiveBus) -> bool
-    ensures { result ≡ is_at_cycle bus.now.bus.opened }
-{
-    match bus.window() {
-        Some(window) => opens_cycle(&window),
-        None => true,
-    }
-}
-
 /// Executes windows until the first one of a cycle is open, and returns a hindrance of the bus before.
 fn finish_cycle<F: Write + Drop>(
     world: &mut EndlessWorld,
@@ -151,7 +139,7 @@ fn finish_cycle<F: Write + Drop>(
             Some(error) => return Some(error),
             None => {}
         }
-        if is_at_cycle(world.bus()) {
+        if is_at_cycle(world.bus().window()) {
             return None;
         }
     }

@@ -81,7 +81,7 @@ fn missed_without(cycles: u16, expectation: &Expectation) -> Option<Missed>
 {
     let mut missed = None;
     for cycle in 0..cycles {
-        if !expectation.cycles.names(cycle) {
+        if !expectation.cycles.names(usize::from(cycle)) {
             continue;
         }
         judge(&mut missed, expectation, cycle, Found::NoBuffer);
@@ -105,7 +105,7 @@ fn missed_along(
     };
     let mut missed = None;
     for cycle in 0..cycles {
-        if !expectation.cycles.names(cycle) {
+        if !expectation.cycles.names(usize::from(cycle)) {
             continue;
         }
         go_to_end(interface, filter, &mut place, cycle);

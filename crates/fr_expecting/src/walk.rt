@@ -10,10 +10,10 @@ ghost use Rattle.fr_journal.specs.Lent.{whole};
 use fr_frame::payload::Payload;
 use fr_interface::interface::Interface;
 use fr_journal::entry::Origin;
-use fr_journal::lent::LentEntry;
+use fr_journal::lent::{LentEntry, begins_cycle, cycles_at};
 use fr_slots::channel::Channel;
 use fr_slots::filter::Filter;
-use fr_slots::window::{Window, opens_cycle};
+use fr_slots::window::Window;
 
 /// A place in a node's journal.
 #[derive(Drop)]
@@ -24,16 +24,6 @@ pub(crate) struct Place {
     pub(crate) begun: u32,
     /// The payload that they left in the receive buffer.
     pub(crate) held: Option<Payload>,
-}
-
-/// Returns whether the entry begins a cycle.
-fn begins_cycle_at(entry: &LentEntry<'_>) -> bool
-    ensures { result ≡ begins_cycle_at (whole entry.now) }
-{
-    match entry {
-        LentEntry::Fetch { window, .. } => opens_cycle(window),
-        _ => false,
-    }
 }
 
 /// Returns the payload that an entry brings to a receive buffer on a channel of the window that the entry closes.
@@ -76,18 +66,6 @@ fn keep(held: &mut Option<Payload>, brought: Option<Payload>)
     }
 }
 
-/// Returns the number of cycles that began up to this entry and with it, from the number before.
-fn begun_with(begun: u32, entry: &LentEntry<'_>) -> u32
-    requires { begun + 1 < 2 ^ 32 }
-    ensures { result ≡ begun + (if begins_cycle_at (whole entry.now) then 1 else 0) }
-{
-    if begins_cycle_at(entry) {
-        begun + 1
-    } else {
-        begun
-    }
-}
-
 /// Goes past the next entry.
 fn pass(interface: &Interface, filter: &Filter, place: &mut Place, entry: &LentEntry<'_>)
     requires here { slice_get interface.now.entries place.old.next ≡ Some (whole entry.now) }
@@ -99,7 +77,7 @@ fn pass(interface: &Interface, filter: &Filter, place: &mut Place, entry: &LentE
 {
     let brought = payload_at(interface, filter, place.next);
     keep(&mut place.held, brought);
-    place.begun = begun_with(place.begun, entry);
+    place.begun = cycles_at(place.begun, entry);
     place.next += 1;
 }
 
@@ -116,7 +94,7 @@ pub(crate) fn go_to_end(interface: &Interface, filter: &Filter, place: &mut Plac
         let Some(entry) = journal.lent(number) else {
             return;
         };
-        if begins_cycle_at(&entry) && place.begun > u32::from(cycle) {
+        if begins_cycle(&entry) && place.begun > u32::from(cycle) {
             return;
         }
         pass(interface, filter, place, &entry);

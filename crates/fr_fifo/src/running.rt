@@ -3,7 +3,7 @@ ghost use Rattle.std.specs.Prelude.{◌≡◌, ◌<◌, ◌+◌, ◌^◌};
 ghost use Rattle.fr_fifo.specs.FifoSteps.{cycle_in, oldest_in, with_frame, with_window, without_oldest};
 
 use fr_frame::lent::LentFrame;
-use fr_slots::window::{Window, opens_cycle};
+use fr_slots::window::{Window, cycles_with};
 
 /// The numbers of a receive FIFO after some entries.
 #[derive(Clone, Copy)]
@@ -71,14 +71,9 @@ pub(crate) fn with_window(running: Running, window: &Window) -> Running
     requires { running.cycles + 1 < 2 ^ 32 }
     ensures { result ≡ with_window running window.now }
 {
-    let cycles = if opens_cycle(window) {
-        running.cycles + 1
-    } else {
-        running.cycles
-    };
     Running {
         stored: running.stored,
         held: running.held,
-        cycles,
+        cycles: cycles_with(running.cycles, window),
     }
 }

@@ -82,7 +82,8 @@ silent_length p (suc many) =
 cycle_of_run : (w : WorldState) (window : Opportunity) (begun : ℕ) → is_static window ≡ false
     → cycles_begun w.bus.sealed ≡ begun + 1 → run_cycle w window ≡ begun
 cycle_of_run w window begun still is =
-    ap (λ (t : Bool). cycles_begun w.bus.sealed - cond (t && is_first_slot window.a) 0 1) still
+    let n = cycles_begun w.bus.sealed in
+    ap (λ (t : Bool). cond (t && is_first_slot window.a) n (n - 1)) still
     ∙ (let back : cycles_begun w.bus.sealed - 1 ≡ begun = omega (arith, is) in back)
 
 start_is : (w : WorldState) (d : Description) (window : Opportunity) (slot begun minislot : ℕ) → w.bus.cluster ≡ d

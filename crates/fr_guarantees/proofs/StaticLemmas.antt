@@ -183,9 +183,9 @@ module _ (d : Description) (lawful : IsCluster d) (cycles most : ℕ) (room : Ha
         static = both_first (is_static start.window) (is_first_slot start.window.a) start.opens;
         slot_is = λ on. case.slot_is on ∙ ap Some first.1;
         cycle_is = first.2 ∙ ap (λ (m : ℕ). m % 64) start.begun_is;
-        run_is = ap (λ (t : Bool). cycles_begun start.world.bus.sealed - cond t 0 1) start.opens
-            ∙ (let begun = start.begun_is in
-            let same : cycles_begun start.world.bus.sealed - 0 ≡ c = omega (arith, begun) in same);
+        run_is =
+            let begun = cycles_begun start.world.bus.sealed in
+            ap (λ (t : Bool). cond t begun (begun - 1)) start.opens ∙ start.begun_is;
         begun_then = λ r is. begun_next start.world.bus.sealed r true (ap opens_cycle is ∙ start.opens)
             ∙ ap (λ (m : ℕ). m + 1) start.begun_is;
         statics_then = λ r is. statics_first start.world.bus.sealed r (ap opens_cycle is ∙ start.opens);
@@ -219,7 +219,7 @@ module _ (d : Description) (lawful : IsCluster d) (cycles most : ℕ) (room : Ha
         slot_is = λ on. static_slots_are (length rs) (cycle_of rs) number on ∙ ap (λ (m : ℕ). Some (m + 1)) statics;
         cycle_is = ap (λ (m : ℕ). (m - 1) % 64) begun
             ∙ ap (λ (m : ℕ). m % 64) (let same : c + 1 - 1 ≡ c = omega arith in same);
-        run_is = ap (λ (t : Bool). cycles_begun rs - cond t 0 1) closed
+        run_is = ap (λ (t : Bool). cond t (cycles_begun rs) (cycles_begun rs - 1)) closed
             ∙ (let same : cycles_begun rs - 1 ≡ c = omega (arith, begun) in same);
         begun_then = λ r is. begun_next rs r false (ap opens_cycle is ∙ closed)
             ∙ (let same : cycles_begun rs + 0 ≡ c + 1 = omega (arith, begun) in same);

@@ -50,7 +50,7 @@ use Rattle.fr_slots.specs.Faults.{latest_on, minislots_filled, transmits, words_
 use Rattle.fr_slots.specs.Numbers.{IsSlot}
 use Rattle.fr_slots.specs.Parameters.{Parameters, is_static_slot}
 use Rattle.fr_slots.specs.Plans.{Plan, IsBuffer, buffer_at, is_receive}
-use Rattle.fr_slots.specs.Windows.{opens_cycle, Opportunity, is_static}
+use Rattle.fr_slots.specs.Windows.{Opportunity, is_static, run_cycle as run_cycle_by}
 use Rattle.fr_timing.specs.Segments.{dynamic_start}
 
 -- ---- times
@@ -282,7 +282,7 @@ module _ (d : Description) (lawful : IsCluster d) (n number : ℕ) (plan : Plan)
     delay_is =
         let first_time = static_start held.first_world d come.window slot c
         (ap (λ (x : BusState). x.cluster) held.same_bus ∙ come.is_at.cluster) come.static
-        (ap (λ (x : BusState). cycles_begun x.sealed - cond (opens_cycle come.window) 0 1) held.same_bus ∙ come.run_is)
+        (ap (λ (x : BusState). run_cycle_by (cycles_begun x.sealed) come.window) held.same_bus ∙ come.run_is)
         in
         let begins : earliest_start d b ≡ (slot - 1) * d.params.static_mt =
         ap (λ (t : Bool). cond t ((slot - 1) * d.params.static_mt)

@@ -26,12 +26,12 @@ use Rattle.fr_slots.specs.declared.plan.Buffer.{Buffer}
 use Rattle.fr_slots.specs.Faults.{minislots_filled, transmits, words_of}
 use Rattle.fr_slots.specs.Numbers.{cycle_count}
 use Rattle.fr_slots.specs.Plans.{Plan, buffer_at}
-use Rattle.fr_slots.specs.Windows.{opens_cycle, Opportunity, slot_of, is_static}
+use Rattle.fr_slots.specs.Windows.{Opportunity, slot_of, is_static, run_cycle as cycle_in_run}
 use Rattle.fr_timing.specs.Segments.{dynamic_start}
 
 -- the cycle of the run that has the window, if the window comes next
 abbrev pub run_cycle : WorldState → Opportunity → ℕ
-run_cycle w window = cycles_begun w.bus.sealed - (if opens_cycle window then 0 else 1)
+run_cycle w window = cycle_in_run (cycles_begun w.bus.sealed) window
 
 -- macroticks from the start of the run to the start of the window, in which the channel has this slot
 abbrev pub start_of : WorldState → Opportunity → ℕ → ℕ

@@ -131,9 +131,9 @@ pub(crate) fn write_cells<W: Write>(
     let mut windows: usize = 0;
     for sealed in recorded {
         if opens_cycle(&sealed.window) {
-            cycles += 1;
             windows = 0;
         }
+        cycles = sealed.cycles_with(cycles);
         windows += 1;
         write_at(
             writer,

@@ -98,9 +98,9 @@ pub fn extent_of(params: &Params, view: &View, recorded: &[Sealed]) -> Extent
     let mut busy = [false; MOST_COLUMNS];
     for sealed in recorded {
         if opens_cycle(&sealed.window) {
-            cycles += 1;
             windows = 0;
         }
+        cycles = sealed.cycles_with(cycles);
         windows += 1;
         most = widened(view, cycles.saturating_sub(1), windows, most);
         mark(

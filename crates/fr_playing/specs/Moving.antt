@@ -5,7 +5,6 @@ use Rattle.std.specs.List.{flat_map, range_with_len, fold}
 use Rattle.fr_bus.specs.Record.{Recorded}
 use Rattle.fr_bus.specs.States.{BusState, collecting_of}
 use Rattle.fr_bus.specs.Windows.{cycles_begun}
-use Rattle.fr_slots.specs.Windows.{opens_cycle}
 use Rattle.fr_core.specs.declared.error.StepError.{StepError}
 use Rattle.fr_core.specs.declared.error.StepError.TheVariants.{WrongTurn}
 use Rattle.fr_core.specs.declared.event.Event.{Event}
@@ -15,7 +14,7 @@ use Rattle.fr_core.specs.Steps.{Steps}
 use Rattle.fr_core.specs.Worlds.{WorldState}
 use Rattle.fr_runs.specs.declared.fault_line.FaultLine.{FaultLine}
 use Rattle.fr_playing.specs.Striking.{strike_events, Tries}
-use Rattle.fr_slots.specs.Windows.{Opportunity}
+use Rattle.fr_slots.specs.Windows.{Opportunity, opens_cycle, run_cycle}
 
 -- ---- the events
 
@@ -44,7 +43,7 @@ window_events nodes = for_nodes observe_events nodes ++ whole_window nodes
 
 -- the number of the run's cycle of the window that follows those of this record
 abbrev pub run_cycle_after : List Recorded → Opportunity → ℕ
-run_cycle_after sealed window = if opens_cycle window then cycles_begun sealed else cycles_begun sealed - 1
+run_cycle_after sealed window = run_cycle (cycles_begun sealed) window
 
 -- the faults of the window that follows those of this record, in the order of their lines
 abbrev pub struck_after : List FaultLine → List Recorded → Option Opportunity → List Event

@@ -15,7 +15,7 @@ use fr_core::event::Event;
 use fr_core::world::World;
 use fr_runs::fault_line::FaultLine;
 use fr_slots::numbers::NodeId;
-use fr_slots::window::{Window, opens_cycle};
+use fr_slots::window::{Window, opens_cycle, run_cycle};
 use std::alloc::{AllocError, Global};
 
 /// The greatest number of windows of a cycle: one for each of 1,023 static slots and 8,000 minislots (project-defined).
@@ -134,27 +134,15 @@ fn do_all(world: &mut World, events: &[Event]) -> Option<StepError>
     found
 }
 
-/// Returns the number of the run's cycle in which the open window lies. The window isn't sealed.
-fn run_cycle_of(bus: &Bus, window: &Window) -> u16
-    ensures { result ≡ run_cycle_after bus.now.sealed window.now }
-{
-    let begun = bus.cycles_begun();
-    if opens_cycle(window) {
-        begun
-    } else {
-        begun.saturating_sub(1)
-    }
-}
-
 /// Injects the faults of the open window, unless it is sealed.
 fn strike_open(world: &mut World, faults: &[FaultLine])
     ensures { Strikes faults.now world.old world.new }
 {
     match world.bus().collecting() {
         Some(window) => {
-            let cycle = run_cycle_of(world.bus(), &window);
+            let cycle = run_cycle(u32::from(world.bus().cycles_begun()), &window);
             // A fault of the window stays, if it has the same kind, node and channel.
-            let _struck = strike_all(world, cycle, &window, faults);
+            let _struck = strike_all(world, cycle as usize, &window, faults);
         }
         None => {}
     }
@@ -172,11 +160,11 @@ pub fn finish_window(world: &mut World, faults: &[FaultLine], events: &[Event]) 
     hindrance(found, last)
 }
 
-/// Returns whether the open window is the first of its cycle, or the run is over (project-defined).
-pub fn is_at_cycle(bus: &Bus) -> bool
-    ensures { result ≡ is_at_cycle bus.now.opened }
+/// Returns whether the open window is the first of its cycle, or none is open, since the run is over (project-defined).
+pub fn is_at_cycle(opened: Option<Window>) -> bool
+    ensures { result ≡ is_at_cycle opened }
 {
-    match bus.window() {
+    match opened {
         Some(window) => opens_cycle(&window),
         None => true,
     }
@@ -191,7 +179,7 @@ fn finish_cycle(world: &mut World, faults: &[FaultLine], events: &[Event]) -> Op
             Some(error) => return Some(error),
             None => {}
         }
-        if is_at_cycle(world.bus()) {
+        if is_at_cycle(world.bus().window()) {
             return None;
         }
     }

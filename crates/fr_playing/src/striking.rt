@@ -21,7 +21,7 @@ fn attempt(world: &mut World, event: &Event) -> Result<(), StepError>
 }
 
 /// Injects the line's fault into the open window, if it takes effect there.
-fn strike(world: &mut World, cycle: u16, window: &Window, line: &FaultLine) -> Result<(), StepError>
+fn strike(world: &mut World, cycle: usize, window: &Window, line: &FaultLine) -> Result<(), StepError>
     ensures { Tells world.old (strike_events cycle window.now line.now) result world.new }
 {
     if line.strikes(cycle, window) {
@@ -48,7 +48,7 @@ fn first_of(before: Result<(), StepError>, next: Result<(), StepError>) -> Resul
 /// returned.
 pub fn strike_all(
     world: &mut World,
-    cycle: u16,
+    cycle: usize,
     window: &Window,
     faults: &[FaultLine],
 ) -> Result<(), StepError>

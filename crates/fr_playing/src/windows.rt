@@ -40,7 +40,7 @@ fn play_window(
     let Some(window) = world.bus().window() else {
         return Err(Hindrance::Unfinished);
     };
-    strike_all(world, cycle, &window, faults)?;
+    strike_all(world, usize::from(cycle), &window, faults)?;
     pass_all(world, due)?;
     pass(world, &Event::Advance)
 }
@@ -56,7 +56,7 @@ pub(crate) fn play_windows(
 {
     for count in 0..MOST_WINDOWS {
         play_window(world, cycle, faults, due)?;
-        if is_at_cycle(world.bus()) {
+        if is_at_cycle(world.bus().window()) {
             return Ok(());
         }
     }

@@ -17,13 +17,14 @@ impl RunCycles {
     ghost use Rattle.fr_runs.specs.Cycles.{names_cycle};
 
     /// Returns whether this cycle of the run is named (project-defined).
-    pub fn names(self, cycle: u16) -> bool
+    pub fn names(self, cycle: usize) -> bool
         ensures { result ≡ names_cycle self cycle }
     {
         match self {
             RunCycles::Every => true,
-            RunCycles::Only(only) => only == cycle,
+            RunCycles::Only(only) => usize::from(only) == cycle,
             RunCycles::Span { first, last, step } => {
+                let (first, last, step) = (usize::from(first), usize::from(last), usize::from(step));
                 step != 0 && first <= cycle && cycle <= last && (cycle - first) % step == 0
             }
         }

@@ -49,7 +49,7 @@ pub struct FaultLine {
 /// Fails if an allocation fails, and then some of them are kept.
 pub fn keep_lines_of(
     lines: &[FaultLine],
-    cycle: u16,
+    cycle: usize,
     kept: &mut Vec<FaultLine>,
 ) -> Result<(), AllocError>
     ensures { OnOk result (kept.new.items ≡ lines_of_cycle cycle lines.now) }
@@ -133,7 +133,7 @@ impl FaultLine {
 
     /// Returns whether the fault occurs in this window (project-defined). `cycle` is the number of the window's cycle
     /// in the run, counted from 0, without a wrap after 63.
-    pub fn strikes(&self, cycle: u16, window: &Window) -> bool
+    pub fn strikes(&self, cycle: usize, window: &Window) -> bool
         ensures { result ≡ strikes self.now cycle window.now }
     {
         self.cycles.names(cycle) && self.place.names(channel_of(&self.fault), window)

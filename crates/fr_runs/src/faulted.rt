@@ -59,7 +59,7 @@ fn loses(node: NodeId, channel: Channel, fault: &Fault) -> bool
 }
 
 /// Returns the bit that the line flips on the channel of the window, if it takes effect there.
-fn bit_by(line: &FaultLine, cycle: u16, window: &Window, channel: Channel) -> Option<u16>
+fn bit_by(line: &FaultLine, cycle: usize, window: &Window, channel: Channel) -> Option<u16>
     ensures { result ≡ bit_by line.now cycle window.now channel }
 {
     if line.strikes(cycle, window) {
@@ -70,7 +70,7 @@ fn bit_by(line: &FaultLine, cycle: u16, window: &Window, channel: Channel) -> Op
 }
 
 /// Returns the bit that the lines flip on the channel of the window.
-fn bit_due(lines: &[FaultLine], cycle: u16, window: &Window, channel: Channel) -> Option<u16>
+fn bit_due(lines: &[FaultLine], cycle: usize, window: &Window, channel: Channel) -> Option<u16>
     ensures { result ≡ bit_due lines.now cycle window.now channel }
 {
     for line in lines {
@@ -85,7 +85,7 @@ fn bit_due(lines: &[FaultLine], cycle: u16, window: &Window, channel: Channel) -
 /// Returns the node's babble on the channel of the window by the line, if it takes effect there.
 fn babble_by<'a>(
     line: &'a FaultLine,
-    cycle: u16,
+    cycle: usize,
     window: &Window,
     node: NodeId,
     channel: Channel,
@@ -102,7 +102,7 @@ fn babble_by<'a>(
 /// Returns the node's babble on the channel of the window by the lines.
 fn babble_due<'a>(
     lines: &'a [FaultLine],
-    cycle: u16,
+    cycle: usize,
     window: &Window,
     node: NodeId,
     channel: Channel,
@@ -118,7 +118,7 @@ fn babble_due<'a>(
 }
 
 /// Returns whether the line mutes the node's offer on the channel of the window.
-fn is_lost_by(cycle: u16, window: &Window, node: NodeId, channel: Channel, line: &FaultLine) -> bool
+fn is_lost_by(cycle: usize, window: &Window, node: NodeId, channel: Channel, line: &FaultLine) -> bool
     ensures { result ≡ is_lost_by cycle window.now node channel line.now }
 {
     line.strikes(cycle, window) && loses(node, channel, &line.fault)
@@ -127,7 +127,7 @@ fn is_lost_by(cycle: u16, window: &Window, node: NodeId, channel: Channel, line:
 /// Returns whether a line mutes the node's offer on the channel of the window.
 fn is_loss_due(
     lines: &[FaultLine],
-    cycle: u16,
+    cycle: usize,
     window: &Window,
     node: NodeId,
     channel: Channel,
@@ -191,7 +191,7 @@ fn are_same(one: Option<&Bytes>, other: Option<&Bytes>) -> bool
 }
 
 /// Returns whether the babble is the one that the lines give its node.
-fn is_babble_due(lines: &[FaultLine], cycle: u16, window: &Window, sent: &Sent) -> bool
+fn is_babble_due(lines: &[FaultLine], cycle: usize, window: &Window, sent: &Sent) -> bool
     ensures { IsTrue result
         ↔ (recordable
         (slot_of window.now sent.now.channel)
@@ -204,7 +204,7 @@ fn is_babble_due(lines: &[FaultLine], cycle: u16, window: &Window, sent: &Sent) 
 }
 
 /// Returns whether the transmission is muted exactly if it is an offer that a line mutes.
-fn is_loss_right(lines: &[FaultLine], cycle: u16, window: &Window, sent: &Sent) -> bool
+fn is_loss_right(lines: &[FaultLine], cycle: usize, window: &Window, sent: &Sent) -> bool
     ensures { IsTrue result
         ↔ (is_muted sent.now.fate
         ≡ (not sent.now.babble && is_loss_due lines.now cycle window.now sent.now.node sent.now.channel)) }
@@ -216,7 +216,7 @@ fn is_loss_right(lines: &[FaultLine], cycle: u16, window: &Window, sent: &Sent) 
 
 /// Returns whether the transmission is due. It is a babble of a line that takes effect, or an offer that is muted
 /// exactly if such a line mutes it.
-fn is_due(lines: &[FaultLine], cycle: u16, window: &Window, sent: &Sent) -> bool
+fn is_due(lines: &[FaultLine], cycle: usize, window: &Window, sent: &Sent) -> bool
     ensures { IsTrue result ↔ IsDue lines.now cycle window.now sent.now }
 {
     (!sent.babble || is_babble_due(lines, cycle, window, sent))
@@ -238,7 +238,7 @@ fn line_at(lines: &[FaultLine], place: usize) -> Option<&FaultLine>
 }
 
 /// Returns whether the transmission at this place of the window is due, if there is one.
-fn is_due_at(lines: &[FaultLine], cycle: u16, sealed: &Sealed, place: usize) -> bool
+fn is_due_at(lines: &[FaultLine], cycle: usize, sealed: &Sealed, place: usize) -> bool
     ensures { IsTrue result ↔ IsDueAt lines.now cycle sealed.now place }
 {
     match sent_at(sealed.sent.as_slice(), place) {
@@ -248,7 +248,7 @@ fn is_due_at(lines: &[FaultLine], cycle: u16, sealed: &Sealed, place: usize) -> 
 }
 
 /// Returns whether all transmissions of the window are due.
-fn are_due(lines: &[FaultLine], cycle: u16, sealed: &Sealed) -> bool
+fn are_due(lines: &[FaultLine], cycle: usize, sealed: &Sealed) -> bool
     ensures { IsTrue result ↔ ((k : ℕ) → IsDueAt lines.now cycle sealed.now k) }
 {
     for place in 0..sealed.sent.len() {
@@ -277,14 +277,14 @@ fn is_babbled(sealed: &Sealed, fault: &Fault) -> bool
 }
 
 /// Returns whether the window has the babble of the line, if the line takes effect there.
-fn is_babbled_by(cycle: u16, sealed: &Sealed, line: &FaultLine) -> bool
+fn is_babbled_by(cycle: usize, sealed: &Sealed, line: &FaultLine) -> bool
     ensures { IsTrue result ↔ IsBabbledBy cycle sealed.now line.now }
 {
     !line.strikes(cycle, &sealed.window) || is_babbled(sealed, &line.fault)
 }
 
 /// Returns the same for the line at this place, if there is one.
-fn is_babbled_at(lines: &[FaultLine], cycle: u16, sealed: &Sealed, place: usize) -> bool
+fn is_babbled_at(lines: &[FaultLine], cycle: usize, sealed: &Sealed, place: usize) -> bool
     ensures { IsTrue result ↔ IsBabbledAt lines.now cycle sealed.now place }
 {
     match line_at(lines, place) {
@@ -294,7 +294,7 @@ fn is_babbled_at(lines: &[FaultLine], cycle: u16, sealed: &Sealed, place: usize)
 }
 
 /// Returns whether the window has all babbles of the lines.
-fn are_babbled(lines: &[FaultLine], cycle: u16, sealed: &Sealed) -> bool
+fn are_babbled(lines: &[FaultLine], cycle: usize, sealed: &Sealed) -> bool
     ensures { IsTrue result ↔ ((k : ℕ) → IsBabbledAt lines.now cycle sealed.now k) }
 {
     for place in 0..lines.len() {
@@ -307,7 +307,7 @@ fn are_babbled(lines: &[FaultLine], cycle: u16, sealed: &Sealed) -> bool
 
 // A bit to be flipped is always recorded, even if it flips nothing.
 /// Returns whether the flipped bit on the channel of the window is the one of the lines.
-fn is_bit_due(lines: &[FaultLine], cycle: u16, sealed: &Sealed, channel: Channel) -> bool
+fn is_bit_due(lines: &[FaultLine], cycle: usize, sealed: &Sealed, channel: Channel) -> bool
     ensures { IsTrue result ↔ (corrupt_on sealed.now channel ≡ bit_due lines.now cycle sealed.now.window channel) }
 {
     sealed.corrupt_on(channel) == bit_due(lines, cycle, &sealed.window, channel)
@@ -316,7 +316,7 @@ fn is_bit_due(lines: &[FaultLine], cycle: u16, sealed: &Sealed, channel: Channel
 /// Returns whether the window has exactly the faults of the lines that take effect there. The window is in the cycle of
 /// this number of the run.
 #[tactic(auto, using(crate::proofs::FaultedLemmas::has_faults))]
-fn has_faults(lines: &[FaultLine], cycle: u16, sealed: &Sealed) -> bool
+fn has_faults(lines: &[FaultLine], cycle: usize, sealed: &Sealed) -> bool
     ensures { IsTrue result → HasFaults lines.now cycle sealed.now }
 {
     is_bit_due(lines, cycle, sealed, Channel::A)
@@ -340,17 +340,14 @@ pub fn have_faults(
 ) -> Result<bool, AllocError>
     ensures { IfOk result (λ answer. IsTrue answer → HaveFaults lines.now recorded.now) }
 {
-    let mut begun = 0u16;
+    let mut begun = 0;
     let mut kept = Vec::new(alloc);
     keep_lines_of(lines, 0, &mut kept)?;
     for sealed in recorded {
         if opens_cycle(&sealed.window) {
-            if begun == u16::MAX {
-                return Ok(false);
-            }
             keep_lines_of(lines, begun, &mut kept)?;
-            begun += 1;
         }
+        begun = sealed.cycles_with(begun);
         if !has_faults(kept.as_slice(), begun.saturating_sub(1), sealed) {
             return Ok(false);
         }

@@ -93,6 +93,7 @@ fn are_alike(fault: &Fault, other: &Fault) -> bool
 fn names_both(cycles: RunCycles, others: RunCycles, cycle: u16) -> bool
     ensures { result ≡ names_both cycles others cycle }
 {
+    let cycle = usize::from(cycle);
     cycles.names(cycle) && others.names(cycle)
 }
 
@@ -114,8 +115,8 @@ fn cycles_meet(cycles: RunCycles, others: RunCycles) -> bool
 {
     match (cycles, others) {
         (RunCycles::Every, _) | (RunCycles::Span { .. }, RunCycles::Every) => true,
-        (RunCycles::Only(cycle), _) => others.names(cycle),
-        (RunCycles::Span { .. }, RunCycles::Only(other)) => cycles.names(other),
+        (RunCycles::Only(cycle), _) => others.names(usize::from(cycle)),
+        (RunCycles::Span { .. }, RunCycles::Only(other)) => cycles.names(usize::from(other)),
         (
             RunCycles::Span { first, last, .. },
             RunCycles::Span {

@@ -51,7 +51,7 @@ fn add_to_named(
     ensures len { vec_len places.new ≡ vec_len places.old }
 {
     for cycle in 0..cycles {
-        if named.names(cycle) {
+        if named.names(usize::from(cycle)) {
             add_place(places, cycle, place)?;
         }
     }

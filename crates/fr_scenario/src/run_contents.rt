@@ -24,7 +24,7 @@ fn cycles_in_span(cycles: u16, named: RunCycles) -> usize
 {
     let mut count = 0;
     for cycle in 0..cycles {
-        if named.names(cycle) {
+        if named.names(usize::from(cycle)) {
             count += 1;
         }
     }

@@ -7,7 +7,7 @@ ghost use Rattle.fr_text.specs.Writing.{Writes};
 use fr_bus::error::Phase;
 use fr_capture::moment::start_of_window;
 use fr_slots::params::Params;
-use fr_slots::window::{Window, opens_cycle};
+use fr_slots::window::{Window, run_cycle};
 use std::io;
 use std::io::Write;
 
@@ -16,9 +16,9 @@ fn cycle_at(phase: Phase, begun: u32, window: &Window) -> u32
     ensures { result ≡ cycle_at phase begun window.now }
 {
     match phase {
-        Phase::Collect if opens_cycle(window) => begun,
+        Phase::Collect => run_cycle(begun, window),
         // The number of cycles that have begun counts the window's own.
-        Phase::Collect | Phase::Sealed | Phase::Finished => begun.saturating_sub(1),
+        Phase::Sealed | Phase::Finished => begun.saturating_sub(1),
     }
 }
 

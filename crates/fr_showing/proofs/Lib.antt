@@ -3,7 +3,6 @@ pub mod DecidedLemmas
 pub mod FateLemmas
 pub mod GoingLemmas
 pub mod IdleLemmas
-pub mod ListenerLemmas
 pub mod PartLemmas
 pub mod RecordLemmas
 pub mod ShowLemmas

@@ -1,6 +1,6 @@
 -- What is said of each window, one window more.
-use Rattle.std.proofs.Common.{◌≡◌, ℕ, ◌+◌, ◌-◌, ◌<◌, cond, List, [], ◌∷◌, ◌++◌, length, take, get_or, Option, sym, ap}
-use Rattle.std.proofs.Common.{subst, ◌∙◌, arith}
+use Rattle.std.proofs.Common.{◌≡◌, ℕ, zero, suc, ◌+◌, ◌-◌, ◌≤◌, ◌<◌, cond, List, [], ◌∷◌, ◌++◌, length, take}
+use Rattle.std.proofs.Common.{get_or, Option, sym, ap, subst, ◌∙◌, arith}
 use Rattle.std.specs.Io.KnownBytes.{Appends}
 use Rattle.std.proofs.KnownBytes.{Appends-trans}
 use Rattle.std.proofs.lemmas.List.{take_more}
@@ -9,6 +9,18 @@ use Rattle.fr_bus.specs.Record.{Recorded}
 use Rattle.fr_bus.specs.Windows.{begins_cycle, cycles_begun}
 use Rattle.fr_showing.specs.EachWindow.{each_window, said_after}
 use Rattle.fr_slots.proofs.HistoryLemmas.{each_after-snoc}
+
+begun_first : (r : Recorded) (rs : List Recorded) → cycles_begun (r ∷ rs) ≡ cond (begins_cycle r) 1 0 + cycles_begun rs
+begun_first r rs = omega (arith, sum_by-append (λ (x : Recorded). cond (begins_cycle x) 1 0) (r ∷ []) rs)
+
+-- of the first windows no more begin a cycle than of all
+pub fewer : (rs : List Recorded) (n : ℕ) → cycles_begun (take n rs) ≤ cycles_begun rs
+fewer rs zero = omega arith
+fewer [] (suc n) = omega arith
+fewer (r ∷ rs) (suc n) =
+    let step : cycles_begun (r ∷ take n rs) ≤ cycles_begun (r ∷ rs) =
+    omega (arith, fewer rs n, begun_first r (take n rs), begun_first r rs) in
+    step
 
 module _ (rs : List Recorded) (n : ℕ) (r : Recorded) (lt : n < length rs) (is : r ≡ get_or rs n r) where
   pub passed : take (n + 1) rs ≡ take n rs ++ r ∷ []

@@ -1,6 +1,5 @@
 //! The fate of a commit, and the windows in which it was sent.
 ghost use Rattle.std.specs.Prelude.{◌≡◌, ◌<◌, ◌+◌, ◌^◌, true, if◌then◌else◌, take, slice_get, IsSomeAnd};
-ghost use Rattle.fr_journal.specs.Cycles.{begins_cycle_at};
 ghost use Rattle.fr_journal.specs.Fate.{is_commit_on, is_data_of};
 ghost use Rattle.fr_journal.specs.Lent.{whole};
 ghost use Rattle.fr_showing.specs.Fates.{became};
@@ -9,9 +8,9 @@ ghost use Rattle.fr_showing.specs.FateSteps.{became_with, is_pending};
 
 use fr_interface::interface::Interface;
 use fr_journal::entry::Offered;
-use fr_journal::lent::LentEntry;
+use fr_journal::lent::{LentEntry, cycles_at};
 use fr_slots::channel::Channel;
-use fr_slots::window::{Window, opens_cycle};
+use fr_slots::window::Window;
 
 /// The fate of a commit, with the cycle of the run and the number of the entry that decided it.
 #[derive(Clone, Copy)]
@@ -35,21 +34,6 @@ pub struct Sending {
     pub window: Window,
     /// The channel.
     pub channel: Channel,
-}
-
-/// Returns the number of cycles that began up to this entry and with it, from the number before.
-pub(crate) fn begun_with(begun: u32, entry: &LentEntry<'_>) -> u32
-    requires { begun + 1 < 2 ^ 32 }
-    ensures { result ≡ begun + (if begins_cycle_at (whole entry.now) then 1 else 0) }
-{
-    match entry {
-        LentEntry::Fetch { window, .. } => if opens_cycle(window) {
-            begun + 1
-        } else {
-            begun
-        },
-        _ => begun,
-    }
 }
 
 /// Returns whether this is the data of the commit.
@@ -120,7 +104,7 @@ pub(crate) fn became_of(interface: &Interface, buffer: u8, commit: u32, begun: u
         if !is_pending(became) {
             return became;
         }
-        begun = begun_with(begun, &entry);
+        begun = cycles_at(begun, &entry);
     }
     Became::Pending
 }

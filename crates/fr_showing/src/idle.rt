@@ -5,9 +5,8 @@ ghost use Rattle.fr_showing.specs.Idle.{has_struck, has_struck_in, idle_lines, i
 ghost use Rattle.fr_showing.specs.Idle.{repeats, times, wholly_idle};
 
 use crate::ends::{End, end_of, sent_in};
-use crate::origins::{brings, strikes, turns};
+use crate::origins::{brings, turns};
 use crate::parts::params_of;
-use crate::record::begun_with;
 use fr_bus::fault::Fault;
 use fr_bus::outcome::{Sealed, Sent};
 use fr_playing::file::PlayedFile;
@@ -44,7 +43,7 @@ fn is_shown(params: &Params, sealed: &Sealed, fault: &Fault) -> bool
 fn has_struck_in(params: &Params, line: &FaultLine, cycle: usize, sealed: &Sealed) -> bool
     ensures { result ≡ has_struck_in params.now line.now cycle sealed.now }
 {
-    strikes(line, cycle, &sealed.window) && is_shown(params, sealed, &line.fault)
+    line.strikes(cycle, &sealed.window) && is_shown(params, sealed, &line.fault)
 }
 
 /// Returns whether the line had an effect in a window of the record.
@@ -53,7 +52,7 @@ fn has_struck(params: &Params, windows: &[Sealed], line: &FaultLine) -> bool
 {
     let mut begun = 0;
     for sealed in windows {
-        begun = begun_with(begun, sealed);
+        begun = sealed.cycles_with(begun);
         if has_struck_in(params, line, begun.saturating_sub(1), sealed) {
             return true;
         }

@@ -10,7 +10,7 @@ use fr_capture::moment::start_of_window;
 use fr_capture::pcap::{write_file_header, write_record};
 use fr_slots::channel::Channel;
 use fr_slots::params::Params;
-use fr_slots::window::{Window, opens_cycle};
+use fr_slots::window::{Window, cycles_with};
 use fr_status::seen::Seen;
 use std::io;
 use std::io::Write;
@@ -56,26 +56,14 @@ pub fn write_window<W: Write>(
     write_heard(writer, params, cycle, sealed, Channel::B)
 }
 
-/// Returns the number of cycles that began up to this window and with it. `begun` of `all` cycles began before it.
-pub(crate) fn begun_with(begun: u16, all: u16, sealed: &Sealed) -> u16
-    ensures { result ≡ (if begins_cycle sealed.now && nat_lt begun all then begun + 1 else begun) }
-{
-    if opens_cycle(&sealed.window) && begun < all {
-        begun + 1
-    } else {
-        begun
-    }
-}
-
 /// Writes the records of all windows.
 fn write_windows<W: Write>(writer: &mut W, params: &Params, bus: &Bus) -> io::Result<()>
     ensures { Writes W.contents writer.old writer.new result (all_records params.now bus.now.sealed) }
 {
-    let all = bus.cycles_begun();
     let mut begun = 0;
     for sealed in bus.record() {
-        begun = begun_with(begun, all, sealed);
-        write_window(writer, params, u32::from(begun.saturating_sub(1)), sealed)?;
+        begun = cycles_with(begun, &sealed.window);
+        write_window(writer, params, begun.saturating_sub(1), sealed)?;
     }
     Ok(())
 }

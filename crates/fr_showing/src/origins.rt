@@ -1,33 +1,15 @@
 //! The line of a scenario from which each fault of a record comes.
 ghost use Rattle.std.specs.Prelude.{◌≡◌, option_and_then, position, slice_get};
-ghost use Rattle.fr_runs.specs.Striking.{strikes};
 ghost use Rattle.fr_showing.specs.Origins.{brings, has_brought, has_turned, is_sent_by, origin_of_bit, origin_of_sent};
 ghost use Rattle.fr_showing.specs.Origins.{turns};
 
 use fr_bus::fault::Fault;
 use fr_bus::outcome::{Sent, SentFate};
-use fr_runs::cycles::RunCycles;
 use fr_runs::fault_line::FaultLine;
 use fr_scenario::scenario::Scenario;
 use fr_slots::channel::Channel;
 use fr_slots::numbers::NodeId;
 use fr_slots::window::Window;
-
-/// Returns whether the fault of the line takes effect in the window.
-///
-/// The window lies in the cycle of this number of the run.
-pub(crate) fn strikes(line: &FaultLine, cycle: usize, window: &Window) -> bool
-    ensures { result ≡ strikes line.now cycle window.now }
-{
-    match line.cycles {
-        // In this case the number of the cycle doesn't matter.
-        RunCycles::Every => line.strikes(0, window),
-        RunCycles::Only(only) => usize::from(only) == cycle && line.strikes(only, window),
-        RunCycles::Span { last, .. } => {
-            cycle <= usize::from(last) && line.strikes(cycle as u16, window)
-        }
-    }
-}
 
 /// Returns whether the node sent it on the channel.
 fn is_sent_by(node: NodeId, channel: Channel, sent: &Sent) -> bool
@@ -63,14 +45,14 @@ pub(crate) fn turns(channel: Channel, fault: &Fault) -> bool
 fn has_brought(cycle: usize, window: &Window, sent: &Sent, line: &FaultLine) -> bool
     ensures { result ≡ has_brought cycle window.now sent.now line.now }
 {
-    strikes(line, cycle, window) && brings(sent, &line.fault)
+    line.strikes(cycle, window) && brings(sent, &line.fault)
 }
 
 /// Returns whether the line takes effect in the window, and flips a bit on the channel.
 fn has_turned(cycle: usize, window: &Window, channel: Channel, line: &FaultLine) -> bool
     ensures { result ≡ has_turned cycle window.now channel line.now }
 {
-    strikes(line, cycle, window) && turns(channel, &line.fault)
+    line.strikes(cycle, window) && turns(channel, &line.fault)
 }
 
 /// Returns the place of the first line from which the transmission comes.

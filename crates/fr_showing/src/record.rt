@@ -19,7 +19,7 @@ use fr_scenario::scenario::Scenario;
 use fr_session::words::{fate_word, kind_word};
 use fr_slots::channel::Channel;
 use fr_slots::params::Params;
-use fr_slots::window::{Window, opens_cycle};
+use fr_slots::window::Window;
 use fr_text::hexes::write_hex;
 use std::io;
 use std::io::Write;
@@ -196,18 +196,6 @@ pub fn write_window<W: Write>(
     write_bit(writer, scenario, cycle, sealed, Channel::B)
 }
 
-/// Returns the number of cycles that began up to this window and with it, from the number before.
-pub(crate) fn begun_with(begun: usize, sealed: &Sealed) -> usize
-    requires { begun + 1 < 2 ^ 64 }
-    ensures { result ≡ begun + (if begins_cycle sealed.now then 1 else 0) }
-{
-    if opens_cycle(&sealed.window) {
-        begun + 1
-    } else {
-        begun
-    }
-}
-
 /// Writes the bus's record of a run with the scenario (project-defined).
 ///
 /// The windows come in order. Each window has a line for each of its transmissions, and then one for each bit that was
@@ -235,7 +223,7 @@ pub fn write_record<W: Write>(
     let record = bus.record();
     let mut begun = 0;
     for sealed in record {
-        begun = begun_with(begun, sealed);
+        begun = sealed.cycles_with(begun);
         let cycle = begun.saturating_sub(1);
         write_window(writer, scenario, params, cycle, sealed)?;
     }

@@ -3,7 +3,7 @@ ghost use Rattle.std.specs.Prelude.{◌≡◌};
 ghost use Rattle.fr_showing.specs.Spans.{begin_text, length_on, span_line, span_text, spans_text};
 ghost use Rattle.fr_text.specs.Writing.{Writes};
 
-use crate::listener::{begins_at, begun_with};
+use crate::listener::begins_at;
 use crate::record::write_minislot;
 use fr_bus::bus::Bus;
 use fr_bus::outcome::Sealed;
@@ -90,11 +90,10 @@ pub fn write_window<W: Write>(
 pub fn write_spans<W: Write>(writer: &mut W, params: &Params, bus: &Bus) -> io::Result<()>
     ensures { Writes W.contents writer.old writer.new result (spans_text params.now bus.now.sealed) }
 {
-    let all = bus.cycles_begun();
     let mut begun = 0;
     for sealed in bus.record() {
-        begun = begun_with(begun, all, sealed);
-        write_window(writer, params, u32::from(begun.saturating_sub(1)), sealed)?;
+        begun = cycles_with(begun, &sealed.window);
+        write_window(writer, params, begun.saturating_sub(1), sealed)?;
     }
     Ok(())
 }

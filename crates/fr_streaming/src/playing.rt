@@ -7,7 +7,6 @@ ghost use Rattle.fr_playing.specs.Windows.{PlaysWindow};
 
 use crate::hindrance::Hindrance;
 use fr_core::event::Event;
-use fr_endless::striking::strikes;
 use fr_endless::world::EndlessWorld;
 use fr_runs::fault_line::FaultLine;
 use fr_slots::window::Window;
@@ -50,7 +49,7 @@ fn strike(
 ) -> Result<(), Hindrance>
     ensures { OnOk result (Alike world.old (λ w v. Passes w (strike_events cycle window.now line.now) v) world.new) }
 {
-    if strikes(line, cycle, window) {
+    if line.strikes(cycle as usize, window) {
         pass(world, &Event::Inject(line.fault.duplicate()))
     } else {
         Ok(())

@@ -1,6 +1,6 @@
 //! The windows and the cycles of a run, each written as it is over.
 ghost use Rattle.std.specs.Prelude.{◌≡◌, length, OnErr, OnOk};
-ghost use Rattle.fr_playing.specs.Moving.{is_at_cycle, whole_window};
+ghost use Rattle.fr_playing.specs.Moving.{whole_window};
 ghost use Rattle.fr_playing.specs.Playing.{PlaysCycle, PlaysCycles};
 ghost use Rattle.fr_playing.specs.Windows.{PlaysWindow, PlaysWindows};
 ghost use Rattle.fr_streaming.specs.RunFields.{due_of, faults_of, scripts_of, tells};
@@ -10,23 +10,9 @@ use crate::calling::show_lines;
 use crate::hindrance::Hindrance;
 use crate::playing::play_window;
 use crate::telling::{Run, last_in, offers_for, write_out};
-use fr_bus::live::LiveBus;
 use fr_endless::world::EndlessWorld;
-use fr_slots::window::opens_cycle;
+use fr_playing::moving::{MOST_WINDOWS, is_at_cycle};
 use std::io::Write;
-
-/// The greatest number of windows of a cycle: one for each of 1,023 static slots and 8,000 minislots.
-const MOST_WINDOWS: u32 = 9_023;
-
-/// Returns whether the open window is the first of its cycle, or the run is over.
-fn is_at_cycle(bus: &LiveBus) -> bool
-    ensures { result ≡ is_at_cycle bus.now.bus.opened }
-{
-    match bus.window() {
-        Some(window) => opens_cycle(&window),
-        None => true,
-    }
-}
 
 /// Executes the open window, and writes what the view has of it.
 fn show_window<W: Write>(
@@ -62,7 +48,7 @@ fn show_windows<W: Write>(
 {
     for count in 0..MOST_WINDOWS {
         show_window(world, run, cycle, writer)?;
-        if is_at_cycle(world.bus()) {
+        if is_at_cycle(world.bus().window()) {
             return Ok(());
         }
     }

@@ -8,7 +8,7 @@ use fr_desks::gate::Gate;
 use fr_desks::wire::{Wire, WireError};
 use fr_runs::fault_line::{FaultLine, keep_lines_of};
 use fr_slots::numbers::NodeId;
-use fr_slots::window::{Window, opens_cycle};
+use fr_slots::window::{Window, cycles_with, opens_cycle, run_cycle};
 use std::sync::Wait;
 use std::time::Clock;
 
@@ -17,7 +17,7 @@ fn inject_all<R: Wait + Clock>(
     rt: &R,
     wire: &Wire,
     faults: &[FaultLine],
-    cycle: u16,
+    cycle: usize,
     window: &Window,
 ) -> Result<(), WireError> {
     for line in faults {
@@ -31,18 +31,19 @@ fn inject_all<R: Wait + Clock>(
 /// Moves the bus on from window to window, up to the end of the run.
 fn move_on<R: Wait + Clock, G: Gate>(common: &Common<'_, R, G>) -> Result<(), RunFailure> {
     let (rt, wire) = (common.rt, &common.shared.wire);
-    let mut begun = 0u16;
+    let mut begun = 0;
     let mut kept = Vec::new(common.alloc);
     for _ in rt.forever() {
         // `next` changes nothing, and each node gets the same window.
         let Some(window) = wire.next(rt, NodeId::from_number(0))? else {
             return Ok(());
         };
+        let cycle = run_cycle(begun, &window) as usize;
         if opens_cycle(&window) {
-            keep_lines_of(common.workload.faults, begun, &mut kept)?;
-            begun = begun.saturating_add(1);
+            keep_lines_of(common.workload.faults, cycle, &mut kept)?;
         }
-        inject_all(rt, wire, kept.as_slice(), begun.saturating_sub(1), &window)?;
+        begun = cycles_with(begun, &window);
+        inject_all(rt, wire, kept.as_slice(), cycle, &window)?;
         wire.seal(rt, common.gate)?;
         wire.advance(rt)?;
     }

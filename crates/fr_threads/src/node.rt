@@ -17,7 +17,7 @@ use fr_interface::interface::{Interface, Offer};
 use fr_ledger::books::{Share, gather};
 use fr_runs::stepping::lines_given;
 use fr_slots::numbers::NodeId;
-use fr_slots::window::opens_cycle;
+use fr_slots::window::{cycles_with, opens_cycle};
 use fr_status::seen::Seen;
 use std::alloc::{AllocError, Global};
 use std::marker::Brand;
@@ -74,7 +74,7 @@ fn control<L: Ledger, R: Wait + Clock, G: Gate>(
     node: NodeId,
 ) -> Result<(), RunFailure> {
     let (rt, shared, gate) = (common.rt, common.shared, common.gate);
-    let mut begun = 0u16;
+    let mut begun = 0;
     let mut offer = Offer { a: None, b: None };
     let mut a = Seen::Silence;
     let mut b = Seen::Silence;
@@ -84,8 +84,8 @@ fn control<L: Ledger, R: Wait + Clock, G: Gate>(
         };
         if opens_cycle(&window) {
             shared.wait_done(rt, begun)?;
-            begun = begun.saturating_add(1);
         }
+        begun = cycles_with(begun, &window);
         let number = window.number;
         desk.fetch_into(rt, gate, &window, &mut offer)?;
         shared.wire.put(rt, node, number, &offer)?;

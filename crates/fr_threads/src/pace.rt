@@ -23,14 +23,14 @@ pub(crate) struct Progress {
     /// The number of controllers that are still missing for the cycle that they are to begin.
     pub missing: u8,
     /// The cycle whose lines came due last, if there is one.
-    pub due: Option<u16>,
+    pub due: Option<u32>,
     /// The number of tasks that have lines of that cycle and haven't executed all of them.
     pub busy: u16,
     pub stopped: bool,
 }
 
 /// Returns whether the lines of the cycle came due, given the cycle whose lines came due last.
-fn is_due(cycle: u16, due: Option<u16>) -> bool
+fn is_due(cycle: u32, due: Option<u32>) -> bool
     ensures { result ≡ is_due cycle due }
 {
     match due {
@@ -44,14 +44,14 @@ impl Progress {
     ghost use Rattle.fr_threads.specs.Pacing.{awaits_due, awaits_done, is_last, arrived, task_done, halted};
 
     /// Returns whether a task that has lines in the cycle waits until they are due.
-    fn awaits_due(&self, cycle: u16) -> bool
+    fn awaits_due(&self, cycle: u32) -> bool
         ensures { result ≡ awaits_due cycle self.now }
     {
         !is_due(cycle, self.due) && !self.stopped
     }
 
     /// Returns whether a controller that is to begin the cycle waits until its lines are executed.
-    fn awaits_done(&self, cycle: u16) -> bool
+    fn awaits_done(&self, cycle: u32) -> bool
         ensures { result ≡ awaits_done cycle self.now }
     {
         (!is_due(cycle, self.due) || self.busy > 0) && !self.stopped
@@ -59,7 +59,7 @@ impl Progress {
 
     /// Counts a controller that is to begin the cycle, and returns whether it is the last. With the last one the lines
     /// are due.
-    fn arrive(&mut self, nodes: u8, cycle: u16, tasks: u16) -> bool
+    fn arrive(&mut self, nodes: u8, cycle: u32, tasks: u16) -> bool
         ensures last { result ≡ is_last self.old }
         ensures after { self.new ≡ arrived nodes cycle tasks self.old }
     {
@@ -162,7 +162,7 @@ impl Pace {
             return false;
         };
         let progress = turn.due.wait_while(rt, self.progress.lock(rt), |progress| {
-            progress.awaits_due(cycle)
+            progress.awaits_due(u32::from(cycle))
         });
         !progress.stopped
     }
@@ -180,8 +180,8 @@ impl Pace {
     /// Waits, as a controller, until all lines of the cycle are executed.
     ///
     /// The controller has observed all cycles before. Returns false if the run was stopped.
-    pub(crate) fn wait_done<R: Wait>(&self, rt: &R, cycle: u16) -> bool {
-        let Some(turn) = self.turns.get(usize::from(cycle)) else {
+    pub(crate) fn wait_done<R: Wait>(&self, rt: &R, cycle: u32) -> bool {
+        let Some(turn) = self.turns.get(cycle as usize) else {
             return true;
         };
         if turn.tasks == 0 {
@@ -197,7 +197,7 @@ impl Pace {
     }
 
     /// Counts a controller that is to begin the cycle. With the last one the cycle's lines are due.
-    fn arrive<R: Wait>(&self, rt: &R, cycle: u16, turn: &Turn) {
+    fn arrive<R: Wait>(&self, rt: &R, cycle: u32, turn: &Turn) {
         let mut progress = self.progress.lock(rt);
         let all = progress.arrive(self.nodes, cycle, turn.tasks);
         drop(progress);

@@ -47,7 +47,7 @@ impl Shared {
     }
 
     /// Waits, as a controller that is to begin the cycle, until all lines of the cycle are executed.
-    pub(crate) fn wait_done<R: Wait>(&self, rt: &R, cycle: u16) -> Result<(), RunFailure> {
+    pub(crate) fn wait_done<R: Wait>(&self, rt: &R, cycle: u32) -> Result<(), RunFailure> {
         match &self.pace {
             Some(pace) => if pace.wait_done(rt, cycle) {
                 Ok(())

@@ -10,7 +10,8 @@ loop-count-init g c = within_start c.args.faults.now c.args.events.now (with_tap
 pub loop-count-preserved : goal.loop-count-preserved
 loop-count-preserved g c =
     let within : is_at_cycle c.finish_window.new.world.bus.bus.opened ≡ false =
-    ap (λ b. is_at_cycle b.bus.opened) (sym c.bus.ensures) ∙ sym c.is_at_cycle.ensures ∙ c.if-is_at_cycle.false in
+    ap (λ b. is_at_cycle b.bus.opened) (sym c.bus.ensures)
+    ∙ ap is_at_cycle (sym c.window.ensures) ∙ sym c.is_at_cycle.ensures ∙ c.if-is_at_cycle.false in
     within_next c.args.faults.now c.args.events.now (with_taps c.args.world.now c.args.taps.now)
     (with_taps c.loop-count.world c.loop-count.taps) (with_taps c.finish_window.new.world c.finish_window.new.taps)
     c.loop-count.count c.loop-count.invariant c.finish_window.result c.finish_window.ensures c.in-None.is within
@@ -24,7 +25,8 @@ returns-in-Some g c =
 pub returns-then-is_at_cycle : goal.returns-then-is_at_cycle
 returns-then-is_at_cycle g c =
     let at : is_at_cycle c.finish_window.new.world.bus.bus.opened ≡ true =
-    ap (λ b. is_at_cycle b.bus.opened) (sym c.bus.ensures) ∙ sym c.is_at_cycle.ensures ∙ c.if-is_at_cycle.true in
+    ap (λ b. is_at_cycle b.bus.opened) (sym c.bus.ensures)
+    ∙ ap is_at_cycle (sym c.window.ensures) ∙ sym c.is_at_cycle.ensures ∙ c.if-is_at_cycle.true in
     cycle_ended c.args.faults.now c.args.events.now (with_taps c.args.world.now c.args.taps.now)
     (with_taps c.loop-count.world c.loop-count.taps) (with_taps c.finish_window.new.world c.finish_window.new.taps)
     c.loop-count.count c.loop-count.invariant c.finish_window.result c.finish_window.ensures c.in-None.is at

@@ -15,7 +15,7 @@ returns-then-place-from-clause-end c =
     ap (slice_get es) c.loop-number.invariant.here
     ∙ lent_there es c.journal-journal.result.now.entries c.loop-number.number c.lent.result c.in-Some.entry
     c.journal-journal.ensures.entries c.lent.ensures.entry c.in-Some.is in
-    let begins : begins_cycle_at e ≡ true = sym c.begins_cycle_at.ensures ∙ c.if-begins_cycle_at.true in
+    let begins : begins_cycle_at e ≡ true = sym c.begins_cycle.ensures ∙ c.if-begins_cycle.true in
     let count : begun_in (take n es) ≡ c.args.cycle + 1 =
     omega (
       arith,

@@ -1,4 +1,4 @@
-use Rattle.std.proofs.Common.{rules, arith, ◌≡◌, ℕ, ◌+◌, ◌≤◌, Bool, List, ◌++◌, ◌∷◌, [], take, true, false, refl, ap}
+use Rattle.std.proofs.Common.{rules, arith, ◌≡◌, ℕ, ◌+◌, ◌≤◌, ◌<◌, ◌^◌, cond, Bool, List, ◌++◌, ◌∷◌, [], take, true, false, refl, ap}
 use Rattle.std.proofs.Common.{ap₂, ◌∙◌}
 use Rattle.std.proofs.lemmas.List.{take_all}
 use Rattle.fr_matrix.specs.Places.{columns_in, most_drawn}
@@ -19,20 +19,27 @@ loop-sealed-preserved c =
     let r = c.sealed-item.result in
     let lt = c.loop-sealed-test.true in
     let h = c.loop-sealed.invariant.counted in
-    let counted : Counted (take place all ++ r ∷ []) c.if-opens_cycle.cycles (c.if-opens_cycle.windows + 1)
+    let room : c.loop-sealed.cycles + 1 < 2 ^ 64 = search rules in
+    let more : c.cycles_with-cycles.result ≡ c.loop-sealed.cycles + cond (begins_cycle r) 1 0 =
+    c.cycles_with-cycles.ensures.counted room in
+    let counted : Counted (take place all ++ r ∷ []) c.cycles_with-cycles.result (c.if-opens_cycle.windows + 1)
     (place + 1) =
     elim c.if-opens_cycle.branch [
       | then-opens_cycle w ↦
           let begins : begins_cycle r ≡ true = search rules in
-          first_counted (take place all) r c.loop-sealed.cycles c.loop-sealed.windows place c.if-opens_cycle.cycles
-          c.if-opens_cycle.windows begins w.cycles-is w.windows-is h
+          let one : c.cycles_with-cycles.result ≡ c.loop-sealed.cycles + 1 =
+          more ∙ ap (λ (b : Bool). c.loop-sealed.cycles + cond b 1 0) begins in
+          first_counted (take place all) r c.loop-sealed.cycles c.loop-sealed.windows place
+          c.cycles_with-cycles.result c.if-opens_cycle.windows begins one w.windows-is h
       | else-opens_cycle w ↦
           let begins : begins_cycle r ≡ false = search rules in
-          later_counted (take place all) r c.loop-sealed.cycles c.loop-sealed.windows place c.if-opens_cycle.cycles
-          c.if-opens_cycle.windows begins w.cycles-is w.windows-is h
+          let none : c.cycles_with-cycles.result ≡ c.loop-sealed.cycles =
+          omega (arith, more ∙ ap (λ (b : Bool). c.loop-sealed.cycles + cond b 1 0) begins) in
+          later_counted (take place all) r c.loop-sealed.cycles c.loop-sealed.windows place
+          c.cycles_with-cycles.result c.if-opens_cycle.windows begins none w.windows-is h
     ] in
     let some : 1 ≤ c.if-opens_cycle.windows + 1 = omega arith in
-    measured_more c.args.view.now all place r c.if-opens_cycle.cycles (c.if-opens_cycle.windows + 1)
+    measured_more c.args.view.now all place r c.cycles_with-cycles.result (c.if-opens_cycle.windows + 1)
     c.loop-sealed.most c.widened-most.result c.loop-sealed.busy c.mark.new.busy lt c.sealed-item.is counted some
     c.loop-sealed.invariant.most_is c.loop-sealed.invariant.busy_is (search rules) (search rules)
 

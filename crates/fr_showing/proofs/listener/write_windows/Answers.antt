@@ -1,10 +1,9 @@
-use Rattle.std.proofs.Common.{◌≡◌, ℕ, ◌+◌, ◌<◌, get_or, length, take, refl, subst, ◌∙◌}
+use Rattle.std.proofs.Common.{◌≡◌, ℕ, ◌+◌, ◌<◌, ◌^◌, cond, get_or, length, take, refl, sym, ap, subst, ◌∙◌, arith}
 use Rattle.std.proofs.KnownBytes.{Appends-nil}
-use Rattle.fr_bus.specs.Windows.{cycles_begun}
+use Rattle.fr_bus.specs.Windows.{begins_cycle, cycles_begun}
 use Rattle.fr_slots.specs.History.{each_after}
 use Rattle.std.specs.Io.KnownBytes.{Appends}
-use Rattle.fr_showing.proofs.ListenerLemmas.{counted_more}
-use Rattle.fr_showing.proofs.RecordLemmas.{window_more}
+use Rattle.fr_showing.proofs.RecordLemmas.{begun_more, fewer, window_more}
 use Rattle.fr_showing.specs.Listening.{window_records}
 use Rattle.fr_showing.proofs.listener.write_windows.Goals as goal
 
@@ -20,18 +19,19 @@ loop-sealed-preserved g c =
     let same = c.record-sealed-items.ensures.value in
     let lt : n < length rs = subst (λ l. n < length l) same c.loop-sealed-test.true in
     let at : r ≡ get_or rs n r = subst (λ l. r ≡ get_or l n r) same c.sealed-item.is in
-    let begun : c.begun_with-begun.result ≡ cycles_begun (take (n + 1) rs) =
-    c.begun_with-begun.ensures
-    ∙ counted_more rs n r lt at c.loop-sealed.begun c.cycles_begun-all.result c.loop-sealed.invariant.begun
-    c.cycles_begun-all.ensures in
+    let room : c.loop-sealed.begun + 1 < 2 ^ 32 =
+    omega (arith, c.loop-sealed.invariant.begun, fewer rs n, c.record-sealed-items.ensures.few) in
+    let begun : c.cycles_with-begun.result ≡ cycles_begun (take (n + 1) rs) =
+    c.cycles_with-begun.ensures.counted room
+    ∙ ap (λ (b : ℕ). b + cond (begins_cycle r) 1 0) c.loop-sealed.invariant.begun ∙ sym (begun_more rs n r lt at) in
     record {
       begun = begun;
       written =
-          window_more rs n r lt at (window_records c.args.params.now) c.begun_with-begun.result
+          window_more rs n r lt at (window_records c.args.params.now) c.cycles_with-begun.result
           (g.W.Write.contents c.args.writer.now)
           (g.W.Write.contents c.loop-sealed.writer) (g.W.Write.contents c.write_window.new.writer) begun
           c.loop-sealed.invariant.written
           (subst (λ (k : ℕ). Appends (g.W.Write.contents c.loop-sealed.writer)
           (g.W.Write.contents c.write_window.new.writer) (window_records c.args.params.now k r))
-          (c.from.ensures ∙ c.saturating_sub.ensures) c.in_ok-write_window.ensures);
+          c.saturating_sub.ensures c.in_ok-write_window.ensures);
     }

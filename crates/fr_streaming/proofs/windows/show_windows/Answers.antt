@@ -19,7 +19,8 @@ pub loop-count-preserved : goal.loop-count-preserved
 loop-count-preserved g c =
     let run = c.args.run.now in
     let within : is_at_cycle c.show_window.new.world.bus.bus.opened ≡ false =
-    ap (λ b. is_at_cycle b.bus.opened) (sym c.bus.ensures) ∙ sym c.is_at_cycle.ensures ∙ c.if-is_at_cycle.false in
+    ap (λ b. is_at_cycle b.bus.opened) (sym c.bus.ensures)
+    ∙ ap is_at_cycle (sym c.window.ensures) ∙ sym c.is_at_cycle.ensures ∙ c.if-is_at_cycle.false in
     windows_more run.streamed run.scenario.now run.cluster.now c.args.cycle (faults_of run) (due_of run)
     (due_silent (due_of run) (length run.cluster.now.plans) c.requires) c.args.world.now c.loop-count.world
     c.show_window.new.world (g.W.Write.contents c.args.writer.now) (g.W.Write.contents c.loop-count.writer)
@@ -30,7 +31,8 @@ pub returns-then-is_at_cycle-clause-goes : goal.returns-then-is_at_cycle-clause-
 returns-then-is_at_cycle-clause-goes g c =
     let run = c.args.run.now in
     let at : is_at_cycle c.show_window.new.world.bus.bus.opened ≡ true =
-    ap (λ b. is_at_cycle b.bus.opened) (sym c.bus.ensures) ∙ sym c.is_at_cycle.ensures ∙ c.if-is_at_cycle.true in
+    ap (λ b. is_at_cycle b.bus.opened) (sym c.bus.ensures)
+    ∙ ap is_at_cycle (sym c.window.ensures) ∙ sym c.is_at_cycle.ensures ∙ c.if-is_at_cycle.true in
     windows_end run.streamed run.scenario.now run.cluster.now c.args.cycle (faults_of run) (due_of run)
     (due_silent (due_of run) (length run.cluster.now.plans) c.requires) c.args.world.now c.loop-count.world
     c.show_window.new.world (g.W.Write.contents c.args.writer.now) (g.W.Write.contents c.loop-count.writer)
