@@ -3,7 +3,7 @@ ghost use Rattle.std.specs.Prelude.{◌≡◌, ◌<◌, ◌≤◌, length, true,
 ghost use Rattle.fr_commands.specs.Checks.{Plans};
 ghost use Rattle.std.specs.Io.KnownBytes.{Appends};
 ghost use Rattle.std.specs.List.{flat_map};
-ghost use Rattle.fr_commands.specs.PlanText.{slot_line, begins_at, own_text, owner_text, base_text, owners_text};
+ghost use Rattle.fr_commands.specs.PlanText.{slot_line, begins_at, owner_text, base_text, owners_text};
 ghost use Rattle.fr_commands.specs.PlanText.{slot_text, static_text, cycles_told};
 ghost use Rattle.fr_commands.specs.PlanText.{dynamic_line, buffer_text, node_text, dynamic_text};
 ghost use Rattle.fr_slots.specs.Admission.{letter_of};
@@ -46,25 +46,6 @@ fn begins_at(own: &Own, slot: SlotId, channel: Channel, base: Cycle) -> bool
     own.slot == slot && own.channels.includes(channel) && own.cycles.base() == base.number()
 }
 
-/// Writes the line of an ownership line of the node, if it begins there (`begins_at`).
-fn write_own<W: Write>(
-    writer: &mut W,
-    slot: SlotId,
-    channel: Channel,
-    base: Cycle,
-    node: NodeId,
-    own: &Own,
-) -> io::Result<()>
-    ensures { OnOk result
-        (Appends (W.contents writer.old) (W.contents writer.new) (own_text slot channel base node own.now)) }
-{
-    if begins_at(own, slot, channel, base) {
-        write_slot_line(writer, slot, channel, node, own.cycles)
-    } else {
-        Ok(())
-    }
-}
-
 /// Writes the line of a static slot on the channel that the node owns in these cycles.
 fn write_slot_line<W: Write>(
     writer: &mut W,
@@ -102,7 +83,9 @@ fn write_owner<W: Write>(
         (Appends (W.contents writer.old) (W.contents writer.new) (owner_text slot channel base node plan.now)) }
 {
     for own in plan.owned() {
-        write_own(writer, slot, channel, base, node, own)?;
+        if begins_at(own, slot, channel, base) {
+            write_slot_line(writer, slot, channel, node, own.cycles)?;
+        }
     }
     Ok(())
 }
