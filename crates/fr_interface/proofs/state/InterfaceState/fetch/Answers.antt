@@ -18,8 +18,8 @@ invariant_of-self c =
     let h = standing_in c.self.inside in
     let window = c.args.window.now in
     let window_is : c.kept_window-window.result ≡ window = c.kept_window-window.ensures.value in
-    let cycles_is : c.cycles_with.result ≡ h.cycles + cond (opens_cycle window) 1 0 =
-    c.cycles_with.ensures.counted
+    let cycles_is : c.cycles_with-self-inside.result ≡ h.cycles + cond (opens_cycle window) 1 0 =
+    c.cycles_with-self-inside.ensures.counted
     (omega (arith, cycles-fit (standing_in c.self.inside) c.self.invariant.0 c.self.invariant.1)) ∙ ap (λ (w : Opportunity). h.cycles + cond (opens_cycle w) 1 0)
     window_is in
     let number_is : c.window.inside.number ≡ window.number =
@@ -76,8 +76,8 @@ returns-clause-history c = λ s is.
     let h = standing_in c.self.inside in
     let window = c.args.window.now in
     let window_is : c.kept_window-window.result ≡ window = c.kept_window-window.ensures.value in
-    let cycles_is : c.cycles_with.result ≡ h.cycles + cond (opens_cycle window) 1 0 =
-    c.cycles_with.ensures.counted
+    let cycles_is : c.cycles_with-self-inside.result ≡ h.cycles + cond (opens_cycle window) 1 0 =
+    c.cycles_with-self-inside.ensures.counted
     (omega (arith, cycles-fit (standing_in c.self.inside) c.self.invariant.0 c.self.invariant.1)) ∙ ap (λ (w : Opportunity). h.cycles + cond (opens_cycle w) 1 0)
     window_is in
     let number_is : c.window.inside.number ≡ window.number =
