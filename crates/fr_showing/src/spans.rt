@@ -10,7 +10,7 @@ use fr_bus::outcome::Sealed;
 use fr_minislot::lane::row_length;
 use fr_slots::channel::Channel;
 use fr_slots::params::Params;
-use fr_slots::window::Window;
+use fr_slots::window::{Window, cycles_with};
 use std::io;
 use std::io::Write;
 
