@@ -21,7 +21,12 @@ fn attempt(world: &mut World, event: &Event) -> Result<(), StepError>
 }
 
 /// Injects the line's fault into the open window, if it takes effect there.
-fn strike(world: &mut World, cycle: usize, window: &Window, line: &FaultLine) -> Result<(), StepError>
+fn strike(
+    world: &mut World,
+    cycle: usize,
+    window: &Window,
+    line: &FaultLine,
+) -> Result<(), StepError>
     ensures { Tells world.old (strike_events cycle window.now line.now) result world.new }
 {
     if line.strikes(cycle, window) {

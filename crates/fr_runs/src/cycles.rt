@@ -24,8 +24,11 @@ impl RunCycles {
             RunCycles::Every => true,
             RunCycles::Only(only) => usize::from(only) == cycle,
             RunCycles::Span { first, last, step } => {
-                let (first, last, step) = (usize::from(first), usize::from(last), usize::from(step));
-                step != 0 && first <= cycle && cycle <= last && (cycle - first) % step == 0
+                let (first, last) = (usize::from(first), usize::from(last));
+                step != 0
+                    && first <= cycle
+                    && cycle <= last
+                    && (cycle - first) % usize::from(step) == 0
             }
         }
     }

@@ -118,7 +118,13 @@ fn babble_due<'a>(
 }
 
 /// Returns whether the line mutes the node's offer on the channel of the window.
-fn is_lost_by(cycle: usize, window: &Window, node: NodeId, channel: Channel, line: &FaultLine) -> bool
+fn is_lost_by(
+    cycle: usize,
+    window: &Window,
+    node: NodeId,
+    channel: Channel,
+    line: &FaultLine,
+) -> bool
     ensures { result ≡ is_lost_by cycle window.now node channel line.now }
 {
     line.strikes(cycle, window) && loses(node, channel, &line.fault)
