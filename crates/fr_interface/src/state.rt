@@ -1,6 +1,8 @@
 //! The data that an interface keeps for its calls, without the calls before.
 
+ghost use Rattle.std.specs.Prelude.{◌≡◌, ◌+◌, ◌<◌, ◌^◌, if◌then◌else◌};
 ghost use Rattle.fr_interface.specs.Standing.{IsHistory, ForEachHistory};
+ghost use Rattle.fr_slots.specs.Windows.{opens_cycle};
 
 use crate::call::{Answer, Call};
 use crate::errors::{HostError, InterfaceError, SlotError};
@@ -35,6 +37,14 @@ use fr_status::counters::Counters;
 use fr_status::seen::Seen;
 use std::alloc::Global;
 use std::marker::Model;
+
+/// Returns the number of cycles that have begun once the window is fetched, as long as there is room for one more.
+fn begun_with(cycles: u32, window: &Window) -> u32
+    requires { cycles + 1 < 2 ^ 32 }
+    ensures { result ≡ cycles + (if opens_cycle window.now then 1 else 0) }
+{
+    cycles_with(cycles, window)
+}
 
 // No call scans the journal. The results are kept here, and the invariant of `Interface` states that they are those of
 // the journal. With a scan at each call, the audits of two traces took 21.5 s and 276 s; without scans they take less
@@ -429,7 +439,7 @@ impl InterfaceState {
             window: Some(window),
             last: Some(window.number),
         };
-        self.cycles = cycles_with(self.cycles, &window);
+        self.cycles = begun_with(self.cycles, &window);
         self.slots += 1;
     }
 

@@ -13,14 +13,17 @@ use Rattle.fr_slots.specs.declared.channel.Channel.TheVariants.{A, B}
 use Rattle.fr_slots.specs.Windows.{Opportunity, IsInRange, opens_cycle}
 use Rattle.fr_interface.proofs.state.InterfaceState.fetch.Goals as goal
 
+pub begun_with-self-inside-requires : goal.begun_with-self-inside-requires
+begun_with-self-inside-requires c =
+    omega (arith, cycles-fit (standing_in c.self.inside) c.self.invariant.0 c.self.invariant.1)
+
 pub invariant_of-self : goal.invariant_of-self
 invariant_of-self c =
     let h = standing_in c.self.inside in
     let window = c.args.window.now in
     let window_is : c.kept_window-window.result ≡ window = c.kept_window-window.ensures.value in
-    let cycles_is : c.cycles_with-self-inside.result ≡ h.cycles + cond (opens_cycle window) 1 0 =
-    c.cycles_with-self-inside.ensures.counted
-    (omega (arith, cycles-fit (standing_in c.self.inside) c.self.invariant.0 c.self.invariant.1)) ∙ ap (λ (w : Opportunity). h.cycles + cond (opens_cycle w) 1 0)
+    let cycles_is : c.begun_with-self-inside.result ≡ h.cycles + cond (opens_cycle window) 1 0 =
+    c.begun_with-self-inside.ensures ∙ ap (λ (w : Opportunity). h.cycles + cond (opens_cycle w) 1 0)
     window_is in
     let number_is : c.window.inside.number ≡ window.number =
     ap (λ (w : Opportunity). w.number) (c.window.view_is ∙ window_is) in
@@ -76,9 +79,8 @@ returns-clause-history c = λ s is.
     let h = standing_in c.self.inside in
     let window = c.args.window.now in
     let window_is : c.kept_window-window.result ≡ window = c.kept_window-window.ensures.value in
-    let cycles_is : c.cycles_with-self-inside.result ≡ h.cycles + cond (opens_cycle window) 1 0 =
-    c.cycles_with-self-inside.ensures.counted
-    (omega (arith, cycles-fit (standing_in c.self.inside) c.self.invariant.0 c.self.invariant.1)) ∙ ap (λ (w : Opportunity). h.cycles + cond (opens_cycle w) 1 0)
+    let cycles_is : c.begun_with-self-inside.result ≡ h.cycles + cond (opens_cycle window) 1 0 =
+    c.begun_with-self-inside.ensures ∙ ap (λ (w : Opportunity). h.cycles + cond (opens_cycle w) 1 0)
     window_is in
     let number_is : c.window.inside.number ≡ window.number =
     ap (λ (w : Opportunity). w.number) (c.window.view_is ∙ window_is) in
