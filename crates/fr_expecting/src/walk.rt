@@ -66,6 +66,14 @@ fn keep(held: &mut Option<Payload>, brought: Option<Payload>)
     }
 }
 
+/// Returns the number of cycles that began up to this entry and with it, from the number before.
+fn begun_with(begun: u32, entry: &LentEntry<'_>) -> u32
+    requires { begun + 1 < 2 ^ 32 }
+    ensures { result ≡ begun + (if begins_cycle_at (whole entry.now) then 1 else 0) }
+{
+    cycles_at(begun, entry)
+}
+
 /// Goes past the next entry.
 fn pass(interface: &Interface, filter: &Filter, place: &mut Place, entry: &LentEntry<'_>)
     requires here { slice_get interface.now.entries place.old.next ≡ Some (whole entry.now) }
@@ -77,7 +85,7 @@ fn pass(interface: &Interface, filter: &Filter, place: &mut Place, entry: &LentE
 {
     let brought = payload_at(interface, filter, place.next);
     keep(&mut place.held, brought);
-    place.begun = cycles_at(place.begun, entry);
+    place.begun = begun_with(place.begun, entry);
     place.next += 1;
 }
 

@@ -14,14 +14,14 @@ ghost use Rattle.fr_showing.specs.Takers.{takers_in};
 ghost use Rattle.fr_text.specs.Writing.{Writes};
 
 use crate::ends::{End, ended_word, offer_end};
-use crate::fates::{Became, Sending, became_of, is_commit_on, is_data_of};
+use crate::fates::{Became, Sending, became_of, begun_with, is_commit_on, is_data_of};
 use crate::parts::{interfaces_of, params_of};
 use crate::takers::{Transmission, write_takers};
 use fr_core::walk::sealed_at;
 use fr_core::world::World;
 use fr_interface::interface::Interface;
 use fr_journal::entry::Offered;
-use fr_journal::lent::{LentEntry, cycles_at};
+use fr_journal::lent::LentEntry;
 use fr_lines::writing::write_slot;
 use fr_slots::channel::Channel;
 use fr_slots::numbers::TaskId;
@@ -201,7 +201,7 @@ fn write_sendings<W: Write>(
         if is_commit_on(commit.buffer, &entry) {
             return Ok(());
         }
-        begun = cycles_at(begun, &entry);
+        begun = begun_with(begun, &entry);
         write_handed(writer, world, commit.node, commit.entry, begun, &entry)?;
     }
     Ok(())
@@ -319,7 +319,7 @@ fn write_node<W: Write>(
             begun,
         };
         write_entry(writer, world, interface, place, &entry)?;
-        begun = cycles_at(begun, &entry);
+        begun = begun_with(begun, &entry);
     }
     Ok(())
 }

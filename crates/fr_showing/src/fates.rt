@@ -3,7 +3,7 @@ ghost use Rattle.std.specs.Prelude.{◌≡◌, ◌<◌, ◌+◌, ◌^◌, true, 
 ghost use Rattle.fr_journal.specs.Fate.{is_commit_on, is_data_of};
 ghost use Rattle.fr_journal.specs.Lent.{whole};
 ghost use Rattle.fr_showing.specs.Fates.{became};
-ghost use Rattle.fr_journal.specs.Cycles.{cycles_of};
+ghost use Rattle.fr_journal.specs.Cycles.{begins_cycle_at, cycles_of};
 ghost use Rattle.fr_showing.specs.FateSteps.{became_with, is_pending};
 
 use fr_interface::interface::Interface;
@@ -34,6 +34,14 @@ pub struct Sending {
     pub window: Window,
     /// The channel.
     pub channel: Channel,
+}
+
+/// Returns the number of cycles that began up to this entry and with it, from the number before.
+pub(crate) fn begun_with(begun: u32, entry: &LentEntry<'_>) -> u32
+    requires { begun + 1 < 2 ^ 32 }
+    ensures { result ≡ begun + (if begins_cycle_at (whole entry.now) then 1 else 0) }
+{
+    cycles_at(begun, entry)
 }
 
 /// Returns whether this is the data of the commit.
@@ -104,7 +112,7 @@ pub(crate) fn became_of(interface: &Interface, buffer: u8, commit: u32, begun: u
         if !is_pending(became) {
             return became;
         }
-        begun = cycles_at(begun, &entry);
+        begun = begun_with(begun, &entry);
     }
     Became::Pending
 }

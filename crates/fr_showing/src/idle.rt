@@ -6,6 +6,7 @@ ghost use Rattle.fr_showing.specs.Idle.{repeats, times, wholly_idle};
 
 use crate::ends::{End, end_of, sent_in};
 use crate::origins::{brings, turns};
+use crate::record::begun_with;
 use crate::parts::params_of;
 use fr_bus::fault::Fault;
 use fr_bus::outcome::{Sealed, Sent};
@@ -52,7 +53,7 @@ fn has_struck(params: &Params, windows: &[Sealed], line: &FaultLine) -> bool
 {
     let mut begun = 0;
     for sealed in windows {
-        begun = sealed.cycles_with(begun);
+        begun = begun_with(begun, sealed);
         if has_struck_in(params, line, begun.saturating_sub(1), sealed) {
             return true;
         }

@@ -196,6 +196,14 @@ pub fn write_window<W: Write>(
     write_bit(writer, scenario, cycle, sealed, Channel::B)
 }
 
+/// Returns the number of cycles that began up to this window and with it, from the number before.
+pub(crate) fn begun_with(begun: usize, sealed: &Sealed) -> usize
+    requires { begun + 1 < 2 ^ 64 }
+    ensures { result ≡ begun + (if begins_cycle sealed.now then 1 else 0) }
+{
+    sealed.cycles_with(begun)
+}
+
 /// Writes the bus's record of a run with the scenario (project-defined).
 ///
 /// The windows come in order. Each window has a line for each of its transmissions, and then one for each bit that was
@@ -223,7 +231,7 @@ pub fn write_record<W: Write>(
     let record = bus.record();
     let mut begun = 0;
     for sealed in record {
-        begun = sealed.cycles_with(begun);
+        begun = begun_with(begun, sealed);
         let cycle = begun.saturating_sub(1);
         write_window(writer, scenario, params, cycle, sealed)?;
     }

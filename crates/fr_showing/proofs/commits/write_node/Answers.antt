@@ -27,9 +27,8 @@ loop-number-preserved g c =
     let mid = g.W.Write.contents c.write_entry.new.writer in
     let there : slice_get es n ≡ Some e = lent_there es c.journal-journal.result.now.entries n c.lent.result
     c.in-Some.entry c.journal-journal.ensures.entries c.lent.ensures.entry c.in-Some.is in
-    let room : c.loop-number.begun + 1 < 2 ^ 32 = search rules in
     record {
-      cycle = c.cycles_at-begun.ensures.counted room ∙ ap (λ (b : ℕ). b + cond (begins_cycle_at e) 1 0)
+      cycle = c.begun_with-begun.ensures ∙ ap (λ (b : ℕ). b + cond (begins_cycle_at e) 1 0)
           c.loop-number.invariant.cycle ∙ sym (cycles_more es n e there);
       written =
           goes_on (commit_by c.args.node) (line_in c.args.world.now es) es (node_text c.args.world.now c.args.node es)

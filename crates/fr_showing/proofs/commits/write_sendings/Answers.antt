@@ -71,11 +71,10 @@ loop-number-preserved g c =
     let mid = g.W.Write.contents c.write_handed.new.writer in
     let there : slice_get es n ≡ Some e = lent_there es c.journal-journal.result.now.entries n c.lent.result
     c.in-Some.entry c.journal-journal.ensures.entries c.lent.ensures.entry c.in-Some.is in
-    let room : c.loop-number.begun + 1 < 2 ^ 32 = search rules in
-    let begun : c.cycles_at-begun.result ≡ cycles_of (take (n + 1) es) =
-    c.cycles_at-begun.ensures.counted room ∙ ap (λ (b : ℕ). b + cond (begins_cycle_at e) 1 0) c.loop-number.invariant.cycle ∙ sym
+    let begun : c.begun_with-begun.result ≡ cycles_of (take (n + 1) es) =
+    c.begun_with-begun.ensures ∙ ap (λ (b : ℕ). b + cond (begins_cycle_at e) 1 0) c.loop-number.invariant.cycle ∙ sym
     (cycles_more es n e there) in
-    let cycle : c.cycles_at-begun.result - 1 ≡ run_cycle (take n es ++ e ∷ []) =
+    let cycle : c.begun_with-begun.result - 1 ≡ run_cycle (take n es ++ e ∷ []) =
     ap (λ (b : ℕ). b - 1) (begun ∙ ap cycles_of (here es n e there).passed) in
     record {
       cycle = begun;
@@ -84,7 +83,7 @@ loop-number-preserved g c =
           (sendings_text c.args.world.now commit.node es k)
           (g.W.Write.contents c.args.writer.now) now mid n e there c.loop-number.invariant.written
           (subst (λ (t : List ℕ). Appends now mid t) (handed_is c.args.world.now commit.node k
-          (c.cycles_at-begun.result - 1) (take n es) e cycle) c.in_ok-write_handed.ensures);
+          (c.begun_with-begun.result - 1) (take n es) e cycle) c.in_ok-write_handed.ensures);
     }
 
 pub returns : goal.returns

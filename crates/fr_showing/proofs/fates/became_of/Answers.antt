@@ -56,9 +56,8 @@ loop-number-preserved c =
     let later : c.args.commit < n = omega (arith, c.loop-number.auto.number) in
     let pending : is_pending (became_with c.args.buffer c.args.commit c.loop-number.begun n e) ≡ true =
     ap is_pending (sym c.became_with-became.ensures) ∙ sym c.is_pending.ensures ∙ c.if-not-is_pending.false in
-    let room : c.loop-number.begun + 1 < 2 ^ 32 = search rules in
     record {
-      cycle = c.cycles_at-begun.ensures.counted room ∙ ap (λ (b : ℕ). b + cond (begins_cycle_at e) 1 0)
+      cycle = c.begun_with-begun.ensures ∙ ap (λ (b : ℕ). b + cond (begins_cycle_at e) 1 0)
           c.loop-number.invariant.cycle ∙ sym (cycles_more es n e here);
       same =
           sym (same_then c.args.interface.now c.args.buffer c.args.commit c.journal-journal.ensures.legal

@@ -1,5 +1,5 @@
 use Rattle.std.proofs.Common.{◌≡◌, ℕ, Bool, true, false, ◌+◌, ◌-◌, ◌≤◌, ◌||◌, cond, take, drop, length, refl, sym, ap}
-use Rattle.std.proofs.Common.{◌<◌, ◌^◌, ◌∙◌, arith, rules}
+use Rattle.std.proofs.Common.{◌∙◌, arith, rules}
 use Rattle.fr_bus.specs.Windows.{begins_cycle, cycles_begun}
 use Rattle.fr_showing.proofs.IdleLemmas.{struck_by_next, struck_in_none}
 use Rattle.fr_showing.proofs.RecordLemmas.{begun_more}
@@ -21,17 +21,16 @@ loop-sealed-preserved c =
     let p = c.args.params.now in
     let line = c.args.line.now in
     let more = begun_more rs n r c.loop-sealed-test.true c.sealed-item.is in
-    let room : c.loop-sealed.begun + 1 < 2 ^ 64 = search rules in
-    let begun : c.cycles_with-begun.result ≡ cycles_begun (take (n + 1) rs) =
-    c.cycles_with-begun.ensures.counted room ∙ ap (λ (b : ℕ). b + cond (begins_cycle r) 1 0) c.loop-sealed.invariant.begun
+    let begun : c.begun_with-begun.result ≡ cycles_begun (take (n + 1) rs) =
+    c.begun_with-begun.ensures ∙ ap (λ (b : ℕ). b + cond (begins_cycle r) 1 0) c.loop-sealed.invariant.begun
     ∙ sym more in
-    let next = struck_by_next rs n r c.loop-sealed-test.true c.sealed-item.is p line c.cycles_with-begun.result begun in
+    let next = struck_by_next rs n r c.loop-sealed-test.true c.sealed-item.is p line c.begun_with-begun.result begun in
     let missed : c.has_struck_in.result ≡ false = search rules in
-    let here : has_struck_in p line (c.cycles_with-begun.result - 1) r ≡ false =
+    let here : has_struck_in p line (c.begun_with-begun.result - 1) r ≡ false =
     ap (λ (k : ℕ). has_struck_in p line k r) (sym c.saturating_sub.ensures) ∙ sym c.has_struck_in.ensures ∙ missed in
     record {
       begun = begun;
-      few = omega (arith, c.cycles_with-begun.ensures.counted room, c.loop-sealed.invariant.few, digit (begins_cycle r));
+      few = omega (arith, c.begun_with-begun.ensures, c.loop-sealed.invariant.few, digit (begins_cycle r));
       left = sym (ap (λ (b : Bool). b || has_struck_after p line (take (n + 1) rs) (drop (n + 1) rs)) here) ∙ sym next
           ∙ c.loop-sealed.invariant.left;
     }
@@ -44,13 +43,12 @@ returns-then-has_struck_in c =
     let p = c.args.params.now in
     let line = c.args.line.now in
     let more = begun_more rs n r c.loop-sealed-test.true c.sealed-item.is in
-    let room : c.loop-sealed.begun + 1 < 2 ^ 64 = search rules in
-    let begun : c.cycles_with-begun.result ≡ cycles_begun (take (n + 1) rs) =
-    c.cycles_with-begun.ensures.counted room ∙ ap (λ (b : ℕ). b + cond (begins_cycle r) 1 0) c.loop-sealed.invariant.begun
+    let begun : c.begun_with-begun.result ≡ cycles_begun (take (n + 1) rs) =
+    c.begun_with-begun.ensures ∙ ap (λ (b : ℕ). b + cond (begins_cycle r) 1 0) c.loop-sealed.invariant.begun
     ∙ sym more in
-    let next = struck_by_next rs n r c.loop-sealed-test.true c.sealed-item.is p line c.cycles_with-begun.result begun in
+    let next = struck_by_next rs n r c.loop-sealed-test.true c.sealed-item.is p line c.begun_with-begun.result begun in
     let struck : c.has_struck_in.result ≡ true = search rules in
-    let here : has_struck_in p line (c.cycles_with-begun.result - 1) r ≡ true =
+    let here : has_struck_in p line (c.begun_with-begun.result - 1) r ≡ true =
     ap (λ (k : ℕ). has_struck_in p line k r) (sym c.saturating_sub.ensures) ∙ sym c.has_struck_in.ensures ∙ struck in
     sym (ap (λ (b : Bool). b || has_struck_after p line (take (n + 1) rs) (drop (n + 1) rs)) here) ∙ sym next
     ∙ c.loop-sealed.invariant.left

@@ -1,5 +1,4 @@
-use Rattle.std.proofs.Common.{◌≡◌, ℕ, Bool, true, false, ◌+◌, ◌≤◌, ◌<◌, ◌^◌, cond, take, refl, sym, ap, subst, ◌∙◌, arith}
-use Rattle.std.proofs.Common.{rules}
+use Rattle.std.proofs.Common.{◌≡◌, ℕ, Bool, true, false, ◌+◌, ◌≤◌, cond, take, refl, sym, ap, subst, ◌∙◌, arith}
 use Rattle.std.proofs.KnownBytes.{Appends-nil}
 use Rattle.fr_bus.specs.Windows.{begins_cycle, cycles_begun}
 use Rattle.fr_slots.specs.History.{each_after}
@@ -27,16 +26,15 @@ loop-sealed-preserved g c =
     let n : ℕ = c.loop-sealed.sealed-index in
     let r = c.sealed-item.result in
     let more = begun_more rs n r c.loop-sealed-test.true c.sealed-item.is in
-    let room : c.loop-sealed.begun + 1 < 2 ^ 64 = search rules in
-    let begun : c.cycles_with-begun.result ≡ cycles_begun (take (n + 1) rs) =
-    c.cycles_with-begun.ensures.counted room ∙ ap (λ (b : ℕ). b + cond (begins_cycle r) 1 0) c.loop-sealed.invariant.begun
+    let begun : c.begun_with-begun.result ≡ cycles_begun (take (n + 1) rs) =
+    c.begun_with-begun.ensures ∙ ap (λ (b : ℕ). b + cond (begins_cycle r) 1 0) c.loop-sealed.invariant.begun
     ∙ sym more in
     record {
       begun = begun;
-      few = omega (arith, c.cycles_with-begun.ensures.counted room, c.loop-sealed.invariant.few, digit (begins_cycle r));
+      few = omega (arith, c.begun_with-begun.ensures, c.loop-sealed.invariant.few, digit (begins_cycle r));
       written =
           window_more rs n r c.loop-sealed-test.true c.sealed-item.is
-          (window_text c.args.scenario.now c.args.params.now) c.cycles_with-begun.result
+          (window_text c.args.scenario.now c.args.params.now) c.begun_with-begun.result
           (g.W.Write.contents c.args.writer.now)
           (g.W.Write.contents c.loop-sealed.writer) (g.W.Write.contents c.write_window.new.writer) begun
           c.loop-sealed.invariant.written
