@@ -37,6 +37,7 @@ pub mod buffers;
 pub mod entries;
 pub mod forms;
 pub mod frames;
+mod fronts;
 pub mod nodes;
 pub mod owned;
 pub mod parameters;
