@@ -36,7 +36,7 @@ use Rattle.fr_slots.specs.declared.plan.Buffer.{Buffer}
 use Rattle.fr_slots.specs.Parameters.{Parameters, is_static_slot}
 use Rattle.fr_slots.specs.Plans.{Plan, buffer_at}
 use Rattle.fr_slots.specs.Windows.{is_first_slot, opens_cycle, Opportunity, slot_of, is_static, static_window}
-use Rattle.fr_slots.specs.Windows.{static_slot_fits, dynamic_slot_fits, window_fits}
+use Rattle.fr_slots.specs.Windows.{static_slot_fits, dynamic_slot_fits, window_fits, run_cycle}
 
 -- ---- the next static window
 
@@ -156,7 +156,7 @@ module _ (d : Description) (lawful : IsCluster d) (cycles most : ℕ) (room : Ha
     pub static : is_static window ≡ true
     pub slot_is : (on : Channel) → slot_of window on ≡ Some slot
     pub cycle_is : window.cycle ≡ c % 64
-    pub run_is : cycles_begun world.bus.sealed - cond (opens_cycle window) 0 1 ≡ c
+    pub run_is : run_cycle (cycles_begun world.bus.sealed) window ≡ c
     pub begun_then : (r : Recorded) → r.window ≡ window → cycles_begun (world.bus.sealed ++ r ∷ []) ≡ c + 1
     pub statics_then : (r : Recorded) → r.window ≡ window
         → statics_of (this_cycle (world.bus.sealed ++ r ∷ [])) ≡ slot
