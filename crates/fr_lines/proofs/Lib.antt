@@ -3,6 +3,7 @@ pub mod EntryLemmas
 pub mod FirstLemmas
 pub mod FormLaws
 pub mod FormLemmas
+pub mod FrontLemmas
 pub mod NodeLemmas
 pub mod OwnLemmas
 pub mod ParameterLemmas

@@ -5,6 +5,7 @@ use Rattle.std.specs.Result.{result_ok}
 use Rattle.std.specs.Str.{bytes_eq}
 use Rattle.fr_journal.specs.Forms.{Entry}
 use Rattle.fr_journal.specs.declared.entry.Entry.TheVariants.{Commit, Withdraw, Read, Pop, Fetch, Observe}
+use Rattle.fr_journal.specs.declared.entry.Offered.{Offered}
 use Rattle.fr_lines.specs.declared.plan_lines.PlanLine.{PlanLine}
 use Rattle.fr_lines.specs.declared.plan_lines.PlanLine.TheVariants as plan_line
 use Rattle.fr_lines.specs.declared.versions.Version.{Version}
@@ -214,6 +215,14 @@ pop_in words = None
 unfoldable pub window_first : List (List ℕ) → Option Opportunity
 window_first (number ∷ cycle ∷ minislot ∷ slot_a ∷ slot_b ∷ words) = window_in number cycle minislot slot_a slot_b
 window_first words = None
+
+-- the offers on both channels, which are the last two words
+unfoldable pub offers_in : List (List ℕ) → Option (Offered × Offered)
+offers_in (offer_a ∷ offer_b ∷ []) = do
+  a ← offered_in offer_a
+  b ← offered_in offer_b
+  Some (a, b)
+offers_in words = None
 
 unfoldable pub fetch_in : List (List ℕ) → Option Entry
 fetch_in (number ∷ cycle ∷ minislot ∷ slot_a ∷ slot_b ∷ offer_a ∷ offer_b ∷ []) = do

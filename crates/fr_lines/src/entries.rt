@@ -8,12 +8,13 @@ ghost use Rattle.fr_lines.specs.PartReading.{optional_slot_in, offered_in};
 ghost use Rattle.fr_lines.specs.Bare.{with_bytes};
 ghost use Rattle.fr_lines.specs.declared.bare.EntryBytes.{EntryBytes};
 ghost use Rattle.fr_lines.specs.Reading.{commit_in, told_withdraw_in, withdraw_in, read_in, pop_in, fetch_in};
-ghost use Rattle.fr_lines.specs.Reading.{window_first, observe_in, entry_in};
+ghost use Rattle.fr_lines.specs.Reading.{window_first, offers_in, observe_in, entry_in};
 ghost use Rattle.fr_lines.specs.Spelled.{IsSpelledEntry};
 ghost use Rattle.fr_lines.specs.Spelling.{entry_words};
 ghost use Rattle.fr_lines.specs.Versions.{tells};
 
 use crate::bare::{BareEntry, EntryBytes};
+use crate::fronts::{number_at_front, slot_at_front};
 use crate::parts::{from_of, next_seen_into, payload_into, taken_back_of, window_at};
 use crate::versions::Version;
 use fr_journal::entry::Offered;
@@ -32,7 +33,7 @@ fn next_task(words: &mut Words<'_>) -> Option<TaskId>
 
 /// Returns the commit that the words spell.
 #[tactic(auto, unfolding(crate::specs::Reading::commit_in))]
-fn commit_of(words: &mut Words<'_>, bytes: &mut EntryBytes) -> Option<BareEntry>
+fn commit_by_words(words: &mut Words<'_>, bytes: &mut EntryBytes) -> Option<BareEntry>
     ensures { option_map (with_bytes bytes.new) result ≡ commit_in words.old }
 {
     let task = next_task(words)?;
@@ -46,6 +47,34 @@ fn commit_of(words: &mut Words<'_>, bytes: &mut EntryBytes) -> Option<BareEntry>
         buffer: buffer as u8,
         payload: (),
     })
+}
+
+/// Returns the commit that the bytes spell. `None` also if a number of it has more than few digits.
+fn commit_at_front(line: &[u8], bytes: &mut EntryBytes) -> Option<BareEntry>
+    ensures { IfSome result (λ e. commit_in (words_of line.now) ≡ Some (with_bytes bytes.new e)) }
+{
+    let (number, rest) = number_at_front(line, 8)?;
+    let (buffer, payload) = number_at_front(rest, 64)?;
+    let task = TaskId::new(number as u8)?;
+    // A word that spells bytes has no space, so the payload is the last word.
+    if !payload_into(payload, &mut bytes.payload) {
+        return None;
+    }
+    Some(BareEntry::Commit {
+        task,
+        buffer: buffer as u8,
+        payload: (),
+    })
+}
+
+/// Returns the commit that the bytes after the first word spell.
+fn commit_of(line: &[u8], bytes: &mut EntryBytes) -> Option<BareEntry>
+    ensures { option_map (with_bytes bytes.new) result ≡ commit_in (words_of line.now) }
+{
+    match commit_at_front(line, bytes) {
+        Some(entry) => Some(entry),
+        None => commit_by_words(&mut Words::new(line), bytes),
+    }
 }
 
 /// Returns the withdraw that the words spell.
@@ -152,9 +181,30 @@ fn next_window(words: &mut Words<'_>) -> Option<Window>
     )
 }
 
+/// Returns the offers on both channels that the words spell.
+#[tactic(auto, unfolding(crate::specs::Reading::offers_in))]
+fn offers_by_words(words: &mut Words<'_>) -> Option<(Offered, Offered)>
+    ensures { result ≡ offers_in words.old }
+{
+    let a = next_offered(words)?;
+    let b = next_offered(words)?;
+    words.end()?;
+    Some((a, b))
+}
+
+/// Returns the offers on both channels that the bytes spell. Most windows have none.
+fn offers_of(line: &[u8]) -> Option<(Offered, Offered)>
+    ensures { result ≡ offers_in (words_of line.now) }
+{
+    if line == b"- -".as_slice() {
+        return Some((Offered::Nothing, Offered::Nothing));
+    }
+    offers_by_words(&mut Words::new(line))
+}
+
 /// Returns the fetch that the words spell.
 #[tactic(auto, unfolding(crate::specs::Reading::fetch_in))]
-fn fetch_of(words: &mut Words<'_>) -> Option<BareEntry>
+fn fetch_by_words(words: &mut Words<'_>) -> Option<BareEntry>
     ensures { (bytes : EntryBytes) → option_map (with_bytes bytes) result ≡ fetch_in words.old }
 {
     let window = next_window(words)?;
@@ -162,6 +212,35 @@ fn fetch_of(words: &mut Words<'_>) -> Option<BareEntry>
     let b = next_offered(words)?;
     words.end()?;
     Some(BareEntry::Fetch { window, a, b })
+}
+
+/// Returns the fetch that the bytes spell. `None` also if a number of its window has more than few digits.
+fn fetch_at_front(line: &[u8]) -> Option<BareEntry>
+    ensures { (bytes : EntryBytes) → IfSome result (λ e. fetch_in (words_of line.now) ≡ Some (with_bytes bytes e)) }
+{
+    let (number, rest) = number_at_front(line, 1 << 32)?;
+    let (cycle, rest) = number_at_front(rest, 64)?;
+    let (minislot, rest) = number_at_front(rest, 8001)?;
+    let Some((slot_a, rest)) = slot_at_front(rest) else {
+        return None;
+    };
+    let Some((slot_b, offers)) = slot_at_front(rest) else {
+        return None;
+    };
+    let cycle = Cycle::from_bits(cycle as u8);
+    let window = window_at(number as u32, cycle, minislot as u16, slot_a, slot_b)?;
+    let (a, b) = offers_of(offers)?;
+    Some(BareEntry::Fetch { window, a, b })
+}
+
+/// Returns the fetch that the bytes after the first word spell.
+fn fetch_of(line: &[u8]) -> Option<BareEntry>
+    ensures { (bytes : EntryBytes) → option_map (with_bytes bytes) result ≡ fetch_in (words_of line.now) }
+{
+    match fetch_at_front(line) {
+        Some(entry) => Some(entry),
+        None => fetch_by_words(&mut Words::new(line)),
+    }
 }
 
 /// Returns the observe that the words spell.
@@ -183,13 +262,13 @@ fn observe_of(words: &mut Words<'_>, bytes: &mut EntryBytes) -> Option<BareEntry
 
 /// Returns the entry that the line spells, by its first word.
 #[tactic(auto, unfolding(crate::specs::Reading::entry_in))]
-fn entry_in(version: Version, line: &[u8], bytes: &mut EntryBytes) -> Option<BareEntry>
+fn entry_by_word(version: Version, line: &[u8], bytes: &mut EntryBytes) -> Option<BareEntry>
     ensures { option_map (with_bytes bytes.new) result ≡ entry_in version (words_of line.now) }
 {
     let mut words = Words::new(line);
     let kind = words.next_word()?;
     if kind == b"commit".as_slice() {
-        return commit_of(&mut words, bytes);
+        return commit_by_words(&mut words, bytes);
     }
     if kind == b"withdraw".as_slice() {
         return withdraw_of(version, &mut words);
@@ -201,12 +280,28 @@ fn entry_in(version: Version, line: &[u8], bytes: &mut EntryBytes) -> Option<Bar
         return pop_of(&mut words);
     }
     if kind == b"fetch".as_slice() {
-        return fetch_of(&mut words);
+        return fetch_by_words(&mut words);
     }
     if kind == b"see".as_slice() {
         return observe_of(&mut words, bytes);
     }
     None
+}
+
+/// Returns the entry that the line spells. The first word of most lines is known without a search for its end.
+fn entry_in(version: Version, line: &[u8], bytes: &mut EntryBytes) -> Option<BareEntry>
+    ensures { option_map (with_bytes bytes.new) result ≡ entry_in version (words_of line.now) }
+{
+    if let Some(observe) = line.strip_prefix(b"see ".as_slice()) {
+        return observe_of(&mut Words::new(observe), bytes);
+    }
+    if let Some(fetch) = line.strip_prefix(b"fetch ".as_slice()) {
+        return fetch_of(fetch);
+    }
+    if let Some(commit) = line.strip_prefix(b"commit ".as_slice()) {
+        return commit_of(commit, bytes);
+    }
+    entry_by_word(version, line, bytes)
 }
 
 /// Returns the entry that the line spells in a text of this version, without its bytes.

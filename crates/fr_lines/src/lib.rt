@@ -30,6 +30,10 @@
 //! # Inner workings
 //!
 //! The crate names no reader, so a changed line is proved without the auditor.
+//!
+//! Most lines of a trace are `see`, `fetch` or `commit`. They are known by their first bytes, and their numbers are read
+//! one after another from the front (`fronts`). A line that isn't read like this is read word by word, and that alone
+//! decides whether it is an entry.
 #![tactic(auto)]
 
 pub mod bare;
@@ -37,6 +41,7 @@ pub mod buffers;
 pub mod entries;
 pub mod forms;
 pub mod frames;
+mod fronts;
 pub mod nodes;
 pub mod owned;
 pub mod parameters;

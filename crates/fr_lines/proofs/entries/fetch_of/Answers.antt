@@ -1,15 +1,6 @@
-use Rattle.std.proofs.Common.{sym, ◌∙◌}
-use Rattle.fr_lines.proofs.FirstLemmas.{no_window, a_fetch}
+use Rattle.std.proofs.Common.{ap, ◌∙◌}
+use Rattle.fr_lines.specs.Reading.{fetch_in}
 use Rattle.fr_lines.proofs.entries.fetch_of.Goals as goal
 
-pub returns-in_err-window : goal.returns-in_err-window
-returns-in_err-window c bytes =
-    rw c.from_residual.ensures (sym (no_window c.args.words.now (sym c.in_err-window.ensures.window)))
-
-pub returns : goal.returns
-returns c bytes =
-    sym (a_fetch c.args.words.now c.next_window.new.words c.next_offered.new.words c.in_ok-window.window
-    c.in_ok-a.a c.in_ok-b.b
-    (sym c.in_ok-window.ensures.window) c.in_ok-window.ensures.left
-    (sym c.in_ok-a.ensures.offered) c.in_ok-a.ensures.left
-    (sym c.in_ok-b.ensures.offered) (sym c.in_ok-b.ensures.left ∙ c.in_ok-end.ensures.none))
+pub returns-in-None : goal.returns-in-None
+returns-in-None c bytes = c.fetch_by_words.ensures bytes ∙ ap fetch_in c.new.ensures
