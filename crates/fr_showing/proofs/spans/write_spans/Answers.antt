@@ -1,5 +1,6 @@
 use Rattle.std.proofs.Common.{◌≡◌, ℕ, ◌+◌, ◌<◌, ◌^◌, cond, get_or, length, take, refl, sym, ap, subst, ◌∙◌, arith}
 use Rattle.std.proofs.KnownBytes.{Appends-nil}
+use Rattle.fr_bus.specs.Record.{Recorded}
 use Rattle.fr_bus.specs.Windows.{begins_cycle, cycles_begun}
 use Rattle.fr_slots.specs.History.{each_after}
 use Rattle.std.specs.Io.KnownBytes.{Appends}
@@ -23,6 +24,7 @@ loop-sealed-preserved g c =
     omega (arith, c.loop-sealed.invariant.begun, fewer rs n, c.record-sealed-items.ensures.few) in
     let begun : c.cycles_with-begun.result ≡ cycles_begun (take (n + 1) rs) =
     c.cycles_with-begun.ensures.counted room
+    ∙ ap (λ (x : Recorded). c.loop-sealed.begun + cond (begins_cycle x) 1 0) c.sealed.view_is
     ∙ ap (λ (b : ℕ). b + cond (begins_cycle r) 1 0) c.loop-sealed.invariant.begun ∙ sym (begun_more rs n r lt at) in
     record {
       begun = begun;
