@@ -22,6 +22,6 @@ loop-event-preserved c =
         take_more c.args.events.now c.loop-event.event-index c.event-item.result c.loop-event-test.true,
         ← c.event-item.is,
       )
-      (late_more w _ c.event-item.result c.interfaces-nodes.result.now c.interfaces-nodes.ensures.value
-      c.loop-event.invariant.late between (c.is_observe_of.ensures c.if-not-is_observe_of.false));
+          (late_more w _ c.event-item.result c.interfaces-nodes.result.now c.interfaces-nodes.ensures.value
+          c.loop-event.invariant.late between (c.is_observe_of.ensures c.if-not-is_observe_of.false));
     }
