@@ -1,19 +1,26 @@
 -- A list of events that are executed one after another.
-use Rattle.std.proofs.Common.{◌≡◌, ℕ, zero, suc, ◌+◌, false, List, [], ◌∷◌, ◌++◌, Option, Some, None, refl, ap, sym}
-use Rattle.std.proofs.Common.{Result, Ok, Err, subst, ◌∙◌, arith}
-use Rattle.std.specs.List.{flat_map, range_with_len}
+use Rattle.std.proofs.Common.{◌≡◌, ◌<◌, ℕ, zero, suc, ◌+◌, ◌-◌, Bool, true, false, ◌&&◌, cond, List, [], ◌∷◌, ◌++◌}
+use Rattle.std.proofs.Common.{length, take, drop, get_or, Option, Some, None, refl, ap, sym}
+use Rattle.std.proofs.Common.{Result, Ok, Err, subst, ◌∙◌, arith, take_all, true≢false}
+use Rattle.std.specs.List.{flat_map, fold, list_all, range_with_len}
+use Rattle.std.proofs.lemmas.Bool.{lt-ltb}
 use Rattle.std.proofs.lemmas.Grind.{flat_map-append}
-use Rattle.std.proofs.lemmas.List.{append-nil}
+use Rattle.std.proofs.lemmas.List.{append-nil, length-drop, take-append-drop}
 use Rattle.std.proofs.lemmas.List.Sums.{fold-append}
 use Rattle.fr_bus.specs.States.{collecting_of}
+use Rattle.fr_core.specs.Carried.{Carried, Idle, Knows, Offers, Waits, Took}
 use Rattle.fr_core.specs.declared.error.StepError.{StepError}
+use Rattle.fr_core.specs.declared.error.StepError.TheVariants.{UnknownNode, WrongTurn}
 use Rattle.fr_core.specs.declared.event.Event.{Event}
+use Rattle.fr_core.specs.declared.event.Event.TheVariants.{Observe}
 use Rattle.fr_core.specs.Runs.{Answer, StepsAll}
 use Rattle.fr_core.specs.declared.event.Reply.{Reply}
-use Rattle.fr_core.specs.Steps.{Steps, answered}
-use Rattle.fr_core.specs.Worlds.{WorldState}
+use Rattle.fr_core.specs.Steps.{Steps, answered, observe_in_turn, step_refusal}
+use Rattle.fr_core.specs.Worlds.{WorldState, carried_at, is_between}
+use Rattle.fr_interface.specs.State.{State}
 use Rattle.fr_runs.specs.declared.fault_line.FaultLine.{FaultLine}
 use Rattle.fr_playing.specs.Moving.{first_refusal, run_cycle_after, struck_after, Strikes, DoesAll, MovesOn, for_nodes}
+use Rattle.fr_playing.specs.Moving.{IsObserveOf}
 use Rattle.fr_playing.specs.Moving.{is_at_cycle, WithinCycle, PassesCycles, EndsCycle}
 use Rattle.fr_playing.specs.Striking.{strike_events, Tries}
 use Rattle.fr_playing.proofs.StrikingLemmas.{tries_none}
@@ -55,6 +62,73 @@ does_more old events found between event answer new so_far step =
       steps_more old events answers between event answer new steps step,
       ap (λ f. first_refusal f answer) is ∙ sym (fold-append first_refusal None answers (answer ∷ [])),
     )
+
+-- ---- observes between two windows
+
+first_of : (a b : Bool) → (a && b) ≡ true → a ≡ true
+first_of true b both = refl
+first_of false b both = both
+
+second_of : (a b : Bool) → (a && b) ≡ true → b ≡ true
+second_of true b both = both
+second_of false b both = absurd (true≢false (sym both))
+
+between_at : (l : List Carried) (n : ℕ) → list_all is_between l ≡ true → is_between (get_or l n Idle) ≡ true
+between_at [] n all = refl
+between_at (c ∷ l) zero all = first_of (is_between c) (list_all is_between l) all
+between_at (c ∷ l) (suc n) all = between_at l n (second_of (is_between c) (list_all is_between l) all)
+
+wrong_turn : (w : WorldState) (n : ℕ) (c : Carried) → is_between c ≡ true → observe_in_turn w n c ≡ Some WrongTurn
+wrong_turn w n Idle between = refl
+wrong_turn w n (Knows window) between = refl
+wrong_turn w n (Offers window offer) between = refl
+wrong_turn w n (Waits window) between = refl
+wrong_turn w n (Took window a b) between = absurd (true≢false (sym between))
+
+late_one : (w : WorldState) (n : ℕ) → list_all is_between w.carried ≡ true → n < length w.interfaces
+    → step_refusal w (Observe n) ≡ Some WrongTurn
+late_one w n between known =
+    ap (λ (b : Bool). cond b (observe_in_turn w n (carried_at w n)) (Some UnknownNode))
+    (lt-ltb n (length w.interfaces) known)
+    ∙ wrong_turn w n (carried_at w n) (between_at w.carried n between)
+
+-- between two windows an observe changes nothing, and no refusal is found
+pub late_more : (w : WorldState) (events : List Event) (event : Event) (interfaces : List State)
+    → interfaces ≡ w.interfaces → DoesAll w events None w → list_all is_between w.carried ≡ true
+    → IsObserveOf (length interfaces) event → DoesAll w (events ++ event ∷ []) None w
+late_more w events event interfaces same so_far between observes =
+    let (n, known, is) = observes in
+    let within : n < length w.interfaces = subst (λ (l : List State). n < length l) same known in
+    does_more w events None w event (Err WrongTurn) w so_far
+    (subst (λ (e : Event). Steps w e (Err WrongTurn) w) (sym is) (late_one w n between within, refl))
+
+steps_all : (old : WorldState) (events : List Event) (answers : List Answer) (mid : WorldState) (rest : List Event)
+    (others : List Answer) (new : WorldState) → StepsAll old events answers mid → StepsAll mid rest others new
+    → StepsAll old (events ++ rest) (answers ++ others) new
+unfolding StepsAll
+steps_all old [] [] mid rest others new first second =
+    subst (λ (w : WorldState). StepsAll w rest others new) first second
+steps_all old [] (a ∷ answers) mid rest others new first second = absurd first
+steps_all old (e ∷ events) [] mid rest others new first second = absurd first
+steps_all old (e ∷ events) (a ∷ answers) mid rest others new first second =
+    (first.0, first.1, steps_all first.0 events answers mid rest others new first.2 second)
+
+pub rest_all : {X : Type 0} (i : ℕ) (xs : List X) → take (length xs - i) (drop i xs) ≡ drop i xs
+rest_all i xs = take_all (length xs - i) (drop i xs) (omega (arith, length-drop i xs))
+
+-- the events before a place change nothing, and no refusal is found among them
+pub does_after : (w : WorldState) (place : ℕ) (events : List Event) (found : Option StepError) (new : WorldState)
+    → DoesAll w (take place events) None w → DoesAll w (drop place events) found new → DoesAll w events found new
+does_after w place events found new first second =
+    let (answers, steps, none) = first in
+    let (others, further, is) = second in
+    subst (λ (l : List Event). DoesAll w l found new) (take-append-drop place events) (
+      answers ++ others,
+      steps_all w (take place events) answers w (drop place events) others new steps further,
+      is ∙ ap (λ f. fold first_refusal f others) none ∙ sym (fold-append first_refusal None answers others),
+    )
+
+-- ---- nodes
 
 pub range-more : (first count : ℕ) → range_with_len first (count + 1) ≡ range_with_len first count ++
     (first + count) ∷ []

@@ -39,6 +39,10 @@ whole_window nodes = for_nodes offer_events nodes ++ Seal ∷ for_nodes see_even
 abbrev pub window_events : ℕ → List Event
 window_events nodes = for_nodes observe_events nodes ++ whole_window nodes
 
+-- an observe of one of so many nodes
+abbrev pub IsObserveOf : ℕ → Event → Type 0
+IsObserveOf nodes event = (n : ℕ) × (n < nodes) × (event ≡ Observe n)
+
 -- ---- the faults
 
 -- the number of the run's cycle of the window that follows those of this record

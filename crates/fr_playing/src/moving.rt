@@ -1,12 +1,12 @@
 //! The faults and steps of a window, as events.
-ghost use Rattle.std.specs.Prelude.{◌≡◌, ◌≤◌, ◌++◌, List, IfOk, OnOk};
+ghost use Rattle.std.specs.Prelude.{◌≡◌, ◌≤◌, ◌++◌, true, length, take, None, List, IfOk, OnOk};
 ghost use Rattle.std.specs.List.{flat_map, range_with_len};
 ghost use Rattle.fr_core.specs.declared.event.Reply.TheVariants.{Done};
 ghost use Rattle.fr_core.specs.Runs.{Answer, StepsAll};
 ghost use Rattle.fr_core.specs.Steps.{answered};
 ghost use Rattle.fr_playing.specs.Moving.{first_refusal, hindrance, observe_events, offer_events, see_events};
 ghost use Rattle.fr_playing.specs.Moving.{for_nodes, whole_window, window_events, run_cycle_after, Strikes, DoesAll};
-ghost use Rattle.fr_playing.specs.Moving.{MovesOn, is_at_cycle, EndsCycle, RunsCycles};
+ghost use Rattle.fr_playing.specs.Moving.{IsObserveOf, MovesOn, is_at_cycle, EndsCycle, RunsCycles};
 
 use crate::striking::strike_all;
 use fr_bus::bus::Bus;
@@ -122,8 +122,39 @@ pub fn window_events(alloc: Global, nodes: u8) -> Result<Vec<Event>, AllocError>
     Ok(events)
 }
 
-/// Executes the events, and returns the first refusal that isn't `WrongTurn`.
-fn do_all(world: &mut World, events: &[Event]) -> Option<StepError>
+/// Returns whether this is an observe of one of the first `nodes` nodes.
+fn is_observe_of(nodes: usize, event: &Event) -> bool
+    ensures { result ≡ true → IsObserveOf nodes event.now }
+{
+    match event {
+        Event::Observe(node) => usize::from(node.number()) < nodes,
+        _ => false,
+    }
+}
+
+// In a session each window begins with an observe of each node, a sixth of the events, for steps that a user left over.
+/// Returns the number of first events that are observes, if no node has anything to observe. These are refused with
+/// `WrongTurn`.
+fn count_late(world: &World, events: &[Event]) -> usize
+    ensures few { result ≤ length events.now }
+    ensures late { DoesAll world.now (take result events.now) None world.now }
+{
+    if !world.between_windows() {
+        return 0;
+    }
+    let nodes = world.interfaces().len();
+    let mut count = 0;
+    for event in events {
+        if !is_observe_of(nodes, event) {
+            return count;
+        }
+        count += 1;
+    }
+    count
+}
+
+/// Executes each of the events, and returns the first refusal that isn't `WrongTurn`.
+fn do_each(world: &mut World, events: &[Event]) -> Option<StepError>
     ensures { DoesAll world.old events.now result world.new }
 {
     let mut found = None;
@@ -132,6 +163,14 @@ fn do_all(world: &mut World, events: &[Event]) -> Option<StepError>
         found = first_refusal(found, outcome);
     }
     found
+}
+
+/// Does the same, without the observes that stand first and aren't due.
+fn do_all(world: &mut World, events: &[Event]) -> Option<StepError>
+    ensures { DoesAll world.old events.now result world.new }
+{
+    let late = count_late(world, events);
+    do_each(world, &events[late..])
 }
 
 /// Injects the faults of the open window, unless it is sealed.
