@@ -1,6 +1,6 @@
 //! Letters: each node's observations in the window that was delivered last.
 
-ghost use Rattle.std.specs.Prelude.{◌≡◌, ◌<◌, Some, IfOk, OnOk, OnErr};
+ghost use Rattle.std.specs.Prelude.{◌≡◌, true, Some, IfOk, OnOk, OnErr};
 ghost use Rattle.fr_status.specs.declared.seen.Seen.TheVariants as Sees;
 
 use arrayvec::ArrayVec;
@@ -80,6 +80,10 @@ fn write_seen(place: &mut Seen, seen: &Seen)
 #[derive(Drop)]
 pub struct Delivery {
     places: ArrayVec<Observations, MOST_NODES>,
+    /// The number of the window.
+    number: u32,
+    /// The window that opened once all nodes had taken, or none if the run was over.
+    next: Option<Window>,
 }
 
 impl Delivery {
@@ -91,14 +95,18 @@ impl Delivery {
                 break;
             }
         }
-        Delivery { places }
+        Delivery {
+            places,
+            number: 0,
+            next: None,
+        }
     }
 
     /// Makes the takes of all nodes, in their order, and then the bus's advance.
     ///
-    /// Returns the number of the window, and the next one, or none once the run is over. Returns the error of the bus.
-    pub(crate) fn take_all(&mut self, bus: &mut Bus) -> Result<(u32, Option<Window>), BusError>
-        ensures next { IfOk result (λ taken. taken.1 ≡ bus.new.opened) }
+    /// Returns the error of the bus.
+    pub(crate) fn take_all(&mut self, bus: &mut Bus) -> Result<(), BusError>
+        ensures next { OnOk result (self.new.next ≡ bus.new.opened) }
     {
         let Some(window) = bus.window() else {
             return Err(BusError::NotSealed);
@@ -113,7 +121,23 @@ impl Delivery {
             bus.take_into(node, number, &mut place.a, &mut place.b)?;
         }
         bus.advance()?;
-        Ok((number, bus.window()))
+        self.number = number;
+        self.next = bus.window();
+        Ok(())
+    }
+
+    /// Returns the number of the window.
+    pub(crate) fn number(&self) -> u32
+        ensures { result ≡ self.now.number }
+    {
+        self.number
+    }
+
+    /// Returns the window that opened once all nodes had taken, or none if the run was over.
+    pub(crate) fn next(&self) -> Option<Window>
+        ensures { result ≡ self.now.next }
+    {
+        self.next
     }
 
     /// Returns the observations of the node of this number.

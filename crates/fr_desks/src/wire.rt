@@ -450,21 +450,27 @@ impl Wire {
         rt: &R,
         delivery: &mut Delivery,
     ) -> Result<Option<Window>, WireError> {
+        self.take_all(rt, delivery)?;
+        self.hand_out(rt, delivery);
+        Ok(delivery.next())
+    }
+
+    /// Makes the takes of all nodes and the bus's advance, once the open window is sealed.
+    fn take_all<R: Wait + Clock>(
+        &self,
+        rt: &R,
+        delivery: &mut Delivery,
+    ) -> Result<(), WireError> {
         let mut wired = self.ready(rt, &self.for_nodes, false, |stage| stage.lets_take())?;
         let answer = delivery.take_all(&mut wired.bus);
         self.hint.tell(wired.stage());
         drop(wired);
-        match answer {
-            Ok((number, next)) => {
-                self.hand_out(rt, delivery, number, next);
-                Ok(next)
-            }
-            Err(error) => Err(WireError::Bus(error)),
-        }
+        answer.map_err(|error| WireError::Bus(error))
     }
 
     /// Fills the letter of each node, and wakes all calls that wait for a letter or the next window.
-    fn hand_out<R: Wait>(&self, rt: &R, delivery: &Delivery, number: u32, next: Option<Window>) {
+    fn hand_out<R: Wait>(&self, rt: &R, delivery: &Delivery) {
+        let (number, next) = (delivery.number(), delivery.next());
         for (at, place) in self.boxes.as_slice().iter().enumerate() {
             if let Some(seen) = delivery.of(at) {
                 let mut letter = place.letter.lock(rt);
