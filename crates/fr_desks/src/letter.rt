@@ -113,9 +113,10 @@ impl Delivery {
         };
         let number = window.number;
         for at in 0..bus.nodes() {
-            let (Some(node), Some(place)) =
-                (NodeId::new(at), self.places.as_mut_slice().get_mut(usize::from(at)))
-            else {
+            let (Some(node), Some(place)) = (
+                NodeId::new(at),
+                self.places.as_mut_slice().get_mut(usize::from(at)),
+            ) else {
                 return Err(BusError::UnknownNode);
             };
             bus.take_into(node, number, &mut place.a, &mut place.b)?;

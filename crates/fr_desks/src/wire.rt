@@ -456,11 +456,7 @@ impl Wire {
     }
 
     /// Makes the takes of all nodes and the bus's advance, once the open window is sealed.
-    fn take_all<R: Wait + Clock>(
-        &self,
-        rt: &R,
-        delivery: &mut Delivery,
-    ) -> Result<(), WireError> {
+    fn take_all<R: Wait + Clock>(&self, rt: &R, delivery: &mut Delivery) -> Result<(), WireError> {
         let mut wired = self.ready(rt, &self.for_nodes, false, |stage| stage.lets_take())?;
         let answer = delivery.take_all(&mut wired.bus);
         self.hint.tell(wired.stage());
@@ -508,11 +504,13 @@ impl Wire {
         let (true, Some(place)) = (self.has_node(node), place) else {
             return Err(self.refusal_of_unknown(rt));
         };
-        place
-            .came
-            .look_out(rt, &self.hint, &self.rest, is_timed(node, number), &|_stage| {
-                self.hint.has_delivered(number)
-            });
+        place.came.look_out(
+            rt,
+            &self.hint,
+            &self.rest,
+            is_timed(node, number),
+            &|_stage| { self.hint.has_delivered(number) },
+        );
         let mut letter = place.letter.lock(rt);
         if letter.awaits(number) {
             letter = place
