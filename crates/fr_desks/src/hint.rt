@@ -58,6 +58,8 @@ impl Stage {
 #[derive(Drop)]
 pub(crate) struct Hint {
     stage: AtomicU32,
+    /// The number of windows that were delivered, or more once the wire was stopped.
+    delivered: AtomicU32,
 }
 
 impl Hint {
@@ -65,6 +67,7 @@ impl Hint {
     pub(crate) fn new() -> Hint {
         Hint {
             stage: AtomicU32::new(Stage::Collecting as u32),
+            delivered: AtomicU32::new(0),
         }
     }
 
@@ -76,5 +79,16 @@ impl Hint {
     /// Returns the stage that was stored last.
     pub(crate) fn stage(&self) -> Stage {
         Stage::of(self.stage.load(Ordering::Acquire))
+    }
+
+    /// Stores that the window of this number was delivered.
+    pub(crate) fn tell_delivered(&self, number: u32) {
+        self.delivered
+            .store(number.saturating_add(1), Ordering::Release);
+    }
+
+    /// Returns whether the window of this number was delivered, by what was stored last.
+    pub(crate) fn has_delivered(&self, number: u32) -> bool {
+        self.delivered.load(Ordering::Acquire) > number
     }
 }

@@ -7,6 +7,7 @@
 //!
 //! let wire = Wire::new(bus);
 //! while let Some(window) = wire.next(rt, node)? {} // each call waits for its phase
+//! let next = wire.receive_into(rt, node, number, &mut a, &mut b)?; // what `deliver` left for the node
 //! let bus = wire.close();
 //! ```
 //!
@@ -19,10 +20,14 @@
 //!
 //! # Inner workings
 //!
-//! A `Wire` has one lock and two condition variables, for the nodes and for the bus.
+//! A `Wire` has one lock and two condition variables for the bus, one for the nodes and one for the thread that moves it
+//! on. That thread can make the takes of all nodes and the advance together (`Wire::deliver`), so that a node waits once
+//! a window. It fills a letter for each node, with the observations and the next window. Each letter has a lock and a
+//! condition variable of its own, since all nodes are due at once.
 #![tactic(auto)]
 
 pub mod desk;
 pub mod gate;
 mod hint;
+pub mod letter;
 pub mod wire;

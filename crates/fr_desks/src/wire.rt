@@ -1,12 +1,14 @@
 //! The bus behind one lock, and the calls that wait for its phases.
 
-ghost use Rattle.std.specs.Prelude.{◌≡◌, ◌<◌, ◌≤◌, ◌⊎◌, ℕ, nat_lt, length, IfOk, IfErr};
+ghost use Rattle.std.specs.Prelude.{◌≡◌, ◌<◌, ◌≤◌, ◌⊎◌, ℕ, nat_lt, length, IfOk, IfErr, OnErr};
 ghost use Rattle.fr_bus.specs.declared.error.BusError.TheVariants as bus;
 ghost use Rattle.fr_bus.specs.States.{IsRun, OneSenderEach};
 ghost use Rattle.fr_desks.specs.declared.wire.WireError.TheVariants as refusal;
 
 use crate::gate::{Actor, Gate, Side, pass};
 use crate::hint::{Hint, Stage};
+use crate::letter::{Delivery, Letter, MOST_NODES};
+use arrayvec::ArrayVec;
 use fr_bus::bus::Bus;
 use fr_bus::error::{BusError, Phase};
 use fr_bus::fault::Fault;
@@ -244,6 +246,39 @@ fn microseconds<R: Clock>(rt: &R) -> u128 {
     }
 }
 
+/// A node's letter behind a lock of its own.
+#[derive(Drop)]
+struct Letterbox {
+    letter: Mutex<Letter>,
+    /// The signal that a window was delivered, or the wire was stopped.
+    came: Signal,
+}
+
+impl Default for Letterbox {
+    fn default() -> Letterbox {
+        Letterbox {
+            letter: Mutex::new(Letter::empty()),
+            came: Signal::new(1),
+        }
+    }
+}
+
+/// Returns a letterbox for each node.
+fn empty_boxes(nodes: u8) -> ArrayVec<Letterbox, MOST_NODES> {
+    let mut boxes = ArrayVec::new();
+    for _ in 0..nodes {
+        if boxes.try_push(Letterbox::default()).is_err() {
+            break;
+        }
+    }
+    boxes
+}
+
+/// Returns whether a take or receive of the node reads the clock while it waits.
+fn is_timed(node: NodeId, number: u32) -> bool {
+    number.wrapping_add(u32::from(node.number())) % TIMED_TAKES == 0
+}
+
 /// The bus behind a lock, for the controllers and the thread that moves it on (project-defined).
 ///
 /// When the lock is free, the bus is one to which its own calls lead: no static slot of a guarded channel carries two
@@ -259,6 +294,8 @@ pub struct Wire {
     for_nodes: Signal,
     /// The signal that all nodes have put or taken, or the wire was stopped.
     for_bus: Signal,
+    /// The letter of each node.
+    boxes: ArrayVec<Letterbox, MOST_NODES>,
     /// The stage of the open window, for calls that poll before they take the lock.
     hint: Hint,
     rest: Rest,
@@ -276,6 +313,7 @@ impl Wire {
         ensures { result ≡ length bus.stations }
     {
         Wire {
+            boxes: empty_boxes(bus.nodes()),
             nodes: bus.nodes(),
             lock: Mutex::new(Wired {
                 bus,
@@ -403,6 +441,99 @@ impl Wire {
         answer.map_err(|error| WireError::Bus(error))
     }
 
+    /// Makes the takes of all nodes and the bus's advance, once the open window is sealed.
+    ///
+    /// Each node's observations then lie in its letter, where `receive_into` finds them. Returns the next window, or
+    /// `None` once the run is over. Returns `Stopped`, or the error of the bus.
+    pub fn deliver<R: Wait + Clock>(
+        &self,
+        rt: &R,
+        delivery: &mut Delivery,
+    ) -> Result<Option<Window>, WireError> {
+        self.take_all(rt, delivery)?;
+        self.hand_out(rt, delivery);
+        Ok(delivery.next())
+    }
+
+    /// Makes the takes of all nodes and the bus's advance, once the open window is sealed.
+    fn take_all<R: Wait + Clock>(&self, rt: &R, delivery: &mut Delivery) -> Result<(), WireError> {
+        let mut wired = self.ready(rt, &self.for_nodes, false, |stage| stage.lets_take())?;
+        let answer = delivery.take_all(&mut wired.bus);
+        self.hint.tell(wired.stage());
+        drop(wired);
+        answer.map_err(|error| WireError::Bus(error))
+    }
+
+    /// Fills the letter of each node, and wakes all calls that wait for a letter or the next window.
+    fn hand_out<R: Wait>(&self, rt: &R, delivery: &Delivery) {
+        let (number, next) = (delivery.number(), delivery.next());
+        for (at, place) in self.boxes.as_slice().iter().enumerate() {
+            if let Some(seen) = delivery.of(at) {
+                let mut letter = place.letter.lock(rt);
+                letter.fill(number, seen, next);
+                drop(letter);
+                place.came.give();
+            }
+        }
+        self.hint.tell_delivered(number);
+        self.for_nodes.give();
+        if next.is_none() {
+            self.for_bus.give();
+        }
+    }
+
+    // A letter has a lock of its own. With one lock for all, the nodes that are due together slept at it.
+    /// Replaces `a` and `b` by the node's observations in the window of this number, once it is delivered.
+    ///
+    /// Returns the window that opened then, or `None` once the run is over. Returns `Stopped`, or at once
+    /// `Bus(UnknownNode)` for a node that the cluster doesn't have, or `Bus(WrongWindow)` if a later window was
+    /// delivered, or the last one is an earlier one.
+    pub fn receive_into<R: Wait + Clock>(
+        &self,
+        rt: &R,
+        node: NodeId,
+        number: u32,
+        a: &mut Seen,
+        b: &mut Seen,
+    ) -> Result<Option<Window>, WireError>
+        ensures known { IfOk result (λ next. node < self.now) }
+        ensures refused_a { OnErr result (a.new ≡ a.old) }
+        ensures refused_b { OnErr result (b.new ≡ b.old) }
+    {
+        let place = self.boxes.as_slice().get(usize::from(node.number()));
+        let (true, Some(place)) = (self.has_node(node), place) else {
+            return Err(self.refusal_of_unknown(rt));
+        };
+        place.came.look_out(
+            rt,
+            &self.hint,
+            &self.rest,
+            is_timed(node, number),
+            &|_stage| { self.hint.has_delivered(number) },
+        );
+        let mut letter = place.letter.lock(rt);
+        if letter.awaits(number) {
+            letter = place
+                .came
+                .sleepers
+                .wait_while(rt, letter, |letter| letter.awaits(number));
+        }
+        if letter.is_stopped() {
+            return Err(WireError::Stopped);
+        }
+        let answer = letter.read_into(number, a, b);
+        answer.map_err(|error| WireError::Bus(error))
+    }
+
+    /// Returns the refusal of a call of a node that the cluster doesn't have.
+    fn refusal_of_unknown<R: Wait>(&self, rt: &R) -> WireError {
+        if self.lock.lock(rt).stopped {
+            WireError::Stopped
+        } else {
+            WireError::Bus(BusError::UnknownNode)
+        }
+    }
+
     /// Makes the bus's take, once the open window is sealed. Returns `Stopped`, or the error of the bus.
     pub fn take<R: Wait + Clock>(
         &self,
@@ -427,11 +558,10 @@ impl Wire {
         b: &mut Seen,
     ) -> Result<(), WireError> {
         let known = self.has_node(node);
-        let is_timed = number.wrapping_add(u32::from(node.number())) % TIMED_TAKES == 0;
         let mut wired = self.ready(
             rt,
             &self.for_nodes,
-            is_timed,
+            is_timed(node, number),
             |stage| !known || stage.lets_take(),
         )?;
         let answer = wired.bus.take_into(node, number, a, b);
@@ -468,6 +598,13 @@ impl Wire {
         wired.stopped = true;
         self.hint.tell(Stage::Over);
         drop(wired);
+        for place in self.boxes.as_slice() {
+            let mut letter = place.letter.lock(rt);
+            letter.stop();
+            drop(letter);
+            place.came.give();
+        }
+        self.hint.tell_delivered(u32::MAX);
         self.for_nodes.give();
         self.for_bus.give();
     }

@@ -5,6 +5,7 @@ ghost use Rattle.std.specs.Prelude.{◌≡◌, ◌<◌};
 use crate::failure::RunFailure;
 use crate::shared::Common;
 use fr_desks::gate::Gate;
+use fr_desks::letter::Delivery;
 use fr_desks::wire::{Wire, WireError};
 use fr_runs::fault_line::{FaultLine, keep_lines_of};
 use fr_slots::numbers::NodeId;
@@ -33,9 +34,11 @@ fn move_on<R: Wait + Clock, G: Gate>(common: &Common<'_, R, G>) -> Result<(), Ru
     let (rt, wire) = (common.rt, &common.shared.wire);
     let mut begun = 0;
     let mut kept = Vec::new(common.alloc);
+    let mut delivery = Delivery::new();
+    // `next` changes nothing, and each node gets the same window.
+    let mut opened = wire.next(rt, NodeId::from_number(0))?;
     for _ in rt.forever() {
-        // `next` changes nothing, and each node gets the same window.
-        let Some(window) = wire.next(rt, NodeId::from_number(0))? else {
+        let Some(window) = opened else {
             return Ok(());
         };
         let cycle = run_cycle(begun, &window) as usize;
@@ -45,7 +48,7 @@ fn move_on<R: Wait + Clock, G: Gate>(common: &Common<'_, R, G>) -> Result<(), Ru
         begun = cycles_with(begun, &window);
         inject_all(rt, wire, kept.as_slice(), cycle, &window)?;
         wire.seal(rt, common.gate)?;
-        wire.advance(rt)?;
+        opened = wire.deliver(rt, &mut delivery)?;
     }
     unreachable!()
 }

@@ -78,8 +78,9 @@ fn control<L: Ledger, R: Wait + Clock, G: Gate>(
     let mut offer = Offer { a: None, b: None };
     let mut a = Seen::Silence;
     let mut b = Seen::Silence;
+    let mut opened = shared.wire.next(rt, node)?;
     for _ in rt.forever() {
-        let Some(window) = shared.wire.next(rt, node)? else {
+        let Some(window) = opened else {
             return Ok(());
         };
         if opens_cycle(&window) {
@@ -89,7 +90,7 @@ fn control<L: Ledger, R: Wait + Clock, G: Gate>(
         let number = window.number;
         desk.fetch_into(rt, gate, &window, &mut offer)?;
         shared.wire.put(rt, node, number, &offer)?;
-        shared.wire.take_into(rt, node, number, &mut a, &mut b)?;
+        opened = shared.wire.receive_into(rt, node, number, &mut a, &mut b)?;
         desk.observe(rt, gate, number, &a, &b)?;
     }
     unreachable!()
