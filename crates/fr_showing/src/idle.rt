@@ -6,8 +6,8 @@ ghost use Rattle.fr_showing.specs.Idle.{repeats, times, wholly_idle};
 
 use crate::ends::{End, end_of, sent_in};
 use crate::origins::{brings, turns};
-use crate::record::begun_with;
 use crate::parts::params_of;
+use crate::record::begun_with;
 use fr_bus::fault::Fault;
 use fr_bus::outcome::{Sealed, Sent};
 use fr_playing::file::PlayedFile;
