@@ -1,4 +1,6 @@
 //! The lines of entries.
+//!
+//! Functions that return an entry are inlined, so that the compiler keeps the fields of each entry in registers.
 
 ghost use Rattle.std.specs.Prelude.{◌≡◌, true, Some, IfSome, option_map, drop};
 ghost use Rattle.fr_journal.specs.Forms.{Entry};
@@ -33,6 +35,7 @@ fn next_task(words: &mut Words<'_>) -> Option<TaskId>
 
 /// Returns the commit that the words spell.
 #[tactic(auto, unfolding(crate::specs::Reading::commit_in))]
+#[inline(always)]
 fn commit_by_words(words: &mut Words<'_>, bytes: &mut EntryBytes) -> Option<BareEntry>
     ensures { option_map (with_bytes bytes.new) result ≡ commit_in words.old }
 {
@@ -50,6 +53,7 @@ fn commit_by_words(words: &mut Words<'_>, bytes: &mut EntryBytes) -> Option<Bare
 }
 
 /// Returns the commit that the bytes spell. `None` also if a number of it has more than few digits.
+#[inline(always)]
 fn commit_at_front(line: &[u8], bytes: &mut EntryBytes) -> Option<BareEntry>
     ensures { IfSome result (λ e. commit_in (words_of line.now) ≡ Some (with_bytes bytes.new e)) }
 {
@@ -68,6 +72,7 @@ fn commit_at_front(line: &[u8], bytes: &mut EntryBytes) -> Option<BareEntry>
 }
 
 /// Returns the commit that the bytes after the first word spell.
+#[inline(always)]
 fn commit_of(line: &[u8], bytes: &mut EntryBytes) -> Option<BareEntry>
     ensures { option_map (with_bytes bytes.new) result ≡ commit_in (words_of line.now) }
 {
@@ -79,6 +84,7 @@ fn commit_of(line: &[u8], bytes: &mut EntryBytes) -> Option<BareEntry>
 
 /// Returns the withdraw that the words spell.
 #[tactic(auto, unfolding(crate::specs::Reading::told_withdraw_in))]
+#[inline(always)]
 fn told_withdraw_of(words: &mut Words<'_>) -> Option<BareEntry>
     ensures { (bytes : EntryBytes) → option_map (with_bytes bytes) result ≡ told_withdraw_in words.old }
 {
@@ -95,6 +101,7 @@ fn told_withdraw_of(words: &mut Words<'_>) -> Option<BareEntry>
 
 /// Returns the withdraw that the words spell, if the version has such a line.
 #[tactic(auto, unfolding(crate::specs::Reading::withdraw_in))]
+#[inline(always)]
 fn withdraw_of(version: Version, words: &mut Words<'_>) -> Option<BareEntry>
     ensures { (bytes : EntryBytes) → option_map (with_bytes bytes) result ≡ withdraw_in version words.old }
 {
@@ -106,6 +113,7 @@ fn withdraw_of(version: Version, words: &mut Words<'_>) -> Option<BareEntry>
 
 /// Returns the read that the words spell.
 #[tactic(auto, unfolding(crate::specs::Reading::read_in))]
+#[inline(always)]
 fn read_of(words: &mut Words<'_>) -> Option<BareEntry>
     ensures { (bytes : EntryBytes) → option_map (with_bytes bytes) result ≡ read_in words.old }
 {
@@ -122,6 +130,7 @@ fn read_of(words: &mut Words<'_>) -> Option<BareEntry>
 
 /// Returns the pop that the words spell.
 #[tactic(auto, unfolding(crate::specs::Reading::pop_in))]
+#[inline(always)]
 fn pop_of(words: &mut Words<'_>) -> Option<BareEntry>
     ensures { (bytes : EntryBytes) → option_map (with_bytes bytes) result ≡ pop_in words.old }
 {
@@ -183,6 +192,7 @@ fn next_window(words: &mut Words<'_>) -> Option<Window>
 
 /// Returns the offers on both channels that the words spell.
 #[tactic(auto, unfolding(crate::specs::Reading::offers_in))]
+#[inline(always)]
 fn offers_by_words(words: &mut Words<'_>) -> Option<(Offered, Offered)>
     ensures { result ≡ offers_in words.old }
 {
@@ -192,7 +202,8 @@ fn offers_by_words(words: &mut Words<'_>) -> Option<(Offered, Offered)>
     Some((a, b))
 }
 
-/// Returns the offers on both channels that the bytes spell. Mostly there is none.
+/// Returns the offers on both channels that the bytes spell. Most windows have none.
+#[inline(always)]
 fn offers_of(line: &[u8]) -> Option<(Offered, Offered)>
     ensures { result ≡ offers_in (words_of line.now) }
 {
@@ -204,6 +215,7 @@ fn offers_of(line: &[u8]) -> Option<(Offered, Offered)>
 
 /// Returns the fetch that the words spell.
 #[tactic(auto, unfolding(crate::specs::Reading::fetch_in))]
+#[inline(always)]
 fn fetch_by_words(words: &mut Words<'_>) -> Option<BareEntry>
     ensures { (bytes : EntryBytes) → option_map (with_bytes bytes) result ≡ fetch_in words.old }
 {
@@ -215,6 +227,7 @@ fn fetch_by_words(words: &mut Words<'_>) -> Option<BareEntry>
 }
 
 /// Returns the fetch that the bytes spell. `None` also if a number of its window has more than few digits.
+#[inline(always)]
 fn fetch_at_front(line: &[u8]) -> Option<BareEntry>
     ensures { (bytes : EntryBytes) → IfSome result (λ e. fetch_in (words_of line.now) ≡ Some (with_bytes bytes e)) }
 {
@@ -234,6 +247,7 @@ fn fetch_at_front(line: &[u8]) -> Option<BareEntry>
 }
 
 /// Returns the fetch that the bytes after the first word spell.
+#[inline(always)]
 fn fetch_of(line: &[u8]) -> Option<BareEntry>
     ensures { (bytes : EntryBytes) → option_map (with_bytes bytes) result ≡ fetch_in (words_of line.now) }
 {
@@ -245,6 +259,7 @@ fn fetch_of(line: &[u8]) -> Option<BareEntry>
 
 /// Returns the observe that the words spell.
 #[tactic(auto, unfolding(crate::specs::Reading::observe_in))]
+#[inline(always)]
 fn observe_of(words: &mut Words<'_>, bytes: &mut EntryBytes) -> Option<BareEntry>
     ensures { option_map (with_bytes bytes.new) result ≡ observe_in words.old }
 {
@@ -262,6 +277,7 @@ fn observe_of(words: &mut Words<'_>, bytes: &mut EntryBytes) -> Option<BareEntry
 
 /// Returns the entry that the line spells, by its first word.
 #[tactic(auto, unfolding(crate::specs::Reading::entry_in))]
+#[inline(always)]
 fn entry_by_word(version: Version, line: &[u8], bytes: &mut EntryBytes) -> Option<BareEntry>
     ensures { option_map (with_bytes bytes.new) result ≡ entry_in version (words_of line.now) }
 {
@@ -288,7 +304,8 @@ fn entry_by_word(version: Version, line: &[u8], bytes: &mut EntryBytes) -> Optio
     None
 }
 
-/// Returns the entry that the line spells. The first words of most lines are found without a search for their end.
+/// Returns the entry that the line spells. The first word of most lines is known without a search for its end.
+#[inline(always)]
 fn entry_in(version: Version, line: &[u8], bytes: &mut EntryBytes) -> Option<BareEntry>
     ensures { option_map (with_bytes bytes.new) result ≡ entry_in version (words_of line.now) }
 {
