@@ -1,2 +1,3 @@
 pub mod MapLemmas
 pub mod WorkedLemmas
+mod NamedLemmas

@@ -222,6 +222,13 @@ impl Names {
         }
     }
 
+    /// Returns the names in the table of a cluster file (project-defined). Fails if an allocation fails.
+    pub fn from_table(alloc: Global, root: &Table) -> Result<Names, AllocError>
+        ensures { IfOk result (λ names. names ≡ names_in (table_view root.now)) }
+    {
+        names_in(alloc, root)
+    }
+
     /// Returns the node that has this name, or `None` if no node or more than one has it (project-defined).
     pub fn node(&self, name: &[u8]) -> Option<NodeId>
         ensures { result ≡ node_named self.now name.now }

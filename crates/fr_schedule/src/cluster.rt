@@ -43,8 +43,10 @@ impl Model for Cluster {
     ghost invariant = { IsLawful };
 }
 
-/// Returns the table of a cluster file.
-fn table_of(alloc: Global, text: &str) -> Result<Table, ConfigError>
+/// Returns the table of a cluster file (project-defined).
+///
+/// Fails with `Toml` for a text that isn't TOML, and with `Memory` if an allocation fails.
+pub fn table_of(alloc: Global, text: &str) -> Result<Table, ConfigError>
     ensures { IsTableOf text.now result }
 {
     match toml::table_from_str(alloc, text) {
@@ -106,6 +108,15 @@ impl Cluster {
         let cluster = cluster_of(alloc, &root);
         mem::forget(root);
         cluster
+    }
+
+    /// Returns the cluster that the table of a cluster file describes, for a caller that reads more of the table
+    /// (project-defined). Fails as `from_text` does once the text is parsed.
+    pub fn from_table(alloc: Global, root: &Table) -> Result<Cluster, ConfigError>
+        ensures told { ¬ (result ≡ Err error.Memory) → result ≡ description_of (table_view root.now) }
+        ensures lawful { IfOk result IsCluster }
+    {
+        cluster_of(alloc, root)
     }
 
     /// Returns the node that sends in the slot on the channel in the cycle, or `None` if there is none. In a static
