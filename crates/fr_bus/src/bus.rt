@@ -5,8 +5,10 @@ ghost use Rattle.std.specs.Prelude.{◌≡◌, ◌-◌, [], ◌∷◌, ◌++◌,
 use crate::error::{BusError, Phase};
 use crate::fault::Fault;
 use crate::kept::KeptBus;
+use crate::live::hear;
 use crate::outcome::Sealed;
 use fr_interface::interface::Offer;
+use fr_interface::sight::{Heard, Sight};
 use fr_schedule::cluster::Cluster;
 use fr_slots::channel::Channel;
 use fr_slots::numbers::NodeId;
@@ -25,6 +27,9 @@ use std::marker::Model;
 pub struct Bus {
     kept: KeptBus,
     record: Vec<Sealed>,
+    // What is heard in the last window of the record. Each frame is decoded once, and not by each node that receives it.
+    heard_a: Heard,
+    heard_b: Heard,
 }
 
 impl Model for Bus {
@@ -63,6 +68,9 @@ impl Bus {
     ghost use Rattle.fr_bus.specs.States.{all_put, all_taken, collecting_of, put_refusal, put_done};
     ghost use Rattle.fr_bus.specs.States.{inject_refusal, inject_done, Seals, take_refusal, take_done};
     ghost use Rattle.fr_bus.specs.States.{seen_last, advance_refusal, advanced, IsRun, OneSenderEach, Opens};
+    ghost use Rattle.fr_bus.specs.States.{last_recorded};
+    ghost use Rattle.fr_bus.specs.LiveFields.{heard_last};
+    ghost use Rattle.fr_interface.specs.Sights.{seen_in};
     ghost use Rattle.fr_slots.specs.declared.channel.Channel.TheVariants as channel;
 
     /// Returns the bus of a cluster for a run of so many cycles, 1 to 1024. It collects in its first window: cycle 0,
@@ -81,6 +89,8 @@ impl Bus {
             Ok(kept) => Ok(Bus {
                 kept,
                 record: Vec::new(alloc),
+                heard_a: Heard::silence(),
+                heard_b: Heard::silence(),
             }),
             Err(_) => Err(BusError::Memory),
         }
@@ -217,6 +227,10 @@ impl Bus {
             return Err(BusError::Memory);
         };
         self.kept.close(&window, a, b);
+        let record = self.record.as_slice();
+        let last = &record[record.len() - 1];
+        hear(self.kept.params(), last, Channel::A, &mut self.heard_a);
+        hear(self.kept.params(), last, Channel::B, &mut self.heard_b);
         Ok(())
     }
 
@@ -254,6 +268,38 @@ impl Bus {
     {
         let last = last_of(self.record.as_slice());
         self.kept.take_into(last, node, number, a, b)
+    }
+
+    /// Takes the node's observations of the sealed window, which has this number, without a copy: `sight` lends them
+    /// (project-defined). Fails as `take` does, and a refusal leaves the bus unchanged.
+    pub fn take_lent(&mut self, node: NodeId, number: u32) -> Result<(), BusError>
+        ensures refusal { result_err result ≡ take_refusal self.old node number }
+        ensures accepted { OnOk result (self.new ≡ take_done self.old node) }
+        ensures refused { OnErr result (self.new ≡ self.old) }
+    {
+        self.kept.take(node, number)
+    }
+
+    /// Returns what is heard on the channel of the last window of the record.
+    fn heard_on(&self, channel: Channel) -> &Heard
+        ensures { result.now ≡ heard_last self.now.cluster.params (last_recorded self.now) channel }
+    {
+        match channel {
+            Channel::A => &self.heard_a,
+            Channel::B => &self.heard_b,
+        }
+    }
+
+    /// Returns the node's observation on the channel of the last sealed window, or silence before the first one
+    /// (project-defined). It isn't copied, and its frame is decoded once for all nodes.
+    pub fn sight(&self, node: NodeId, channel: Channel) -> Sight<'_>
+        ensures { seen_in result ≡ seen_last self.now channel node }
+    {
+        let heard = self.heard_on(channel);
+        match last_of(self.record.as_slice()) {
+            Some(sealed) => sealed.sight(self.kept.params(), channel, node, heard),
+            None => Sight::Heard(heard),
+        }
     }
 
     /// Opens the next window, without offers and faults, or ends the run. The next window is the next static slot.

@@ -55,7 +55,7 @@ fn cycles_suit(params: &Params, cycles: u32) -> bool
 }
 
 /// Writes what is heard on the channel of a sealed window.
-fn hear(params: &Params, sealed: &Sealed, channel: Channel, place: &mut Heard)
+pub(crate) fn hear(params: &Params, sealed: &Sealed, channel: Channel, place: &mut Heard)
     ensures { place.new ≡ heard params.now sealed.now channel }
 {
     // In most windows no node sends.

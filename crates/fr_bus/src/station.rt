@@ -274,6 +274,9 @@ fn keep(kept: &mut Option<Bytes>, offered: &Option<Bytes>)
 }
 
 /// Replaces the kept bytes by a copy of these.
+///
+/// It isn't inlined, so that an empty offer doesn't pay for the room of a frame.
+#[inline(never)]
 fn keep_bytes(kept: &mut Option<Bytes>, bytes: &Bytes)
     ensures { kept.new ≡ Some bytes.now }
 {

@@ -12,6 +12,7 @@ use crate::errors::{HostError, InterfaceError, SlotError};
 use crate::handing::{FirstEntries, bytes_in_entry};
 use crate::naming::frame_named;
 use crate::offers::Outgoing;
+use crate::sight::{Sight, push_sights};
 use crate::source::Source;
 use crate::state::InterfaceState;
 use fr_frame::frame::{Bytes, Frame};
@@ -76,7 +77,8 @@ impl Interface {
     ghost use Rattle.fr_journal.specs.Offers.{offered, frame_offered, IsHandedOut, bytes_of};
     ghost use Rattle.fr_interface.specs.Calls.{call_refusal, call_answer, call_entry};
     ghost use Rattle.fr_interface.specs.Handing.{bytes_handed};
-    ghost use Rattle.fr_interface.specs.Sending.{outgoing_in};
+    ghost use Rattle.fr_interface.specs.Sending.{outgoing_in, OffersNothing};
+    ghost use Rattle.fr_interface.specs.Sights.{seen_in};
     ghost use Rattle.fr_interface.specs.State.{with_entry, withdraw_entry, read_entry, pop_entry, fetch_entry};
     ghost use Rattle.fr_interface.specs.State.{withdraw_refusal};
     ghost use Rattle.fr_journal.specs.Fate.{pending_commit};
@@ -278,12 +280,40 @@ impl Interface {
     {
         // Without this call and `take_into` of the bus the run of the car takes a fifth longer.
         self.check_fetch(window)?;
+        // Most nodes have no line for the slots of most windows.
+        if self.state.is_idle(window) {
+            let no_a = self.no_offer(window, Channel::A);
+            let no_b = self.no_offer(window, Channel::B);
+            self.fetch_offers(window, &no_a, &no_b, offer);
+            return Ok(());
+        }
         let on_a = self.outgoing_on(window, Channel::A);
         let on_b = self.outgoing_on(window, Channel::B);
-        self.hand_out(window, Channel::A, &on_a, &mut offer.a);
-        self.hand_out(window, Channel::B, &on_b, &mut offer.b);
-        self.push_fetch(window, &on_a, &on_b);
+        self.fetch_offers(window, &on_a, &on_b, offer);
         Ok(())
+    }
+
+    /// Fetches a window that isn't refused, with these frames on channels A and B, and writes them to `offer`.
+    #[inline(always)]
+    fn fetch_offers(&mut self, window: &Window, a: &Outgoing, b: &Outgoing, offer: &mut Offer)
+        requires accepted { fetch_refusal self.old window.now ≡ None }
+        requires outgoing_a { a.now ≡ outgoing_in self.old window.now Channel.A }
+        requires outgoing_b { b.now ≡ outgoing_in self.old window.now Channel.B }
+        requires fits_a { IsOffered a.now.offered }
+        requires fits_b { IsOffered b.now.offered }
+        ensures offer_a { IsHandedOut Channel.A
+            (frame_offered self.old.params self.old.plan self.old.entries window.now Channel.A) offer.new.a }
+        ensures offer_b { IsHandedOut Channel.B
+            (frame_offered self.old.params self.old.plan self.old.entries window.now Channel.B) offer.new.b }
+        ensures bytes_a { offer.new.a ≡ bytes_of Channel.A
+            (frame_offered self.old.params self.old.plan self.old.entries window.now Channel.A) }
+        ensures bytes_b { offer.new.b ≡ bytes_of Channel.B
+            (frame_offered self.old.params self.old.plan self.old.entries window.now Channel.B) }
+        ensures after { self.new ≡ with_entry self.old (fetch_entry self.old window.now) }
+    {
+        self.hand_out(window, Channel::A, a, &mut offer.a);
+        self.hand_out(window, Channel::B, b, &mut offer.b);
+        self.push_fetch(window, a, b);
     }
 
     /// Opens a window as `fetch` does, and returns the node's offers on channel A and on channel B. They are the offers
@@ -313,7 +343,18 @@ impl Interface {
         self.state.check_fetch(window)
     }
 
+    /// Returns the node's frame on the channel of a window for which the plan has no line.
+    #[inline(always)]
+    fn no_offer(&self, window: &Window, channel: Channel) -> Outgoing
+        requires { OffersNothing self.now.plan window.now channel }
+        ensures value { result ≡ outgoing_in self.now window.now channel }
+        ensures fits { IsOffered result.offered }
+    {
+        self.state.no_offer(window, channel)
+    }
+
     /// Returns the node's frame on the channel, once the window is fetched.
+    #[inline(always)]
     fn outgoing_on(&self, window: &Window, channel: Channel) -> Outgoing
         ensures value { result ≡ outgoing_in self.now window.now channel }
         ensures offered { result.offered ≡ offered self.now.plan self.now.entries window.now channel }
@@ -323,6 +364,7 @@ impl Interface {
     }
 
     /// Writes the bytes of the node's frame on the channel over the old ones.
+    #[inline(always)]
     fn hand_out(
         &self,
         window: &Window,
@@ -340,6 +382,7 @@ impl Interface {
     }
 
     /// Appends the fetch of a window that isn't refused, with these frames on channels A and B.
+    #[inline(always)]
     fn push_fetch(&mut self, window: &Window, a: &Outgoing, b: &Outgoing)
         requires accepted { fetch_refusal self.old window.now ≡ None }
         requires outgoing_a { a.now ≡ outgoing_in self.old window.now Channel.A }
@@ -367,6 +410,33 @@ impl Interface {
     {
         self.state.observe(number, a, b)?;
         self.journal.push_observe(number, a, b);
+        Ok(())
+    }
+
+    /// Fails if `observe` refuses the window of this number (project-defined).
+    pub fn check_observe(&self, number: u32) -> Result<(), SlotError>
+        ensures { result_err result ≡ observe_refusal self.now number }
+    {
+        self.state.check_observe(number)
+    }
+
+    /// Closes the window of this number as `observe` does, with observations that several nodes share
+    /// (project-defined). What was judged for this window isn't judged again.
+    ///
+    /// Fails as `observe` does, with `NotFetched` and `WrongWindow` in this order.
+    pub fn observe_sights(
+        &mut self,
+        number: u32,
+        a: &Sight<'_>,
+        b: &Sight<'_>,
+    ) -> Result<(), SlotError>
+        ensures refusal { result_err result ≡ observe_refusal self.old number }
+        ensures accepted { OnOk result
+            (self.new ≡ with_entry self.old (entries.Observe number (seen_in a.now) (seen_in b.now))) }
+        ensures refused { OnErr result (self.new ≡ self.old) }
+    {
+        self.state.observe_sights(number, a, b)?;
+        push_sights(&mut self.journal, number, a, b);
         Ok(())
     }
 

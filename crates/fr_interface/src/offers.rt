@@ -130,7 +130,7 @@ fn offered_by(
 }
 
 /// Returns whether the plan has no line for the slot that the window has on the channel. Then nothing is offered.
-fn is_idle(plan: &IndexedPlan, window: &Window, channel: Channel) -> bool
+pub(crate) fn is_idle(plan: &IndexedPlan, window: &Window, channel: Channel) -> bool
     ensures { result ≡ true → OffersNothing plan.now window.now channel }
 {
     match window.slot(channel) {
@@ -140,6 +140,9 @@ fn is_idle(plan: &IndexedPlan, window: &Window, channel: Channel) -> bool
 }
 
 /// Returns the offer in the window on the channel, by these transmit buffers.
+///
+/// It is inlined, so that nothing is moved for the many windows without an offer.
+#[inline(always)]
 pub(crate) fn outgoing_on(
     plan: &IndexedPlan,
     buffers: &[TxBuffer],
@@ -157,6 +160,20 @@ pub(crate) fn outgoing_on(
             offered: Offered::Nothing,
         };
     }
+    outgoing_by_lines(plan, buffers, window, channel)
+}
+
+/// Returns the same, by the lines of the plan.
+#[inline(never)]
+fn outgoing_by_lines(
+    plan: &IndexedPlan,
+    buffers: &[TxBuffer],
+    window: &Window,
+    channel: Channel,
+) -> Outgoing
+    ensures value { result ≡ outgoing_on plan.now buffers.now window.now channel }
+    ensures fits { IsOffered result.offered }
+{
     let sender = sender_on(plan, buffers, window, channel);
     let own = owner_on(plan, window, channel);
     Outgoing {

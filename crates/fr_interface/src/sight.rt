@@ -1,11 +1,15 @@
 //! Observations that are judged once, for all nodes that make them.
 
-ghost use Rattle.std.specs.Prelude.{◌≡◌};
+ghost use Rattle.std.specs.Prelude.{◌≡◌, ◌<◌, ◌++◌, ◌∷◌, []};
+ghost use Rattle.fr_interface.specs.Sights.{seen_in};
+ghost use Rattle.fr_journal.specs.declared.entry.Entry.TheVariants as entries;
+ghost use Rattle.fr_journal.specs.Kept.{slot_room};
 
 use crate::interface::seen_within;
 use crate::observed::{Told, is_quiet};
 use fr_frame::frame::Frame;
 use fr_frame::lent::LentFrame;
+use fr_journal::journal::Journal;
 use fr_slots::channel::Channel;
 use fr_slots::params::Params;
 use fr_slots::window::Window;
@@ -211,5 +215,35 @@ impl<'a> Sight<'a> {
             Sight::Seen(seen) => Told::of(params, window, channel, seen),
             Sight::Heard(heard) => heard.told(params, window, channel),
         }
+    }
+}
+
+/// Appends an observe with these observations to the journal, in the reserved room.
+fn push_seen(journal: &mut Journal, number: u32, a: &Seen, b: &Sight<'_>)
+    requires room { 0 < slot_room journal.old }
+    ensures { journal.new ≡ record journal.old {
+      entries = journal.old.entries ++ entries.Observe number a.now (seen_in b.now) ∷ [];
+    } }
+{
+    match b {
+        Sight::Own => journal.push_observe(number, a, &Seen::Own),
+        Sight::Conflict => journal.push_observe(number, a, &Seen::Conflict),
+        Sight::Seen(seen) => journal.push_observe(number, a, seen),
+        Sight::Heard(heard) => journal.push_observe(number, a, heard.seen()),
+    }
+}
+
+/// Appends an observe with these observations to the journal, in the reserved room.
+pub(crate) fn push_sights(journal: &mut Journal, number: u32, a: &Sight<'_>, b: &Sight<'_>)
+    requires room { 0 < slot_room journal.old }
+    ensures { journal.new ≡ record journal.old {
+      entries = journal.old.entries ++ entries.Observe number (seen_in a.now) (seen_in b.now) ∷ [];
+    } }
+{
+    match a {
+        Sight::Own => push_seen(journal, number, &Seen::Own, b),
+        Sight::Conflict => push_seen(journal, number, &Seen::Conflict, b),
+        Sight::Seen(seen) => push_seen(journal, number, seen, b),
+        Sight::Heard(heard) => push_seen(journal, number, heard.seen(), b),
     }
 }

@@ -11,7 +11,7 @@ use crate::interface::{
     Offer, Receipt, has_words, is_not_above, kept_payload, kept_window, origin_in,
 };
 use crate::observed::{arrive_all, count_seen, quiet_status, store_all};
-use crate::offers::{Outgoing, outgoing_on, spelled_by};
+use crate::offers::{Outgoing, is_idle, outgoing_on, spelled_by};
 use crate::opening::Opening;
 use crate::receiving::{
     arrival_at, first_of, observed_at, pop_from, receive_buffers, receive_queue,
@@ -82,7 +82,7 @@ impl Model for InterfaceState {
 }
 
 impl InterfaceState {
-    ghost use Rattle.std.specs.Prelude.{◌≡◌, ◌+◌, ◌^◌, ◌≤◌, ◌<◌, [], None, length, count_by, IfOk, IfSome, OnOk};
+    ghost use Rattle.std.specs.Prelude.{◌≡◌, ◌+◌, ◌^◌, ◌≤◌, ◌<◌, [], None, length, count_by, IfOk, IfSome, OnOk, true};
     ghost use Rattle.std.specs.Prelude.{IsSome, OnErr, Some, option_map, slice_get};
     ghost use Rattle.std.specs.Result.{result_err};
     ghost use Rattle.fr_journal.specs.declared.entry.Entry.TheVariants as entries;
@@ -95,7 +95,7 @@ impl InterfaceState {
     ghost use Rattle.fr_interface.specs.Standing.{withdraw_refused, pop_refused, oldest_at, source_at, tally_at};
     ghost use Rattle.fr_interface.specs.Standing.{received_at, KeepsTerms};
     ghost use Rattle.fr_slots.specs.Plans.{buffer_at, with_limits};
-    ghost use Rattle.fr_interface.specs.Sending.{outgoing_on, pending_at, frame_by};
+    ghost use Rattle.fr_interface.specs.Sending.{OffersNothing, outgoing_on, pending_at, frame_by};
     ghost use Rattle.fr_interface.specs.Seeing.{IsQuiet};
     ghost use Rattle.fr_interface.specs.Sights.{seen_in};
     ghost use Rattle.fr_journal.specs.Fate.{pending_commit};
@@ -321,6 +321,29 @@ impl InterfaceState {
         Ok(())
     }
 
+    /// Returns whether the plan has no line for the slots of the window. Then nothing is offered.
+    #[inline(always)]
+    pub(crate) fn is_idle(&self, window: &Window) -> bool
+        ensures on_a { result ≡ true → OffersNothing self.now.plan window.now Channel.A }
+        ensures on_b { result ≡ true → OffersNothing self.now.plan window.now Channel.B }
+    {
+        is_idle(&self.plan, window, Channel::A) && is_idle(&self.plan, window, Channel::B)
+    }
+
+    /// Returns the node's offer on the channel of a window for which the plan has no line.
+    #[inline(always)]
+    pub(crate) fn no_offer(&self, window: &Window, channel: Channel) -> Outgoing
+        requires { OffersNothing self.now.plan window.now channel }
+        ensures value { result ≡ outgoing_on self.now.plan self.now.transmit window.now channel }
+        ensures fits { IsOffered result.offered }
+    {
+        Outgoing {
+            sender: None,
+            own: None,
+            offered: Offered::Nothing,
+        }
+    }
+
     /// Returns the node's offer on the channel, once the window is fetched.
     pub(crate) fn outgoing_on(&self, window: &Window, channel: Channel) -> Outgoing
         ensures value { result ≡ outgoing_on self.now.plan self.now.transmit window.now channel }
@@ -330,6 +353,7 @@ impl InterfaceState {
     }
 
     /// Writes the bytes of the node's frame on the channel over the old ones.
+    #[inline(always)]
     pub(crate) fn hand_out(
         &self,
         window: &Window,
@@ -413,15 +437,38 @@ impl InterfaceState {
         ensures terms { KeepsTerms self.old self.new }
     {
         self.check_fetch(window)?;
+        // Most nodes have no line for the slots of most windows.
+        if self.is_idle(window) {
+            let no_a = self.no_offer(window, Channel::A);
+            let no_b = self.no_offer(window, Channel::B);
+            self.fetch_offers(window, &no_a, &no_b, offer);
+            return Ok(());
+        }
         let on_a = self.outgoing_on(window, Channel::A);
         let on_b = self.outgoing_on(window, Channel::B);
-        self.hand_out(window, Channel::A, &on_a, &mut offer.a);
-        self.hand_out(window, Channel::B, &on_b, &mut offer.b);
-        self.fetch(window, &on_a, &on_b);
+        self.fetch_offers(window, &on_a, &on_b, offer);
         Ok(())
     }
 
+    /// Fetches the window, with these offers, and writes the node's frames to `offer`.
+    #[inline(always)]
+    fn fetch_offers(&mut self, window: &Window, a: &Outgoing, b: &Outgoing, offer: &mut Offer)
+        requires accepted { fetch_refused self.old window.now ≡ None }
+        requires outgoing_a { a.now ≡ outgoing_on self.old.plan self.old.transmit window.now Channel.A }
+        requires outgoing_b { b.now ≡ outgoing_on self.old.plan self.old.transmit window.now Channel.B }
+        requires fits_a { IsOffered a.now.offered }
+        requires fits_b { IsOffered b.now.offered }
+        ensures offer { ForEachHistory self.old (λ s. offer.new ≡ offer_of s window.now) }
+        ensures history { ForEachHistory self.old (λ s. IsHistory self.new (with_entry s (fetch_entry s window.now))) }
+        ensures terms { KeepsTerms self.old self.new }
+    {
+        self.hand_out(window, Channel::A, a, &mut offer.a);
+        self.hand_out(window, Channel::B, b, &mut offer.b);
+        self.fetch(window, a, b);
+    }
+
     /// Fetches the window, with these offers.
+    #[inline(always)]
     pub(crate) fn fetch(&mut self, window: &Window, a: &Outgoing, b: &Outgoing)
         requires accepted { fetch_refused self.old window.now ≡ None }
         requires outgoing_a { a.now ≡ outgoing_on self.old.plan self.old.transmit window.now Channel.A }

@@ -116,6 +116,9 @@ impl Journal {
     }
 
     /// Appends an entry of the controller, in the reserved room. `slot_room` must be above 0.
+    ///
+    /// It is inlined, so that a fetch has no room for observed frames.
+    #[inline(always)]
     pub fn push_slot(&mut self, entry: Entry)
         requires kind { is_host entry ≡ false }
         requires room { 0 < slot_room self.old }
@@ -129,6 +132,7 @@ impl Journal {
     }
 
     /// Appends an observe, in the reserved room. `slot_room` must be above 0.
+    #[inline(always)]
     pub fn push_observe(&mut self, window: u32, a: &Seen, b: &Seen)
         requires room { 0 < slot_room self.old }
         ensures { self.new ≡ record self.old {

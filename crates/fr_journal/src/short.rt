@@ -96,6 +96,7 @@ pub(crate) fn mark_at(shorts: &[ShortEntry], place: u32) -> Option<u32>
 }
 
 /// Appends the bytes to the pool, in the reserved room, and returns their place.
+#[inline(never)]
 fn kept_bytes(pool: &mut Vec<u8>, bytes: &[u8]) -> Stretch
     requires room { length pool.old.items + length bytes.now ≤ vec_capacity pool.old }
     requires few { length pool.old.items + length bytes.now < 2 ^ 32 }
@@ -117,6 +118,7 @@ fn kept_bytes(pool: &mut Vec<u8>, bytes: &[u8]) -> Stretch
 }
 
 /// Returns the observation in short form, and appends its bytes to the pool.
+#[inline(always)]
 fn shortened_seen(pool: &mut Vec<u8>, seen: &Seen) -> ShortSeen
     requires room { length pool.old.items + most_frame_bytes ≤ vec_capacity pool.old }
     requires few { length pool.old.items + most_frame_bytes < 2 ^ 32 }
@@ -159,6 +161,7 @@ pub(crate) fn shortened_commit(
 /// Returns an observe in short form, and appends its bytes to the pool.
 ///
 /// `mark` is the place of the last fetch or observe before it, or 0 if there is none.
+#[inline(always)]
 pub(crate) fn shortened_observe(
     pool: &mut Vec<u8>,
     mark: u32,
@@ -217,6 +220,7 @@ pub(crate) fn shortened_host(pool: &mut Vec<u8>, entry: &Entry) -> ShortEntry
 /// Returns an entry of the controller in short form, and appends its bytes to the pool.
 ///
 /// `mark` is the place of the last fetch or observe before it, or 0 if there is none.
+#[inline(always)]
 pub(crate) fn shortened_slot(pool: &mut Vec<u8>, mark: u32, entry: &Entry) -> ShortEntry
     requires kind { is_host entry.now ≡ false }
     requires room { length pool.old.items + most_seen_bytes ≤ vec_capacity pool.old }
