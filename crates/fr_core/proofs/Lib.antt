@@ -5,6 +5,7 @@ pub mod NodeLemmas
 pub mod SentLemmas
 pub mod AgreementLemmas
 pub mod WorldLemmas
+pub mod FrontLemmas
 pub mod RunLemmas
 pub mod WalkLemmas
 pub mod ScriptLemmas

@@ -4,6 +4,7 @@ pub mod Worlds
 pub mod Agreeing
 pub mod Agreement
 pub mod Steps
+pub mod Fronts
 pub mod Runs
 pub mod Receivers
 pub mod Accounts

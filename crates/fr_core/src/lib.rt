@@ -14,8 +14,8 @@
 //!
 //! # Definitions
 //!
-//! - `Carried`, `Worlds`, `Steps`, `Runs`: the data that a controller carries; the state of a world; one atomic step;
-//!   lists of events.
+//! - `Carried`, `Worlds`, `Steps`, `Runs`, `Fronts`: the data that a controller carries; the state of a world; one
+//!   atomic step; lists of events; events that are accepted one after another.
 //! - `Agreeing`, `Agreement`: frames that journals handed to the bus and observations that they got; the invariant of a
 //!   world.
 //! - `Headline`, `Receivers`, `Accounts`: the promises of every world; the frames that receivers hold; the account of a
@@ -37,6 +37,8 @@
 //! one call of that node's interface or of the bus. An accepted call gives the controller its next data.
 //!
 //! - `World::apply` is the same step without the answer, which has room for a frame.
+//! - `World::offer` and `World::see` execute the events of a node before and after the seal. The observation is lent by
+//!   the bus, which decoded its frame once. `pass_front` finds such events in a list (`front`).
 //! - `run_events` (`run`) executes a list of events and counts the accepted ones.
 //! - An event costs its one call, and for a fault a copy of it. No event copies an interface, a bus or a record.
 //!
@@ -75,6 +77,7 @@
 pub mod controller;
 pub mod error;
 pub mod event;
+pub mod front;
 mod legal;
 mod machine;
 pub mod run;

@@ -19,6 +19,7 @@ use fr_interface::call::Call;
 use fr_interface::errors::InterfaceError;
 use fr_interface::interface::Interface;
 use fr_schedule::cluster::Cluster;
+use fr_slots::channel::Channel;
 use fr_slots::numbers::{NodeId, TaskId};
 use fr_slots::params::Params;
 use fr_slots::plan::NodePlan;
@@ -85,11 +86,12 @@ fn done(outcome: Result<(), StepError>) -> Result<Reply, StepError>
 }
 
 impl Machine {
-    ghost use Rattle.std.specs.Prelude.{◌≡◌, Ok, Err, if◌then◌else◌};
+    ghost use Rattle.std.specs.Prelude.{◌≡◌, ◌≤◌, Ok, Err, if◌then◌else◌, slice_get, take};
     ghost use Rattle.std.specs.List.{All, list_all};
     ghost use Rattle.fr_core.specs.declared.error.StepError.TheVariants.{UnknownNode};
     ghost use Rattle.fr_core.specs.declared.event.Event.TheVariants as event;
     ghost use Rattle.fr_core.specs.Worlds.{OpensWorld, has_node, is_between};
+    ghost use Rattle.fr_core.specs.Fronts.{Accepts, IsRefused, offer_events, see_events};
     ghost use Rattle.fr_core.specs.Steps.{Steps, Applies, event_of};
 
     /// Returns the opening state: empty journals, the bus at its first window, and idle controllers.
@@ -188,6 +190,7 @@ impl Machine {
     }
 
     /// Opens the controller's window at its interface.
+    #[inline(always)]
     fn fetch(&mut self, node: NodeId) -> Result<(), StepError>
         ensures { Steps self.old (event.Fetch node) (answered Done result) self.new }
     {
@@ -203,6 +206,7 @@ impl Machine {
     }
 
     /// Puts the controller's offer on the bus.
+    #[inline(always)]
     fn put(&mut self, node: NodeId) -> Result<(), StepError>
         ensures { Steps self.old (event.Put node) (answered Done result) self.new }
     {
@@ -249,6 +253,9 @@ impl Machine {
     }
 
     /// Injects a fault in the open window.
+    ///
+    /// It isn't inlined, so that other events don't pay for the room of a frame.
+    #[inline(never)]
     fn inject(&mut self, fault: &Fault) -> Result<(), StepError>
         ensures { Steps self.old (event.Inject fault.now) (answered Done result) self.new }
     {
@@ -321,10 +328,82 @@ impl Machine {
             Event::Inject(fault) => self.inject(fault),
             Event::Seal => self.seal(),
             Event::Advance => self.advance(),
-            _ => {
-                let _reply = self.step(event)?;
-                Ok(())
-            }
+            _ => self.apply_call(event),
         }
+    }
+
+    /// Executes an event of a host, without its answer.
+    ///
+    /// It isn't inlined, so that other events don't pay for the room of a reply.
+    #[inline(never)]
+    fn apply_call(&mut self, event: &Event) -> Result<(), StepError>
+        ensures { Applies self.old event.now result self.new }
+    {
+        let _reply = self.step(event)?;
+        Ok(())
+    }
+
+    /// Executes the look, the fetch and the put of the node, up to the first one that is refused. Returns how many were
+    /// accepted.
+    pub(crate) fn offer(&mut self, node: NodeId) -> usize
+        ensures few { result ≤ 3 }
+        ensures accepts { Accepts self.old (take result (offer_events node)) self.new }
+        ensures refuses { IsRefused self.new (slice_get (offer_events node) result) }
+    {
+        if self.look(node).is_err() {
+            return 0;
+        }
+        if self.fetch(node).is_err() {
+            return 1;
+        }
+        if self.put(node).is_err() {
+            return 2;
+        }
+        3
+    }
+
+    /// Executes the take and the observe of the node, up to the first one that is refused. Returns how many were
+    /// accepted.
+    ///
+    /// The observation is lent by the bus, so nothing is copied, and no frame is decoded again.
+    pub(crate) fn see(&mut self, node: NodeId) -> usize
+        ensures few { result ≤ 2 }
+        ensures accepts { Accepts self.old (take result (see_events node)) self.new }
+        ensures refuses { IsRefused self.new (slice_get (see_events node) result) }
+    {
+        let Ok(place) = self.place(node) else {
+            return self.see_in_turn(node);
+        };
+        let Due::Take(window) = self.controllers[place].due else {
+            return self.see_in_turn(node);
+        };
+        if self.interfaces[place].check_observe(window.number).is_err() {
+            return self.see_in_turn(node);
+        }
+        if self.bus.take_lent(node, window.number).is_err() {
+            return self.see_in_turn(node);
+        }
+        let a = self.bus.sight(node, Channel::A);
+        let b = self.bus.sight(node, Channel::B);
+        let outcome = self.interfaces[place].observe_sights(window.number, &a, &b);
+        let accepted = outcome.is_ok();
+        prove!(accepted);
+        self.controllers[place].due = Due::Look;
+        2
+    }
+
+    /// Does the same as `see`, one event after the other.
+    fn see_in_turn(&mut self, node: NodeId) -> usize
+        ensures few { result ≤ 2 }
+        ensures accepts { Accepts self.old (take result (see_events node)) self.new }
+        ensures refuses { IsRefused self.new (slice_get (see_events node) result) }
+    {
+        if self.take(node).is_err() {
+            return 0;
+        }
+        if self.observe(node).is_err() {
+            return 1;
+        }
+        2
     }
 }

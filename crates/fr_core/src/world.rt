@@ -2,12 +2,14 @@
 
 use crate::error::StepError;
 use crate::event::{Event, Reply};
+use crate::front::{Front, front_of};
 use crate::legal;
 use crate::machine::Machine;
 use fr_bus::bus::Bus;
 use fr_bus::error::BusError;
 use fr_interface::interface::Interface;
 use fr_schedule::cluster::Cluster;
+use fr_slots::numbers::NodeId;
 use std::alloc::Global;
 use std::marker::Model;
 
@@ -34,8 +36,9 @@ impl Model for World {
 }
 
 impl World {
-    ghost use Rattle.std.specs.Prelude.{◌≡◌};
+    ghost use Rattle.std.specs.Prelude.{◌≡◌, ◌≤◌, length, slice_get, take};
     ghost use Rattle.std.specs.List.{list_all};
+    ghost use Rattle.fr_core.specs.Fronts.{Accepts, IsRefused, events_of, offer_events, see_events};
     ghost use Rattle.fr_core.specs.Headline.{Headline, WorldsAlike};
     ghost use Rattle.fr_core.specs.Steps.{Steps, Applies};
     ghost use Rattle.fr_core.specs.Worlds.{OpensWorld, is_between};
@@ -84,6 +87,61 @@ impl World {
         // For the prover: the clause of this call.
         self.known();
         outcome
+    }
+
+    /// Executes the look, the fetch and the put of the node, up to the first one that is refused, without their
+    /// answers. Returns how many were accepted (project-defined). The headline promise holds for the world after them.
+    pub fn offer(&mut self, node: NodeId) -> usize
+        ensures few { result ≤ 3 }
+        ensures accepts { Accepts self.old (take result (offer_events node)) self.new }
+        ensures refuses { IsRefused self.new (slice_get (offer_events node) result) }
+        ensures headline { Headline self.new }
+    {
+        let accepted = self.machine.offer(node);
+        // For the prover: the clause of this call.
+        self.known();
+        accepted
+    }
+
+    /// Executes the take and the observe of the node, up to the first one that is refused, without their answers.
+    /// Returns how many were accepted (project-defined). No frame is copied for the node, or decoded again for it. The
+    /// headline promise holds for the world after them.
+    pub fn see(&mut self, node: NodeId) -> usize
+        ensures few { result ≤ 2 }
+        ensures accepts { Accepts self.old (take result (see_events node)) self.new }
+        ensures refuses { IsRefused self.new (slice_get (see_events node) result) }
+        ensures headline { Headline self.new }
+    {
+        let accepted = self.machine.see(node);
+        // For the prover: the clause of this call.
+        self.known();
+        accepted
+    }
+
+    /// Executes events that stand first in the list, without their answers, and returns how many. Each was accepted
+    /// (project-defined). It executes those of a node that `front_of` finds there, as `offer` and `see` do, and
+    /// otherwise none. The headline promise holds for the world after the events.
+    pub fn pass_front(&mut self, events: &[Event]) -> usize
+        ensures few { result ≤ length events.now }
+        ensures accepts { Accepts self.old (take result events.now) self.new }
+        ensures headline { Headline self.new }
+    {
+        let passed = self.pass(front_of(events));
+        // For the prover: the clause of this call.
+        self.known();
+        passed
+    }
+
+    /// Executes these events, up to the first one that is refused. Returns how many were accepted.
+    fn pass(&mut self, front: Front) -> usize
+        ensures few { result ≤ length (events_of front) }
+        ensures accepts { Accepts self.old (take result (events_of front)) self.new }
+    {
+        match front {
+            Front::Offer(node) => self.offer(node),
+            Front::See(node) => self.see(node),
+            Front::Other => 0,
+        }
     }
 
     /// Returns the interfaces, in the order of the nodes. The headline promise holds for their world.

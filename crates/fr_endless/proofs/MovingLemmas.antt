@@ -1,13 +1,13 @@
 -- Each world with its history moves as the kept data do.
 use Rattle.std.proofs.Common.{◌≡◌, ℕ, ◌+◌, ◌-◌, ◌<◌, ◌≤◌, Bool, true}
 use Rattle.std.proofs.Common.{false, cond, List, [], ◌∷◌, ◌++◌, length, take, get_or}
-use Rattle.std.proofs.Common.{Option, Some, None, Result, Ok, Err, refl, sym, ap}
-use Rattle.std.proofs.Common.{ap₂, subst, ◌∙◌, inl, inr, zero, suc, drop, arith}
-use Rattle.std.proofs.Common.{append-nil, append_assoc}
+use Rattle.std.proofs.Common.{Option, Some, None, Result, Err, refl, sym, ap}
+use Rattle.std.proofs.Common.{ap₂, subst, ◌∙◌, inl, inr, drop}
 use Rattle.std.proofs.lemmas.List.{take_all, take_more}
 use Rattle.std.specs.List.{flat_map}
 use Rattle.fr_bus.specs.Standing.{bare}
 use Rattle.fr_bus.specs.States.{collecting_of}
+use Rattle.fr_core.proofs.FrontLemmas.{index_any}
 use Rattle.fr_core.specs.declared.error.StepError.{StepError}
 use Rattle.fr_core.specs.declared.event.Event.{Event}
 use Rattle.fr_core.specs.declared.event.Event.TheVariants.{Observe, Inject, Advance}
@@ -15,16 +15,14 @@ use Rattle.fr_core.specs.declared.error.StepError.TheVariants.{UnknownNode, Wron
 use Rattle.fr_core.specs.Carried.{Carried, Idle, Knows, Offers, Waits, Took}
 use Rattle.fr_endless.specs.Fronts.{AreLate, HasNothing, IsLate}
 use Rattle.fr_interface.specs.Standing.{Standing}
-use Rattle.fr_live.proofs.LeadLemmas.{index_any}
 use Rattle.fr_live.proofs.RefusalLemmas.{observe_refuses}
 use Rattle.fr_live.specs.LiveSteps.{observe_in_turn}
 use Rattle.fr_live.specs.LiveWorlds.{LiveState, IsWorldHistory, carried_at}
 use Rattle.std.proofs.lemmas.Bool.{lt-ltb}
 use Rattle.std.specs.Prelude.{nat_lt}
-use Rattle.fr_core.specs.declared.event.Reply.{Reply}
 use Rattle.fr_core.specs.declared.event.Reply.TheVariants.{Done}
 use Rattle.fr_core.specs.Runs.{Answer, StepsAll}
-use Rattle.fr_core.specs.Steps.{Applies, Steps, answered, step_done, step_refusal, step_reply}
+use Rattle.fr_core.specs.Steps.{Applies, Steps, answered, step_refusal, step_reply}
 use Rattle.fr_live.specs.LiveSteps.{Accepts}
 use Rattle.fr_core.specs.Worlds.{WorldState}
 use Rattle.fr_endless.proofs.AlikeLemmas.{opened_same, begun_same, collecting_is}
@@ -32,6 +30,7 @@ use Rattle.fr_slots.specs.Windows.{run_cycle}
 use Rattle.fr_endless.specs.Taps.{TapsState, ToldAlike, ToldState, with_taps}
 use Rattle.fr_playing.proofs.MovingLemmas.{does_none, does_more, found_so, strikes_none, strikes_some, within_none}
 use Rattle.fr_playing.proofs.MovingLemmas.{within_more}
+use Rattle.fr_playing.proofs.PassingLemmas.{does_accepted, take_split}
 use Rattle.fr_playing.proofs.MovingLemmas.{passes_none, passes_more}
 use Rattle.fr_playing.proofs.StrikingLemmas.{flat-more, steps_append, tries_none}
 use Rattle.fr_playing.specs.Moving.{first_refusal, hindrance, Strikes, DoesAll, MovesOn, is_at_cycle, WithinCycle}
@@ -187,45 +186,6 @@ pub did_late : (l : ToldState) (events : List Event) (n : ℕ)
     → ((w : WorldState) → IsWorldHistory l.live w → AreLate w (take n events))
     → ToldAlike l (λ w v. DoesAll w (take n events) None v) l
 did_late l events n late s w is = (w, late_does w (take n events) (late w is.leads), is)
-
--- accepted events are no refusal
-found_kept : (found : Option StepError) (reply : Reply) → first_refusal found (Ok reply) ≡ found
-found_kept None reply = refl
-found_kept (Some e) reply = refl
-
-does_accepted : (old : WorldState) (es events : List Event) (found : Option StepError) (between new : WorldState)
-    → DoesAll old events found between → Accepts between es new → DoesAll old (events ++ es) found new
-unfolding Accepts
-does_accepted old [] events found between new so_far same =
-    subst (λ (es : List Event). DoesAll old es found new) (sym (append-nil events))
-    (subst (λ (x : WorldState). DoesAll old events found x) (sym same) so_far)
-does_accepted old (e ∷ es) events found between new so_far accepts =
-    let reply = step_reply between e in
-    let one : DoesAll old (events ++ e ∷ []) found (step_done between e) =
-    subst (λ (f : Option StepError). DoesAll old (events ++ e ∷ []) f (step_done between e)) (found_kept found reply)
-    (does_more old events found between e (Ok reply) (step_done between e) so_far (accepts.0, refl, refl)) in
-    subst (λ (l : List Event). DoesAll old l found new) (append_assoc events (e ∷ []) es)
-    (does_accepted old es (events ++ e ∷ []) found (step_done between e) new one accepts.1)
-
-take_nil : {X : Type 0} (n : ℕ) (xs : List X) → xs ≡ [] → take n xs ≡ []
-take_nil zero xs none = refl
-take_nil (suc n) [] none = refl
-take_nil (suc n) (x ∷ xs) none = absurd (let no : ⊥ = cc none in no)
-
-pub take_split : {X : Type 0} (i n : ℕ) (xs : List X) → take (i + n) xs ≡ take i xs ++ take n (drop i xs)
-take_split zero n xs = let same : 0 + n ≡ n = omega arith in ap (λ (k : ℕ). take k xs) same
-take_split (suc i) n [] = take_nil (suc i + n) [] refl ∙ sym (take_nil n [] refl)
-take_split (suc i) n (x ∷ xs) =
-    let next : suc i + n ≡ suc (i + n) = omega arith in
-    ap (λ (k : ℕ). take k (x ∷ xs)) next ∙ ap (λ (l : List _). x ∷ l) (take_split i n xs)
-
--- all that remains
-pub rest_all : {X : Type 0} (i : ℕ) (xs : List X) → take (length xs - i) (drop i xs) ≡ drop i xs
-rest_all zero xs = take_all (length xs - 0) xs (omega arith)
-rest_all (suc i) [] = take_nil (0 - suc i) [] refl
-rest_all (suc i) (x ∷ xs) =
-    let same : suc (length xs) - suc i ≡ length xs - i = omega arith in
-    ap (λ (n : ℕ). take n (drop i xs)) same ∙ rest_all i xs
 
 -- the first of the remaining events are accepted
 pub did_passed : (l mid new : ToldState) (events rest : List Event) (i n : ℕ) (found : Option StepError)

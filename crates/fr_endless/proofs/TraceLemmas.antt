@@ -12,6 +12,7 @@ use Rattle.std.proofs.lemmas.List.Concat.{flat_map-append}
 use Rattle.fr_auditing.specs.LongText.{long_begin_text, long_body_text}
 use Rattle.fr_bus.specs.Standing.{LiveStanding}
 use Rattle.fr_bus.specs.States.{collecting_of}
+use Rattle.fr_core.proofs.FrontLemmas.{index_any, take_front}
 use Rattle.fr_core.specs.Carried.{Carried, Idle, Knows, Offers, Waits, Took}
 use Rattle.fr_core.specs.declared.error.StepError.{StepError}
 use Rattle.fr_core.specs.declared.error.StepError.TheVariants.{UnknownNode}
@@ -28,8 +29,8 @@ use Rattle.fr_core.specs.Worlds.{WorldState, carried_at, has_node, interface_at,
 use Rattle.fr_endless.proofs.TapLemmas.{added_as, added_none, capture_grows, done_keeps, record_grows, seals_window}
 use Rattle.fr_endless.proofs.TapLemmas.{more_none, more_unknown, no_text, told_flushed, told_more}
 use Rattle.fr_endless.specs.Alike.{Alike}
-use Rattle.fr_endless.specs.declared.front.Front.{Front}
-use Rattle.fr_endless.specs.declared.front.Front.TheVariants as front
+use Rattle.fr_core.specs.declared.front.Front.{Front}
+use Rattle.fr_core.specs.declared.front.Front.TheVariants as front
 use Rattle.fr_endless.specs.Fronts.{IsUntraced, events_of}
 use Rattle.fr_endless.specs.Taps.{AddsBoth, AddsEach, AddsLast, AddsMore, IsLine, IsTold, Start, TapsState, ToldAlike}
 use Rattle.fr_endless.proofs.KeptLemmas.{as_many_places, holds_as, holds_sealed}
@@ -48,7 +49,7 @@ use Rattle.fr_interface.specs.Standing.{Standing, IsHistory}
 use Rattle.fr_interface.specs.State.{State, fetch_entry, pop_entry, read_entry, with_entry, withdraw_entry}
 use Rattle.fr_journal.specs.declared.entry.Entry.TheVariants as entries
 use Rattle.fr_journal.specs.Forms.{Entry}
-use Rattle.fr_live.proofs.LeadLemmas.{as_many, carried_same, history_lent, index_any}
+use Rattle.fr_live.proofs.LeadLemmas.{as_many, carried_same, history_lent}
 use Rattle.fr_live.specs.LiveSteps.{Accepts, AcceptsAlike, AppliesAlike, StepsAlike, without_value}
 use Rattle.fr_live.specs.LiveWorlds.{LiveState, IsWorldHistory}
 use Rattle.fr_showing.specs.Listening.{all_records}
@@ -644,12 +645,6 @@ front_kept traced (front.Offer n) none =
     (refl, (λ enters. none), (refl, (λ enters. none), (refl, (λ enters. none), tt)))
 front_kept traced (front.See n) none = (refl, (λ enters. none), (refl, (λ enters. none), tt))
 front_kept traced front.Other none = tt
-
--- the first events of a list
-pub take_front : {X : Type 0} (n : ℕ) (xs ys : List X) → n ≤ length xs → take n (xs ++ ys) ≡ take n xs
-take_front zero xs ys few = refl
-take_front (suc n) [] ys few = absurd (let no : ⊥ = omega (arith, few) in no)
-take_front (suc n) (x ∷ xs) ys few = ap (λ (l : List _). x ∷ l) (take_front n xs ys (omega (arith, few)))
 
 -- the events of a node that isn't traced
 pub front_told : (l m : LiveState) (taps : TapsState) (f : Front) (n : ℕ) (events rest : List Event)

@@ -5,15 +5,10 @@ use Rattle.fr_core.specs.declared.error.StepError.TheVariants.{WrongTurn}
 use Rattle.fr_core.specs.Steps.{Steps}
 use Rattle.fr_core.specs.Worlds.{WorldState}
 use Rattle.fr_core.specs.declared.event.Event.{Event}
-use Rattle.fr_endless.specs.declared.front.Front.{Front}
-use Rattle.fr_endless.specs.declared.front.Front.TheVariants as front
+use Rattle.fr_core.specs.declared.front.Front.{Front}
+use Rattle.fr_core.specs.declared.front.Front.TheVariants as front
+pub use Rattle.fr_core.specs.Fronts.{events_of}
 use Rattle.fr_endless.specs.Taps.{traced_in}
-use Rattle.fr_live.specs.LiveSteps.{offer_events, see_events}
-
-abbrev pub events_of : Front → List Event
-events_of (front.Offer n) = offer_events n
-events_of (front.See n) = see_events n
-events_of front.Other = []
 
 -- the bytes of the trace of their node aren't known: there is no such trace
 abbrev pub IsUntraced : List (Option (List ℕ)) → Front → Type 0

@@ -31,7 +31,8 @@
 //! an event, and after a seal add the last window to the record and the capture. If the node is traced, `step_traced`
 //! (`tracing`) executes an event that adds an entry. It makes the entry of a call from the answer, and the line of a
 //! controller's entry from what it carries before the event. If a file fails, the request is executed to its end, and
-//! the session ends in place of the reply. The events of a node that isn't traced are executed by one call (`front`).
+//! the session ends in place of the reply. The events of a node that isn't traced are executed by one call
+//! (`Front` of `fr_core`).
 //!
 //! The lines of the last windows are kept in the order of their numbers, each at the place of its number (`keeping`).
 //! `receive` and `next` look at the frame that is due, and then make the step of `read` or `pop` (`receiving`).
@@ -43,7 +44,6 @@
 #![tactic(auto)]
 
 pub mod error;
-pub mod front;
 mod keeping;
 mod moving;
 pub mod outcome;

@@ -6,7 +6,6 @@ ghost use Rattle.fr_live.specs.LiveSteps.{Accepts};
 ghost use Rattle.fr_live.specs.LiveWorlds.{ForEachWorld};
 ghost use Rattle.fr_playing.specs.Moving.{DoesAll, MovesOn, EndsCycle, RunsCycles};
 
-use crate::front::{Front, front_of};
 use crate::striking::strike_open;
 use crate::taps::Taps;
 use crate::telling::apply_told;
@@ -14,6 +13,7 @@ use crate::world::EndlessWorld;
 use fr_core::controller::{Controller, Due};
 use fr_core::error::StepError;
 use fr_core::event::Event;
+use fr_core::front::{Front, front_of};
 use fr_playing::moving::{MOST_WINDOWS, first_refusal, hindrance, is_at_cycle};
 use fr_runs::fault_line::FaultLine;
 use std::io::Write;

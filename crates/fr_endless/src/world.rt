@@ -3,12 +3,12 @@ ghost use Rattle.std.specs.Prelude.{◌≡◌, ◌≤◌, ℕ, true, IfOk};
 ghost use Rattle.fr_bus.specs.Live.{cycles_suit};
 ghost use Rattle.fr_endless.specs.Alike.{buffers_in};
 
-use crate::front::{Front, front_of};
 use fr_bus::error::BusError;
 use fr_bus::live::{LIVE_CYCLES, LiveBus};
 use fr_core::controller::Controller;
 use fr_core::error::StepError;
 use fr_core::event::{Event, Reply};
+use fr_core::front::{Front, front_of};
 use fr_interface::call::{Answer, Call};
 use fr_interface::state::InterfaceState;
 use fr_live::room::Room;

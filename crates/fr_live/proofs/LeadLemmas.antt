@@ -1,11 +1,10 @@
 -- The kept data change as the world that leads to them does.
-use Rattle.std.proofs.Common.{◌≡◌, ℕ, zero, suc, ◌<◌, Bool, true, false, cond, List, [], ◌∷◌, length, refl, sym, ap}
+use Rattle.std.proofs.Common.{◌≡◌, ℕ, zero, suc, ◌<◌, List, [], ◌∷◌, length, refl, sym, ap}
 use Rattle.std.proofs.Common.{subst, arith}
-use Rattle.std.specs.Prelude.{nat_lt, slice_index_or, slice_set, Ok, Err}
+use Rattle.std.specs.Prelude.{nat_lt, slice_index_or, slice_set}
 use Rattle.fr_bus.specs.Standing.{LiveStanding, IsLiveHistory}
 use Rattle.fr_bus.specs.States.{BusState}
 use Rattle.fr_core.specs.Carried.{Carried, Idle}
-use Rattle.fr_core.specs.declared.error.StepError.TheVariants.{UnknownNode}
 use Rattle.fr_core.specs.Steps.{with_interface, with_carried, with_bus}
 use Rattle.fr_core.specs.Worlds.{WorldState, no_interface, interface_at}
 use Rattle.fr_core.specs.Worlds as worlds
@@ -35,18 +34,6 @@ history_set [] (t ∷ ss) n h s are is = absurd are
 history_set (g ∷ hs) [] n h s are is = absurd are
 history_set (g ∷ hs) (t ∷ ss) zero h s are is = (is, are.1)
 history_set (g ∷ hs) (t ∷ ss) (suc n) h s are is = (are.0, history_set hs ss n h s are.1 is)
-
-pub index_any : {X : Type 0} (xs : List X) (n : ℕ) (d e : X) → n < length xs
-    → slice_index_or xs n d ≡ slice_index_or xs n e
-index_any [] n d e within = absurd (let none : ⊥ = omega (arith, within) in none)
-index_any (x ∷ xs) zero d e within = refl
-index_any (x ∷ xs) (suc n) d e within = index_any xs n d e (omega (arith, within))
-
--- the place of a node that there is
-pub place_ok : (there : Bool) (n place : ℕ) → Ok place ≡ cond there (Ok n) (Err UnknownNode)
-    → (there ≡ true) × (place ≡ n)
-place_ok true n place e = (refl, let same : place ≡ n = cc in same)
-place_ok false n place e = absurd (let none : ⊥ = cc in none)
 
 -- ---- a world that leads to the data
 

@@ -1,11 +1,11 @@
 -- A take and an observe of a node as one step.
-use Rattle.std.proofs.Common.{◌≡◌, ℕ, zero, suc, ◌<◌, true, false, List, [], ◌∷◌, Option, None, length, refl, sym}
+use Rattle.std.proofs.Common.{◌≡◌, ℕ, ◌<◌, true, [], ◌∷◌, Option, None, length, refl, sym}
 use Rattle.std.proofs.Common.{subst, ap, ◌∙◌, get_or-set_same}
 use Rattle.std.proofs.lemmas.Bool.{ltb-true}
-use Rattle.std.specs.Prelude.{slice_set, option_map, Result, Ok, Err, OnOk, OnErr, is_err, is_ok}
-use Rattle.std.specs.Result.{result_err}
+use Rattle.std.specs.Prelude.{slice_set, option_map}
 use Rattle.fr_bus.specs.Standing.{LiveStanding, ForEachLiveHistory, IsLiveHistory, bare}
 use Rattle.fr_bus.specs.States.{seen_last, take_done, take_refusal}
+use Rattle.fr_core.proofs.FrontLemmas.{set_again}
 use Rattle.fr_core.specs.Carried.{Carried, Idle, Waits, Took}
 use Rattle.fr_core.specs.declared.event.Event.TheVariants.{Take, Observe}
 use Rattle.fr_core.specs.declared.error.StepError.{StepError}
@@ -23,33 +23,6 @@ use Rattle.fr_live.specs.LiveWorlds.{LiveState, Leads, carried_at, has_node, sta
 use Rattle.fr_slots.specs.declared.channel.Channel.TheVariants.{A, B}
 use Rattle.fr_slots.specs.Windows.{Opportunity}
 use Rattle.fr_status.specs.Forms.{Seen}
-
-set_again : {X : Type 0} (xs : List X) (n : ℕ) (x y : X) → slice_set (slice_set xs n x) n y ≡ slice_set xs n y
-set_again [] n x y = refl
-set_again (z ∷ zs) zero x y = refl
-set_again (z ∷ zs) (suc n) x y = ap (λ ws. z ∷ ws) (set_again zs n x y)
-
-no_refused : {X E : Type 0} (r : Result X E) → is_err r ≡ false → result_err r ≡ None
-no_refused (Ok x) accepted = refl
-no_refused (Err e) accepted = absurd (let none : ⊥ = cc accepted in none)
-
--- an answer that refuses nothing holds what it promises
-module _ {X E : Type 0} (P : Type 0) where
-  pub accepted_holds : (r : Result X E) → is_err r ≡ false → OnOk r P → P
-  accepted_holds (Ok x) accepted holds = holds
-  accepted_holds (Err e) accepted holds = absurd (let none : ⊥ = cc accepted in none)
-
-  pub ok_holds : (r : Result X E) → is_ok r ≡ true → OnOk r P → P
-  ok_holds (Ok x) accepted holds = holds
-  ok_holds (Err e) accepted holds = absurd (let none : ⊥ = cc accepted in none)
-
-  pub err_holds : (r : Result X E) → is_err r ≡ true → OnErr r P → P
-  err_holds (Ok x) refused holds = absurd (let none : ⊥ = cc refused in none)
-  err_holds (Err e) refused holds = holds
-
-pub accepted_none : {X E : Type 0} (r : Result X E) (found : Option E) → is_err r ≡ false → result_err r ≡ found
-    → found ≡ None
-accepted_none r found accepted told = sym told ∙ no_refused r accepted
 
 -- the data of a node whose take is due: its window, and the answers of the bus and of the interface
 pub record Sees (l : LiveState) (n : ℕ) (window : Opportunity) (bus : LiveStanding) (h : Standing) (a b : Seen)

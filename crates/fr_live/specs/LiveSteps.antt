@@ -1,6 +1,6 @@
 -- One step of a world that keeps no history (project-defined): when it is refused, by the kept data, and the world with
 -- its history after it.
-use Rattle.std.specs.Prelude.{◌≡◌, ℕ, true, List, [], ◌∷◌, Option, Some, None, option_map, Result, Ok, Err}
+use Rattle.std.specs.Prelude.{◌≡◌, ℕ, true, List, Option, Some, None, option_map, Result, Ok, Err}
 use Rattle.std.specs.Prelude.{if◌then◌else◌}
 use Rattle.std.specs.Option.{is_some}
 use Rattle.fr_bus.specs.declared.error.BusError.TheVariants.{Memory}
@@ -14,7 +14,9 @@ use Rattle.fr_core.specs.declared.event.Reply.{Reply}
 use Rattle.fr_core.specs.declared.event.Reply.TheVariants.{Committed}
 use Rattle.fr_interface.specs.declared.call.Answer.{Answer}
 use Rattle.fr_interface.specs.declared.interface.Receipt.{Receipt}
-use Rattle.fr_core.specs.declared.event.Event.TheVariants.{Look, Fetch, Put, Take, Observe, Seal}
+use Rattle.fr_core.specs.declared.event.Event.TheVariants.{Seal}
+unfoldable pub use Rattle.fr_core.specs.Fronts.{Accepts}
+pub use Rattle.fr_core.specs.Fronts.{offer_events, see_events}
 use Rattle.fr_core.specs.Steps.{Steps, Applies, reply_of, step_done, step_refusal, unless_collecting}
 use Rattle.fr_core.specs.Worlds.{WorldState}
 use Rattle.fr_interface.specs.Standing.{fetch_refused, observe_refused}
@@ -106,11 +108,6 @@ SealsMachine old (Err e) new = (option_map Bus (seal_refusal (bare old.bus.bus))
 
 -- ---- accepted events
 
--- each event is accepted in its turn, and they lead from `old` to `new`
-unfoldable pub Accepts : WorldState → List Event → WorldState → Type 0
-Accepts old [] new = new ≡ old
-Accepts old (event ∷ events) new = (step_refusal old event ≡ None) × Accepts (step_done old event) events new
-
 -- each world that leads to the data accepts the events, and then leads to the data after them
 abbrev pub LiveAccepts : LiveState → List Event → LiveState → Type 0
 LiveAccepts old events new = (w : WorldState) → Leads w old → (v : WorldState) × Accepts w events v × Leads v new
@@ -127,10 +124,3 @@ LiveRefuses l (Some event) = (w : WorldState) → Leads w l → is_some (step_re
 abbrev pub RefusesAlike : LiveState → Option Event → Type 0
 RefusesAlike l None = Unit {0}
 RefusesAlike l (Some event) = (w : WorldState) → IsWorldHistory l w → is_some (step_refusal w event) ≡ true
-
--- the events of a node before the seal of a window, and those after it
-abbrev pub offer_events : ℕ → List Event
-offer_events n = Look n ∷ Fetch n ∷ Put n ∷ []
-
-abbrev pub see_events : ℕ → List Event
-see_events n = Take n ∷ Observe n ∷ []

@@ -1,19 +1,19 @@
 -- What happens one after another to each world that leads to the kept data.
 use Rattle.std.proofs.Common.{◌≡◌, ℕ, ◌+◌, ◌<◌, ◌≤◌, Bool, true, false, cond, List, [], ◌∷◌, ◌++◌, length, take, get_or}
-use Rattle.std.proofs.Common.{Some, Result, Ok, Err, refl, sym, ap, subst, drop, ◌∙◌}
+use Rattle.std.proofs.Common.{Some, Result, Ok, Err, sym, ap, subst, drop, ◌∙◌}
 use Rattle.std.specs.Prelude.{OnOk}
 use Rattle.std.proofs.lemmas.List.{take_all}
 use Rattle.std.specs.List.{flat_map}
 use Rattle.fr_core.specs.declared.event.Event.{Event}
 use Rattle.fr_core.specs.declared.event.Event.TheVariants.{Inject, Advance}
 use Rattle.fr_core.specs.declared.error.StepError.{StepError}
-use Rattle.fr_core.specs.Steps.{Applies, step_done, step_reply}
+use Rattle.fr_core.specs.Steps.{Applies, step_reply}
 use Rattle.fr_core.specs.Worlds.{WorldState}
 use Rattle.fr_endless.proofs.AlikeLemmas.{opened_same}
 use Rattle.fr_endless.specs.Alike.{Alike}
-use Rattle.fr_endless.proofs.MovingLemmas.{take_split}
-use Rattle.fr_live.specs.LiveSteps.{Accepts, AcceptsAlike, AppliesAlike}
+use Rattle.fr_live.specs.LiveSteps.{AcceptsAlike, AppliesAlike}
 use Rattle.fr_live.specs.LiveWorlds.{LiveState, IsWorldHistory}
+use Rattle.fr_playing.proofs.PassingLemmas.{accepts_pass, take_split}
 use Rattle.fr_playing.proofs.PlayLemmas.{passes_window}
 use Rattle.fr_playing.proofs.StrikingLemmas.{flat-more, passes_none, passes_one, passes_append, passes_more}
 use Rattle.fr_playing.specs.Striking.{strike_events, Passes}
@@ -67,12 +67,6 @@ passed_more l mid new events i event lt is first second =
     alike_then l mid new (λ w v. Passes w (take i events) v) (λ w v. Passes w (event ∷ []) v)
     (λ w v. Passes w (take (i + 1) events) v) first second
     (λ w u v one two. passes_more events i event w u v lt is one two)
-
-accepts_pass : (es : List Event) (w v : WorldState) → Accepts w es v → Passes w es v
-unfolding Accepts Passes
-accepts_pass [] w v same = same
-accepts_pass (e ∷ es) w v accepts =
-    (step_done w e, step_reply w e, (accepts.0, refl, refl), accepts_pass es (step_done w e) v accepts.1)
 
 -- the first of the remaining events are accepted
 pub passed_front : (l mid new : LiveState) (events rest : List Event) (i n : ℕ) → rest ≡ drop i events

@@ -1,6 +1,7 @@
 use Rattle.std.proofs.Common.{◌+◌, ◌<◌, arith, length}
-use Rattle.fr_endless.proofs.MovingLemmas.{did_all, did_late, did_more, did_passed, rest_all, turn_as}
+use Rattle.fr_endless.proofs.MovingLemmas.{did_all, did_late, did_more, did_passed, turn_as}
 use Rattle.fr_endless.specs.Taps.{with_taps}
+use Rattle.fr_playing.proofs.PassingLemmas.{rest_all}
 use Rattle.fr_endless.proofs.moving.do_all.Goals.{then-passed-eq0, else-passed-eq0}
 use Rattle.fr_endless.proofs.moving.do_all.Goals as goal
 

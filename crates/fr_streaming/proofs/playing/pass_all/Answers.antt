@@ -1,5 +1,5 @@
 use Rattle.std.proofs.Common.{◌+◌, ◌<◌, arith, length}
-use Rattle.fr_endless.proofs.MovingLemmas.{rest_all}
+use Rattle.fr_playing.proofs.PassingLemmas.{rest_all}
 use Rattle.fr_streaming.proofs.AlikeLemmas.{passed_all, passed_as, passed_front, passed_more, passed_none}
 use Rattle.fr_streaming.proofs.playing.pass_all.Goals.{then-passed-eq0+in_ok-pass, else-passed-eq0}
 use Rattle.fr_streaming.proofs.playing.pass_all.Goals as goal

@@ -1,6 +1,6 @@
 use Rattle.std.proofs.Common.{◌≡◌, ◌++◌, ◌∙◌, List, arith, ap, sym, subst, length, length-append, take}
 use Rattle.fr_core.specs.declared.event.Event.{Event}
-use Rattle.fr_endless.proofs.TraceLemmas.{take_front}
+use Rattle.fr_core.proofs.FrontLemmas.{take_front}
 use Rattle.fr_endless.specs.Fronts.{events_of}
 use Rattle.fr_live.specs.LiveSteps.{AcceptsAlike}
 use Rattle.fr_endless.proofs.world.EndlessWorld.pass_front.Goals as goal

@@ -2,6 +2,7 @@ use Rattle.std.proofs.Common.{◌≡◌, rules, ◌<◌, true, Some, length, sym
 use Rattle.std.proofs.lemmas.Bool.{ltb-true}
 use Rattle.std.specs.Prelude.{option_map, slice_set}
 use Rattle.std.specs.Result.{result_err}
+use Rattle.fr_core.proofs.FrontLemmas.{place_ok}
 use Rattle.fr_core.specs.declared.error.StepError.TheVariants.{Host}
 use Rattle.fr_core.specs.Steps.{with_interface}
 use Rattle.fr_core.specs.Worlds.{WorldState, interface_at}
@@ -10,7 +11,7 @@ use Rattle.fr_interface.specs.Calls.{call_refusal, call_answer, call_entry}
 use Rattle.fr_interface.specs.Standing.{IsHistory}
 use Rattle.fr_interface.specs.State.{with_entry}
 use Rattle.fr_live.proofs.CallLemmas.{place_no, no_node, node_call, done_call}
-use Rattle.fr_live.proofs.LeadLemmas.{place_ok, nodes_same, history_lent, with_history}
+use Rattle.fr_live.proofs.LeadLemmas.{nodes_same, history_lent, with_history}
 use Rattle.fr_live.specs.LiveWorlds.{LiveState, Leads, has_node}
 use Rattle.fr_live.proofs.machine.LiveMachine.call.Goals as goal
 

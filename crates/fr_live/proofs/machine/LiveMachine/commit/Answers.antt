@@ -1,12 +1,13 @@
 use Rattle.std.proofs.Common.{◌≡◌, ◌<◌, length, sym, ap, subst, ◌∙◌}
 use Rattle.std.proofs.lemmas.Bool.{ltb-true}
 use Rattle.std.specs.Prelude.{slice_set}
+use Rattle.fr_core.proofs.FrontLemmas.{place_ok}
 use Rattle.fr_core.specs.Steps.{with_interface}
 use Rattle.fr_core.specs.Worlds.{interface_at}
 use Rattle.fr_interface.specs.Standing.{IsHistory}
 use Rattle.fr_interface.specs.State.{with_entry}
 use Rattle.fr_journal.specs.declared.entry.Entry.TheVariants as entries
-use Rattle.fr_live.proofs.LeadLemmas.{place_ok, history_lent, with_history}
+use Rattle.fr_live.proofs.LeadLemmas.{history_lent, with_history}
 use Rattle.fr_live.specs.LiveWorlds.{LiveState, Leads, has_node}
 use Rattle.fr_interface.proofs.StandingLemmas.{entries-length}
 use Rattle.fr_interface.specs.Standing.{entries_before}

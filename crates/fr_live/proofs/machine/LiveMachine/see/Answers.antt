@@ -3,15 +3,14 @@ use Rattle.std.proofs.lemmas.Bool.{ltb-true}
 use Rattle.std.specs.Prelude.{slice_set}
 use Rattle.fr_bus.specs.Standing.{ForEachLiveHistory, IsLiveHistory, LiveStanding, bare}
 use Rattle.fr_bus.specs.States.{take_done, take_refusal}
+use Rattle.fr_core.proofs.FrontLemmas.{accepted_holds, accepted_none, err_holds, index_any, ok_holds, place_ok}
 use Rattle.fr_core.specs.Carried.{Idle, Waits, carried_of}
 use Rattle.fr_core.specs.declared.event.Event.TheVariants.{Take, Observe}
 use Rattle.fr_interface.specs.Sights.{seen_in}
 use Rattle.fr_interface.specs.Standing.{ForEachHistory, IsHistory, Standing, observe_refused}
 use Rattle.fr_interface.specs.State.{with_entry}
 use Rattle.fr_journal.specs.declared.entry.Entry.TheVariants as entries
-use Rattle.fr_live.proofs.LeadLemmas.{index_any, place_ok}
-use Rattle.fr_live.proofs.SeeLemmas.{Sees, accepted_holds, accepted_none, err_holds, ok_holds}
-use Rattle.fr_live.proofs.SeeLemmas.{sees_both}
+use Rattle.fr_live.proofs.SeeLemmas.{Sees, sees_both}
 use Rattle.fr_live.specs.LiveSteps.{LiveAccepts}
 use Rattle.fr_live.specs.LiveWorlds.{LiveState, carried_at, has_node, no_standing, standing_at}
 use Rattle.fr_slots.specs.Windows.{Opportunity}

@@ -1,0 +1,19 @@
+use Rattle.std.proofs.Common.{◌≡◌, ◌++◌, ◌∙◌, List, arith, ap, sym, subst, length, length-append, take}
+use Rattle.fr_core.proofs.FrontLemmas.{take_front}
+use Rattle.fr_core.specs.declared.event.Event.{Event}
+use Rattle.fr_core.specs.Fronts.{Accepts, events_of}
+use Rattle.fr_core.proofs.world.World.pass_front.Goals as goal
+
+pub returns-clause-few : goal.returns-clause-few
+returns-clause-few c =
+    let rest = c.front_of.ensures.0 in
+    let all : length c.args.events.now ≡ length (events_of c.front_of.result ++ rest) = ap length
+    c.front_of.ensures.1 in
+    omega (arith, c.pass-passed.ensures.few, all, length-append (events_of c.front_of.result) rest)
+
+pub returns-clause-accepts : goal.returns-clause-accepts
+returns-clause-accepts c =
+    subst (λ (es : List Event). Accepts c.args.self.now es c.pass-passed.new.self)
+    (sym (take_front c.pass-passed.result (events_of c.front_of.result) c.front_of.ensures.0
+    c.pass-passed.ensures.few)
+    ∙ ap (take c.pass-passed.result) (sym c.front_of.ensures.1)) c.pass-passed.ensures.accepts

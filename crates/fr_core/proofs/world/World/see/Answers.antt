@@ -1,0 +1,5 @@
+use Rattle.fr_core.proofs.FrontLemmas.{accepts_kept}
+use Rattle.fr_core.proofs.world.World.see.Goals as goal
+
+pub invariant_of-self : goal.invariant_of-self
+invariant_of-self c = accepts_kept _ _ _ c.see-accepted.ensures.accepts c.self.invariant
