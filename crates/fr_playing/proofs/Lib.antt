@@ -1,5 +1,6 @@
 pub mod StrikingLemmas
 pub mod MovingLemmas
+pub mod PassingLemmas
 pub mod LedLemmas
 pub mod FileLemmas
 pub mod LawLemmas

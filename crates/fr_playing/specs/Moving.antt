@@ -1,6 +1,6 @@
 -- The faults of a window and the steps that are due in it, as lists of events.
-use Rattle.std.specs.Prelude.{◌≡◌, ℕ, zero, suc, ◌-◌, ◌<◌, ◌⊎◌, Bool, true, false, List, [], ◌∷◌, ◌++◌}
-use Rattle.std.specs.Prelude.{Option, Some, None, Ok, Err, if◌then◌else◌}
+use Rattle.std.specs.Prelude.{◌≡◌, ℕ, zero, suc, ◌<◌, ◌⊎◌, Bool, true, false, List, [], ◌∷◌, ◌++◌}
+use Rattle.std.specs.Prelude.{Option, Some, None, Ok, Err}
 use Rattle.std.specs.List.{flat_map, range_with_len, fold}
 use Rattle.fr_bus.specs.Record.{Recorded}
 use Rattle.fr_bus.specs.States.{BusState, collecting_of}
@@ -8,7 +8,8 @@ use Rattle.fr_bus.specs.Windows.{cycles_begun}
 use Rattle.fr_core.specs.declared.error.StepError.{StepError}
 use Rattle.fr_core.specs.declared.error.StepError.TheVariants.{WrongTurn}
 use Rattle.fr_core.specs.declared.event.Event.{Event}
-use Rattle.fr_core.specs.declared.event.Event.TheVariants.{Look, Fetch, Put, Take, Observe, Seal, Advance}
+use Rattle.fr_core.specs.declared.event.Event.TheVariants.{Observe, Seal, Advance}
+pub use Rattle.fr_core.specs.Fronts.{offer_events, see_events}
 use Rattle.fr_core.specs.Runs.{Answer, StepsAll}
 use Rattle.fr_core.specs.Steps.{Steps}
 use Rattle.fr_core.specs.Worlds.{WorldState}
@@ -20,12 +21,6 @@ use Rattle.fr_slots.specs.Windows.{Opportunity, opens_cycle, run_cycle}
 
 abbrev pub observe_events : ℕ → List Event
 observe_events n = Observe n ∷ []
-
-abbrev pub offer_events : ℕ → List Event
-offer_events n = Look n ∷ Fetch n ∷ Put n ∷ []
-
-abbrev pub see_events : ℕ → List Event
-see_events n = Take n ∷ Observe n ∷ []
 
 -- for each of `count` nodes
 abbrev pub for_nodes : (ℕ → List Event) → ℕ → List Event

@@ -22,11 +22,11 @@
 //!
 //! # Inner workings
 //!
-//! 1. `play` (`play`) calls `check_run`, and makes the list of steps that are due in a window (`whole_window` of
-//!    `moving`), and the opening world.
+//! 1. `play` (`play`) calls `check_run`, and makes the opening world.
 //! 2. `do_lines` (`call`) executes the lines of a cycle, each by one event, and keeps an `ExecutedCall` with the call,
 //!    the entry and the reply.
-//! 3. `play_windows` (`windows`) executes window after window: the faults (`striking`), the due steps, the advance.
+//! 3. `play_windows` (`windows`) executes window after window: the faults (`striking`), the offer of each node, the
+//!    seal, the observation of each node, the advance.
 //! 4. A session moves on by `finish_window` and `finish_cycles` (`moving`), which execute what is still due.
 #![tactic(auto)]
 

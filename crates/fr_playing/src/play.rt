@@ -1,7 +1,8 @@
 //! A whole run, one event after another.
-ghost use Rattle.std.specs.Prelude.{◌≡◌, [], IfOk, IfErr, OnOk};
+ghost use Rattle.std.specs.Prelude.{◌≡◌, ◌≤◌, [], IfOk, IfErr, OnOk};
 ghost use Rattle.fr_core.specs.Headline.{Headline};
 ghost use Rattle.fr_runs.specs.Refusing.{Refuses};
+ghost use Rattle.fr_playing.specs.Moving.{whole_window};
 ghost use Rattle.fr_playing.specs.Playing.{AddsCycle, PlaysCycles, IsPlayed};
 ghost use Rattle.fr_playing.specs.Refusals.{refusal_told, IsOfRun};
 ghost use Rattle.fr_playing.specs.Settled.{IsSettled};
@@ -9,9 +10,7 @@ ghost use Rattle.fr_playing.specs.Settled.{IsSettled};
 use crate::call::{ExecutedCall, do_lines};
 use crate::error::PlayError;
 use crate::hindrance::{Hindrance, error_of};
-use crate::moving::whole_window;
 use crate::windows::play_windows;
-use fr_core::event::Event;
 use fr_core::script::Script;
 use fr_core::world::World;
 use fr_runs::check::check_run;
@@ -34,14 +33,15 @@ fn play_cycle(
     cycle: u16,
     scripts: &[Script],
     faults: &[FaultLine],
-    due: &[Event],
+    nodes: u8,
     calls: &mut Vec<ExecutedCall>,
 ) -> Result<(), Hindrance>
-    ensures { OnOk result (AddsCycle cycle scripts.now faults.now due.now calls.old.items calls.new.items
+    requires { nodes ≤ 16 }
+    ensures { OnOk result (AddsCycle cycle scripts.now faults.now (whole_window nodes) calls.old.items calls.new.items
         world.old world.new) }
 {
     do_lines(world, cycle, scripts, calls)?;
-    play_windows(world, cycle, faults, due)
+    play_windows(world, cycle, faults, nodes)
 }
 
 /// Executes this number of cycles.
@@ -49,15 +49,17 @@ fn play_cycles(
     world: &mut World,
     scripts: &[Script],
     faults: &[FaultLine],
-    due: &[Event],
+    nodes: u8,
     cycles: u16,
     calls: &mut Vec<ExecutedCall>,
 ) -> Result<(), Hindrance>
-    requires { calls.old.items ≡ [] }
-    ensures { OnOk result (PlaysCycles scripts.now faults.now due.now cycles world.old calls.new.items world.new) }
+    requires few { nodes ≤ 16 }
+    requires empty { calls.old.items ≡ [] }
+    ensures { OnOk result (PlaysCycles scripts.now faults.now (whole_window nodes) cycles world.old calls.new.items
+        world.new) }
 {
     for cycle in 0..cycles {
-        play_cycle(world, cycle, scripts, faults, due, calls)?;
+        play_cycle(world, cycle, scripts, faults, nodes, calls)?;
     }
     Ok(())
 }
@@ -72,14 +74,13 @@ fn play_all(
 ) -> Result<Played, Hindrance>
     ensures { IfOk result (IsPlayed cluster.now scripts.now faults.now cycles) }
 {
-    let due = whole_window(alloc, cluster.nodes())?;
     let mut world = World::new(alloc, cluster, cycles)?;
     let mut calls = Vec::new(alloc);
     play_cycles(
         &mut world,
         scripts,
         faults,
-        due.as_slice(),
+        cluster.nodes(),
         cycles,
         &mut calls,
     )?;
