@@ -104,8 +104,11 @@ pub strikes_open : (l new : ToldState) (faults : List FaultLine) (window : Oppor
     → ToldAlike l (λ w v. Strikes faults w v) new
 strikes_open l new faults window cycle opened cycle_is tries s w is =
     let got = tries s w is in
-    let cycle_there = cycle_is ∙ ap (λ (n : ℕ). run_cycle n window) (sym (begun_same l.live w is.leads)) in
-    (got.0, strikes_some faults w window cycle got.0 (collecting_is l.live w is.leads ∙ opened) cycle_there got.1, got.2)
+    let cycle_there = cycle_is ∙ ap (λ (n : ℕ). run_cycle n window) (sym (begun_same l.live w is.leads)) in (
+      got.0,
+      strikes_some faults w window cycle got.0 (collecting_is l.live w is.leads ∙ opened) cycle_there got.1,
+      got.2,
+    )
 
 pub strikes_nothing : (l : ToldState) (faults : List FaultLine) → collecting_of (bare l.live.bus.bus) ≡ None
     → ToldAlike l (λ w v. Strikes faults w v) l

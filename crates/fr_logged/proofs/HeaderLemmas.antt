@@ -1,6 +1,6 @@
 -- The bits that the header CRC covers, as fields of the header.
-use Rattle.std.proofs.Common.{◌≡◌, ℕ, ◌+◌, ◌*◌, ◌/◌, ◌^◌, ◌≤◌, Bool, eqb, List, ◌∷◌, ◌++◌, length, take, drop, [], get_or, refl}
-use Rattle.std.proofs.Common.{sym, ap, ◌∙◌, arith, bit_and, length-append}
+use Rattle.std.proofs.Common.{◌≡◌, ℕ, ◌+◌, ◌*◌, ◌/◌, ◌^◌, ◌≤◌, Bool, eqb, List, ◌∷◌, ◌++◌, length, take, drop, []}
+use Rattle.std.proofs.Common.{get_or, refl, sym, ap, ◌∙◌, arith, bit_and, length-append}
 use Rattle.std.proofs.lemmas.List.{append_assoc, length-take, length-drop, take-append-drop, drop-drop, take_at}
 use Rattle.fr_frame.specs.Bits.{bits_of, number_of, bits_of_bytes}
 use Rattle.fr_frame.specs.Header.{bits_at, number_at}

@@ -1,6 +1,7 @@
 //! The audit of a recording between a reader and a writer.
 
-ghost use Rattle.std.specs.Prelude.{◌≡◌, ◌<◌, ◌≤◌, false, length, take, IfOk, IfSome, Err, OnOk, option_to_list, [], if◌then◌else◌};
+ghost use Rattle.std.specs.Prelude.{◌≡◌, ◌<◌, ◌≤◌, false, length, take, IfOk, IfSome, Err};
+ghost use Rattle.std.specs.Prelude.{OnOk, option_to_list, [], if◌then◌else◌};
 ghost use Rattle.fr_monitoring.specs.FrameText.{last_text};
 ghost use Rattle.fr_text.specs.Writing.{Writes};
 ghost use Rattle.fr_recording.specs.Stream.{take_bytes, records_from, told_of};

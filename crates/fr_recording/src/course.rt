@@ -1,6 +1,7 @@
 //! The course of a capture file: the part that comes next, and the effect of each whole part.
 
-ghost use Rattle.std.specs.Prelude.{◌≡◌, ◌-◌, ◌≤◌, ◌<◌, [], length, take, max, min, None, Some, IfOk, IfSome, IfNone, IsTrue};
+ghost use Rattle.std.specs.Prelude.{◌≡◌, ◌-◌, ◌≤◌, ◌<◌, [], length, take, max, min};
+ghost use Rattle.std.specs.Prelude.{None, Some, IfOk, IfSome, IfNone, IsTrue};
 ghost use Rattle.fr_recording.specs.Captures.{magic_in, order_in, record_head};
 ghost use Rattle.fr_recording.specs.Numbers.{most_captured};
 ghost use Rattle.fr_recording.specs.Stream.{needed, less, fresh, read_on, go, bad, start, with_captured, after_magic};

@@ -9,7 +9,8 @@ use Rattle.fr_lines.proofs.fronts.number_at_front.Goals.{else-bytes-eq48-via-els
 
 -- the word in front spells the number
 spelled : (c : goal.After-result-1)
-    → number_in c.args.bound (take c.digits_at_front-len.result.0 c.args.bytes.now) ≡ Some c.digits_at_front-len.result.1
+    → number_in c.args.bound (take c.digits_at_front-len.result.0 c.args.bytes.now)
+    ≡ Some c.digits_at_front-len.result.1
 spelled c =
     let len = c.digits_at_front-len.result.0 in
     let word = take len c.args.bytes.now in

@@ -13,5 +13,6 @@ returns c =
     (four_fit _ _ _ _ (search rules) (search rules) (search rules) (search rules)) c.from_be_bytes-front.ensures in
     let byte : get_or bytes 4 0 < 256 = search rules in
     number-more bytes 4 c.from.result c.from-2.result (omega (arith, c.requires)) (omega arith)
-    c.from-2.ensures (omega (arith, c.from-2.ensures, byte)) (omega (arith, c.from.ensures, c.from_be_bytes-front.type_inv))
+    c.from-2.ensures (omega (arith, c.from-2.ensures, byte))
+    (omega (arith, c.from.ensures, c.from_be_bytes-front.type_inv))
     (ap (bits_of 32) c.from.ensures ∙ word ∙ ap bits_of_bytes (sym (front_four bytes (omega (arith, c.requires)))))

@@ -1,5 +1,5 @@
-use Rattle.std.proofs.Common.{rules, arith, ◌≡◌, ℕ, ◌+◌, ◌≤◌, ◌<◌, ◌^◌, cond, Bool, List, ◌++◌, ◌∷◌, [], take, true, false, refl, ap}
-use Rattle.std.proofs.Common.{ap₂, ◌∙◌}
+use Rattle.std.proofs.Common.{rules, arith, ◌≡◌, ℕ, ◌+◌, ◌≤◌, ◌<◌, ◌^◌, cond, Bool, List, ◌++◌, ◌∷◌, [], take}
+use Rattle.std.proofs.Common.{true, false, refl, ap, ap₂, ◌∙◌}
 use Rattle.std.proofs.lemmas.List.{take_all}
 use Rattle.fr_matrix.specs.Places.{columns_in, most_drawn}
 use Rattle.fr_matrix.specs.declared.grid.Grid.{Grid}

@@ -11,6 +11,6 @@ loop-count-preserved c =
     let within : is_at_cycle c.play_window.new.world.bus.opened ≡ false =
     ap (λ b. is_at_cycle b.opened) (sym c.bus.ensures.value)
     ∙ ap is_at_cycle (sym c.window.ensures) ∙ sym c.is_at_cycle.ensures ∙ c.if-is_at_cycle.false in
-    within_more c.args.cycle c.args.faults.now (whole_window c.args.nodes) c.loop-count.count c.args.world.now c.loop-count.world
-    c.play_window.new.world
+    within_more c.args.cycle c.args.faults.now (whole_window c.args.nodes) c.loop-count.count c.args.world.now
+    c.loop-count.world c.play_window.new.world
     c.loop-count.invariant c.in_ok-play_window.ensures within

@@ -1,5 +1,5 @@
-use Rattle.std.proofs.Common.{◌≡◌, Bool, true, false, cond, take, sym, ap, subst, ◌∙◌, ◌+◌, ◌-◌, ◌<◌, ◌≤◌, ◌^◌, arith, rules, refl}
-use Rattle.std.proofs.Common.{IsTrue}
+use Rattle.std.proofs.Common.{◌≡◌, Bool, true, false, cond, take, sym, ap, subst, ◌∙◌, ◌+◌, ◌-◌, ◌<◌, ◌≤◌, ◌^◌, arith}
+use Rattle.std.proofs.Common.{rules, refl, IsTrue}
 use Rattle.std.proofs.lemmas.Option.{slice_get_read}
 use Rattle.fr_bus.specs.Windows.{begins_cycle, cycles_begun}
 use Rattle.fr_runs.proofs.FaultedLemmas.{faults_all, faults_on, faults_at, begun_yes, begun_no}
@@ -54,7 +54,12 @@ loop-sealed-preserved c =
     let last : HasFaultsAt lines rs k =
     faults_at lines c.if-opens_cycle.kept.items rs k (begun - 1) here at
     (ap (λ n. n - 1) counted) kept has in
-    record { begun = counted; few = omega (arith, more, before.few, digit (begins_cycle here)); kept = kept; faults = faults_on lines rs k before.faults last }
+    record {
+      begun = counted;
+      few = omega (arith, more, before.few, digit (begins_cycle here));
+      kept = kept;
+      faults = faults_on lines rs k before.faults last;
+    }
 
 pub returns : goal.returns
 returns c = λ yes. faults_all c.args.lines.now c.args.recorded.now c.loop-sealed.sealed-index c.loop-sealed-test.false

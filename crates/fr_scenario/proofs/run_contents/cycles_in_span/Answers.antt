@@ -16,7 +16,8 @@ loop-cycle-preserved c =
       | then-names w ↦ record {
         few = omega (arith, w.count-is, few);
         left = count_more named true c.loop-cycle.count c.if-names.count c.loop-cycle.cycle c.args.cycles all
-            (there ∙ sym c.names.ensures ∙ w.if-names.true) c.loop-cycle-test.true w.count-is c.loop-cycle.invariant.left;
+            (there ∙ sym c.names.ensures ∙ w.if-names.true) c.loop-cycle-test.true w.count-is
+            c.loop-cycle.invariant.left;
       }
       | else-names w ↦ record {
         few = omega (arith, w.count-is, few);

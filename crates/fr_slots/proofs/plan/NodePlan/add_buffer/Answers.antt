@@ -19,7 +19,8 @@ invariant_of-self c =
             owned_fit = c.self.invariant.plan_is.owned_fit;
             owned_are = c.self.invariant.plan_is.owned_are;
             few_buffers = search rules;
-            buffers_fit = rw c.push.ensures.items (AllFit-snoc buffer_fits _ _ c.self.invariant.plan_is.buffers_fit (search rules));
+            buffers_fit = rw c.push.ensures.items
+                (AllFit-snoc buffer_fits _ _ c.self.invariant.plan_is.buffers_fit (search rules));
             buffers_are = rw c.push.ensures.items (Each-snoc IsBuffer _ _ c.self.invariant.plan_is.buffers_are
                 c.buffer_fits.ensures.ranges);
             queue_fits = c.self.invariant.plan_is.queue_fits;

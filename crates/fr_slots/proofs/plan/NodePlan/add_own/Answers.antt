@@ -16,8 +16,10 @@ invariant_of-self c =
             some_slot_entries = c.self.invariant.plan_is.some_slot_entries;
             slot_entries_fit = c.self.invariant.plan_is.slot_entries_fit;
             few_owned = search rules;
-            owned_fit = rw c.push.ensures.items (AllFit-snoc own_fits _ _ c.self.invariant.plan_is.owned_fit (search rules));
-            owned_are = rw c.push.ensures.items (Each-snoc IsOwn _ _ c.self.invariant.plan_is.owned_are c.own_fits.ensures.ranges);
+            owned_fit = rw c.push.ensures.items
+                (AllFit-snoc own_fits _ _ c.self.invariant.plan_is.owned_fit (search rules));
+            owned_are = rw c.push.ensures.items
+                (Each-snoc IsOwn _ _ c.self.invariant.plan_is.owned_are c.own_fits.ensures.ranges);
             few_buffers = c.self.invariant.plan_is.few_buffers;
             buffers_fit = c.self.invariant.plan_is.buffers_fit;
             buffers_are = c.self.invariant.plan_is.buffers_are;
