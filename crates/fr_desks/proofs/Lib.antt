@@ -1,1 +1,2 @@
+pub mod LetterLemmas
 pub mod PassLemmas

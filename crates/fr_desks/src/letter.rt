@@ -1,6 +1,8 @@
 //! Letters: each node's observations in the window that was delivered last.
 
-ghost use Rattle.std.specs.Prelude.{◌≡◌, true, Some, IfOk, OnOk, OnErr};
+ghost use Rattle.std.specs.Prelude.{◌≡◌, ◌<◌, true, Some, IfOk, OnOk, OnErr, length, option_map, slice_get, slice_set};
+ghost use Rattle.fr_bus.specs.States.{take_done};
+ghost use Rattle.fr_desks.specs.Letters.{AreSeen, sees};
 ghost use Rattle.fr_status.specs.declared.seen.Seen.TheVariants as Sees;
 
 use arrayvec::ArrayVec;
@@ -74,6 +76,35 @@ fn write_seen(place: &mut Seen, seen: &Seen)
     }
 }
 
+/// Makes the take of node `at` in the window of this number, and writes its observations to the node's place.
+///
+/// Fails with `UnknownNode` without such a node or place, and otherwise as `Bus::take_into` does.
+fn take_at(places: &mut [Observations], bus: &mut Bus, at: u8, number: u32) -> Result<(), BusError>
+    ensures within { OnOk result (at < length places.old) }
+    ensures places { OnOk result (places.new ≡ slice_set places.old at (sees bus.old at)) }
+    ensures bus { OnOk result (bus.new ≡ take_done bus.old at) }
+{
+    let Some(node) = NodeId::new(at) else {
+        return Err(BusError::UnknownNode);
+    };
+    let index = usize::from(at);
+    if index >= places.len() {
+        return Err(BusError::UnknownNode);
+    }
+    let place = &mut places[index];
+    bus.take_into(node, number, &mut place.a, &mut place.b)
+}
+
+/// Makes the takes of all nodes, in their order, and writes their observations to their places.
+fn take_each(places: &mut [Observations], bus: &mut Bus, number: u32) -> Result<(), BusError>
+    ensures { OnOk result (AreSeen bus.old (length bus.old.stations) places.new) }
+{
+    for at in 0..bus.nodes() {
+        take_at(places, bus, at, number)?;
+    }
+    Ok(())
+}
+
 /// The observations of all nodes in a window, before each node gets its own (project-defined).
 ///
 /// The thread that moves the bus on has one for all windows.
@@ -104,23 +135,18 @@ impl Delivery {
 
     /// Makes the takes of all nodes, in their order, and then the bus's advance.
     ///
-    /// Returns the error of the bus.
+    /// Fails with `NotSealed` if the run is over, and otherwise with the error of the first take or of the advance that
+    /// is refused. The takes before it stay made.
     pub(crate) fn take_all(&mut self, bus: &mut Bus) -> Result<(), BusError>
+        ensures seen { OnOk result (AreSeen bus.old (length bus.old.stations) self.new.places.items) }
+        ensures number { OnOk result (option_map (λ w. w.number) bus.old.opened ≡ Some self.new.number) }
         ensures next { OnOk result (self.new.next ≡ bus.new.opened) }
     {
         let Some(window) = bus.window() else {
             return Err(BusError::NotSealed);
         };
         let number = window.number;
-        for at in 0..bus.nodes() {
-            let (Some(node), Some(place)) = (
-                NodeId::new(at),
-                self.places.as_mut_slice().get_mut(usize::from(at)),
-            ) else {
-                return Err(BusError::UnknownNode);
-            };
-            bus.take_into(node, number, &mut place.a, &mut place.b)?;
-        }
+        take_each(self.places.as_mut_slice(), bus, number)?;
         bus.advance()?;
         self.number = number;
         self.next = bus.window();
@@ -142,7 +168,9 @@ impl Delivery {
     }
 
     /// Returns the observations of the node of this number.
-    pub(crate) fn of(&self, at: usize) -> Option<&Observations> {
+    pub(crate) fn of(&self, at: usize) -> Option<&Observations>
+        ensures { option_map (λ o. o.now) result ≡ slice_get self.now.places.items at }
+    {
         self.places.as_slice().get(at)
     }
 }

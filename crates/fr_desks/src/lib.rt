@@ -16,14 +16,15 @@
 //!
 //! # Definitions
 //!
+//! - `Letters`: the observations of the nodes in the places of a delivery.
 //! - `Passes`: the state of a task's handle (`Pass`).
 //!
 //! # Inner workings
 //!
-//! A `Wire` has one lock and two condition variables for the bus, one for the nodes and one for the thread that moves it
-//! on. That thread can make the takes of all nodes and the advance together (`Wire::deliver`), so that a node waits once
-//! a window. It fills a letter for each node, with the observations and the next window. Each letter has a lock and a
-//! condition variable of its own, since all nodes are due at once.
+//! A `Wire` has one lock and two condition variables for the bus, one for the nodes and one for the thread that moves
+//! it on. That thread can make the takes of all nodes and the advance together (`Wire::deliver`), so that a node waits
+//! once a window. It fills a letter for each node, with the observations and the next window. Each letter has a lock
+//! and a condition variable of its own, since all nodes are due at once.
 #![tactic(auto)]
 
 pub mod desk;
