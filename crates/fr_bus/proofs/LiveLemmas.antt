@@ -1,7 +1,6 @@
 -- What is heard in the last window of a bus without a record.
 use Rattle.std.proofs.Common.{◌≡◌, Option, sym, ap, ◌∙◌}
-use Rattle.fr_bus.specs.LiveFields.{heard_last}
-use Rattle.fr_bus.specs.Record.{Recorded}
+use Rattle.fr_bus.specs.Record.{Recorded, heard_last}
 use Rattle.fr_bus.specs.Standing.{BusStanding}
 use Rattle.fr_schedule.specs.Descriptions.{Description}
 use Rattle.fr_slots.specs.declared.channel.Channel.{Channel}

@@ -5,10 +5,9 @@ use Rattle.std.proofs.Common.{replicate, Option, Some, None, slice_get, refl, su
 use Rattle.std.proofs.lemmas.Bool.{and_parts, leb-true}
 use Rattle.std.proofs.lemmas.List.{length-map}
 use Rattle.std.proofs.Common.{◌-◌}
-use Rattle.std.specs.Prelude.{option_map, nat_le, ◌&&◌, Result, Ok, Err, OnOk, OnErr, slice_index_or}
+use Rattle.std.specs.Prelude.{option_map, nat_le, ◌&&◌, Result, Ok, Err, OnOk, OnErr}
 use Rattle.std.specs.Global.{Vec}
 use Rattle.fr_bus.specs.BusFields.{state_in, IsLawful}
-use Rattle.fr_bus.proofs.LiveLemmas.{heard_stays}
 use Rattle.fr_bus.proofs.NextLemmas.{next_is}
 use Rattle.fr_bus.proofs.RunLemmas.{run_new, run_sealed, run_advanced, course_sealed, opened_is_next, last_more}
 use Rattle.fr_bus.specs.Courses.{Standpoint, opportunities, course_of, passed, next_of}
@@ -20,7 +19,6 @@ use Rattle.fr_bus.specs.declared.fault.Fault.{Fault}
 use Rattle.fr_bus.specs.declared.fault.Fault.TheVariants.{Babble, Mute, Corrupt}
 use Rattle.fr_bus.specs.declared.station.Side.{Side}
 use Rattle.fr_bus.specs.Live.{cycles_suit, most_live_cycles}
-use Rattle.fr_bus.specs.LiveFields.{heard_last}
 use Rattle.fr_bus.specs.Outcome.{sent_from, sent_of, sent_in, sent_on, longest, transmission, fate_of}
 use Rattle.fr_bus.specs.Record.{Recorded, seen_by}
 use Rattle.fr_bus.specs.Standing.{no_room, roomless, BusStanding, standing_of, with_record, bare, with_cluster}
@@ -41,7 +39,6 @@ use Rattle.fr_slots.specs.declared.channel.Channel.TheVariants.{A, B}
 use Rattle.fr_slots.specs.Parameters.{Parameters}
 use Rattle.fr_slots.specs.Plans.{Plan}
 use Rattle.fr_slots.specs.Windows.{Opportunity, slot_of}
-use Rattle.fr_status.specs.Forms.{Seen}
 
 -- ---- one side of a station is changed
 
@@ -274,11 +271,6 @@ seen_alike h b (Some r) channel node is = sym
 
 -- ---- a bus with its record
 
-pub index_at : {X : Type 0} (xs : List X) (n : ℕ) (x d : X) → slice_get xs n ≡ Some x → slice_index_or xs n d ≡ x
-index_at [] n x d is = absurd (let none : ⊥ = cc is in none)
-index_at (y ∷ ys) zero x d is = let same : y ≡ x = cc is in same
-index_at (y ∷ ys) (suc n) x d is = index_at ys n x d is
-
 -- the call keeps cluster, cycles and record
 pub record KeepsRecord (b c : BusState) : Type 0 where
   pub cluster : c.cluster ≡ b.cluster
@@ -297,8 +289,7 @@ inject_keeps b (Corrupt B bit) = record { cluster = refl; cycles = refl; sealed 
 -- the bus after an accepted call is this one
 pub record IsAfter (kept : BusStanding) (windows : Vec Recorded) (b : BusState) : Type 0 where
   pub value : with_record kept windows.items ≡ b
-  pub run : IsBusHistory kept (with_record kept windows.items)
-  pub few_cycles : kept.cycles ≤ 1024
+  pub lawful : IsLawful (record { kept = kept; «record» = windows })
 
 pub after_call : (i : Inside) (kept : BusStanding) (windows : Vec Recorded) (b : BusState) → IsLawful i
     → IsBusHistory kept b → kept.cluster ≡ i.kept.cluster → b.cluster ≡ i.kept.cluster → b.cycles ≡ i.kept.cycles
@@ -307,29 +298,19 @@ after_call i kept windows b lawful history same cluster cycles sealed =
     let value : with_record kept windows.items ≡ b = told kept b history windows.items (cluster ∙ sym same) sealed in
     let few : kept.cycles ≤ 1024 = subst (λ n. n ≤ 1024)
     (sym (ap (λ (x : BusStanding). x.cycles) (sym history.leaves) ∙ cycles)) lawful.few_cycles in
-    record { value = value; run = subst (IsBusHistory kept) (sym value) history; few_cycles = few }
-
--- what is heard in the last window of the record stays as long as the cluster does
-heard_kept : (i : Inside) (kept : BusStanding) (seen : Seen) (channel : Channel) → kept.cluster ≡ i.kept.cluster
-    → seen ≡ heard_last i.kept.cluster.params (last_recorded (state_in i)) channel
-    → seen ≡ heard_last kept.cluster.params (last_recorded (with_record kept i.«record».items)) channel
-heard_kept i kept seen channel same is =
-    heard_stays kept i.kept (last_recorded (state_in i)) channel seen same is
+    record {
+      value = value;
+      lawful = record { run = subst (IsBusHistory kept) (sym value) history; few_cycles = few };
+    }
 
 module _ {X : Type 0} (i : Inside) (kept : BusStanding) (b : BusState) (lawful : IsLawful i)
     (keeps : KeepsRecord (state_in i) b) (same : kept.cluster ≡ i.kept.cluster) where
   pub lawful_either : (r : Result X BusError) → OnOk r (IsBusHistory kept b) → OnErr r (kept ≡ i.kept)
-      → IsLawful (record i { kept = kept })
-  lawful_either (Ok x) history refused =
-      let after = after_call i kept i.«record» b lawful history same keeps.cluster keeps.cycles keeps.sealed in
-      record {
-        run = after.run;
-        few_cycles = after.few_cycles;
-        on_a = heard_kept i kept i.heard_a A same lawful.on_a;
-        on_b = heard_kept i kept i.heard_b B same lawful.on_b;
-      }
-  lawful_either (Err e) history refused =
-      subst (λ (k : BusStanding). IsLawful (record i { kept = k })) (sym refused) lawful
+      → IsLawful (record { kept = kept; «record» = i.«record» })
+  lawful_either (Ok x) history refused = (after_call i kept i.«record» b lawful history same keeps.cluster keeps.cycles
+      keeps.sealed).lawful
+  lawful_either (Err e) history refused = subst (λ (k : BusStanding). IsLawful
+      (record { kept = k; «record» = i.«record» })) (sym refused) lawful
 
   pub accepted_either : (r : Result X BusError) → OnOk r (IsBusHistory kept b)
       → OnOk r (with_record kept i.«record».items ≡ b)

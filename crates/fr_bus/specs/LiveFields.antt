@@ -1,22 +1,13 @@
 -- The fields of `LiveBus` as kept data.
-use Rattle.std.specs.Prelude.{◌≡◌, Option, Some, None}
+use Rattle.std.specs.Prelude.{◌≡◌}
 use Rattle.fr_bus.specs.declared.live.LiveBus.TheInside.{Inside}
-use Rattle.fr_bus.specs.Record.{Recorded, heard}
+use Rattle.fr_bus.specs.Record.{heard_last}
 use Rattle.fr_bus.specs.Standing.{LiveStanding, IsLiveHistory}
 use Rattle.fr_bus.specs.States.{BusState}
-use Rattle.fr_slots.specs.declared.channel.Channel.{Channel}
 use Rattle.fr_slots.specs.declared.channel.Channel.TheVariants.{A, B}
-use Rattle.fr_slots.specs.Parameters.{Parameters}
-use Rattle.fr_status.specs.Forms.{Seen}
-use Rattle.fr_status.specs.declared.seen.Seen.TheVariants.{Silence}
 
 abbrev pub standing_in : Inside → LiveStanding
 standing_in b = record { bus = b.kept; last = b.last }
-
--- what a node that sends nothing observes on the channel of the last window
-abbrev pub heard_last : Parameters → Option Recorded → Channel → Seen
-heard_last p None channel = Silence
-heard_last p (Some r) channel = heard p r channel
 
 -- the data are those of some run, with what is heard in its last window
 pub record HasRun (b : Inside) : Type 0 where

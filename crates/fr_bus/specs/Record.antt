@@ -12,6 +12,7 @@ use Rattle.fr_slots.specs.declared.channel.Channel.TheVariants.{A, B}
 use Rattle.fr_slots.specs.Parameters.{Parameters}
 use Rattle.fr_slots.specs.Windows.{Opportunity}
 use Rattle.fr_status.specs.Forms.{Seen}
+use Rattle.fr_status.specs.declared.seen.Seen.TheVariants.{Silence}
 
 -- the window, its transmissions, and the bits that were to be flipped
 pub record Recorded : Type 0 where
@@ -31,6 +32,11 @@ seen_by p r channel node = seen_of p r.window (corrupt_on r channel) node (all_p
 -- the observation on a channel of a recorded window, for a node that sends nothing there
 abbrev pub heard : Parameters → Recorded → Channel → Seen
 heard p r channel = heard_of p r.window (corrupt_on r channel) (all_passed channel r.sent)
+
+-- the same on the channel of the last window, or silence before the first one
+abbrev pub heard_last : Parameters → Option Recorded → Channel → Seen
+heard_last p None channel = Silence
+heard_last p (Some r) channel = heard p r channel
 
 -- some offers and faults of the cluster's nodes have this outcome
 pub record IsOutcome (d : Description) (r : Recorded) : Type 0 where

@@ -20,7 +20,7 @@ pub use Rattle.fr_bus.specs.Stations.{silent_side}
 use Rattle.fr_bus.specs.Courses.{opportunities}
 use Rattle.fr_bus.specs.Windows.{following}
 use Rattle.fr_bus.specs.Outcome.{sent_from, all_passed}
-use Rattle.fr_bus.specs.Record.{Recorded, IsOutcome, seen_by, side_on}
+use Rattle.fr_bus.specs.Record.{Recorded, IsOutcome, seen_by, side_on, heard_last}
 use Rattle.fr_interface.specs.declared.interface.Offer.{Offer}
 use Rattle.fr_schedule.specs.Clusters.{IsCluster}
 use Rattle.fr_schedule.specs.Descriptions.{Description, is_guarded}
@@ -257,6 +257,10 @@ seen_where b (Some r) channel node = seen_by b.cluster.params r channel node
 -- the node's observation on the channel of the last window of the record
 abbrev pub seen_last : BusState → Channel → ℕ → Seen
 seen_last b channel node = seen_where b (last_recorded b) channel node
+
+-- the same for a node that sends nothing there
+abbrev pub last_heard : BusState → Channel → Seen
+last_heard b channel = heard_last b.cluster.params (last_recorded b) channel
 
 -- ---- the next window
 

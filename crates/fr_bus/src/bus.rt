@@ -27,9 +27,6 @@ use std::marker::Model;
 pub struct Bus {
     kept: KeptBus,
     record: Vec<Sealed>,
-    // What is heard in the last window of the record. Each frame is decoded once, and not by each node that receives it.
-    heard_a: Heard,
-    heard_b: Heard,
 }
 
 impl Model for Bus {
@@ -68,8 +65,7 @@ impl Bus {
     ghost use Rattle.fr_bus.specs.States.{all_put, all_taken, collecting_of, put_refusal, put_done};
     ghost use Rattle.fr_bus.specs.States.{inject_refusal, inject_done, Seals, take_refusal, take_done};
     ghost use Rattle.fr_bus.specs.States.{seen_last, advance_refusal, advanced, IsRun, OneSenderEach, Opens};
-    ghost use Rattle.fr_bus.specs.States.{last_recorded};
-    ghost use Rattle.fr_bus.specs.LiveFields.{heard_last};
+    ghost use Rattle.fr_bus.specs.States.{last_heard};
     ghost use Rattle.fr_interface.specs.Sights.{seen_in};
     ghost use Rattle.fr_slots.specs.declared.channel.Channel.TheVariants as channel;
 
@@ -89,8 +85,6 @@ impl Bus {
             Ok(kept) => Ok(Bus {
                 kept,
                 record: Vec::new(alloc),
-                heard_a: Heard::silence(),
-                heard_b: Heard::silence(),
             }),
             Err(_) => Err(BusError::Memory),
         }
@@ -227,10 +221,6 @@ impl Bus {
             return Err(BusError::Memory);
         };
         self.kept.close(&window, a, b);
-        let record = self.record.as_slice();
-        let last = &record[record.len() - 1];
-        hear(self.kept.params(), last, Channel::A, &mut self.heard_a);
-        hear(self.kept.params(), last, Channel::B, &mut self.heard_b);
         Ok(())
     }
 
@@ -280,22 +270,23 @@ impl Bus {
         self.kept.take(node, number)
     }
 
-    /// Returns what is heard on the channel of the last window of the record.
-    fn heard_on(&self, channel: Channel) -> &Heard
-        ensures { result.now ≡ heard_last self.now.cluster.params (last_recorded self.now) channel }
+    /// Writes the observation of a node that sends nothing on the channel of the last sealed window, or silence before
+    /// the first one (project-defined). Its frame is decoded once, for all nodes to which `sight` lends it.
+    pub fn hear_into(&self, channel: Channel, place: &mut Heard)
+        ensures { place.new ≡ last_heard self.now channel }
     {
-        match channel {
-            Channel::A => &self.heard_a,
-            Channel::B => &self.heard_b,
+        match last_of(self.record.as_slice()) {
+            Some(sealed) => hear(self.kept.params(), sealed, channel, place),
+            None => place.fall_silent(),
         }
     }
 
     /// Returns the node's observation on the channel of the last sealed window, or silence before the first one
-    /// (project-defined). It isn't copied, and its frame is decoded once for all nodes.
-    pub fn sight(&self, node: NodeId, channel: Channel) -> Sight<'_>
+    /// (project-defined). `heard` must be what `hear_into` writes for this channel now. Nothing is copied.
+    pub fn sight<'a>(&self, node: NodeId, channel: Channel, heard: &'a Heard) -> Sight<'a>
+        requires { heard.now ≡ last_heard self.now channel }
         ensures { seen_in result ≡ seen_last self.now channel node }
     {
-        let heard = self.heard_on(channel);
         match last_of(self.record.as_slice()) {
             Some(sealed) => sealed.sight(self.kept.params(), channel, node, heard),
             None => Sight::Heard(heard),

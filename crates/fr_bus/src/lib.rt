@@ -29,14 +29,16 @@
 //! # Inner workings
 //!
 //! A `Bus` is a `KeptBus` and the record. A `LiveBus` is a `KeptBus` and the last window, so a run of any length has
-//! room. Both also keep what is heard in the last window, with its decoded frames (`Heard` of `fr_interface`).
+//! room. A `LiveBus` also keeps what is heard in that window, with its decoded frames (`Heard` of `fr_interface`).
 //!
 //! - `Bus::new` makes the guardians, a station for each node, and the course of the run at its first window.
 //! - `put` copies an offer into its station (`station`).
 //! - `inject` keeps a fault there, or among the flipped bits.
 //! - `seal` lists the outcome of each transmission of each station (`outcome`), appends the list to the record, and
 //!   then closes the window. The list reserves its whole room first, so both allocations come before any change.
-//! - `take` reads only the last window of the record. `take_lent` copies nothing: `sight` lends the observations.
+//! - `take` reads only the last window of the record. `take_lent` copies nothing. `hear_into` decodes what is heard on
+//!   a channel of that window, and `sight` lends it to each node. The caller keeps it, since a run with threads doesn't
+//!   need it.
 //! - `advance` clears the stations and opens the next window.
 //!
 //! Stations keep apart each node's frames, the nodes that have put, and the nodes that have taken. The bus counts the

@@ -59,9 +59,20 @@ pub(crate) fn hear(params: &Params, sealed: &Sealed, channel: Channel, place: &m
     ensures { place.new ≡ heard params.now sealed.now channel }
 {
     // In most windows no node sends.
-    if sealed.sent.is_empty() {
-        return place.fall_silent();
+    if sealed.is_silent(channel) {
+        place.fall_silent();
+    } else {
+        hear_some(params, sealed, channel, place);
     }
+}
+
+/// Writes what is heard on the channel of a sealed window.
+///
+/// It isn't inlined, so that a silent channel doesn't pay for the room of a frame.
+#[inline(never)]
+fn hear_some(params: &Params, sealed: &Sealed, channel: Channel, place: &mut Heard)
+    ensures { place.new ≡ heard params.now sealed.now channel }
+{
     let seen = sealed.heard(params, channel);
     *place = Heard::of(params, &sealed.window, channel, seen);
 }
@@ -73,7 +84,7 @@ impl LiveBus {
     ghost use Rattle.fr_bus.specs.Standing.{bare, ForEachLiveHistory, IsLiveHistory};
     ghost use Rattle.fr_bus.specs.States.{collecting_of, put_refusal, put_done, inject_refusal, inject_done};
     ghost use Rattle.fr_bus.specs.States.{take_refusal, take_done, seen_last, advance_refusal, advanced};
-    ghost use Rattle.fr_bus.specs.LiveFields.{heard_last};
+    ghost use Rattle.fr_bus.specs.Record.{heard_last};
     ghost use Rattle.fr_interface.specs.Sights.{seen_in};
     ghost use Rattle.fr_slots.specs.declared.channel.Channel.TheVariants as channel;
 

@@ -426,10 +426,10 @@ fn offer_in(channel: Channel, node: NodeId, sent: &[Sent]) -> Option<&Bytes>
 }
 
 impl Sealed {
-    ghost use Rattle.std.specs.Prelude.{◌≡◌, ◌≤◌, ◌↔◌, IsTrue};
+    ghost use Rattle.std.specs.Prelude.{◌≡◌, ◌≤◌, ◌↔◌, [], IsTrue};
     ghost use Rattle.std.specs.Option.{option_copied};
     ghost use Rattle.fr_bus.specs.Record.{corrupt_on, heard, offer_in, seen_by};
-    ghost use Rattle.fr_bus.specs.Outcome.{longest};
+    ghost use Rattle.fr_bus.specs.Outcome.{all_passed, longest};
     ghost use Rattle.fr_interface.specs.Sights.{seen_in};
     ghost use Rattle.fr_status.specs.Forms.{whole_seen};
 
@@ -470,6 +470,16 @@ impl Sealed {
         } else {
             let corrupt = self.corrupt_on(channel);
             see_alone(params, &self.window, corrupt, &only.bytes, seen);
+        }
+    }
+
+    /// Returns whether no transmission passed on the channel.
+    pub(crate) fn is_silent(&self, channel: Channel) -> bool
+        ensures { IsTrue result ↔ (all_passed channel self.now.sent ≡ []) }
+    {
+        match next_passed(channel, self.sent.as_slice()) {
+            Some(_) => false,
+            None => true,
         }
     }
 

@@ -6,6 +6,7 @@ pub mod SentLemmas
 pub mod AgreementLemmas
 pub mod WorldLemmas
 pub mod FrontLemmas
+pub mod HearingLemmas
 pub mod RunLemmas
 pub mod WalkLemmas
 pub mod ScriptLemmas

@@ -1,5 +1,5 @@
 -- Events that are accepted one after another, and those of a node that one call of a world executes (project-defined).
-use Rattle.std.specs.Prelude.{◌≡◌, ℕ, true, List, [], ◌∷◌, Option, Some, None}
+use Rattle.std.specs.Prelude.{◌≡◌, ℕ, ◌==◌, ◌&&◌, true, List, [], ◌∷◌, Option, Some, None, if◌then◌else◌}
 use Rattle.std.specs.Option.{is_some}
 use Rattle.fr_core.specs.declared.event.Event.{Event}
 use Rattle.fr_core.specs.declared.event.Event.TheVariants.{Look, Fetch, Put, Take, Observe}
@@ -29,3 +29,9 @@ abbrev pub events_of : Front → List Event
 events_of (front.Offer n) = offer_events n
 events_of (front.See n) = see_events n
 events_of front.Other = []
+
+-- the events of a node that stand first in a list, if one call executes them
+abbrev pub front_in : List Event → Front
+front_in (Look a ∷ Fetch b ∷ Put c ∷ events) = if a == b && a == c then front.Offer a else front.Other
+front_in (Take a ∷ Observe b ∷ events) = if a == b then front.See a else front.Other
+front_in events = front.Other

@@ -5,6 +5,7 @@ pub mod Agreeing
 pub mod Agreement
 pub mod Steps
 pub mod Fronts
+pub mod Hearing
 pub mod Runs
 pub mod Receivers
 pub mod Accounts

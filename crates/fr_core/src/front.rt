@@ -1,7 +1,7 @@
 //! The events of a node that one call of a world executes.
 ghost use Rattle.std.specs.Prelude.{◌≡◌, ◌++◌, List};
 ghost use Rattle.fr_core.specs.declared.event.Event.{Event};
-ghost use Rattle.fr_core.specs.Fronts.{events_of};
+ghost use Rattle.fr_core.specs.Fronts.{events_of, front_in};
 
 use crate::event::Event;
 use fr_slots::numbers::NodeId;
@@ -19,7 +19,8 @@ pub enum Front {
 
 /// Returns the events of a node that stand first in the list, if one call of a world executes them (project-defined).
 pub fn front_of(events: &[Event]) -> Front
-    ensures { (rest : List Event) × (events.now ≡ events_of result ++ rest) }
+    ensures value { result ≡ front_in events.now }
+    ensures first { (rest : List Event) × (events.now ≡ events_of result ++ rest) }
 {
     match events {
         [Event::Look(a), Event::Fetch(b), Event::Put(c), ..] if a == b && a == c => {

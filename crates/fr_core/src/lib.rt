@@ -28,6 +28,7 @@
 //!
 //! - `Walks`: progress of a walk along a journal beside the record and the scripts. Meaning: `Agreeing`, `Scripts`,
 //!   `Settling`.
+//! - `Hearing`: the observations that a world keeps of its bus's last window. Meaning: `States` of `fr_bus`.
 //!
 //! # Inner workings
 //!
@@ -37,10 +38,13 @@
 //! one call of that node's interface or of the bus. An accepted call gives the controller its next data.
 //!
 //! - `World::apply` is the same step without the answer, which has room for a frame.
-//! - `World::offer` and `World::see` execute the events of a node before and after the seal. The observation is lent by
-//!   the bus, which decoded its frame once. `pass_front` finds such events in a list (`front`).
+//! - `World::inject`, `seal` and `advance` make the step of their event without an `Event`, which has room for a
+//!   payload.
+//! - `World::offer` and `World::see` execute the events of a node before and after the seal. `heard_bus` decodes each
+//!   frame once and lends the observation. `pass_front` finds such events in a list (`front`).
 //! - `run_events` (`run`) executes a list of events and counts the accepted ones.
-//! - An event costs its one call, and for a fault a copy of it. No event copies an interface, a bus or a record.
+//! - An event costs its one call. An inject also copies its fault, and a seal decodes what is heard on each channel. No
+//!   event copies an interface, a bus or a record.
 //!
 //! The module `Steps` is the meaning of one event: the refusal, the answer, and the whole state after it. It consists
 //! of the refusals and effects of `fr_interface` and `fr_bus`. Each call of the machine is proved against it. The type
@@ -78,6 +82,7 @@ pub mod controller;
 pub mod error;
 pub mod event;
 pub mod front;
+mod heard_bus;
 mod legal;
 mod machine;
 pub mod run;

@@ -11,6 +11,7 @@ ghost use Rattle.fr_slots.specs.Plans.{Each};
 use crate::controller::{Controller, Due};
 use crate::error::StepError;
 use crate::event::{Event, Reply};
+use crate::heard_bus::HeardBus;
 use fr_bus::bus::Bus;
 use fr_bus::error::BusError;
 use fr_bus::fault::Fault;
@@ -32,7 +33,7 @@ use std::marker::Model;
 #[derive(Drop)]
 pub(crate) struct Machine {
     interfaces: Vec<Interface>,
-    bus: Bus,
+    bus: HeardBus,
     controllers: Vec<Controller>,
 }
 
@@ -107,7 +108,7 @@ impl Machine {
         };
         Ok(Machine {
             interfaces,
-            bus,
+            bus: HeardBus::of(bus),
             controllers,
         })
     }
@@ -123,7 +124,7 @@ impl Machine {
     pub(crate) fn bus(&self) -> &Bus
         ensures { result.now ≡ self.now.bus }
     {
-        &self.bus
+        self.bus.bus()
     }
 
     /// Returns whether each controller has observed every window that it fetched.
@@ -182,7 +183,7 @@ impl Machine {
         let Due::Look = &controller.due else {
             return Err(StepError::WrongTurn);
         };
-        let Some(window) = self.bus.collecting() else {
+        let Some(window) = self.bus.bus().collecting() else {
             return Err(StepError::Bus(BusError::NotCollecting));
         };
         controller.due = Due::Fetch(window);
@@ -256,7 +257,7 @@ impl Machine {
     ///
     /// It isn't inlined, so that other events don't pay for the room of a frame.
     #[inline(never)]
-    fn inject(&mut self, fault: &Fault) -> Result<(), StepError>
+    pub(crate) fn inject(&mut self, fault: &Fault) -> Result<(), StepError>
         ensures { Steps self.old (event.Inject fault.now) (answered Done result) self.new }
     {
         // The bus refuses a fault of an unknown node.
@@ -265,7 +266,7 @@ impl Machine {
     }
 
     /// Seals the open window.
-    fn seal(&mut self) -> Result<(), StepError>
+    pub(crate) fn seal(&mut self) -> Result<(), StepError>
         ensures { Steps self.old event.Seal (answered Done result) self.new }
     {
         self.bus.seal()?;
@@ -273,7 +274,7 @@ impl Machine {
     }
 
     /// Opens the next window.
-    fn advance(&mut self) -> Result<(), StepError>
+    pub(crate) fn advance(&mut self) -> Result<(), StepError>
         ensures { Steps self.old event.Advance (answered Done result) self.new }
     {
         self.bus.advance()?;

@@ -7,6 +7,7 @@ use crate::legal;
 use crate::machine::Machine;
 use fr_bus::bus::Bus;
 use fr_bus::error::BusError;
+use fr_bus::fault::Fault;
 use fr_interface::interface::Interface;
 use fr_schedule::cluster::Cluster;
 use fr_slots::numbers::NodeId;
@@ -38,7 +39,8 @@ impl Model for World {
 impl World {
     ghost use Rattle.std.specs.Prelude.{◌≡◌, ◌≤◌, length, slice_get, take};
     ghost use Rattle.std.specs.List.{list_all};
-    ghost use Rattle.fr_core.specs.Fronts.{Accepts, IsRefused, events_of, offer_events, see_events};
+    ghost use Rattle.fr_core.specs.declared.event.Event.TheVariants as event;
+    ghost use Rattle.fr_core.specs.Fronts.{Accepts, IsRefused, events_of, front_in, offer_events, see_events};
     ghost use Rattle.fr_core.specs.Headline.{Headline, WorldsAlike};
     ghost use Rattle.fr_core.specs.Steps.{Steps, Applies};
     ghost use Rattle.fr_core.specs.Worlds.{OpensWorld, is_between};
@@ -118,12 +120,56 @@ impl World {
         accepted
     }
 
+    /// Injects the fault in the open window alone, as `step` does for its event (project-defined).
+    ///
+    /// Fails, in this order, with `Bus` of `UnknownNode`, `NotCollecting` and `TooManyFaults`. A refusal leaves the
+    /// world unchanged. The headline promise holds for the world after the call.
+    pub fn inject(&mut self, fault: &Fault) -> Result<(), StepError>
+        ensures step { Applies self.old (event.Inject fault.now) result self.new }
+        ensures headline { Headline self.new }
+    {
+        let outcome = self.machine.inject(fault);
+        // For the prover: the clause of this call.
+        self.known();
+        outcome
+    }
+
+    /// Seals the open window, as `step` does for its event (project-defined).
+    ///
+    /// Fails, in this order, with `Bus` of `NotCollecting`, `NotAllPut`, and `Memory` if the allocation for the record
+    /// fails. A refusal leaves the world unchanged. The headline promise holds for the world after the call.
+    pub fn seal(&mut self) -> Result<(), StepError>
+        ensures step { Applies self.old event.Seal result self.new }
+        ensures headline { Headline self.new }
+    {
+        let outcome = self.machine.seal();
+        // For the prover: the clause of this call.
+        self.known();
+        outcome
+    }
+
+    /// Opens the next window or ends the run, as `step` does for its event (project-defined).
+    ///
+    /// Fails, in this order, with `Bus` of `NotSealed` and `NotAllTaken`. A refusal leaves the world unchanged. The
+    /// headline promise holds for the world after the call.
+    pub fn advance(&mut self) -> Result<(), StepError>
+        ensures step { Applies self.old event.Advance result self.new }
+        ensures headline { Headline self.new }
+    {
+        let outcome = self.machine.advance();
+        // For the prover: the clause of this call.
+        self.known();
+        outcome
+    }
+
     /// Executes events that stand first in the list, without their answers, and returns how many. Each was accepted
-    /// (project-defined). It executes those of a node that `front_of` finds there, as `offer` and `see` do, and
-    /// otherwise none. The headline promise holds for the world after the events.
+    /// (project-defined). If `front_of` finds events of a node there, it executes these, up to the first one that is
+    /// refused. Otherwise it executes none. The headline promise holds for the world after the events.
     pub fn pass_front(&mut self, events: &[Event]) -> usize
         ensures few { result ≤ length events.now }
+        ensures within { result ≤ length (events_of (front_in events.now)) }
         ensures accepts { Accepts self.old (take result events.now) self.new }
+        ensures refuses { IsRefused self.new (slice_get (events_of (front_in events.now)) result) }
         ensures headline { Headline self.new }
     {
         let passed = self.pass(front_of(events));
@@ -136,6 +182,7 @@ impl World {
     fn pass(&mut self, front: Front) -> usize
         ensures few { result ≤ length (events_of front) }
         ensures accepts { Accepts self.old (take result (events_of front)) self.new }
+        ensures refuses { IsRefused self.new (slice_get (events_of front) result) }
     {
         match front {
             Front::Offer(node) => self.offer(node),

@@ -64,6 +64,7 @@ fn buffers_of(alloc: Global, plans: &[NodePlan]) -> Result<Vec<u8>, AllocError>
 
 impl EndlessWorld {
     ghost use Rattle.std.specs.Prelude.{◌≡◌, ◌≤◌, IfOk, length, slice_get, take};
+    ghost use Rattle.fr_core.specs.Fronts.{front_in};
     ghost use Rattle.fr_core.specs.Headline.{Headline};
     ghost use Rattle.fr_core.specs.Steps.{event_of};
     ghost use Rattle.fr_core.specs.Worlds.{interface_at};
@@ -139,11 +140,14 @@ impl EndlessWorld {
         }
     }
 
-    /// Executes events that stand first in the list, without their answers, and returns how many. Each was accepted. It
-    /// executes those of a node that `front_of` finds there, and otherwise none.
+    /// Executes events that stand first in the list, without their answers, and returns how many. Each was accepted. If
+    /// `front_of` finds events of a node there, it executes these, up to the first one that is refused. Otherwise it
+    /// executes none.
     pub fn pass_front(&mut self, events: &[Event]) -> usize
         ensures few { result ≤ length events.now }
+        ensures within { result ≤ length (events_of (front_in events.now)) }
         ensures accepts { AcceptsAlike self.old (take result events.now) self.new }
+        ensures refuses { RefusesAlike self.new (slice_get (events_of (front_in events.now)) result) }
     {
         let front = front_of(events);
         self.pass(&front)

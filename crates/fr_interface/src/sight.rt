@@ -111,8 +111,16 @@ impl Heard {
     {
         match self.seen {
             Seen::Silence => {}
-            _ => *self = Heard::silence(),
+            _ => self.clear(),
         }
+    }
+
+    /// Writes silence. It isn't inlined, so that silence that is there already doesn't pay for the room of a frame.
+    #[inline(never)]
+    fn clear(&mut self)
+        ensures { self.new ≡ Sees.Silence }
+    {
+        *self = Heard::silence();
     }
 
     /// Returns the observation on the channel of a window, with what follows from it.

@@ -1,21 +1,23 @@
 //! The faults of a window, injected into the world.
 ghost use Rattle.std.specs.Prelude.{◌≡◌, ◌∷◌, [], OnOk};
 ghost use Rattle.std.specs.List.{flat_map};
+ghost use Rattle.fr_core.specs.declared.event.Event.TheVariants as event;
 ghost use Rattle.fr_playing.specs.Striking.{first_of, strike_events, Passes, Tells, Tries};
 
+use fr_bus::fault::Fault;
 use fr_core::error::StepError;
-use fr_core::event::Event;
 use fr_core::world::World;
 use fr_runs::fault_line::FaultLine;
 use fr_slots::window::Window;
 
-/// Executes the event, and returns its refusal.
-fn attempt(world: &mut World, event: &Event) -> Result<(), StepError>
-    ensures { Tells world.old (event.now ∷ []) result world.new }
+/// Injects the fault, and returns its refusal.
+fn attempt(world: &mut World, fault: &Fault) -> Result<(), StepError>
+    ensures { Tells world.old (event.Inject fault.now ∷ []) result world.new }
 {
-    let answer = world.step(event);
+    let answer = world.inject(fault);
+    // For the prover: the two cases.
     match answer {
-        Ok(_) => Ok(()),
+        Ok(()) => Ok(()),
         Err(error) => Err(error),
     }
 }
@@ -30,7 +32,7 @@ fn strike(
     ensures { Tells world.old (strike_events cycle window.now line.now) result world.new }
 {
     if line.strikes(cycle, window) {
-        attempt(world, &Event::Inject(line.fault.duplicate()))
+        attempt(world, &line.fault)
     } else {
         Ok(())
     }

@@ -1,5 +1,6 @@
 //! The windows of a cycle, in the world.
 ghost use Rattle.std.specs.Prelude.{◌∷◌, ◌≤◌, [], OnOk, drop};
+ghost use Rattle.fr_core.specs.declared.event.Event.TheVariants as event;
 ghost use Rattle.fr_playing.specs.Moving.{for_nodes, offer_events, see_events, whole_window};
 ghost use Rattle.fr_playing.specs.Windows.{PlaysWindow, PlaysWindows};
 ghost use Rattle.fr_playing.specs.Striking.{Passes};
@@ -100,6 +101,22 @@ fn pass_sights(world: &mut World, nodes: u8) -> Result<(), Hindrance>
     Ok(())
 }
 
+/// Seals the open window, which must be accepted.
+fn pass_seal(world: &mut World) -> Result<(), Hindrance>
+    ensures { OnOk result (Passes world.old (event.Seal ∷ []) world.new) }
+{
+    world.seal()?;
+    Ok(())
+}
+
+/// Makes the bus's advance, which must be accepted.
+fn pass_advance(world: &mut World) -> Result<(), Hindrance>
+    ensures { OnOk result (Passes world.old (event.Advance ∷ []) world.new) }
+{
+    world.advance()?;
+    Ok(())
+}
+
 /// Executes the open window: its faults, then the events of an untouched window, and then the bus's advance.
 fn play_window(
     world: &mut World,
@@ -115,9 +132,9 @@ fn play_window(
     };
     strike_all(world, usize::from(cycle), &window, faults)?;
     pass_offers(world, nodes)?;
-    pass(world, &Event::Seal)?;
+    pass_seal(world)?;
     pass_sights(world, nodes)?;
-    pass(world, &Event::Advance)
+    pass_advance(world)
 }
 
 /// Executes windows until the first one of a cycle is open, or the run is over.

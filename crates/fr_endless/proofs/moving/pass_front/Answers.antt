@@ -9,12 +9,12 @@ returns-then-is_traced-clause-accepts g c = front_none c.args.world.now c.args.t
 pub returns-clause-accepts : goal.returns-clause-accepts
 returns-clause-accepts g c =
     front_told c.args.world.now c.pass.new.self c.args.taps.now c.front_of-front.result c.pass.result
-    c.args.events.now c.front_of-front.ensures.0 (c.is_traced.ensures c.if-is_traced.false) c.pass.ensures.few
-    c.front_of-front.ensures.1 c.pass.ensures.accepts
+    c.args.events.now c.front_of-front.ensures.first.0 (c.is_traced.ensures c.if-is_traced.false) c.pass.ensures.few
+    c.front_of-front.ensures.first.1 c.pass.ensures.accepts
 
 pub returns-clause-few : goal.returns-clause-few
 returns-clause-few g c =
-    let rest = c.front_of-front.ensures.0 in
+    let rest = c.front_of-front.ensures.first.0 in
     let all : length c.args.events.now ≡ length (events_of c.front_of-front.result ++ rest) =
-    ap length c.front_of-front.ensures.1 in
+    ap length c.front_of-front.ensures.first.1 in
     omega (arith, c.pass.ensures.few, all, length-append (events_of c.front_of-front.result) rest)

@@ -15,10 +15,10 @@ returns c =
     let whole : Passes c.strike_all.new.world (whole_window n) c.pass_sights.new.world =
     passes_append c.strike_all.new.world (for_nodes offer_events n) c.pass_offers.new.world
     (Seal ∷ for_nodes see_events n) c.pass_sights.new.world c.in_ok-pass_offers.ensures
-    (passes_append c.pass_offers.new.world (Seal ∷ []) c.pass.new.world (for_nodes see_events n)
-    c.pass_sights.new.world c.in_ok-pass.ensures c.in_ok-pass_sights.ensures) in
-    ends_window c.pass-2.result c.args.cycle c.args.faults.now (whole_window n) c.in-Some.window c.args.world.now
+    (passes_append c.pass_offers.new.world (Seal ∷ []) c.pass_seal.new.world (for_nodes see_events n)
+    c.pass_sights.new.world c.in_ok-pass_seal.ensures c.in_ok-pass_sights.ensures) in
+    ends_window c.pass_advance.result c.args.cycle c.args.faults.now (whole_window n) c.in-Some.window c.args.world.now
     c.strike_all.new.world c.pass_sights.new.world
-    c.pass-2.new.world opened
+    c.pass_advance.new.world opened
     (subst (λ (k : ℕ). Passes c.args.world.now (flat_map (strike_events k c.in-Some.window) c.args.faults.now)
-    c.strike_all.new.world) c.from.ensures c.in_ok-strike_all.ensures.passes) whole c.pass-2.ensures
+    c.strike_all.new.world) c.from.ensures c.in_ok-strike_all.ensures.passes) whole c.pass_advance.ensures

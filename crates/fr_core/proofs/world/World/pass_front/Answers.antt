@@ -1,19 +1,31 @@
-use Rattle.std.proofs.Common.{◌≡◌, ◌++◌, ◌∙◌, List, arith, ap, sym, subst, length, length-append, take}
+use Rattle.std.proofs.Common.{◌≡◌, ◌≤◌, ◌++◌, ◌∙◌, List, arith, ap, sym, subst, length, length-append, take}
+use Rattle.std.specs.Prelude.{slice_get}
 use Rattle.fr_core.proofs.FrontLemmas.{take_front}
 use Rattle.fr_core.specs.declared.event.Event.{Event}
-use Rattle.fr_core.specs.Fronts.{Accepts, events_of}
+use Rattle.fr_core.specs.declared.front.Front.{Front}
+use Rattle.fr_core.specs.Fronts.{Accepts, IsRefused, events_of}
 use Rattle.fr_core.proofs.world.World.pass_front.Goals as goal
 
 pub returns-clause-few : goal.returns-clause-few
 returns-clause-few c =
-    let rest = c.front_of.ensures.0 in
+    let rest = c.front_of.ensures.first.0 in
     let all : length c.args.events.now ≡ length (events_of c.front_of.result ++ rest) = ap length
-    c.front_of.ensures.1 in
+    c.front_of.ensures.first.1 in
     omega (arith, c.pass-passed.ensures.few, all, length-append (events_of c.front_of.result) rest)
 
 pub returns-clause-accepts : goal.returns-clause-accepts
 returns-clause-accepts c =
     subst (λ (es : List Event). Accepts c.args.self.now es c.pass-passed.new.self)
-    (sym (take_front c.pass-passed.result (events_of c.front_of.result) c.front_of.ensures.0
+    (sym (take_front c.pass-passed.result (events_of c.front_of.result) c.front_of.ensures.first.0
     c.pass-passed.ensures.few)
-    ∙ ap (take c.pass-passed.result) (sym c.front_of.ensures.1)) c.pass-passed.ensures.accepts
+    ∙ ap (take c.pass-passed.result) (sym c.front_of.ensures.first.1)) c.pass-passed.ensures.accepts
+
+pub returns-clause-refuses : goal.returns-clause-refuses
+returns-clause-refuses c =
+    subst (λ (f : Front). IsRefused c.pass-passed.new.self (slice_get (events_of f) c.pass-passed.result))
+    c.front_of.ensures.value c.pass-passed.ensures.refuses
+
+pub returns-clause-within : goal.returns-clause-within
+returns-clause-within c =
+    subst (λ (f : Front). c.pass-passed.result ≤ length (events_of f)) c.front_of.ensures.value
+    c.pass-passed.ensures.few
