@@ -45,7 +45,7 @@ pub fn crc24(bytes: &[u8], channel: Channel) -> u32
         Channel::A => FRAME_INITIAL_A,
         Channel::B => FRAME_INITIAL_B,
     };
-    // Sixteen bytes take sixteen entries at a time; `step_rest` takes the remaining bytes, eight at a time.
+    // Sixteen bytes take sixteen entries at a time; `step_rest` takes the remaining bytes, four at a time.
     let (sixteens, rest) = bytes.as_chunks::<16>();
     for sixteen in sixteens {
         register = step_sixteen(register, *sixteen);
@@ -135,7 +135,8 @@ fn frame_entries_of_two(zeros: usize, front: [u8; 4], back: [u8; 4]) -> u32
         ≡ left_by frame_divisor 24 (bits_of_bytes (front ++ back) ++ replicate (8 * zeros) false) }
     ensures fits { result < 2 ^ 24 }
 {
-    frame_entries(zeros + 4, front) ^ frame_entries(zeros, back)
+    let of_back = frame_entries(zeros, back);
+    frame_entries(zeros + 4, front) ^ of_back
 }
 
 /// Returns the register of the frame CRC after sixteen more bytes.
@@ -146,21 +147,20 @@ fn step_sixteen(register: u32, bytes: [u8; 16]) -> u32
         ≡ stepped_all (bits_of 24 frame_polynomial) (bits_of 24 register) (bits_of_bytes bytes) }
 {
     let [a, b, c, d, e, f, g, h, i, j, k, l, m, n, o, p] = bytes;
+    let back = frame_entries_of_two(0, [i, j, k, l], [m, n, o, p]);
     let met = register << 8 ^ u32::from_be_bytes([a, b, c, d]);
-    let front = frame_entries_of_two(8, met.to_be_bytes(), [e, f, g, h]);
-    front ^ frame_entries_of_two(0, [i, j, k, l], [m, n, o, p])
+    frame_entries_of_two(8, met.to_be_bytes(), [e, f, g, h]) ^ back
 }
 
-/// Returns the register of the frame CRC after eight more bytes.
-fn step_eight(register: u32, bytes: [u8; 8]) -> u32
+/// Returns the register of the frame CRC after four more bytes.
+fn step_four(register: u32, bytes: [u8; 4]) -> u32
     requires { register < 2 ^ 24 }
     ensures fits { result < 2 ^ 24 }
     ensures bits { bits_of 24 result
         ≡ stepped_all (bits_of 24 frame_polynomial) (bits_of 24 register) (bits_of_bytes bytes) }
 {
-    let [a, b, c, d, e, f, g, h] = bytes;
-    let met = register << 8 ^ u32::from_be_bytes([a, b, c, d]);
-    frame_entries_of_two(0, met.to_be_bytes(), [e, f, g, h])
+    let met = register << 8 ^ u32::from_be_bytes(bytes);
+    frame_entries(0, met.to_be_bytes())
 }
 
 /// Returns the register of the frame CRC after these bytes, which are few.
@@ -171,9 +171,9 @@ fn step_rest(register: u32, bytes: &[u8]) -> u32
         ≡ divided frame_divisor (bits_of 24 register) (bits_of_bytes bytes.now) }
 {
     let mut register = register;
-    let (eights, rest) = bytes.as_chunks::<8>();
-    for eight in eights {
-        register = step_eight(register, *eight);
+    let (fours, rest) = bytes.as_chunks::<4>();
+    for four in fours {
+        register = step_four(register, *four);
     }
     for byte in rest {
         register = step_byte(register, *byte);

@@ -12,7 +12,7 @@ returns-clause-bits c =
     stretches_add frame_divisor 24 c.args.zeros _ _ c.args.front c.args.back
     (c.frame_entries.ensures.bits ∙ ap (λ k. left_by frame_divisor 24
     (bits_of_bytes c.args.front ++ replicate (8 * (c.args.zeros + k)) false)) (sym four))
-    c.frame_entries-2.ensures.bits
+    c.frame_entries-of_back.ensures.bits
 
 pub returns-clause-fits : goal.returns-clause-fits
-returns-clause-fits c = xor_lt 24 _ _ c.frame_entries.ensures.fits c.frame_entries-2.ensures.fits
+returns-clause-fits c = xor_lt 24 _ _ c.frame_entries.ensures.fits c.frame_entries-of_back.ensures.fits

@@ -7,19 +7,19 @@ use Rattle.fr_frame.proofs.LoopLemmas.{divided-next_byte}
 use Rattle.fr_frame.proofs.TableLemmas.{divided-next_block, block_at, length-polynomial, some_bits}
 use Rattle.fr_frame.proofs.crc.step_rest.Goals as goal
 
-pub loop-eight-preserved : goal.loop-eight-preserved
-loop-eight-preserved c =
+pub loop-four-preserved : goal.loop-four-preserved
+loop-four-preserved c =
     let bytes = c.args.bytes.now in
-    let i = c.loop-eight.eight-index in
-    let within : i < length bytes / 8 = omega (arith, c.loop-eight-test.true, c.as_chunks.ensures.front_len) in
-    let block = ap (λ blocks. get_or blocks i []) c.as_chunks.ensures.front ∙ block_at 8
-    (length bytes / 8) i bytes [] within in
+    let i = c.loop-four.four-index in
+    let within : i < length bytes / 4 = omega (arith, c.loop-four-test.true, c.as_chunks.ensures.front_len) in
+    let block = ap (λ blocks. get_or blocks i []) c.as_chunks.ensures.front ∙ block_at 4
+    (length bytes / 4) i bytes [] within in
     record {
-      fits = c.step_eight-register.ensures.fits;
-      rest = divided-next_block 8 _ _ _ bytes i _ (length-polynomial 6122955 c.loop-eight.register)
-          (some_bits c.loop-eight.register) (c.step_eight-register.ensures.bits ∙ ap
-          (λ b. stepped_all (bits_of 24 6122955) (bits_of 24 c.loop-eight.register) (bits_of_bytes b)) block)
-          c.loop-eight.invariant.rest;
+      fits = c.step_four-register.ensures.fits;
+      rest = divided-next_block 4 _ _ _ bytes i _ (length-polynomial 6122955 c.loop-four.register)
+          (some_bits c.loop-four.register) (c.step_four-register.ensures.bits ∙ ap
+          (λ b. stepped_all (bits_of 24 6122955) (bits_of 24 c.loop-four.register) (bits_of_bytes b)) block)
+          c.loop-four.invariant.rest;
     }
 
 pub loop-byte-preserved : goal.loop-byte-preserved

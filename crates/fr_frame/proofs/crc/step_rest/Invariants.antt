@@ -5,10 +5,10 @@ use Rattle.fr_frame.specs.Register.{divided}
 use Rattle.fr_frame.proofs.crc.step_rest.Given as goal
 
 -- the division of the rest, from here, equals the division of the whole message
-abbrev pub invariant-loop-eight : goal.invariant-loop-eight
-invariant-loop-eight l = record {
+abbrev pub invariant-loop-four : goal.invariant-loop-four
+invariant-loop-four l = record {
   fits : l.register < 2 ^ 24;
-  rest : divided frame_divisor (bits_of 24 l.register) (bits_of_bytes (drop (l.eight-index * 8) l.bytes))
+  rest : divided frame_divisor (bits_of 24 l.register) (bits_of_bytes (drop (l.four-index * 4) l.bytes))
       ≡ divided frame_divisor (bits_of 24 l.fn.register) (bits_of_bytes l.bytes);
 }
 

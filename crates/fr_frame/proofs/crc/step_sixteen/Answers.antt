@@ -23,8 +23,8 @@ returns-clause-bits c =
     let word = word_bits c.from_be_bytes.result front refl (four_fit _ _ _ _ first second third fourth)
     c.from_be_bytes.ensures in
     block_steps 6122955 c.args.register c.from_be_bytes.result _ front (next ++ back) c.requires word refl
-    (stretches_add frame_divisor 24 0 _ _ (met ++ next) back c.frame_entries_of_two-front.ensures.bits
-    c.frame_entries_of_two.ensures.bits
+    (stretches_add frame_divisor 24 0 _ _ (met ++ next) back c.frame_entries_of_two.ensures.bits
+    c.frame_entries_of_two-back.ensures.bits
     ∙ ap (λ w. left_by frame_divisor 24 (bits_of_bytes w ++ replicate 0 false)) (append_assoc met next back)
     ∙ ap (λ w. left_by frame_divisor 24 (bits_of_bytes (w ++ (next ++ back)) ++ replicate 0 false))
     c.to_be_bytes.ensures)
@@ -32,4 +32,4 @@ returns-clause-bits c =
     (sym (sixteen_of bytes sixteen))
 
 pub returns-clause-fits : goal.returns-clause-fits
-returns-clause-fits c = xor_lt 24 _ _ c.frame_entries_of_two-front.ensures.fits c.frame_entries_of_two.ensures.fits
+returns-clause-fits c = xor_lt 24 _ _ c.frame_entries_of_two.ensures.fits c.frame_entries_of_two-back.ensures.fits
