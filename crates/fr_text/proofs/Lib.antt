@@ -4,4 +4,5 @@ pub mod NumberLemmas
 pub mod HexTextLemmas
 pub mod DigitLemmas
 pub mod PlainLemmas
+pub mod LaneLemmas
 pub mod LineLemmas

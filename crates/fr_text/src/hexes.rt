@@ -11,6 +11,7 @@ ghost use Rattle.hex.specs.Hex.{decode_of, encode_lower, lower_digits, IsBytes};
 use arrayvec::ArrayVec;
 use std::io;
 use std::io::Write;
+use std::simd::prelude::*;
 
 /// The largest number of bytes that a word spells.
 pub const MOST_BYTES: usize = 262;
@@ -44,6 +45,22 @@ fn packed_bytes(values: &[u8; BLOCK]) -> [u8; BLOCK_BYTES]
     bytes
 }
 
+/// Returns the number of values below 16 at the front of a block, before the first value of 16 or more.
+fn front_below(values: [u8; BLOCK]) -> u8
+    ensures few { result ≤ BLOCK }
+    ensures below { (k : ℕ) → k < result → slice_index values k < 16 }
+    ensures only { ((k : ℕ) → k < BLOCK → slice_index values k < 16) → result ≡ BLOCK }
+{
+    let others = u8x32::from_array(values)
+        .simd_ge(u8x32::splat(16))
+        .to_bitmask();
+    if others == 0 {
+        BLOCK as u8
+    } else {
+        others.trailing_zeros() as u8
+    }
+}
+
 /// Returns the values of the digits of a block, and the number of digits at its front.
 ///
 /// Each byte gets a value and the loop has no early return, so the compiler vectorises it.
@@ -53,14 +70,10 @@ fn values_in_front(digits: &[u8; BLOCK]) -> ([u8; BLOCK], u8)
     ensures only { AreDigits BLOCK digits.now → result.1 ≡ BLOCK }
 {
     let mut values = [0u8; BLOCK];
-    let mut front = BLOCK as u8;
     for place in 0..BLOCK {
-        let value = digit_value(digits[place]);
-        values[place] = value;
-        let end = if value < 16 { BLOCK as u8 } else { place as u8 };
-        front = lesser(front, end);
+        values[place] = digit_value(digits[place]);
     }
-    (values, front)
+    (values, front_below(values))
 }
 
 /// Returns the bytes that the digits at the front of a block spell, and the number of these digits.
@@ -108,13 +121,6 @@ fn digits_into<const N: usize>(digits: &[u8], bytes: &mut ArrayVec<u8, N>) -> bo
     let (read, front) = front_of(&whole_block(rest), BLOCK);
     append(bytes, &read[..rest.len() / 2]);
     front == BLOCK
-}
-
-/// Returns the lesser of two numbers.
-fn lesser(first: u8, second: u8) -> u8
-    ensures { result ≡ min first second }
-{
-    if second < first { second } else { first }
 }
 
 /// Appends bytes. The caller ensures that there is room.
