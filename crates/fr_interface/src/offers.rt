@@ -51,6 +51,9 @@ fn first_admitting(buffers: &[Buffer], window: &Window, channel: Channel) -> Opt
 }
 
 /// Returns the number of the transmit buffer that admits the window on the channel.
+///
+/// It is inlined, so that the slot of the channel is found once for buffer and ownership.
+#[inline(always)]
 pub(crate) fn transmitter(plan: &IndexedPlan, window: &Window, channel: Channel) -> Option<u8>
     ensures { result ≡ transmitter plan.now window.now channel }
 {

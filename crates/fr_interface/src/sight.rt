@@ -213,6 +213,9 @@ impl<'a> Sight<'a> {
     }
 
     /// Returns the status and the frame of the observation on the channel of a window.
+    ///
+    /// It is inlined, so that the kind of a sight that is known costs nothing.
+    #[inline(always)]
     pub(crate) fn told(&self, params: &Params, window: &Window, channel: Channel) -> Told<'a>
         ensures status { result.status ≡ status_seen params.now window.now channel (seen_in self.now) }
         ensures frame { result.frame ≡ data_frame_seen params.now window.now channel (seen_in self.now) }

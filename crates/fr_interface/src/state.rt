@@ -345,6 +345,9 @@ impl InterfaceState {
     }
 
     /// Returns the node's offer on the channel, once the window is fetched.
+    ///
+    /// It is inlined, so that the compiler keeps the offer in registers.
+    #[inline(always)]
     pub(crate) fn outgoing_on(&self, window: &Window, channel: Channel) -> Outgoing
         ensures value { result ≡ outgoing_on self.now.plan self.now.transmit window.now channel }
         ensures fits { IsOffered result.offered }
