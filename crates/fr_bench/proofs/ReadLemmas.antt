@@ -3,8 +3,8 @@
 use Rattle.std.proofs.Common.{◌≡◌, ℕ, ◌≤◌, Bool, true, false, List, [], ◌++◌, length, Option, Some, None}
 use Rattle.std.proofs.Common.{Result, Ok, Err, inl, inr, refl, sym, ap, subst, ◌∙◌, ◌⊎◌, append_assoc, append-nil}
 use Rattle.std.proofs.lemmas.List.Sums.{fold-append}
-use Rattle.std.specs.Io.KnownBytes.{Consumes, Keeps, IsAtEnd}
-use Rattle.std.specs.Prelude.{IfOk}
+use Rattle.std.specs.Io.KnownBytes.{Consumes, Keeps}
+use Rattle.std.specs.Prelude.{IfOk, IfSome}
 use Rattle.fr_auditing.proofs.StreamLemmas.{earlier_bytes, stays_by}
 use Rattle.fr_auditing.specs.LongStream.{byte_by, bytes_by, BeginsBy}
 use Rattle.fr_auditing.specs.Tracking.{Kept, ForEachText, IsOutcome, LeavesEarlier, LeavesText, ReadsOn, Tracks}
@@ -12,7 +12,7 @@ use Rattle.fr_auditing.specs.Tracking.{kept_answer}
 use Rattle.fr_auditing.specs.Tracking as kept
 use Rattle.fr_bench.proofs.FaultLemmas.{bytes_by_fault}
 use Rattle.fr_bench.specs.LongStops.{Known, IsReadAs}
-use Rattle.fr_bench.specs.Reading.{HasCome, HasNoFaultBy, ReadsBy, SoFar}
+use Rattle.fr_bench.specs.Reading.{HasCome, HasNoFaultBy, IsOver, ReadsBy, SoFar}
 use Rattle.fr_interface.specs.Standing.{Standing}
 use Rattle.fr_interface.specs.State.{State}
 use Rattle.fr_trace.proofs.FaultLemmas.{FailsByText, FaultOfText, outcome_fault}
@@ -57,13 +57,20 @@ nothing_read (Some rest) (Some left) kept = sym kept
 abbrev AllCome : List ℕ → List ℕ → List ℕ → Type 0
 AllCome front text rest = (text ≡ front) × (rest ≡ [])
 
-all_come : (old mid new : Option (List ℕ)) (front : List ℕ) → Known old mid (HasCome front) → Consumes mid new []
-    → IsAtEnd new → Known old new (AllCome front)
-all_come None mid new front come consumed end = tt
-all_come (Some text) None new front come consumed end = absurd come
-all_come (Some text) (Some rest) None front come consumed end = absurd consumed
-all_come (Some text) (Some rest) (Some left) front come consumed end =
-    (come ∙ ap (λ (r : List ℕ). front ++ r) (consumed ∙ end) ∙ append-nil front, end)
+all_come : (old mid new : Option (List ℕ)) (front : List ℕ) → Known old mid (HasCome front) → Known mid new IsOver
+    → Known old new (AllCome front)
+all_come None mid new front come over = tt
+all_come (Some text) None new front come over = absurd come
+all_come (Some text) (Some rest) None front come over = absurd over
+all_come (Some text) (Some rest) (Some left) front come over =
+    (come ∙ ap (λ (r : List ℕ). front ++ r) over.0 ∙ append-nil front, over.1)
+
+-- a reader that shows no byte is at its end
+pub shown_none : (old mid : Option (List ℕ)) (shown : List ℕ) → length shown ≡ 0
+    → IfSome old (λ xs. length shown ≡ 0 → xs ≡ []) → Keeps old mid → Known old mid IsOver
+shown_none None mid shown none end kept = tt
+shown_none (Some text) None shown none end kept = absurd kept
+shown_none (Some text) (Some rest) shown none end kept = (end none, kept ∙ end none)
 
 -- ---- before the first byte
 
@@ -275,7 +282,7 @@ through_all (Some text) (Some rest) front s read fine come = (
   ap (λ (l : List ℕ). outcome_of (take_bytes fresh l)) come.0 ∙ read,
 )
 
-module _ (old mid new : Option (List ℕ)) (a : Kept) (consumed : Consumes mid new []) (end : IsAtEnd new) where
+module _ (old mid new : Option (List ℕ)) (a : Kept) (over : Known mid new IsOver) where
   ended_later : (h : Standing) → SoFar true old mid a
       → ((text : List ℕ) → Tracks true a (bytes_by true fresh text) → LeavesText h text) → ReadsBy true old new (Ok h)
   ended_later h so_far found =
@@ -285,7 +292,7 @@ module _ (old mid new : Option (List ℕ)) (a : Kept) (consumed : Consumes mid n
         history,
         known_map old new (AllCome so_far.0) (IsReadAs s)
             (λ t r all. (all.0 ∙ is, (all.1, subst (HasNoFaultBy true) (sym all.0) so_far.2)))
-            (all_come old mid new so_far.0 so_far.3 consumed end),
+            (all_come old mid new so_far.0 so_far.3 over),
       )
 
   ended_earlier : (h : Standing) → SoFar false old mid a
@@ -297,7 +304,7 @@ module _ (old mid new : Option (List ℕ)) (a : Kept) (consumed : Consumes mid n
         legal,
         history,
         through_all old new so_far.0 s read (no_fault_same so_far.0 so_far.2)
-            (all_come old mid new so_far.0 so_far.3 consumed end),
+            (all_come old mid new so_far.0 so_far.3 over),
       )
 
   pub read_end : (later : Bool) (r : Result Standing TraceError) → SoFar later old mid a
@@ -320,5 +327,5 @@ module _ (old mid new : Option (List ℕ)) (a : Kept) (consumed : Consumes mid n
               ap (λ (l : List ℕ). outcome_of (bytes_by later fresh l)) all.0 ∙ fault,
               inl (all.1, subst (HasNoFaultBy later) (sym all.0) so_far.2),
             ))
-            (all_come old mid new so_far.0 so_far.3 consumed end),
+            (all_come old mid new so_far.0 so_far.3 over),
       )))

@@ -1,9 +1,10 @@
 -- The bytes that have been read of a text, the state of its auditor, and the result of reading through. A `Bool` is
 -- true for a text of version 4, and false for one of versions 1 to 3.
-use Rattle.std.specs.Prelude.{◌≡◌, ℕ, Bool, true, false, List, ◌++◌, Option, Result, Ok, Err}
-use Rattle.std.specs.Io.KnownBytes.{Appends, Keeps}
+use Rattle.std.specs.Prelude.{◌≡◌, ℕ, ◌≤◌, Bool, true, false, List, [], ◌++◌, length}
+use Rattle.std.specs.Prelude.{Option, Some, None, Result, Ok, Err}
+use Rattle.std.specs.Io.KnownBytes.{Appends, Consumes, Keeps}
 use Rattle.fr_auditing.specs.LongStream.{bytes_by}
-use Rattle.fr_auditing.specs.Tracking.{Kept, Tracks}
+use Rattle.fr_auditing.specs.Tracking.{Kept, Tracks, ReadsOn, ForEachText, kept_answer}
 use Rattle.fr_bench.specs.LongStops.{Known, LongReads}
 use Rattle.fr_files.specs.Outputs.{FallsShort}
 use Rattle.fr_interface.specs.Standing.{Standing, IsHistory}
@@ -26,6 +27,18 @@ abbrev pub SoFar : Bool → Option (List ℕ) → Option (List ℕ) → Kept →
 SoFar later text rest a =
     (front : List ℕ) × Tracks later a (bytes_by later fresh front) × HasNoFaultBy later front
     × Known text rest (HasCome front)
+
+-- no byte was left
+abbrev pub IsOver : List ℕ → List ℕ → Type 0
+IsOver text rest = (text ≡ []) × (rest ≡ [])
+
+-- The auditor was fed the next bytes, at most 4096, which the reader no longer has, and gave this answer. At the end of
+-- the reader it was fed nothing.
+abbrev pub FeedsNext : Option (Result (Unit {0}) TraceError) → Option (List ℕ) → Option (List ℕ) → Kept → Kept → Type 0
+FeedsNext None old new a b = Known old new IsOver × (b ≡ a)
+FeedsNext (Some answer) old new a b =
+    (bytes : List ℕ) × Consumes old new bytes × (length bytes ≤ 4096)
+    × ForEachText a (λ later s. ReadsOn later s bytes b) × (answer ≡ kept_answer b)
 
 -- the result of reading a text of versions 1 to 3 through: the data that the history of a node's interface leaves, or
 -- an error

@@ -15,7 +15,7 @@ use fr_auditing::kept::KeptInterface;
 use fr_files::output::write_text;
 use fr_trace::error::TraceError;
 use std::alloc::Global;
-use std::io::{Read, Write};
+use std::io::{BufRead, Write};
 
 /// Writes the report of an interface of which only the data are kept.
 ///
@@ -43,7 +43,7 @@ fn report<W: Write>(
 }
 
 /// Reads a text after its head, which is of version 4 if `later`, and writes its report.
-fn audit_by<R: Read, W: Write>(
+fn audit_by<R: BufRead, W: Write>(
     alloc: Global,
     later: bool,
     head: &[u8],
@@ -64,7 +64,7 @@ fn audit_by<R: Read, W: Write>(
 }
 
 /// Reads a trace to its end and writes its report.
-fn audit_through<R: Read, W: Write>(
+fn audit_through<R: BufRead, W: Write>(
     alloc: Global,
     reader: &mut R,
     writer: &mut W,
@@ -87,7 +87,7 @@ fn audit_through<R: Read, W: Write>(
 ///
 /// Returns the error of the trace; `Memory` also if an allocation for the report fails; and `Write` if the writer
 /// fails, which may have taken a front of the report. Every other error leaves the writer unchanged.
-pub fn audit<R: Read, W: Write>(
+pub fn audit<R: BufRead, W: Write>(
     alloc: Global,
     reader: &mut R,
     writer: &mut W,

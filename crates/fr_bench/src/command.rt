@@ -10,7 +10,7 @@ use fr_commands::midpoint::midpoint_text;
 use fr_commands::plan::plan_text;
 use fr_threads::outcome::RunOptions;
 use std::alloc::Global;
-use std::io::{Read, Write};
+use std::io::{BufRead, Write};
 
 /// A command that reads one text and prints another (project-defined).
 #[derive(Clone, Copy, PartialEq, Eq)]
@@ -64,7 +64,7 @@ pub fn task_of<'a>(order: &Order<'a>) -> Task<'a>
 /// Reads the text to its end, and prints what the command makes of it (project-defined).
 ///
 /// Fails as the function of the command does, and with no other error.
-pub fn print_text<R: Read, W: Write>(
+pub fn print_text<R: BufRead, W: Write>(
     alloc: Global,
     command: TextCommand,
     reader: &mut R,

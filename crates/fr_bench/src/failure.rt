@@ -19,7 +19,8 @@ pub enum BenchFailure {
     Words(OrderError),
     /// The trace was rejected, or couldn't be read, or its report couldn't be written.
     Audit(TraceError),
-    /// Another input was rejected, or couldn't be read, or the output couldn't be written.
+    /// Another input was rejected, or couldn't be read, or the output couldn't be written. Or an allocation for the
+    /// buffer of an input failed.
     Text(BenchError),
     /// A run was refused, or failed.
     Run(OutcomeError),

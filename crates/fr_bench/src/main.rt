@@ -36,10 +36,13 @@ use fr_cli::bench::order;
 use fr_cli::waiting::{WaitingReader, WaitingWriter};
 use fr_cli::words::{texts_of, words_given};
 use fr_expecting::missed::{Missed, write_missed};
+use fr_files::error::BenchError;
 use fr_files::named::file_named;
 use fr_names::cluster_file::named_cluster_of;
 use fr_threads::outcome::{RunNotes, RunOptions, run_cluster};
 use fr_threads::outcome_error::OutcomeError;
+use std::alloc::Global;
+use std::io::{BufReader, Read, Write};
 use std::process::ExitCode;
 use std::rt::{Env, Files};
 use std::sync::Wait;
@@ -49,6 +52,9 @@ use std::{io, str};
 
 /// The exit status if a run missed an expectation.
 const MISSED: u8 = 3;
+
+/// The number of bytes that are asked for at a time. In pieces of 4,096 a long trace takes up to a tenth more time.
+const READ_AHEAD: usize = 65_536;
 
 /// Room for the line of a missed expectation: two payloads of 254 bytes take 1,018 of them.
 const MOST_BYTES: usize = 1_280;
@@ -103,6 +109,21 @@ fn run_files<R: Files + Print + Eprint + AllocGlobal + Threads + Wait + Clock + 
     Ok(tell_notes(rt, &notes))
 }
 
+/// Executes the command on the text of the reader, which is read in large pieces.
+///
+/// The buffer for reading is allocated first.
+fn print_buffered<R: Read + Drop, W: Write>(
+    alloc: Global,
+    command: TextCommand,
+    reader: R,
+    writer: &mut W,
+) -> Result<(), BenchFailure> {
+    match BufReader::with_capacity(alloc, READ_AHEAD, reader) {
+        Ok(mut buffered) => print_text(alloc, command, &mut buffered, writer),
+        Err(_) => Err(BenchFailure::Text(BenchError::Memory)),
+    }
+}
+
 /// Executes the command on the text of its source.
 fn print_from<R: Files + Input + Print + AllocGlobal + Clock>(
     rt: &R,
@@ -112,10 +133,10 @@ fn print_from<R: Files + Input + Print + AllocGlobal + Clock>(
     let (alloc, mut output) = (rt.alloc(), WaitingWriter::new(rt, io::writer(rt)));
     match source {
         Source::Standard => {
-            let mut input = WaitingReader::new(rt, rt.reader());
-            print_text(alloc, command, &mut input, &mut output)
+            let input = WaitingReader::new(rt, rt.reader());
+            print_buffered(alloc, command, input, &mut output)
         }
-        Source::Named(path) => print_text(alloc, command, &mut file_named(rt, path)?, &mut output),
+        Source::Named(path) => print_buffered(alloc, command, file_named(rt, path)?, &mut output),
     }
 }
 

@@ -1,8 +1,8 @@
 //! The first bytes of a text, which have its version, and the rest of it.
 
-ghost use Rattle.std.specs.Prelude.{◌≡◌, ◌≤◌, length, ℕ, Bool, List, Option};
-ghost use Rattle.std.specs.Io.KnownBytes.{Consumes};
-ghost use Rattle.fr_bench.specs.Reading.{ReadsBy, SoFar};
+ghost use Rattle.std.specs.Prelude.{◌≡◌, ◌≤◌, length, ℕ, Bool, List, Option, IfOk, OnErr};
+ghost use Rattle.std.specs.Io.KnownBytes.{Consumes, Keeps};
+ghost use Rattle.fr_bench.specs.Reading.{FeedsNext, ReadsBy, SoFar};
 ghost use Rattle.fr_bench.specs.Versions.{Heads, is_later, is_open};
 
 use arrayvec::ArrayVec;
@@ -10,9 +10,10 @@ use fr_auditing::auditor::KeptAuditor;
 use fr_auditing::kept::KeptInterface;
 use fr_trace::error::TraceError;
 use std::alloc::Global;
-use std::io::{ErrorKind, Read};
+use std::io;
+use std::io::{BufRead, ErrorKind, Read};
 
-/// The number of bytes that are asked for at a time.
+/// The most bytes that are fed at a time, and the room of a head.
 const ROOM: usize = 4096;
 
 /// The number of bytes that are asked for at a time before the version is known. A front of the first line has at most
@@ -58,33 +59,53 @@ pub(crate) fn head_of<R: Read>(reader: &mut R) -> Result<ArrayVec<u8, ROOM>, Tra
     Err(TraceError::Read)
 }
 
+/// Feeds the next bytes of the reader, at most `ROOM`, and then takes them.
+///
+/// Returns the answer of the auditor, or `None` at the reader's end. The bytes are fed where the reader has them, and
+/// none after them is taken.
+fn feed_next<R: BufRead>(
+    auditor: &mut KeptAuditor,
+    reader: &mut R,
+) -> io::Result<Option<Result<(), TraceError>>>
+    ensures fed { IfOk result (λ fed. FeedsNext fed (R.remaining reader.old) (R.remaining reader.new)
+        auditor.old auditor.new) }
+    ensures kept { OnErr result (Keeps (R.remaining reader.old) (R.remaining reader.new)) }
+    ensures same { OnErr result (auditor.new ≡ auditor.old) }
+{
+    let shown = reader.fill_buf()?;
+    if shown.is_empty() {
+        return Ok(None);
+    }
+    let count = shown.len().min(ROOM);
+    let fed = auditor.feed(&shown[..count]);
+    reader.consume(count);
+    Ok(Some(fed))
+}
+
 /// Returns the data that the rest of a text leaves of its interface. It stops reading at an error, and repeats an
 /// interrupted read.
-fn rest_of<R: Read>(mut auditor: KeptAuditor, reader: &mut R) -> Result<KeptInterface, TraceError>
+fn rest_of<R: BufRead>(
+    mut auditor: KeptAuditor,
+    reader: &mut R,
+) -> Result<KeptInterface, TraceError>
     ensures { (later : Bool) (text : Option (List ℕ)) → SoFar later text (R.remaining reader.old) auditor
         → ReadsBy later text (R.remaining reader.new) result }
 {
-    let mut room = [0u8; ROOM];
-    // The loop ends with `Read` after 2^64 - 1 reads, so that its termination can be proved.
+    // The loop ends with `Read` after 2^64 - 1 pieces and interrupted reads, so that its termination can be proved.
     'pieces: for _ in 0..u64::MAX {
-        let count = match reader.read(&mut room) {
-            Ok(count) => count,
-            Err(error) if error.kind() == ErrorKind::Interrupted => continue,
+        match feed_next(&mut auditor, reader) {
+            Ok(Some(Ok(()))) => {}
+            Ok(Some(Err(fault))) => return Err(fault),
+            Ok(None) => return auditor.finish(),
+            Err(error) if error.kind() == ErrorKind::Interrupted => {}
             Err(_) => return Err(TraceError::Read),
-        };
-        if count == 0 {
-            return auditor.finish();
-        }
-        let fed = auditor.feed(&room[..count]);
-        if let Err(fault) = fed {
-            return Err(fault);
         }
     }
     Err(TraceError::Read)
 }
 
 /// Returns the data that the reader's bytes leave after this head of their text, which is of version 4 if `later`.
-pub(crate) fn read_text<R: Read>(
+pub(crate) fn read_text<R: BufRead>(
     alloc: Global,
     later: bool,
     head: &[u8],
