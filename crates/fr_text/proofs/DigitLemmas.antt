@@ -1,12 +1,11 @@
 -- Digits that are read by their values are the digits of the bytes made of these values.
 use Rattle.std.proofs.Common.{◌≡◌, ◌≢◌, ℕ, zero, suc, ◌+◌, ◌-◌, ◌*◌, ◌/◌, ◌%◌, ◌<◌, ◌≤◌, List, [], ◌∷◌, ◌++◌}
-use Rattle.std.proofs.Common.{length, length-take, get_or, set, take, take-add, drop, replicate, slice_index, bit_or}
+use Rattle.std.proofs.Common.{length, length-take, get_or, set, take, take-add, drop, replicate, slice_index}
 use Rattle.std.proofs.Common.{Option, Some, None, IfSome, inl, inr, refl, sym, ap, subst, ◌∙◌, arith, lit<}
 use Rattle.std.proofs.Math.Seq.{get_or-append_right, take-append_seam}
 use Rattle.std.proofs.lemmas.Bool.{le-leb, cases_lt}
 use Rattle.std.proofs.lemmas.List.{get_or-set_same, get_or-set_other, get_or-drop, get_or-take, get_or_append_left}
 use Rattle.std.proofs.lemmas.List.{take_all, take-append-drop, drop-drop}
-use Rattle.std.proofs.lemmas.Nat.{or_shifted}
 use Rattle.std.proofs.lemmas.Simd.{get_or-chunk, get_or-replicate}
 use Rattle.std.proofs.lemmas.Slice.Eq.{bytes_eq-Decides}
 use Rattle.std.specs.Simd.{first_chunks}
@@ -16,18 +15,6 @@ use Rattle.fr_text.specs.Digits.{IsDigit, AreDigits, AreValues, ArePacked}
 use Rattle.fr_text.specs.Reading.{bytes_as, bytes_in}
 use Rattle.fr_text.specs.Spelling.{hex_text}
 use Rattle.fr_text.proofs.HexTextLemmas.{as_takes, none_from, bytes_again}
-
--- the byte of two digits
-byte_of : (high low : ℕ) → high < 16 → low < 16 → bit_or (high * 16 % 256) low ≡ high * 16 + low
-byte_of high low h l =
-    let whole : high * 16 % 256 ≡ high * 16 = omega arith in
-    ap (λ (x : ℕ). bit_or x low) whole ∙ or_shifted high 4 low l
-
-high_digit_of : (high low : ℕ) → high < 16 → low < 16 → bit_or (high * 16 % 256) low / 16 ≡ high
-high_digit_of high low h l = ap (λ (x : ℕ). x / 16) (byte_of high low h l) ∙ omega arith
-
-low_digit_of : (high low : ℕ) → high < 16 → low < 16 → bit_or (high * 16 % 256) low % 16 ≡ low
-low_digit_of high low h l = ap (λ (x : ℕ). x % 16) (byte_of high low h l) ∙ omega arith
 
 -- the two digits at a place are those of the byte at this place
 abbrev pub SpelledAt : List ℕ → List ℕ → ℕ → Type 0
@@ -50,22 +37,6 @@ set_each P xs place x within here before k lt =
           let now : get_or (set xs place x) place 0 ≡ x = get_or-set_same xs place x 0 within in
           subst (λ (n : ℕ). P n (get_or (set xs place x) n 0)) is (subst (P place) (sym now) here)
     ]
-
--- the byte at a place is made of the two values there, if both are values of digits
-abbrev IsPackedAt : List ℕ → ℕ → ℕ → Type 0
-IsPackedAt values k byte =
-    get_or values (2 * k) 0 < 16 → get_or values (2 * k + 1) 0 < 16
-    → (byte / 16 ≡ get_or values (2 * k) 0) × (byte % 16 ≡ get_or values (2 * k + 1) 0)
-
--- one byte more of two values
-pub packed_more : (values bytes : List ℕ) (place : ℕ) → place < length bytes → ArePacked place values bytes
-    → ArePacked (place + 1) values
-    (set bytes place (bit_or (get_or values (2 * place) 0 * 16 % 256) (get_or values (2 * place + 1) 0)))
-packed_more values bytes place within before =
-    let high = get_or values (2 * place) 0 in
-    let low = get_or values (2 * place + 1) 0 in
-    set_each (IsPackedAt values) bytes place (bit_or (high * 16 % 256) low) within
-    (λ h l. (high_digit_of high low h l, low_digit_of high low h l)) before
 
 -- digits that are spelled at each place
 pub spelled_by_places : (count : ℕ) (room digits : List ℕ) → length digits ≡ 2 * count → count ≤ length room

@@ -4,5 +4,6 @@ pub mod NumberLemmas
 pub mod HexTextLemmas
 pub mod DigitLemmas
 pub mod PlainLemmas
+pub mod TwinLemmas
 pub mod LaneLemmas
 pub mod LineLemmas

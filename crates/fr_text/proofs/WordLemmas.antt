@@ -3,7 +3,7 @@ use Rattle.std.proofs.Common.{◌≡◌, ℕ, ◌+◌, ◌≤◌, inl, inr, List
 use Rattle.std.proofs.Common.{arith, ltb, ◌<◌, true, zero, suc, get_or, sym, length-take}
 use Rattle.std.proofs.lemmas.Bool.Decides.{nat_tests}
 use Rattle.std.proofs.lemmas.Bool.{cases_Bool, ltb-true, lt-ltb, le-ltb}
-use Rattle.std.proofs.lemmas.List.{get_or-take, take_all}
+use Rattle.std.proofs.lemmas.List.{drop-drop, get_or-take, take_all}
 use Rattle.std.proofs.lemmas.Str.Parse.{digit_at}
 use Rattle.std.specs.Str.Parse.{AllDigits}
 use Rattle.fr_text.proofs.HexTextLemmas.{bytes_takes}
@@ -139,3 +139,19 @@ first_before read words line k x left lt here bare found =
     let first = space_at line k lt space bare in
     let cut = cut_at line k (sym first) in
     (rw (← left, cut) found, rw (← left, cut) refl)
+
+-- two words that spell bytes
+pub two_words : (most : ℕ) (words : List (List ℕ)) (line first second : List ℕ) (k : ℕ) → words_of line ≡ words
+    → k < length line → get_or line k 0 ≡ 32 → bytes_in most (take k line) ≡ Some first
+    → bytes_in most (drop (k + 1) line) ≡ Some second
+    → (first_in (bytes_in most) words ≡ Some first) × (first_in (bytes_in most) (drop 1 words) ≡ Some second)
+    × (drop 2 words ≡ [])
+two_words most words line first second k left lt here read_first read_second =
+    let read = bytes_in most in
+    let last = drop (k + 1) line in
+    let before = first_before read words line k first left lt here (no_space-bytes most line first k read_first)
+    read_first in
+    let whole : read (take (length last) last) ≡ Some second = rw (whole_at last (length last) refl) read_second in
+    let after = first_whole read (drop 1 words) last (length last) second before.1 refl
+    (no_space-bytes most last second _ whole) whole in
+    (before.0, after.0, sym (after.1 ∙ drop-drop 1 1 words))

@@ -1,6 +1,6 @@
 //! The bytes that words spell: the letter `x`, and two lower-case hexadecimal digits for each byte.
 ghost use Rattle.std.specs.Prelude.{ℕ, ◌≡◌, ◌+◌, ◌-◌, ◌<◌, ◌≤◌, ◌++◌, length, option_map, replicate, slice_index};
-ghost use Rattle.std.specs.Prelude.{◌*◌, ◌/◌, min, take, Some, IfSome};
+ghost use Rattle.std.specs.Prelude.{◌*◌, ◌/◌, min, take, Some, IfSome, true};
 ghost use Rattle.arrayvec.specs.ArrayVec.{array_vec_len};
 ghost use Rattle.fr_text.specs.Digits.{AreDigits, AreValues, ArePacked};
 ghost use Rattle.fr_text.specs.Writing.{Writes};
@@ -24,14 +24,27 @@ const BLOCK: usize = 32;
 
 const BLOCK_BYTES: usize = 16;
 
+/// The number of bytes in which twins may differ, at their end: those of the frame CRC.
+const CHECK_BYTES: usize = 3;
+
+/// The number of digits of these bytes.
+const CHECK_DIGITS: usize = 2 * CHECK_BYTES;
+
+/// The smallest length of twins.
+///
+/// A shorter word has fewer than two blocks of digits. The last digits of a twin take one, so twins would save little.
+const SHORTEST_TWIN: usize = 2 * BLOCK + 1;
+
 /// Returns the value of a lower-case hexadecimal digit, and 16 or more for any other byte.
 fn digit_value(digit: u8) -> u8
     ensures is { result < 16 → slice_index lower_digits result ≡ digit }
     ensures only { (k : ℕ) → k < 16 → slice_index lower_digits k ≡ digit → result ≡ k }
 {
-    let number = digit.wrapping_sub(b'0');
+    // `0` to `9` become the ten greatest bytes, and then 0 to 9; all other bytes end at 16 or above. Without a branch a
+    // block takes fewer instructions.
+    let number = digit.wrapping_add(198).saturating_sub(6).wrapping_sub(240);
     let letter = digit.wrapping_sub(b'a').saturating_add(10);
-    if number < 10 { number } else { letter }
+    number.min(letter)
 }
 
 /// Returns the byte of each pair of values.
@@ -40,7 +53,9 @@ fn packed_bytes(values: &[u8; BLOCK]) -> [u8; BLOCK_BYTES]
 {
     let mut bytes = [0u8; BLOCK_BYTES];
     for place in 0..BLOCK_BYTES {
-        bytes[place] = values[2 * place] << 4 | values[2 * place + 1];
+        // For values below 16 the upper byte of the product is 16 times the first one, plus the second.
+        let pair = u16::from_le_bytes([values[2 * place], values[2 * place + 1]]);
+        bytes[place] = (pair.wrapping_mul(4097) >> 8) as u8;
     }
     bytes
 }
@@ -203,6 +218,38 @@ pub fn bytes_into<const N: usize>(word: &[u8], bytes: &mut ArrayVec<u8, N>) -> b
     } else {
         false
     }
+}
+
+/// Replaces the bytes by those that the two words spell. Returns whether these words are twins.
+///
+/// Twins have the same length, at least `SHORTEST_TWIN`, and spell at most `N` bytes each: the same ones but for the
+/// last `CHECK_BYTES`. To copy the bytes that they share is faster than to read their digits again. If the result is
+/// false, the bytes are unspecified.
+pub(crate) fn twins_into<const N: usize>(
+    first_word: &[u8],
+    second_word: &[u8],
+    first: &mut ArrayVec<u8, N>,
+    second: &mut ArrayVec<u8, N>,
+) -> bool
+    requires { N ≤ MOST_BYTES }
+    ensures first { result ≡ true → bytes_in N first_word.now ≡ Some first.new.items }
+    ensures second { result ≡ true → bytes_in N second_word.now ≡ Some second.new.items }
+{
+    if first_word.len() < SHORTEST_TWIN || second_word.len() != first_word.len() {
+        return false;
+    }
+    let front = first_word.len() - CHECK_DIGITS;
+    if first_word[..front] != second_word[..front] || !bytes_into(first_word, first) {
+        return false;
+    }
+    let (checks, digits) = front_of(&whole_block(&second_word[front..]), CHECK_DIGITS);
+    if digits < CHECK_DIGITS {
+        return false;
+    }
+    second.clear();
+    append(second, &first.as_slice()[..front / 2]);
+    append(second, &checks[..CHECK_BYTES]);
+    true
 }
 
 /// Returns the bytes that the word spells. `N` is at most `MOST_BYTES`.

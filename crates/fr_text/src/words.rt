@@ -3,7 +3,7 @@ ghost use Rattle.std.specs.Prelude.{◌≡◌};
 ghost use Rattle.std.specs.List.{position};
 ghost use Rattle.fr_text.specs.Spaces.{is_space};
 
-use crate::hexes::{MOST_BYTES, bytes_in_front, bytes_into};
+use crate::hexes::{MOST_BYTES, bytes_in_front, bytes_into, twins_into};
 use crate::numbers::{number_in_front, number_of};
 use arrayvec::ArrayVec;
 use memchr::memchr;
@@ -30,7 +30,7 @@ impl<'a> Model for Words<'a> {
 }
 
 impl<'a> Words<'a> {
-    ghost use Rattle.std.specs.Prelude.{◌≡◌, ◌≢◌, ◌<◌, ◌≤◌, ◌∷◌, [], ◌++◌, length, drop};
+    ghost use Rattle.std.specs.Prelude.{◌≡◌, ◌≢◌, ◌<◌, ◌≤◌, ◌∷◌, [], ◌++◌, length, drop, true, false};
     ghost use Rattle.std.specs.Prelude.{option_to_list, option_copied, Some, None, IfNone, IfSome, IfOk, IfErr};
     ghost use Rattle.fr_text.specs.Reading.{number_in, bytes_in, first_in};
     ghost use Rattle.fr_text.specs.Spaces.{words_of};
@@ -164,6 +164,34 @@ impl<'a> Words<'a> {
         } else {
             Some(Err(word))
         }
+    }
+
+    /// Takes the two words that are left, and replaces the bytes by theirs, if these words are twins.
+    ///
+    /// Twins have the same length, at least 65, and spell at most `N` bytes each: the same ones but for the last three.
+    /// Returns false for any other words; all words are then left, and the bytes are unspecified.
+    pub fn take_twins<const N: usize>(
+        &mut self,
+        first: &mut ArrayVec<u8, N>,
+        second: &mut ArrayVec<u8, N>,
+    ) -> bool
+        requires { N ≤ MOST_BYTES }
+        ensures first { result ≡ true → first_in (bytes_in N) self.old ≡ Some first.new.items }
+        ensures second { result ≡ true → first_in (bytes_in N) (drop 1 self.old) ≡ Some second.new.items }
+        ensures two { result ≡ true → drop 2 self.old ≡ [] }
+        ensures end { result ≡ true → self.new ≡ [] }
+        ensures left { result ≡ false → self.new ≡ self.old }
+    {
+        let rest = self.rest;
+        let half = rest.len() / 2;
+        if self.done || rest.len() % 2 == 0 || rest[half] != b' ' {
+            return false;
+        }
+        if !twins_into(&rest[..half], &rest[half + 1..], first, second) {
+            return false;
+        }
+        self.done = true;
+        true
     }
 
     /// Takes the next three words, from left to right. `None` if fewer are left; these are then taken.
