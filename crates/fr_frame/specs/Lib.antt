@@ -1,4 +1,5 @@
 pub mod Bits
+pub mod Checks
 pub mod Crc
 pub mod Decoding
 pub mod Encoding

@@ -6,6 +6,7 @@ ghost use Rattle.fr_frame.specs.Crc.{header_divisor, header_polynomial, header_c
 ghost use Rattle.fr_frame.specs.Crc.{frame_divisor, frame_polynomial, frame_check};
 ghost use Rattle.fr_frame.specs.Register.{stepped, stepped_all, divided, left_by};
 ghost use Rattle.fr_frame.specs.Spelling.{covered};
+ghost use Rattle.fr_slots.specs.declared.channel.Channel.TheVariants as Channel;
 
 use crate::frame::Frame;
 use crate::tables::{FRAME_TABLES, HEADER_TABLES, entry};
@@ -51,6 +52,22 @@ pub fn crc24(bytes: &[u8], channel: Channel) -> u32
         register = step_sixteen(register, *sixteen);
     }
     step_rest(register, rest)
+}
+
+/// Returns the frame CRCs of the bytes on channel A and on channel B: 24 bits each.
+///
+/// In a step, 13 of the 16 table entries don't depend on the register, so both channels share them.
+pub(crate) fn crc24_both(bytes: &[u8]) -> (u32, u32)
+    ensures on_a { result.0 ≡ number_of (frame_check Channel.A bytes.now) }
+    ensures on_b { result.1 ≡ number_of (frame_check Channel.B bytes.now) }
+{
+    let (mut on_a, mut on_b) = (FRAME_INITIAL_A, FRAME_INITIAL_B);
+    let (sixteens, rest) = bytes.as_chunks::<16>();
+    for sixteen in sixteens {
+        on_a = step_sixteen(on_a, *sixteen);
+        on_b = step_sixteen(on_b, *sixteen);
+    }
+    (step_rest(on_a, rest), step_rest(on_b, rest))
 }
 
 /// Returns the header CRC of a frame: 11 bits. It covers the sync and startup indicators, the frame ID and the length
@@ -147,6 +164,7 @@ fn step_sixteen(register: u32, bytes: [u8; 16]) -> u32
         ≡ stepped_all (bits_of 24 frame_polynomial) (bits_of 24 register) (bits_of_bytes bytes) }
 {
     let [a, b, c, d, e, f, g, h, i, j, k, l, m, n, o, p] = bytes;
+    // The entries that need the register come last, so that the others are looked up while it is still computed.
     let back = frame_entries_of_two(0, [i, j, k, l], [m, n, o, p]);
     let met = register << 8 ^ u32::from_be_bytes([a, b, c, d]);
     frame_entries_of_two(8, met.to_be_bytes(), [e, f, g, h]) ^ back

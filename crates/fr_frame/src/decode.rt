@@ -1,19 +1,27 @@
 //! Decoding of frames.
 
-ghost use Rattle.std.specs.Prelude.{◌≡◌, ◌<◌, ◌≤◌, ◌^◌, ◌*◌, length, IfOk};
+ghost use Rattle.std.specs.Prelude.{◌≡◌, ◌<◌, ◌≤◌, ◌^◌, ◌*◌, length, IfOk, IfSome, IsSome};
 ghost use Rattle.std.specs.Result.{result_err, result_ok};
-ghost use Rattle.fr_frame.specs.Bits.{bits_of, bits_of_bytes};
+ghost use Rattle.fr_frame.specs.Bits.{bits_of, bits_of_bytes, number_of};
+ghost use Rattle.fr_frame.specs.Checks.{AreTwins, IsCheckOf, shortest_twins};
+ghost use Rattle.fr_frame.specs.Crc.{frame_check};
 ghost use Rattle.fr_frame.specs.Decoding.{decoded, fields_of};
 ghost use Rattle.fr_frame.specs.Fields.{Fields};
 ghost use Rattle.fr_frame.specs.Refusal.{refusal};
 ghost use Rattle.fr_frame.specs.Spelling.{Spells};
+ghost use Rattle.fr_slots.specs.declared.channel.Channel.TheVariants as Channel;
 
-use crate::crc::{crc_of_header, crc24};
+use crate::crc::{crc_of_header, crc24, crc24_both};
 use crate::frame::Frame;
 use crate::lent::LentFrame;
 use fr_slots::channel::Channel;
 use fr_slots::numbers::Cycle;
 use thiserror::Error;
+
+/// The least length of twins whose frame CRCs are computed together.
+///
+/// Comparing shorter ones takes as long as a second frame CRC.
+const SHORTEST_TWINS: usize = 40;
 
 /// Reasons to refuse bytes as a frame on a channel, in the order of the tests.
 #[derive(Clone, Copy, Debug, PartialEq, Eq, Error)]
@@ -41,7 +49,7 @@ pub fn decode(bytes: &[u8], channel: Channel) -> Result<Frame, DecodeError>
     // Every spelling of a frame is decoded.
     ensures only { (f : Fields) → Spells f channel bytes.now → result ≡ Ok f }
 {
-    frame_of(lent_from(bytes, channel))
+    frame_of(lent_from(bytes, channel, None))
 }
 
 /// Returns the same frame, whose payload stays among the bytes.
@@ -49,7 +57,43 @@ pub fn decode_lent(bytes: &[u8], channel: Channel) -> Result<LentFrame<'_>, Deco
     ensures refused { result_err result ≡ refusal channel bytes.now }
     ensures value { result_ok result ≡ decoded channel bytes.now }
 {
-    lent_from(bytes, channel)
+    lent_from(bytes, channel, None)
+}
+
+/// Returns the same as [`decode_lent`], without computing a frame CRC that is known already.
+///
+/// `check` is the calculated frame CRC of the bytes before the trailer on this channel, if it is known.
+pub fn decode_lent_by(
+    bytes: &[u8],
+    channel: Channel,
+    check: Option<u32>,
+) -> Result<LentFrame<'_>, DecodeError>
+    requires { IfSome check (λ n. IsCheckOf channel bytes.now n) }
+    ensures refused { result_err result ≡ refusal channel bytes.now }
+    ensures value { result_ok result ≡ decoded channel bytes.now }
+{
+    lent_from(bytes, channel, check)
+}
+
+/// Returns the calculated frame CRCs of twins: that of `a` on channel A, and that of `b` on channel B.
+///
+/// Twins have the same length, at least 40 bytes, and differ at most in the trailer. A node that sends redundantly
+/// sends twins. `None` for all other bytes.
+pub fn checks_of_twins(a: &[u8], b: &[u8]) -> Option<(u32, u32)>
+    ensures on_a { IfSome result (λ checks. IsCheckOf Channel.A a.now checks.0) }
+    ensures on_b { IfSome result (λ checks. IsCheckOf Channel.B b.now checks.1) }
+    ensures twins { IfSome result (λ _. (shortest_twins ≤ length a.now) × AreTwins a.now b.now) }
+    ensures only { shortest_twins ≤ length a.now → AreTwins a.now b.now → IsSome result }
+{
+    if a.len() < SHORTEST_TWINS || a.len() != b.len() {
+        return None;
+    }
+    let body = &a[..a.len() - 3];
+    if body == &b[..b.len() - 3] {
+        Some(crc24_both(body))
+    } else {
+        None
+    }
 }
 
 /// Returns the decoded frame with a payload of its own.
@@ -63,7 +107,12 @@ fn frame_of(read: Result<LentFrame<'_>, DecodeError>) -> Result<Frame, DecodeErr
 }
 
 /// Returns the same frame, with the clauses from which the others follow.
-fn lent_from(bytes: &[u8], channel: Channel) -> Result<LentFrame<'_>, DecodeError>
+fn lent_from(
+    bytes: &[u8],
+    channel: Channel,
+    check: Option<u32>,
+) -> Result<LentFrame<'_>, DecodeError>
+    requires { IfSome check (λ n. IsCheckOf channel bytes.now n) }
     ensures refused { result_err result ≡ refusal channel bytes.now }
     ensures read { IfOk result (λ f. f ≡ fields_of bytes.now) }
 {
@@ -82,7 +131,7 @@ fn lent_from(bytes: &[u8], channel: Channel) -> Result<LentFrame<'_>, DecodeErro
     }
     let body = &bytes[..bytes.len() - 3];
     let last = number_from(&bytes[bytes.len() - 3..]);
-    if last != u64::from(crc24(body, channel)) {
+    if last != u64::from(check_of(body, channel, check)) {
         return Err(DecodeError::FrameCrc);
     }
     Ok(LentFrame {
@@ -94,6 +143,17 @@ fn lent_from(bytes: &[u8], channel: Channel) -> Result<LentFrame<'_>, DecodeErro
         payload: &body[5..],
         cycle: Cycle::from_bits((header & 0x3f) as u8),
     })
+}
+
+/// Returns the calculated frame CRC of a body on the channel, which may be known already.
+fn check_of(body: &[u8], channel: Channel, check: Option<u32>) -> u32
+    requires { IfSome check (λ n. n ≡ number_of (frame_check channel body.now)) }
+    ensures { result ≡ number_of (frame_check channel body.now) }
+{
+    match check {
+        Some(known) => known,
+        None => crc24(body, channel),
+    }
 }
 
 /// Returns at most eight bytes as one number, the first byte highest.

@@ -18,10 +18,11 @@ pub struct LentFrame<'a> {
     pub startup: bool,
     /// The frame ID, 0 to 2047.
     pub id: u16,
-    /// The payload, also that of a null frame: an even number of bytes, at most 254.
-    pub payload: &'a [u8],
+    // The payload comes last, so that no padding is copied behind it.
     /// The cycle count.
     pub cycle: Cycle,
+    /// The payload, also that of a null frame: an even number of bytes, at most 254.
+    pub payload: &'a [u8],
 }
 
 impl<'a> Model for LentFrame<'a> {

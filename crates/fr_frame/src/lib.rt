@@ -16,6 +16,7 @@
 //! - `Spelling`, `Bits`, `Header`, `Payload`, `Crc`: the spelling of a frame, its bits, header and payload; CRC by long
 //!   division.
 //! - `Decoding`, `Refusal`, `Encoding`: the frame that bytes spell; refused bytes; the canonical spelling.
+//! - `Checks`: the calculated frame CRC of bytes that may spell a frame, and bytes that differ at most in the trailer.
 //!
 //! Modules that follow the steps of the code, for private functions, with the module that has the meaning:
 //!

@@ -22,7 +22,7 @@ returns-then-last-from-clause-refused c =
     sym (refused_frame _ _ (long_enough _ c.if-bytes-lt8.false) (length_test _ _ read c.if-bytes-words.false)
     (header_test _ _ _ read c.crc_of_header.ensures.value c.if-stored-crc_of_header.false)
     (frame_test_fails _ _ _ _ _ (last_part c.args.bytes.now) c.number_from-last.ensures.bits
-    c.number_from-last.ensures.fits (c.from.ensures ∙ c.crc24.ensures.value) c.if-last-from.true))
+    c.number_from-last.ensures.fits (c.from.ensures ∙ c.check_of.ensures) c.if-last-from.true))
 
 pub returns-clause-refused : goal.returns-clause-refused
 returns-clause-refused c =
@@ -30,7 +30,7 @@ returns-clause-refused c =
     sym (not_refused _ _ (long_enough _ c.if-bytes-lt8.false) (length_test _ _ read c.if-bytes-words.false)
     (header_test _ _ _ read c.crc_of_header.ensures.value c.if-stored-crc_of_header.false)
     (frame_test _ _ _ _ _ (last_part c.args.bytes.now) c.number_from-last.ensures.bits c.number_from-last.ensures.fits
-    (c.from.ensures ∙ c.crc24.ensures.value) c.if-last-from.false))
+    (c.from.ensures ∙ c.check_of.ensures) c.if-last-from.false))
 
 pub returns-clause-read : goal.returns-clause-read
 returns-clause-read c =
