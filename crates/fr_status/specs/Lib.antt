@@ -1,3 +1,4 @@
+pub mod Checks
 pub mod Counting
 pub mod Forms
 pub mod Status

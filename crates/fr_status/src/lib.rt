@@ -14,6 +14,7 @@
 //! # Definitions
 //!
 //! - `Status`: the status of a slot.
+//! - `Checks`: the calculated frame CRC of an observation, and observations that differ at most in the trailer.
 //!
 //! Modules that follow the steps of the code, for private functions, with the module that has the meaning:
 //!

@@ -1,11 +1,13 @@
 //! The status of a slot on a channel, by the observation there.
 
-ghost use Rattle.std.specs.Prelude.{◌≡◌, ◌≤◌};
+ghost use Rattle.std.specs.Prelude.{◌≡◌, ◌≤◌, IfSome, IsSome};
 ghost use Rattle.std.specs.Option.{is_some};
+ghost use Rattle.fr_slots.specs.declared.channel.Channel.TheVariants as Channel;
+ghost use Rattle.fr_status.specs.Checks.{AreLongTwins, IsCheckSeen};
 ghost use Rattle.fr_status.specs.Status.{frame_in, status_in, bits_set, passes, fits_static_slot, fits_dynamic_slot};
 
 use crate::seen::Seen;
-use fr_frame::decode::decode_lent;
+use fr_frame::decode::{checks_of_twins, decode_lent_by};
 use fr_frame::frame::Frame;
 use fr_frame::lent::LentFrame;
 use fr_slots::channel::Channel;
@@ -88,7 +90,6 @@ pub fn status_of(
 }
 
 /// Returns the same as [`status_of`], with the frame's payload left among the observed bytes.
-#[tactic(auto, unfolding(crate::specs::Status::status_in, crate::specs::Status::frame_in))]
 pub fn lent_status_of<'a>(
     params: &Params,
     cycle: Cycle,
@@ -101,12 +102,33 @@ pub fn lent_status_of<'a>(
     ensures only_if_valid { result.0.valid ≡ is_some result.1 }
     ensures at_most_one { bits_set result.0 ≤ 1 }
 {
+    lent_status_by(params, cycle, slot, channel, seen, None)
+}
+
+/// Returns the same as [`lent_status_of`], without computing a frame CRC that is known already.
+///
+/// `check` is the calculated frame CRC of the observed bytes on this channel, if it is known.
+#[tactic(auto, unfolding(crate::specs::Status::status_in, crate::specs::Status::frame_in))]
+pub fn lent_status_by<'a>(
+    params: &Params,
+    cycle: Cycle,
+    slot: SlotId,
+    channel: Channel,
+    seen: &'a Seen,
+    check: Option<u32>,
+) -> (SlotStatus, Option<LentFrame<'a>>)
+    requires { IfSome check (λ n. IsCheckSeen channel seen.now n) }
+    ensures status { result.0 ≡ status_in params.now cycle slot channel seen.now }
+    ensures frame { result.1 ≡ frame_in params.now cycle slot channel seen.now }
+    ensures only_if_valid { result.0.valid ≡ is_some result.1 }
+    ensures at_most_one { bits_set result.0 ≤ 1 }
+{
     match seen {
         Seen::Silence | Seen::Own => (NO_BIT, None),
         Seen::Conflict => (TRANSMISSION_CONFLICT, None),
         Seen::Noise => (SYNTAX_ERROR, None),
         Seen::Overrun => (BOUNDARY_VIOLATION, None),
-        Seen::Bytes(bytes) => match decode_lent(bytes.as_slice(), channel) {
+        Seen::Bytes(bytes) => match decode_lent_by(bytes.as_slice(), channel, check) {
             Ok(frame) => {
                 if passes(params, cycle, slot, &frame) {
                     (VALID_FRAME, Some(frame))
@@ -116,6 +138,23 @@ pub fn lent_status_of<'a>(
             }
             Err(_) => (SYNTAX_ERROR, None),
         },
+    }
+}
+
+/// Returns the calculated frame CRCs of twins: of the observations on channel A and on channel B.
+///
+/// Twins are at least 40 bytes on each channel, as many on both, that differ at most in the trailer. `None` for all
+/// other observations.
+#[tactic(auto, unfolding(crate::specs::Checks::IsCheckSeen, crate::specs::Checks::AreLongTwins))]
+pub fn checks_seen(a: &Seen, b: &Seen) -> Option<(u32, u32)>
+    ensures on_a { IfSome result (λ checks. IsCheckSeen Channel.A a.now checks.0) }
+    ensures on_b { IfSome result (λ checks. IsCheckSeen Channel.B b.now checks.1) }
+    ensures twins { IfSome result (λ _. AreLongTwins a.now b.now) }
+    ensures only { AreLongTwins a.now b.now → IsSome result }
+{
+    match (a, b) {
+        (Seen::Bytes(a), Seen::Bytes(b)) => checks_of_twins(a.as_slice(), b.as_slice()),
+        _ => None,
     }
 }
 
