@@ -14,7 +14,7 @@ use Rattle.fr_frame.specs.Fields.{Fields}
 use Rattle.fr_interface.specs.declared.index.LineRange.{LineRange}
 use Rattle.fr_interface.specs.Known.{frame_on, taken_by, stored_all}
 use Rattle.fr_interface.specs.Ranges.{IsWithin, IsRangeOf, AreRanges, IsTakingRange, widened, joined, slot_count}
-use Rattle.fr_interface.specs.Ranges.{buffer_slots, own_slots}
+use Rattle.fr_interface.specs.Ranges.{buffer_slots, own_slots, sending_slot, sending_slots}
 use Rattle.fr_interface.proofs.HandingLemmas.{get_take}
 use Rattle.fr_journal.specs.declared.entry.Arrival.{Arrival}
 use Rattle.fr_journal.specs.declared.entry.Moment.{Moment}
@@ -208,8 +208,10 @@ admits-none f window channel is = ap (λ (o : Option ℕ). admits_slot f window.
 
 module _ (plan : Plan) (window : Opportunity) (channel : Channel) where
   admitting_slot : (slot : ℕ) → slot_of window channel ≡ Some slot → (b : Buffer) → is_admitting window channel b ≡ true
-      → b.filter.slot ≡ slot
-  admitting_slot slot there b pass = admits-slot b.filter window channel slot there (and_parts _ _ pass).1
+      → sending_slot b ≡ slot
+  admitting_slot slot there b pass =
+      ap (λ (sends : Bool). cond sends b.filter.slot 0) (and_parts _ _ pass).0
+      ∙ admits-slot b.filter window channel slot there (and_parts _ _ pass).1
 
   taking_slot : (slot : ℕ) → slot_of window channel ≡ Some slot → (b : Buffer) → takes_window window channel b ≡ true
       → b.filter.slot ≡ slot
@@ -220,13 +222,14 @@ module _ (plan : Plan) (window : Opportunity) (channel : Channel) where
       (λ place b there le. and_right _ _ (admits-none b.filter window channel none))
 
   module _ (slot : ℕ) (range : LineRange) (there : slot_of window channel ≡ Some slot)
-      (is : IsRangeOf slot (buffer_slots plan.buffers) range) where
+      (is : IsRangeOf slot (sending_slots plan.buffers) range) where
     pub transmitter-in : transmitter plan window channel ≡ option_map (λ p. range.first + p)
         (position (is_admitting window channel) (slice_range plan.buffers range.first range.end))
     transmitter-in = position-within (is_admitting window channel) range.first range.end plan.buffers
-        (passes-of (λ (b : Buffer). b.filter.slot) (is_admitting window channel) slot range plan.buffers is
-        (admitting_slot slot there))
+        (passes-of sending_slot (is_admitting window channel) slot range plan.buffers is (admitting_slot slot there))
 
+  module _ (slot : ℕ) (range : LineRange) (there : slot_of window channel ≡ Some slot)
+      (is : IsRangeOf slot (buffer_slots plan.buffers) range) where
     pub taken-in : list_any (takes_window window channel) plan.buffers ≡ list_any (takes_window window channel)
         (slice_range plan.buffers range.first range.end)
     taken-in = any-within (takes_window window channel) range.first range.end plan.buffers
@@ -286,7 +289,7 @@ module _ (plan : Plan) (window : Opportunity) (channel : Channel) where
       (ap (option_and_then (line_of plan window channel)) none)
 
   pub nothing-empty : (slot : ℕ) (sending owning : LineRange) → slot_of window channel ≡ Some slot
-      → IsRangeOf slot (buffer_slots plan.buffers) sending → IsRangeOf slot (own_slots plan.owned) owning
+      → IsRangeOf slot (sending_slots plan.buffers) sending → IsRangeOf slot (own_slots plan.owned) owning
       → eqb sending.first sending.end ≡ true → eqb owning.first owning.end ≡ true → OffersNothing plan window channel
   nothing-empty slot sending owning there sends owns no_buffer no_line =
       let buffers = range_empty plan.buffers sending.first sending.end (eqb-true sending.first sending.end no_buffer) in
@@ -425,15 +428,24 @@ taken_more : {X : Type 0} (f : X → ℕ) (xs : List X) (place : ℕ) (x : X) �
     → map f (take (place + 1) xs) ≡ map f (take place xs) ++ f x ∷ []
 taken_more f xs place x lt is = map_more f xs place x lt ∙ ap (λ (y : _). map f (take place xs) ++ f y ∷ []) (sym is)
 
-pub ranges-next : {X : Type 0} (f : X → ℕ) (xs : List X) (place : ℕ) (x : X) (ranges : List LineRange)
+ranges-next : {X : Type 0} (f : X → ℕ) (xs : List X) (place : ℕ) (x : X) (ranges : List LineRange)
     → place < length xs → x ≡ get_or xs place x
     → AreRanges (map f (take place xs) ++ f x ∷ []) ranges → AreRanges (map f (take (place + 1) xs)) ranges
 ranges-next f xs place x ranges lt is are = subst (λ (l : List ℕ). AreRanges l ranges)
     (sym (taken_more f xs place x lt is)) are
 
-pub length-before : {X : Type 0} (f : X → ℕ) (xs : List X) (place : ℕ) → place < length xs
+length-before : {X : Type 0} (f : X → ℕ) (xs : List X) (place : ℕ) → place < length xs
     → length (map f (take place xs)) ≡ place
 length-before f xs place lt = length_map f (take place xs) ∙ length-take-le place xs (omega (arith, lt))
+
+-- the ranges of one more line
+pub ranges-widened : {X : Type 0} (f : X → ℕ) (xs : List X) (place : ℕ) (x : X) (slot : ℕ) (old new : List LineRange)
+    → place < length xs → x ≡ get_or xs place x → slot ≡ f x
+    → ((slots : List ℕ) → length slots ≡ place → AreRanges slots old → AreRanges (slots ++ slot ∷ []) new)
+    → AreRanges (map f (take place xs)) old → AreRanges (map f (take (place + 1) xs)) new
+ranges-widened f xs place x slot old new lt is same widened are =
+    ranges-next f xs place x new lt is (subst (λ (n : ℕ). AreRanges (map f (take place xs) ++ n ∷ []) new) same
+    (widened (map f (take place xs)) (length-before f xs place lt) are))
 
 pub ranges-all : {X : Type 0} (f : X → ℕ) (xs : List X) (place : ℕ) (ranges : List LineRange) → length xs ≤ place
     → AreRanges (map f (take place xs)) ranges → AreRanges (map f xs) ranges

@@ -9,6 +9,7 @@ use Rattle.fr_journal.specs.declared.entry.Moment.{Moment}
 use Rattle.fr_slots.specs.declared.channel.Channel.{Channel}
 use Rattle.fr_slots.specs.declared.plan.Buffer.{Buffer}
 use Rattle.fr_slots.specs.declared.plan.Own.{Own}
+use Rattle.fr_slots.specs.Faults.{transmits}
 use Rattle.fr_slots.specs.Numbers.{last_slot}
 use Rattle.fr_slots.specs.Windows.{Opportunity}
 
@@ -19,6 +20,13 @@ slot_count = last_slot + 1
 -- the slots of the lines of a plan
 abbrev pub buffer_slots : List Buffer → List ℕ
 buffer_slots buffers = map (λ b. b.filter.slot) buffers
+
+-- the slot of a transmit buffer, and 0, which is no slot, for a receive buffer
+abbrev pub sending_slot : Buffer → ℕ
+sending_slot b = if transmits b then b.filter.slot else 0
+
+abbrev pub sending_slots : List Buffer → List ℕ
+sending_slots buffers = map sending_slot buffers
 
 abbrev pub own_slots : List Own → List ℕ
 own_slots owned = map (λ o. o.slot) owned

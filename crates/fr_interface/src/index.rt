@@ -1,7 +1,8 @@
 //! A plan with an index of its lines, so that a call reads only a few of them.
 
 ghost use Rattle.std.specs.Prelude.{◌≡◌, ◌==◌, ◌+◌, ◌<◌, ◌≤◌, [], ◌∷◌, ◌++◌, List, ℕ, length, slice_range, IfOk};
-ghost use Rattle.fr_interface.specs.Ranges.{AreRanges, buffer_slots, own_slots, slot_count, widened, joined};
+ghost use Rattle.fr_interface.specs.Ranges.{AreRanges, buffer_slots, own_slots, sending_slot, sending_slots};
+ghost use Rattle.fr_interface.specs.Ranges.{slot_count, widened, joined};
 ghost use Rattle.fr_slots.specs.Numbers.{most_lines};
 
 use fr_slots::numbers::{LAST_SLOT, SlotId};
@@ -82,13 +83,14 @@ fn empty_ranges(alloc: Global) -> Result<Vec<LineRange>, AllocError>
 }
 
 /// Adds a line of the slot, at this place after the others.
-fn widen(ranges: &mut Vec<LineRange>, slot: SlotId, place: u8)
+fn widen(ranges: &mut Vec<LineRange>, slot: u16, place: u8)
     requires all { length ranges.old.items ≡ slot_count }
+    requires slot { slot < slot_count }
     requires few { place < most_lines }
     ensures { (slots : List ℕ) → length slots ≡ place → AreRanges slots ranges.old.items
         → AreRanges (slots ++ slot ∷ []) ranges.new.items }
 {
-    let number = usize::from(slot.number());
+    let number = usize::from(slot);
     ranges[number] = ranges[number].widened(place);
 }
 
@@ -99,7 +101,31 @@ fn buffer_ranges(alloc: Global, buffers: &[Buffer]) -> Result<Vec<LineRange>, Al
 {
     let mut ranges = empty_ranges(alloc)?;
     for (place, buffer) in buffers.iter().enumerate() {
-        widen(&mut ranges, buffer.filter.slot, place as u8);
+        widen(&mut ranges, buffer.filter.slot.number(), place as u8);
+    }
+    Ok(ranges)
+}
+
+/// Returns the slot of a transmit buffer, and 0, which is no slot, for a receive buffer.
+fn sending_slot(buffer: &Buffer) -> u16
+    ensures value { result ≡ sending_slot buffer.now }
+    ensures fits { result < slot_count }
+{
+    if buffer.transmits() {
+        buffer.filter.slot.number()
+    } else {
+        0
+    }
+}
+
+/// Returns for each slot the range of its transmit buffers.
+fn sending_ranges(alloc: Global, buffers: &[Buffer]) -> Result<Vec<LineRange>, AllocError>
+    requires { length buffers.now ≤ most_lines }
+    ensures { IfOk result (λ ranges. AreRanges (sending_slots buffers.now) ranges.items) }
+{
+    let mut ranges = empty_ranges(alloc)?;
+    for (place, buffer) in buffers.iter().enumerate() {
+        widen(&mut ranges, sending_slot(buffer), place as u8);
     }
     Ok(ranges)
 }
@@ -111,17 +137,19 @@ fn own_ranges(alloc: Global, owned: &[Own]) -> Result<Vec<LineRange>, AllocError
 {
     let mut ranges = empty_ranges(alloc)?;
     for (place, own) in owned.iter().enumerate() {
-        widen(&mut ranges, own.slot, place as u8);
+        widen(&mut ranges, own.slot.number(), place as u8);
     }
     Ok(ranges)
 }
 
-// Without the ranges a short audit takes half as long again.
+// Without the ranges a short audit takes half as long again. Most nodes transmit in few slots and receive in many, so
+// transmit buffers have ranges of their own.
 /// A plan, and for each slot a range of places that holds all lines of the slot.
 #[derive(Drop)]
 pub(crate) struct IndexedPlan {
     plan: NodePlan,
     buffer_ranges: Vec<LineRange>,
+    sending_ranges: Vec<LineRange>,
     own_ranges: Vec<LineRange>,
 }
 
@@ -141,15 +169,17 @@ impl IndexedPlan {
     ghost use Rattle.fr_interface.specs.Ranges.{IsRangeOf};
     ghost use Rattle.fr_slots.specs.Plans.{IsPlan, buffer_at};
 
-    /// Returns the plan with its index, which allocates two blocks of 4096 bytes.
+    /// Returns the plan with its index, which allocates three blocks of 4096 bytes.
     pub(crate) fn new(alloc: Global, plan: &NodePlan) -> Result<IndexedPlan, AllocError>
         ensures { IfOk result (λ indexed. indexed ≡ plan.now) }
     {
         let buffer_ranges = buffer_ranges(alloc, plan.buffers())?;
+        let sending_ranges = sending_ranges(alloc, plan.buffers())?;
         let own_ranges = own_ranges(alloc, plan.owned())?;
         Ok(IndexedPlan {
             plan: plan.duplicate(),
             buffer_ranges,
+            sending_ranges,
             own_ranges,
         })
     }
@@ -189,6 +219,13 @@ impl IndexedPlan {
         ensures { IsRangeOf slot (buffer_slots self.now.buffers) result }
     {
         self.buffer_ranges[usize::from(slot.number())]
+    }
+
+    /// Returns a range that holds all transmit buffers of the slot.
+    pub(crate) fn sending_range(&self, slot: SlotId) -> LineRange
+        ensures { IsRangeOf slot (sending_slots self.now.buffers) result }
+    {
+        self.sending_ranges[usize::from(slot.number())]
     }
 
     /// Returns a range that holds all ownership lines of the slot.

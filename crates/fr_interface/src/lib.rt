@@ -40,7 +40,8 @@
 //! - `observed` has the effects of an observed window. `sight` has observations whose frame was decoded already, for
 //!   another node that heard the same.
 //! - `receiving` reads and pops.
-//! - `index` has for each slot of the plan the range of places of its lines.
+//! - `index` has for each slot of the plan the ranges of places of its buffers, of its transmit buffers, and of its
+//!   ownership lines.
 //!
 //! The proofs have a lemma for each kind of entry and each part.
 #![tactic(auto)]

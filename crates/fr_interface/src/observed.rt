@@ -1,6 +1,6 @@
 //! The effects of an observed window on the receive buffers, the receive FIFO and the counters.
 
-ghost use Rattle.std.specs.Prelude.{◌≡◌, ◌+◌, ◌<◌, ◌^◌, length, is_some, None, true, if◌then◌else◌, option_map};
+ghost use Rattle.std.specs.Prelude.{◌≡◌, ◌+◌, ◌<◌, ◌^◌, length, is_some, None, true, if◌then◌else◌, option_map, IfSome};
 ghost use Rattle.std.specs.List.{list_any};
 ghost use Rattle.std.specs.Option.{option_and_then, option_copied, option_or, ForSome};
 ghost use Rattle.fr_interface.specs.Known.{frame_on, taken_by, stored_all, with_arrival, with_arrivals};
@@ -11,6 +11,7 @@ ghost use Rattle.fr_journal.specs.Arrivals.{takes_window, is_for_queue};
 ghost use Rattle.fr_journal.specs.Held.{arrival_of, data_frame_seen, with_data};
 ghost use Rattle.fr_slots.specs.Parameters.{Parameters};
 ghost use Rattle.fr_slots.specs.Windows.{slot_of};
+ghost use Rattle.fr_status.specs.Checks.{IsCheckSeen};
 ghost use Rattle.fr_status.specs.Counting.{HasRoom};
 ghost use Rattle.fr_status.specs.Status.{no_bit};
 ghost use Rattle.fr_status.specs.declared.seen.Seen.TheVariants as Sees;
@@ -27,7 +28,7 @@ use fr_slots::plan::{Buffer, Queue};
 use fr_slots::window::Window;
 use fr_status::counters::Counters;
 use fr_status::seen::Seen;
-use fr_status::status::{SlotStatus, lent_status_of};
+use fr_status::status::{SlotStatus, lent_status_by};
 
 /// The status of a slot in which no transmission of another node was observed.
 const NO_BIT: SlotStatus = SlotStatus {
@@ -70,6 +71,21 @@ impl<'a> Told<'a> {
         ensures status { result.status ≡ status_seen params.now window.now channel seen.now }
         ensures frame { result.frame ≡ data_frame_seen params.now window.now channel seen.now }
     {
+        Told::by(params, window, channel, seen, None)
+    }
+
+    /// Returns the same as `of`. `check` is the calculated frame CRC of the observed bytes, if it is known.
+    pub(crate) fn by(
+        params: &Params,
+        window: &Window,
+        channel: Channel,
+        seen: &'a Seen,
+        check: Option<u32>,
+    ) -> Told<'a>
+        requires { IfSome check (λ n. IsCheckSeen channel seen.now n) }
+        ensures status { result.status ≡ status_seen params.now window.now channel seen.now }
+        ensures frame { result.frame ≡ data_frame_seen params.now window.now channel seen.now }
+    {
         let Some(slot) = window.slot(channel) else {
             return Told {
                 status: None,
@@ -83,7 +99,7 @@ impl<'a> Told<'a> {
                 frame: None,
             };
         }
-        let (status, frame) = lent_status_of(params, window.cycle, slot, channel, seen);
+        let (status, frame) = lent_status_by(params, window.cycle, slot, channel, seen, check);
         Told {
             status: Some(status),
             frame: data_frame(frame),

@@ -58,7 +58,7 @@ pub(crate) fn transmitter(plan: &IndexedPlan, window: &Window, channel: Channel)
     ensures { result ≡ transmitter plan.now window.now channel }
 {
     let slot = window.slot(channel)?;
-    let range = plan.buffer_range(slot);
+    let range = plan.sending_range(slot);
     let buffers = range.of(plan.as_plan().buffers());
     let place = first_admitting(buffers, window, channel)?;
     Some(range.first + place as u8)
@@ -132,12 +132,14 @@ fn offered_by(
     }
 }
 
-/// Returns whether the plan has no line for the slot that the window has on the channel. Then nothing is offered.
+/// Returns whether the node offers nothing on the channel by its index.
+///
+/// The plan then has no transmit buffer and no ownership line for the slot of the window.
 pub(crate) fn is_idle(plan: &IndexedPlan, window: &Window, channel: Channel) -> bool
     ensures { result ≡ true → OffersNothing plan.now window.now channel }
 {
     match window.slot(channel) {
-        Some(slot) => plan.buffer_range(slot).is_empty() && plan.own_range(slot).is_empty(),
+        Some(slot) => plan.sending_range(slot).is_empty() && plan.own_range(slot).is_empty(),
         None => true,
     }
 }
@@ -155,7 +157,7 @@ pub(crate) fn outgoing_on(
     ensures value { result ≡ outgoing_on plan.now buffers.now window.now channel }
     ensures fits { IsOffered result.offered }
 {
-    // Most nodes have no line for the slot of most windows.
+    // Most nodes send in few of the slots.
     if is_idle(plan, window, channel) {
         return Outgoing {
             sender: None,

@@ -1,9 +1,11 @@
 //! Observations that are judged once, for all nodes that make them.
 
-ghost use Rattle.std.specs.Prelude.{◌≡◌, ◌<◌, ◌++◌, ◌∷◌, []};
+ghost use Rattle.std.specs.Prelude.{◌≡◌, ◌<◌, ◌++◌, ◌∷◌, [], IfSome};
 ghost use Rattle.fr_interface.specs.Sights.{seen_in};
 ghost use Rattle.fr_journal.specs.declared.entry.Entry.TheVariants as entries;
 ghost use Rattle.fr_journal.specs.Kept.{slot_room};
+ghost use Rattle.fr_slots.specs.declared.channel.Channel.TheVariants as Channel;
+ghost use Rattle.fr_status.specs.Checks.{IsCheckSeen};
 
 use crate::interface::seen_within;
 use crate::observed::{Told, is_quiet};
@@ -14,7 +16,7 @@ use fr_slots::channel::Channel;
 use fr_slots::params::Params;
 use fr_slots::window::Window;
 use fr_status::seen::Seen;
-use fr_status::status::SlotStatus;
+use fr_status::status::{SlotStatus, checks_seen};
 use std::marker::Model;
 
 /// The status of the slot and the valid data frame that follow from an observation on a channel of a window.
@@ -179,7 +181,8 @@ pub enum Sight<'a> {
 }
 
 impl<'a> Sight<'a> {
-    ghost use Rattle.std.specs.Prelude.{◌≡◌, true};
+    ghost use Rattle.std.specs.Prelude.{◌≡◌, true, IfSome};
+    ghost use Rattle.fr_status.specs.Checks.{IsCheckSeen};
     ghost use Rattle.fr_interface.specs.Seeing.{IsQuiet, status_seen};
     ghost use Rattle.fr_interface.specs.Sights.{seen_in};
     ghost use Rattle.fr_journal.specs.Entries.{IsSeen};
@@ -214,18 +217,40 @@ impl<'a> Sight<'a> {
 
     /// Returns the status and the frame of the observation on the channel of a window.
     ///
-    /// It is inlined, so that the kind of a sight that is known costs nothing.
+    /// `check` is the calculated frame CRC of the observed bytes, if it is known. The function is inlined, so that an
+    /// observation of known kind needs no match.
     #[inline(always)]
-    pub(crate) fn told(&self, params: &Params, window: &Window, channel: Channel) -> Told<'a>
+    pub(crate) fn told(
+        &self,
+        params: &Params,
+        window: &Window,
+        channel: Channel,
+        check: Option<u32>,
+    ) -> Told<'a>
+        requires { IfSome check (λ n. IsCheckSeen channel (seen_in self.now) n) }
         ensures status { result.status ≡ status_seen params.now window.now channel (seen_in self.now) }
         ensures frame { result.frame ≡ data_frame_seen params.now window.now channel (seen_in self.now) }
     {
         match self {
             Sight::Own => Told::of_own(window, channel),
             Sight::Conflict => Told::of_conflict(window, channel),
-            Sight::Seen(seen) => Told::of(params, window, channel, seen),
+            Sight::Seen(seen) => Told::by(params, window, channel, seen, check),
             Sight::Heard(heard) => heard.told(params, window, channel),
         }
+    }
+}
+
+/// Returns the calculated frame CRCs of two observations that are twins and not judged yet.
+///
+/// Twins are those of `checks_seen`. `None` for all other observations.
+#[inline(always)]
+pub(crate) fn checks_in(a: &Sight<'_>, b: &Sight<'_>) -> Option<(u32, u32)>
+    ensures on_a { IfSome result (λ checks. IsCheckSeen Channel.A (seen_in a.now) checks.0) }
+    ensures on_b { IfSome result (λ checks. IsCheckSeen Channel.B (seen_in b.now) checks.1) }
+{
+    match (a, b) {
+        (Sight::Seen(a), Sight::Seen(b)) => checks_seen(a, b),
+        _ => None,
     }
 }
 

@@ -19,7 +19,7 @@ use crate::receiving::{
 use crate::sending::{
     commit_at, commit_to, pending_at, send_from, tally_at, transmit_buffers, withdraw_from,
 };
-use crate::sight::Sight;
+use crate::sight::{Sight, checks_in};
 use crate::source::Source;
 use fr_buffers::queue::ReceiveQueue;
 use fr_buffers::receive::RxBuffer;
@@ -581,8 +581,9 @@ impl InterfaceState {
         ensures terms { KeepsTerms self.old self.new }
     {
         let moment = self.moment();
-        let told_a = a.told(&self.params, window, Channel::A);
-        let told_b = b.told(&self.params, window, Channel::B);
+        let (check_a, check_b) = checks_in(a, b).unzip();
+        let told_a = a.told(&self.params, window, Channel::A, check_a);
+        let told_b = b.told(&self.params, window, Channel::B, check_b);
         count_seen(&mut self.counters, Channel::A, told_a.status);
         count_seen(&mut self.counters, Channel::B, told_b.status);
         let (frame_a, frame_b) = (&told_a.frame, &told_b.frame);

@@ -1,5 +1,4 @@
-use Rattle.std.proofs.Common.{map, take}
-use Rattle.fr_interface.proofs.RangeLemmas.{ranges-next, length-before, ranges-all}
+use Rattle.fr_interface.proofs.RangeLemmas.{ranges-widened, ranges-all}
 use Rattle.fr_slots.specs.declared.plan.Own.{Own}
 use Rattle.fr_interface.proofs.index.own_ranges.Goals as goal
 
@@ -8,12 +7,9 @@ loop-place-init c = c.in_ok-ranges.ensures
 
 pub loop-place-preserved : goal.loop-place-preserved
 loop-place-preserved c =
-    let lines = c.args.owned.now in
-    let place = c.loop-place.place in
-    ranges-next (λ (line : Own). line.slot) lines place c.index-owned-place.result c.widen.new.ranges.items
-    c.loop-place-test.true c.index-owned-place.is
-    (c.widen.ensures (map (λ (line : Own). line.slot) (take place lines))
-    (length-before (λ (line : Own). line.slot) lines place c.loop-place-test.true) c.loop-place.invariant)
+    ranges-widened (λ (line : Own). line.slot) c.args.owned.now c.loop-place.place c.index-owned-place.result
+    c.number.result c.loop-place.ranges.items c.widen.new.ranges.items c.loop-place-test.true c.index-owned-place.is
+    c.number.ensures.value c.widen.ensures c.loop-place.invariant
 
 pub returns : goal.returns
 returns c = ranges-all (λ (line : Own). line.slot) c.args.owned.now c.loop-place.place c.loop-place.ranges.items

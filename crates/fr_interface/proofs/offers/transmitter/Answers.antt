@@ -17,7 +17,7 @@ returns-in_err-place c =
     let plan = c.args.plan.now in
     let window = c.args.window.now in
     let channel = c.args.channel in
-    let range = c.buffer_range-range.result in
+    let range = c.sending_range-range.result in
     let there : slot_of window channel ≡ Some c.in_ok-slot.slot = sym c.slot.ensures ∙ c.in_ok-slot.was in
     let part : c.of-buffers.result.now ≡ slice_range plan.buffers range.first range.end =
     c.of-buffers.ensures ∙ ap (λ (l : List Buffer). slice_range l range.first range.end)
@@ -25,7 +25,7 @@ returns-in_err-place c =
     let found : position (is_admitting window channel) (slice_range plan.buffers range.first range.end) ≡ None =
     sym (ap (position (is_admitting window channel)) part) ∙ sym c.first_admitting.ensures.value ∙ c.in_err-place.was in
     c.from_residual-in_err-place.ensures
-    ∙ sym (transmitter-in plan window channel c.in_ok-slot.slot range there c.buffer_range-range.ensures ∙ ap
+    ∙ sym (transmitter-in plan window channel c.in_ok-slot.slot range there c.sending_range-range.ensures ∙ ap
     (option_map (λ p. range.first + p)) found)
 
 pub returns : goal.returns
@@ -33,7 +33,7 @@ returns c =
     let plan = c.args.plan.now in
     let window = c.args.window.now in
     let channel = c.args.channel in
-    let range = c.buffer_range-range.result in
+    let range = c.sending_range-range.result in
     let there : slot_of window channel ≡ Some c.in_ok-slot.slot = sym c.slot.ensures ∙ c.in_ok-slot.was in
     let part : c.of-buffers.result.now ≡ slice_range plan.buffers range.first range.end =
     c.of-buffers.ensures ∙ ap (λ (l : List Buffer). slice_range l range.first range.end)
@@ -41,5 +41,5 @@ returns c =
     let found : position (is_admitting window channel) (slice_range plan.buffers range.first range.end)
     ≡ Some c.in_ok-place.place =
     sym (ap (position (is_admitting window channel)) part) ∙ sym c.first_admitting.ensures.value ∙ c.in_ok-place.was in
-    sym (transmitter-in plan window channel c.in_ok-slot.slot range there c.buffer_range-range.ensures ∙ ap
+    sym (transmitter-in plan window channel c.in_ok-slot.slot range there c.sending_range-range.ensures ∙ ap
     (option_map (λ p. range.first + p)) found)
