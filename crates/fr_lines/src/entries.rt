@@ -17,7 +17,9 @@ ghost use Rattle.fr_lines.specs.Versions.{tells};
 
 use crate::bare::{BareEntry, EntryBytes};
 use crate::fronts::{number_at_front, slot_at_front};
-use crate::parts::{from_of, next_seen_into, payload_into, taken_back_of, window_at};
+use crate::parts::{
+    from_of, next_seen_into, payload_into, take_seen_twins, taken_back_of, window_at,
+};
 use crate::versions::Version;
 use fr_journal::entry::Offered;
 use fr_slots::numbers::{Cycle, SlotId, TaskId};
@@ -264,10 +266,13 @@ fn observe_of(words: &mut Words<'_>, bytes: &mut EntryBytes) -> Option<BareEntry
     ensures { option_map (with_bytes bytes.new) result ≡ observe_in words.old }
 {
     let window = words.next_number(1 << 32)?;
-    if !next_seen_into(words, &mut bytes.a) || !next_seen_into(words, &mut bytes.b) {
-        return None;
+    // A node that sends redundantly sends the same bytes on both channels, but for those of the frame CRC.
+    if !take_seen_twins(words, &mut bytes.a, &mut bytes.b) {
+        if !next_seen_into(words, &mut bytes.a) || !next_seen_into(words, &mut bytes.b) {
+            return None;
+        }
+        words.end()?;
     }
-    words.end()?;
     Some(BareEntry::Observe {
         window: window as u32,
         a: (),

@@ -1,5 +1,5 @@
 //! The parts of lines.
-ghost use Rattle.std.specs.Prelude.{◌≡◌, ◌<◌, ◌^◌, None, drop};
+ghost use Rattle.std.specs.Prelude.{◌≡◌, ◌<◌, ◌^◌, Some, None, [], true, false, drop};
 ghost use Rattle.fr_frame.specs.Payload.{most_frame_bytes};
 ghost use Rattle.fr_text.specs.Reading.{number_in, bytes_in, read_as, first_in};
 ghost use Rattle.fr_lines.specs.PartReading.{slot_in, channels_in, cycles_in, filter_in, flag_in, mode_in, size_in};
@@ -278,6 +278,25 @@ pub(crate) fn next_seen_into(words: &mut Words<'_>, seen: &mut Seen) -> bool
         Some(Err(word)) => seen_word_into(word, seen),
         None => false,
     }
+}
+
+/// Takes the two words that are left, and replaces both observations by theirs, if these are twins.
+///
+/// Twins are those of `Words::take_twins`. Their bytes are written over the bytes that are there. Returns false for any
+/// other words, and if an observation has no bytes. All words are then left, and the observations are unspecified.
+pub(crate) fn take_seen_twins(words: &mut Words<'_>, a: &mut Seen, b: &mut Seen) -> bool
+    ensures a { result ≡ true → first_in seen_in words.old ≡ Some a.new }
+    ensures b { result ≡ true → first_in seen_in (drop 1 words.old) ≡ Some b.new }
+    ensures two { result ≡ true → drop 2 words.old ≡ [] }
+    ensures end { result ≡ true → words.new ≡ [] }
+    ensures left { result ≡ false → words.new ≡ words.old }
+{
+    if let Seen::Bytes(first) = a {
+        if let Seen::Bytes(second) = b {
+            return words.take_twins(first, second);
+        }
+    }
+    false
 }
 
 /// Returns the window of these numbers: at minislot 0 the static slot that both channels open.
