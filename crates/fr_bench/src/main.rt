@@ -53,7 +53,7 @@ use std::{io, str};
 /// The exit status if a run missed an expectation.
 const MISSED: u8 = 3;
 
-/// The number of bytes that are asked for at a time. In pieces of 4,096 a long trace takes up to a tenth more time.
+/// The number of bytes that are asked for at a time. In pieces of 4,096 a long trace takes about a tenth more time.
 const READ_AHEAD: usize = 65_536;
 
 /// Room for the line of a missed expectation: two payloads of 254 bytes take 1,018 of them.
