@@ -103,6 +103,15 @@ abbrev pub unless_fault : Option ConfigError → Description → Result Descript
 unless_fault None d = Ok d
 unless_fault (Some fault) d = Err fault
 
+-- the description of parameters, guarded channels and plans, or the first fault among the plans
+abbrev pub described_by : Parameters → Option Channels → List Plan → Result Description ConfigError
+described_by params guard plans =
+    unless_fault (file_fault params plans) (record { params = params; guard = guard; plans = plans })
+
+-- the plans were read from the values of nodes
+abbrev pub AreRead : Parameters → List Plan → Type 0
+AreRead params plans = (values : List Data) × (each_of (plan_of params) 0 values ≡ Ok plans)
+
 -- the description in a file's table, or its first fault
 unfoldable pub description_of : Members → Result Description ConfigError
 description_of root = do
@@ -110,7 +119,7 @@ description_of root = do
   guard ← guard_in root
   values ← ok_or (nodes_in root) TooManyNodes
   plans ← each_of (plan_of params) 0 values
-  unless_fault (file_fault params plans) (record { params = params; guard = guard; plans = plans })
+  described_by params guard plans
 
 abbrev pub or_no_toml : Option Members → Result Description ConfigError
 or_no_toml None = Err Toml

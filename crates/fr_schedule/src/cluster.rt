@@ -1,12 +1,14 @@
 //! A cluster without fault.
 
-ghost use Rattle.std.specs.Prelude.{◌≡◌, Err, None, length, option_map, slice_get, IfOk, IfSome, IfNone, ℕ};
-ghost use Rattle.fr_schedule.specs.Clusters.{IsCluster};
+ghost use Rattle.std.specs.Prelude.{◌≡◌, ◌≤◌, Err, None, length, option_map, slice_get, IfOk, IfSome, IfNone, ℕ};
+ghost use Rattle.fr_schedule.specs.Clusters.{IsCluster, most_nodes};
 ghost use Rattle.fr_schedule.specs.Descriptions.{is_guarded};
 ghost use Rattle.fr_schedule.specs.SenderTable.{IsSender};
 ghost use Rattle.fr_schedule.specs.declared.error.ConfigError.TheVariants as error;
-ghost use Rattle.fr_schedule.specs.Files.{described, description_of, IsTableOf};
+ghost use Rattle.fr_schedule.specs.Files.{described, description_of, described_by, AreRead, IsTableOf};
 ghost use Rattle.fr_slots.specs.Faults.{plan_fault};
+ghost use Rattle.fr_slots.specs.Parameters.{IsParameters};
+ghost use Rattle.fr_slots.specs.Plans.{IsPlan, Each};
 ghost use Rattle.toml.specs.View.{table_view};
 
 use crate::error::ConfigError;
@@ -67,13 +69,7 @@ fn cluster_of(alloc: Global, root: &Table) -> Result<Cluster, ConfigError>
         return Err(ConfigError::TooManyNodes);
     };
     let plans = plans_of(alloc, &params, values)?;
-    let senders = senders_of(alloc, &params, plans.as_slice())?;
-    Ok(Cluster {
-        params,
-        guard,
-        plans,
-        senders,
-    })
+    Cluster::from_plans(alloc, params, guard, plans)
 }
 
 impl Cluster {
@@ -117,6 +113,36 @@ impl Cluster {
         ensures lawful { IfOk result IsCluster }
     {
         cluster_of(alloc, root)
+    }
+
+    /// Returns the cluster of these parameters, guarded channels and plans, for a caller that reads the nodes of a
+    /// cluster file by itself (project-defined). The plans are those that `plan_of` returned for the nodes, in their
+    /// order.
+    ///
+    /// Fails with `NotOwned`, `DynamicBoth`, `Overlap` or `TooLong`, as `from_text` does once all nodes are read, and
+    /// with `Memory` if an allocation fails.
+    pub fn from_plans(
+        alloc: Global,
+        params: Params,
+        guard: Option<Channels>,
+        plans: Vec<NodePlan>,
+    ) -> Result<Cluster, ConfigError>
+        requires params_are { IsParameters params }
+        requires some { 1 ≤ length plans.items }
+        requires few { length plans.items ≤ most_nodes }
+        requires lawful { Each IsPlan plans.items }
+        requires read { AreRead params plans.items }
+        ensures told { ¬ (result ≡ Err error.Memory)
+            → result ≡ described_by params guard plans.items }
+        ensures lawful { IfOk result IsCluster }
+    {
+        let senders = senders_of(alloc, &params, plans.as_slice())?;
+        Ok(Cluster {
+            params,
+            guard,
+            plans,
+            senders,
+        })
     }
 
     /// Returns the node that sends in the slot on the channel in the cycle, or `None` if there is none. In a static

@@ -62,9 +62,12 @@ fn guard_named(word: &str) -> Option<Option<Channels>>
     Some(Some(channels))
 }
 
-/// Returns the guarded channels.
+/// Returns the guarded channels under the key `guard` of a cluster file's table: both if there is no such key, and none
+/// for the word `none` (project-defined).
+///
+/// Fails with `BadGuard` for another value than the words `A`, `B`, `AB` and `none`.
 #[tactic(auto, unfolding(crate::specs::Files::guard_in))]
-pub(crate) fn guard_in(root: &Table) -> Result<Option<Channels>, ConfigError>
+pub fn guard_in(root: &Table) -> Result<Option<Channels>, ConfigError>
     ensures { result ≡ guard_in (table_view root.now) }
 {
     let Some(value) = value_under(root, "guard") else {
@@ -131,7 +134,7 @@ fn with_buffers_of(
 
 /// Returns the plan of a node.
 #[tactic(auto, unfolding(crate::specs::Files::plan_of))]
-fn plan_of(params: &Params, node: NodeId, value: &Value) -> Result<NodePlan, ConfigError>
+fn plan_read(params: &Params, node: NodeId, value: &Value) -> Result<NodePlan, ConfigError>
     ensures { result ≡ plan_of params.now node (view value.now) }
 {
     let Some(table) = value.as_table() else {
@@ -148,13 +151,14 @@ fn plan_of(params: &Params, node: NodeId, value: &Value) -> Result<NodePlan, Con
     with_buffers_of(params, node, buffers, plan)
 }
 
-// For the prover: `plans_of` needs that the plan is lawful.
-/// Returns the plan of a node, with the clause that it is lawful.
-fn lawful_plan(params: &Params, node: NodeId, value: &Value) -> Result<NodePlan, ConfigError>
+/// Returns the plan of the node in an element of the array `node` of a cluster file (project-defined).
+///
+/// Fails with `BadNode` if the node's table is at fault, and then with `BadBuffer` for its first buffer at fault.
+pub fn plan_of(params: &Params, node: NodeId, value: &Value) -> Result<NodePlan, ConfigError>
     ensures value { result ≡ plan_of params.now node (view value.now) }
     ensures lawful { IfOk result IsPlan }
 {
-    let plan = plan_of(params, node, value)?;
+    let plan = plan_read(params, node, value)?;
     // For the prover: the clause of this call.
     let _tasks = plan.tasks();
     Ok(plan)
@@ -175,7 +179,7 @@ pub(crate) fn plans_of(
     // Each node is read completely before the next, and nodes are compared only after that.
     let mut plans = Vec::new(alloc);
     for (number, value) in values.iter().enumerate() {
-        let plan = lawful_plan(params, NodeId::from_number(number as u8), value)?;
+        let plan = plan_of(params, NodeId::from_number(number as u8), value)?;
         if plans.push(plan).is_err() {
             return Err(ConfigError::Memory);
         }

@@ -37,7 +37,7 @@ mod claims;
 pub mod cluster;
 pub mod error;
 mod faults;
-mod file;
+pub mod file;
 mod node;
 mod senders;
 mod table;
