@@ -2,10 +2,10 @@
 ghost use Rattle.fr_commands.specs.Checks.{Checks};
 ghost use Rattle.fr_files.specs.Inputs.{ForText};
 
-use fr_files::cluster_file::cluster_of;
 use fr_files::error::BenchError;
 use fr_files::output::write_whole;
 use fr_lines::writing::write_params;
+use fr_reader::cluster_file::cluster_of;
 use std::alloc::Global;
 use std::io::{Read, Write};
 

@@ -16,7 +16,8 @@
 //!
 //! # Inner workings
 //!
-//! `fr_files` reads the inputs and writes the outputs. `plan` computes open intervals for as many cycles as differ.
+//! `fr_reader` reads cluster files, `fr_files` reads numbers and writes the outputs. `plan` computes open intervals for
+//! as many cycles as differ.
 //!
 //! `midpoint_text` brings a number that 32 bits can't hold to the nearest one that they can, so that it is refused as
 //! too large in its turn. Then `midpoint` sorts the values in an array and takes the middle.

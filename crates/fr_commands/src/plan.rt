@@ -14,11 +14,11 @@ ghost use Rattle.fr_files.specs.Inputs.{ForText};
 ghost use Rattle.fr_schedule.specs.Clusters.{IsCluster};
 
 use crate::line::{LastNumbers, write_line};
-use fr_files::cluster_file::cluster_of;
 use fr_files::error::BenchError;
 use fr_files::output::write_whole;
 use fr_guardian::guardian::Guardian;
 use fr_lines::writing::channels_word;
+use fr_reader::cluster_file::cluster_of;
 use fr_schedule::cluster::Cluster;
 use fr_slots::channel::Channel;
 use fr_slots::filter::CycleFilter;
