@@ -13,7 +13,7 @@ use std::io::{Read, Write};
 ///
 /// A trace has the same line. The whole file is compared with the rules. Refused with `TooLong` for more than 1,048,576
 /// bytes, and then with the file's first fault. `Read` comes if the reader fails, `Write` if the writer fails, and
-/// `Memory` if an allocation fails. Every error but `Write` leaves the writer unchanged.
+/// `Memory` may come if an allocation fails. Every error but `Write` leaves the writer unchanged.
 pub fn check_text<R: Read, W: Write>(
     alloc: Global,
     reader: &mut R,

@@ -15,13 +15,13 @@ use Rattle.toml.specs.Parse.{val, items, members, line, lines}
 use Rattle.toml.specs.Tables.{Nodes, no_nodes, close, insert, get_node, open_array, Edit, along_header, at_key}
 use Rattle.toml.specs.Tables.{Definition, array_table, Document}
 
--- how deep values may be in the elements of an array that stands beside a key
+-- the depth that is left for the elements of an array that is the value of a pair
 abbrev pub inner_depth : ℕ
 inner_depth = 79
 
 -- ---- values
 
--- the members with a new one, at its place in the order
+-- the members with this one, at its place in the order
 abbrev pub insert_member : List ℕ → Data → Members → Members
 insert_member key datum no_members = member key datum no_members
 insert_member key datum (member l e more) =
@@ -33,7 +33,7 @@ pub record IsAdded (key : List ℕ) (datum : Data) (old new : Members) : Type 0 
   pub free : get_member key old ≡ None
   pub new_is : new ≡ insert_member key datum old
 
--- an inline table after its opening brace
+-- an inline table of strings and scalars after its opening brace, at any depth
 abbrev pub IsInlineTable : List ℕ → Members → List ℕ → Type 0
 IsInlineTable text found rest =
     (depth n : ℕ) → length text < n → members (val depth) n no_nodes text ≡ Some (found, rest)
@@ -42,36 +42,36 @@ IsInlineTable text found rest =
 abbrev pub IsElement : List ℕ → Data → List ℕ → Type 0
 IsElement text found rest = (depth : ℕ) → 0 < depth → val depth text ≡ Some (found, rest)
 
--- an array after its opening bracket
+-- an array after its opening bracket, as the value of a pair
 abbrev pub IsArray : List ℕ → Items → List ℕ → Type 0
 IsArray text found rest =
     (n : ℕ) → length text < n → items (val inner_depth) n no_items text ≡ Some (found, rest)
 
 -- ---- lines
 
--- the edit of the document at the section is that of the nodes in this frame
+-- an edit below this header is the same edit of the nodes inside the frame
 abbrev pub IsFrame : List (List ℕ) → (Nodes → Nodes) → Type 0
 IsFrame section frame =
     (edit : Edit) (nodes : Nodes) → along_header section edit (frame nodes) ≡ option_map frame (edit nodes)
 
--- what is left to read from a document on, by at most n lines, is left from another one on
+-- reading the text from one document on, as fewer than n expressions, is reading the rest from the other on
 pub record Leads (n : ℕ) (from : Document) (text : List ℕ) (to : Document) (rest : List ℕ) : Type 0 where
   pub left : ℕ
   pub room : length rest < left
   pub lines_are : lines n from text ≡ lines left to rest
 
--- the pairs of a section that begins empty
+-- pairs at the front of a section that begins empty, and the text after them
 abbrev pub IsSection : List ℕ → Members → List ℕ → Type 0
 IsSection text found rest =
     (section : List (List ℕ)) (frame : Nodes → Nodes) → IsFrame section frame → (n : ℕ) → length text < n
     → (nodes : Nodes) × (close nodes ≡ found) × Leads n (frame no_nodes, section) text (frame nodes, section) rest
 
--- a header without dots
+-- the next line is a header without dots
 pub record IsHeader (text name : List ℕ) (what : Definition) (rest : List ℕ) : Type 0 where
   pub some : (length (skip_blank text) == 0) ≡ false
   pub read : line (skip_blank text) ≡ Some ((([], name), what), rest)
 
--- the pairs and tables before the nodes
+-- the table of what was read from the start of the file, and the text after it
 abbrev pub IsHead : List ℕ → Members → List ℕ → Type 0
 IsHead text found rest =
     (n : ℕ) → length text < n
@@ -97,7 +97,7 @@ abbrev pub node_value : Items → Option Data
 node_value no_items = None
 node_value (item datum more) = Some (array (item datum more))
 
--- the document has these nodes, and otherwise what the root had before them
+-- the document has these nodes, and otherwise what the root had before them; the next header [[node]] adds an empty one
 pub record HasNodes (root : Nodes) (done : Items) (document : Nodes) : Type 0 where
   pub value : get_member node_key (close document) ≡ node_value done
   pub others : (key : List ℕ) → same_key key node_key ≡ false

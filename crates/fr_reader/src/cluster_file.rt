@@ -24,10 +24,12 @@ fn cluster_in(alloc: Global, bytes: &[u8]) -> Result<Cluster, BenchError>
     Ok(cluster_from_text(alloc, text)?)
 }
 
-/// Reads a cluster file to its end, and returns the cluster that it describes, as `fr_files` does (project-defined).
+/// Reads a cluster file to its end, and returns the cluster that it describes (project-defined).
+///
+/// The results are those of `cluster_of` of `fr_files`.
 ///
 /// Refused with `TooLong` for more than 1,048,576 bytes, then with the first fault of the file. A file that isn't UTF-8
-/// is refused with `Toml`. `Read` comes if the reader fails, and `Memory` if an allocation fails.
+/// is refused with `Toml`. `Read` comes if the reader fails, and `Memory` may come if an allocation fails.
 pub fn cluster_of<R: Read>(alloc: Global, reader: &mut R) -> Result<Cluster, BenchError>
     ensures { ForText (R.remaining reader.old) (λ text. IsClusterOf text result) }
 {

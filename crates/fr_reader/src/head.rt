@@ -13,8 +13,10 @@ use fr_slots::params::Params;
 use std::alloc::Global;
 use toml::{Table, Value};
 
-/// Returns the table of the pairs and tables that come first, and the text after them. Returns `None` for a form that
-/// isn't the usual one, and if an allocation fails.
+/// Returns the table of the pairs and tables that come first, and the text after them.
+///
+/// Returns `None` for a pair of another form, for a key that stands twice, and if an allocation fails. Any other header
+/// ends the tables.
 pub(crate) fn head_in(alloc: Global, text: &str) -> Option<(Table, &str)>
     ensures { IfSome result (λ p. IsHead text.now (table_view p.0) p.1.now) }
 {
@@ -39,8 +41,5 @@ pub(crate) fn params_of(root: &Table) -> Option<Params>
 {
     let value = value_under(root, "params")?;
     let table = value.as_table()?;
-    match from_table(table) {
-        Ok(params) => Some(params),
-        Err(_) => None,
-    }
+    from_table(table).ok()
 }

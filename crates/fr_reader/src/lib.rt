@@ -19,7 +19,7 @@
 //! 2. `section` reads a header, or the pairs up to the next one. `toml_parser` reads keys, strings and numbers.
 //! 3. `head` reads the pairs before the first header, and the tables before the nodes.
 //! 4. `nodes` reads each node. Its plan is made before the next node is read, so the room of its table serves again.
-//! 5. What has another form, or a fault, is left to `toml`: `cluster_from_text` then reads the whole text anew.
+//! 5. `cluster_from_text` leaves a text of another form, or with a fault, to `toml`, and reads it anew.
 #![tactic(auto)]
 
 pub mod cluster_file;

@@ -40,13 +40,13 @@ fn next_plan<'a>(
 {
     let after = after_array_header(alloc, text, "node")?;
     let (table, rest) = pairs_in(alloc, after)?;
-    match plan_of(params, node, &Value::Table(table)) {
-        Ok(plan) => Some((plan, rest)),
-        Err(_) => None,
-    }
+    let plan = plan_of(params, node, &Value::Table(table)).ok()?;
+    Some((plan, rest))
 }
 
-/// Returns the plans of the nodes up to the end of the text, at most 16, and what is left of it: blanks and comments.
+/// Returns the plans of the nodes up to the end of the text, and the blanks and comments after them.
+///
+/// Returns `None` for more than 16 nodes.
 fn plans_in<'a>(alloc: Global, params: &Params, text: &'a str) -> Option<(Vec<NodePlan>, &'a str)>
     ensures read { IfSome result (λ p. AreUpTo params.now text.now p.0.items p.1.now) }
     ensures ends { IfSome result (λ p. length (lexical.skip_blank p.1.now) ≡ 0) }
@@ -69,8 +69,10 @@ fn plans_in<'a>(alloc: Global, params: &Params, text: &'a str) -> Option<(Vec<No
     None
 }
 
-/// Returns the cluster that the text describes, if it has the usual form and no fault: pairs, tables, and then the nodes,
-/// with values that are no deeper than an array of inline tables.
+/// Returns the cluster that the text describes, if it has the usual form and no fault.
+///
+/// In the usual form pairs come first, then tables, then the nodes. Keys and headers have no dots, and no value is deeper
+/// than an array of inline tables.
 fn usual_cluster(alloc: Global, text: &str) -> Option<Cluster>
     ensures told { IfSome result (λ cluster. described text.now ≡ Ok cluster) }
     ensures lawful { IfSome result IsCluster }
@@ -91,12 +93,11 @@ fn usual_cluster(alloc: Global, text: &str) -> Option<Cluster>
     }
 }
 
-/// Returns the cluster that a cluster file describes, as `Cluster::from_text` does, with the same refusals
-/// (project-defined).
+/// Returns the cluster that a cluster file describes (project-defined).
 ///
-/// A file in its usual form is read node by node, and each node's table is freed before the next is read. This takes
-/// half the time of a table of the whole file, and a quarter of its memory. Every other file, and one with a fault, is
-/// read as a whole, and its table isn't freed.
+/// The results are those of `Cluster::from_text`. In its usual form a file is read node by node, and each node's table is
+/// freed before the next is read. So a large file takes less time and memory. A file of another form, with a fault, or
+/// for which an allocation failed, is read as a whole, and its table isn't freed.
 pub fn cluster_from_text(alloc: Global, text: &str) -> Result<Cluster, ConfigError>
     ensures told { ¬ (result ≡ Err error.Memory) → result ≡ described text.now }
     ensures lawful { IfOk result IsCluster }

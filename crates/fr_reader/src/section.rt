@@ -1,4 +1,6 @@
 //! The lines of a cluster file: headers, and the pairs below them.
+//!
+//! Each function that returns an `Option` returns `None` for another form, and if an allocation fails.
 
 ghost use Rattle.std.specs.Prelude.{◌≡◌, ◌<◌, ◌≤◌, [], Some, length, string_bytes, IfSome};
 ghost use Rattle.fr_reader.specs.UsualText.{IsSection, IsHeader};
@@ -18,10 +20,10 @@ fn ends_line(text: &str) -> bool
     ensures { result ≡ grammar.ends_line (lexical.skip_ws text.now) }
 {
     let end = skip_ws(text);
-    end.is_empty() || first(end) == b'#' || first(end) == b'\n' || first(end) == b'\r'
+    end.is_empty() || matches!(first(end), b'#' | b'\n' | b'\r')
 }
 
-/// Returns the table of the pairs up to the next header or the end of the text, and the text from there.
+/// Returns the table of the pairs up to the next header or the end, and the text after them.
 pub(crate) fn pairs_in(alloc: Global, text: &str) -> Option<(Table, &str)>
     ensures read { IfSome result (λ p. IsSection text.now (table_view p.0) p.1.now) }
     ensures within { IfSome result (λ p. length p.1.now ≤ length text.now) }
@@ -42,7 +44,7 @@ pub(crate) fn pairs_in(alloc: Global, text: &str) -> Option<(Table, &str)>
     }
 }
 
-/// Returns the key without dots of a header after its opening bracket, and the text after its closing one.
+/// Returns the key of a header, if it has no dots, and the text after its first closing bracket.
 #[tactic(auto, unfolding(toml::specs::Parse::header_key))]
 fn header_key(alloc: Global, text: &str) -> Option<(String, &str)>
     ensures read { IfSome result (λ p. grammar.header_key text.now ≡ Some (([], string_bytes p.0), p.1.now)) }
@@ -56,7 +58,7 @@ fn header_key(alloc: Global, text: &str) -> Option<(String, &str)>
     Some((last, skip(rest, 1)))
 }
 
-/// Returns the name in the header of a table, and the text after the header. Returns `None` if no such header is next.
+/// Returns the name in the header of a table, and the text after the header.
 pub(crate) fn table_header(alloc: Global, text: &str) -> Option<(String, &str)>
     ensures read { IfSome result (λ p. IsHeader text.now (string_bytes p.0) std_table p.1.now) }
     ensures shorter { IfSome result (λ p. length p.1.now < length text.now) }

@@ -1,4 +1,6 @@
 //! Values of the usual kinds: strings and scalars, inline tables of these, and arrays of both.
+//!
+//! Each function that returns an `Option` returns `None` for another form, and if an allocation fails.
 
 ghost use Rattle.std.specs.Prelude.{◌≡◌, ◌<◌, ◌≤◌, [], Some, length, string_bytes, IfSome, IsTrue};
 ghost use Rattle.fr_reader.specs.UsualText.{IsAdded, IsInlineTable, IsElement, IsArray};
