@@ -1,4 +1,6 @@
-"""Checks of cluster files, each with one fault or at the border of one."""
+"""Checks of cluster files, each with one fault or at the border of one, and of one cluster in many forms."""
+import re
+
 from .cycles import SMALL_CYCLE
 from .runner import EXAMPLES, refused
 
@@ -11,6 +13,111 @@ BOUNDS = {
     "words_per_minislot": (1, 127),
 }
 """The least and the greatest value of each parameter."""
+
+PHYSICAL = "[physical]\nbit_rate = 10_000_000\nmacrotick_us = 1\n"
+KINDS = '[1.5, -inf, 1979-05-27T07:32:00Z, {at = 07:32, is = true, text = "x"}]'
+
+
+def with_dots(text):
+    """Returns the text of a cluster with dotted keys of the root in place of the table `params`."""
+    return re.sub(rf"^({'|'.join(BOUNDS)}) = ", r"params.\1 = ", text.replace("[params]\n", ""), flags=re.MULTILINE)
+
+
+def with_headers(text):
+    """Returns the text of a cluster with a header for each queue and each buffer, which stand last in their nodes."""
+    lines = []
+    for line in text.splitlines():
+        if line.startswith(("queue = {", "  {")):
+            pairs = line.removeprefix("queue = ").strip(" {},").split(", ")
+            lines += ["[[node.buffer]]" if line.startswith(" ") else "[node.queue]", *pairs]
+        elif line not in ("buffer = [", "]"):
+            lines.append(line)
+    return "".join(f"{line}\n" for line in lines)
+
+
+def in_one_array(text):
+    """Returns the text of a cluster with its nodes as inline tables of one array in the root."""
+    head, *nodes = text.split("[[node]]\n")
+    tables = ["{" + re.sub(r"\n(?=\w)", ",\n", node.strip()) + "}" for node in nodes]
+    return f"node = [{', '.join(tables)}]\n{head}"
+
+
+def spelled(text):
+    """Yields the text of a cluster with other spellings of lines, keys and values, each with its name."""
+    yield "a byte order mark comes first", f"\ufeff{text}"
+    yield "lines end with carriage returns", text.replace("\n", "\r\n")
+    yield "comments stand in all lines", text.replace("\n", " # [[node]] \xe4 = {\n")
+    yield "no line feed ends the file", text.rstrip("\n")
+    yield "a comment ends the file", f"{text}#"
+    quoted = re.sub(r"(\w+) = ", r'"\1" = ', text)
+    yield "keys are in quotes", quoted.replace("[params]", "['params']").replace("[[node]]", '[["node"]]')
+    yield "a key has escapes", text.replace("tasks", '"t\\u0061s\\x6Bs"')
+    yield "strings are literal", text.replace('"', "'")
+    yield "strings have three quotes", text.replace('"', '"""')
+    yield "headers have blanks", text.replace("[params]", " [ params\t]").replace("[[node]]", "\t[[ node ]] ")
+    yield "pairs have no blanks", text.replace(" = ", "=")
+    based = text.replace("static_mt = 20", "static_mt = 0x14").replace("latest_a = 4", "latest_a = 0b1_00")
+    yield "numbers have a base or a sign", based.replace("cycle_mt = 90", "cycle_mt = +9_0")
+    yield "arrays have many lines", text.replace("[{", "[\n# {\n{\n").replace("}]", "\n,}\n,\n]")
+
+
+def ordered(text):
+    """Yields the text of a cluster with its tables in other places and forms, each with its name."""
+    head, nodes = text.split("[[node]]\n", 1)
+    guard, params = head.split("\n", 1)
+    first, more = nodes.split("[[node]]\n", 1)
+    yield "a table comes before the parameters", text.replace("[params]", f"{PHYSICAL}[params]")
+    yield "a table comes after the parameters", text.replace("[[node]]", f"{PHYSICAL}[[node]]", 1)
+    yield "a table comes between two nodes", f"{head}[[node]]\n{first}{PHYSICAL}[[node]]\n{more}"
+    yield "a table comes after the nodes", f"{text}{PHYSICAL}"
+    yield "the parameters come after the nodes", f"{guard}\n[[node]]\n{nodes}{params}"
+    pairs = ", ".join(re.findall(r"^\w+ = \d+$", params, re.MULTILINE))
+    yield "the parameters are an inline table", f"{guard}\nparams = {{{pairs}}}\n[[node]]\n{nodes}"
+    yield "the parameters have dotted keys", with_dots(text)
+    queue = re.search(r"queue = {(.*)}", text)
+    dotted = "\n".join(f"queue.{pair}" for pair in queue[1].split(", "))
+    yield "a queue has dotted keys", text.replace(queue[0], dotted)
+    yield "queues and buffers have headers", with_headers(text)
+    yield "the nodes are an inline array", in_one_array(text)
+
+
+def enriched(text):
+    """Yields the text of a cluster with tables, keys and values that have no meaning, each with its name."""
+    yield "tables are empty", text.replace("[params]", "[a]\n[b]\n[params]")
+    yield "tables have dots", text.replace("[params]", "[params.more.of]\n[b.c]\n[b]\n[params]")
+    yield "another array of tables comes first", text.replace("[params]", "[[task]]\n[[task]]\n[params]")
+    root = 'guard = "none"\nnode = 1\nparams = 2\n'
+    yield "another table has the keys of the root", text.replace("[params]", f"[physical]\n{root}[params]")
+    yield "the parameters have the keys of the root", text.replace("[params]\n", f"[params]\n{root}")
+    yield "nodes have the keys of the root", text.replace("tasks", f"{root}tasks")
+    yield "nodes have values of all kinds", text.replace("tasks", f"note = {KINDS}\ntasks")
+    yield "80 arrays stand in one another", text.replace("tasks", f"note = {'[' * 80}{']' * 80}\ntasks")
+
+
+def broken(text):
+    """Yields the text of a cluster with single faults by which it is no TOML, each with its name."""
+    yield "the guard stands twice", f'guard = "A"\n{text}'
+    for key in ("params = {}", "params.idle = 0", "node = 1", "node = []"):
+        yield f"`{key}` comes before its header", f"{key}\n{text}"
+    for header in ("params", "guard", "node"):
+        yield f"`[{header}]` comes before the nodes", text.replace("[[node]]", f"[{header}]\n[[node]]", 1)
+    yield "a table has a key twice", text.replace("[params]", "[physical]\nname = 1\n'name' = 1\n[params]")
+    yield "an inline table has a key twice", text.replace("{slot = 2,", "{slot = 2, slot = 2,")
+    for key in ("latest_a", '"latest_a"', "latest_a.x"):
+        yield f"the last node has `latest_a` and `{key}`", text.replace("latest_a = 4", f"latest_a = 4\n{key} = 4")
+    for header in ("[[node]] x", "[[node]", "[[node] ]", "[[node]]]", "[[]]", "[node"):
+        yield f"the last header is `{header}`", header.join(text.rsplit("[[node]]", 1))
+    for pair in ("latest_a = 4 x", "latest_a = 4, ", "latest_a = ", "latest_a", "latest_a = [4 4]", "latest_a = {,}"):
+        yield f"the last node has `{pair}`", text.replace("latest_a = 4", pair)
+    yield "81 arrays stand in one another", f"{text}note = {'[' * 81}{']' * 81}\n"
+    for name, end in (("pair", "x = 1"), ("comment", "#")):
+        yield f"a lone carriage return follows a {name}", f"{text}{end}\r"
+        yield f"a control character is in a {name}", f"{text}{end}\x01\n"
+    yield "two byte order marks come first", f"\ufeff\ufeff{text}"
+    yield "a byte order mark begins the second line", text.replace("\n", "\n\ufeff", 1)
+    yield "a key has a letter with the first byte of that mark", f"\ufb01 = 1\n{text}"
+    yield "a node at fault comes before another line", text.replace("tasks = 2", "tasks = 9", 1) + "x\n"
+    yield "a 17th node has another line", text + "[[node]]\n" * 14 + "x\n"
 
 
 class Clusters:
@@ -42,6 +149,24 @@ class Clusters:
         self.check("the node is a table", f"{SMALL_CYCLE}[node]\n", refused("TooManyNodes"))
         self.check("there are 17 nodes", SMALL_CYCLE + "[[node]]\n" * 17, refused("TooManyNodes"))
         self.check("the second node is a number", f"node = [{{}}, 1]\n{SMALL_CYCLE}", refused("BadNode 1"))
+
+    def forms(self):
+        """Checks one cluster in other forms: `check` and `plan` have the same output for each of them."""
+        wanted = {command: ((EXAMPLES / "three-nodes" / command).read_bytes(), b"", 0) for command in ("check", "plan")}
+        for name, text in (*spelled(self.three), *ordered(self.three), *enriched(self.three)):
+            self.path.write_bytes(text.encode())
+            for command, told in wanted.items():
+                self.runs.check(f"{command} where {name}", [command, self.path], told)
+        nodes = "[[node]]\n" * 13
+        self.check("there are 16 nodes", self.three + nodes, wanted["check"])
+        self.check("the 16th node is at fault", f"{self.three}{nodes}tasks = 9\n", refused("BadNode 15"))
+        self.check("the 17th node is at fault", f"{self.three}{nodes}[[node]]\ntasks = 9\n", refused("TooManyNodes"))
+
+    def no_toml(self):
+        """Checks files that are no TOML by one fault, whatever the nodes before it are."""
+        for name, text in broken(self.three):
+            self.path.write_bytes(text.encode())
+            self.runs.check(f"check where {name}", ["check", self.path], refused("Toml"))
 
     def nodes(self):
         bad = refused("BadNode 0")
