@@ -6,12 +6,12 @@ from pathlib import Path
 
 from .runner import EXAMPLES, SECONDS, Runs
 
-LOOPS = 2
+LOOPS = 4
 MOST_SHARES = 2
 """The most fair shares that a run may take.
 
-With two loops on its core a share is three times its time alone. A run that waits without sleeping takes some 70
-shares.
+With four loops on its core a share is five times its time alone. The car took two to three shares when each of its
+nodes was woken by a call of its own.
 """
 TRIES = 4
 """The number of runs beside the loops that may be too slow, since other work of the machine slows single runs."""
@@ -45,7 +45,7 @@ def beside_loops(runs: Runs) -> None:
         for loop in loops:
             loop.kill()
             loop.wait()
-    name = f"a run beside two busy loops in {beside:.2f} s, at most {most:.2f} s, alone in {alone:.2f} s"
+    name = f"a run beside {LOOPS} busy loops in {beside:.2f} s, at most {most:.2f} s, alone in {alone:.2f} s"
     runs.compare(name, beside <= most, True)
 
 

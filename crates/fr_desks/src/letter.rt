@@ -186,9 +186,9 @@ pub(crate) struct Letter {
     stopped: bool,
 }
 
-impl Letter {
+impl Default for Letter {
     /// Returns the letter before the first window.
-    pub(crate) fn empty() -> Letter {
+    fn default() -> Letter {
         Letter {
             number: None,
             seen: Observations::default(),
@@ -196,7 +196,9 @@ impl Letter {
             stopped: false,
         }
     }
+}
 
+impl Letter {
     /// Returns whether the window of this number is still to be delivered.
     ///
     /// After the last window and after a stop, no window is.

@@ -23,8 +23,8 @@
 //!
 //! A `Wire` has one lock and two condition variables for the bus, one for the nodes and one for the thread that moves
 //! it on. That thread can make the takes of all nodes and the advance together (`Wire::deliver`), so that a node waits
-//! once a window. It fills a letter for each node, with the observations and the next window. Each letter has a lock
-//! and a condition variable of its own, since all nodes are due at once.
+//! once a window. It fills a letter for each node, with the observations and the next window. Each letter has a lock of
+//! its own, since all nodes are due at once. One condition variable wakes them all, by one call of the system.
 #![tactic(auto)]
 
 pub mod desk;

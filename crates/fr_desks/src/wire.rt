@@ -38,9 +38,9 @@ const LOOKS_IN_A_ROW: u32 = 2_000;
 // With 0.1 ms the run of the car took 1.5 times as long on one core.
 /// The longest pause, in microseconds, that other threads of the run cause between two polls.
 ///
-/// Another process that runs instead keeps the core for a slice of some milliseconds. So a longer pause shows that the
-/// cores are shared.
-const LONG_PAUSE: u128 = 500;
+/// Another process that runs instead keeps the core for a slice of 1 to 4 ms. So a longer pause shows that the cores
+/// are shared.
+const LONG_PAUSE: u128 = 750;
 
 /// The number of calls that aren't due and sleep at once after the first long pause.
 ///
@@ -50,8 +50,14 @@ const SLEEPS: u32 = 64;
 /// The largest number of calls that sleep at once after a long pause, after any number of long pauses.
 const MOST_SLEEPS: u32 = 65_536;
 
+// With 2 and a relief of 8, calls polled too often: a run of two nodes beside one busy loop took 2.2 times its share.
+/// The factor by which each call that meets a long pause raises `next_sleeps`.
+const GROWTH: u32 = 4;
+
 /// The divisor of the relief: each short pause lowers `next_sleeps` by `next_sleeps / RELIEF`.
-const RELIEF: u32 = 8;
+///
+/// It is at most `SLEEPS`, so that `next_sleeps` comes back to it.
+const RELIEF: u32 = 64;
 
 /// The number of takes of which one reads the clock while no pause was long.
 ///
@@ -220,11 +226,13 @@ impl Rest {
         self.next_sleeps.load(Ordering::Relaxed) > SLEEPS
     }
 
-    /// Lets the next calls sleep at once, and twice as many after the next long pause.
+    // Several calls may meet the same pause. When only the first of them counted, the car took 2.1 times its share
+    // beside a busy loop.
+    /// Lets the next calls sleep at once, and more of them after the next long pause.
     fn sleep_more(&self) {
         let sleeps = self.next_sleeps.load(Ordering::Relaxed);
         self.sleeps.store(sleeps, Ordering::Relaxed);
-        let more = sleeps.saturating_mul(2).min(MOST_SLEEPS);
+        let more = sleeps.saturating_mul(GROWTH).min(MOST_SLEEPS);
         self.next_sleeps.store(more, Ordering::Relaxed);
     }
 
@@ -246,32 +254,15 @@ fn microseconds<R: Clock>(rt: &R) -> u128 {
     }
 }
 
-/// A node's letter behind a lock of its own.
-#[derive(Drop)]
-struct Letterbox {
-    letter: Mutex<Letter>,
-    /// The signal that a window was delivered, or the wire was stopped.
-    came: Signal,
-}
-
-impl Default for Letterbox {
-    fn default() -> Letterbox {
-        Letterbox {
-            letter: Mutex::new(Letter::empty()),
-            came: Signal::new(1),
-        }
-    }
-}
-
-/// Returns a letterbox for each node.
-fn empty_boxes(nodes: u8) -> ArrayVec<Letterbox, MOST_NODES> {
-    let mut boxes = ArrayVec::new();
+/// Returns a letter for each node, as it is before the first window.
+fn first_letters(nodes: u8) -> ArrayVec<Mutex<Letter>, MOST_NODES> {
+    let mut letters = ArrayVec::new();
     for _ in 0..nodes {
-        if boxes.try_push(Letterbox::default()).is_err() {
+        if letters.try_push(Mutex::default()).is_err() {
             break;
         }
     }
-    boxes
+    letters
 }
 
 /// Returns whether a take or receive of the node reads the clock while it waits.
@@ -294,8 +285,13 @@ pub struct Wire {
     for_nodes: Signal,
     /// The signal that all nodes have put or taken, or the wire was stopped.
     for_bus: Signal,
-    /// The letter of each node.
-    boxes: ArrayVec<Letterbox, MOST_NODES>,
+    // With a signal for each node, the bus made a call of the system for each that slept, and a run of 16 nodes beside
+    // four busy loops took twice as long.
+    /// The signal that a window was delivered, or the wire was stopped.
+    for_letters: Signal,
+    // With one lock for all, the nodes that are due together slept at it.
+    /// The letter of each node, behind a lock of its own.
+    letters: ArrayVec<Mutex<Letter>, MOST_NODES>,
     /// The stage of the open window, for calls that poll before they take the lock.
     hint: Hint,
     rest: Rest,
@@ -313,7 +309,7 @@ impl Wire {
         ensures { result ≡ length bus.stations }
     {
         Wire {
-            boxes: empty_boxes(bus.nodes()),
+            letters: first_letters(bus.nodes()),
             nodes: bus.nodes(),
             lock: Mutex::new(Wired {
                 bus,
@@ -321,6 +317,7 @@ impl Wire {
             }),
             for_nodes: Signal::new(1),
             for_bus: Signal::new(LOOKS_IN_A_ROW),
+            for_letters: Signal::new(1),
             hint: Hint::new(),
             rest: Rest::new(),
         }
@@ -467,22 +464,21 @@ impl Wire {
     /// Fills the letter of each node, and wakes all calls that wait for a letter or the next window.
     fn hand_out<R: Wait>(&self, rt: &R, delivery: &Delivery) {
         let (number, next) = (delivery.number(), delivery.next());
-        for (at, place) in self.boxes.as_slice().iter().enumerate() {
+        for (at, place) in self.letters.as_slice().iter().enumerate() {
             if let Some(seen) = delivery.of(at) {
-                let mut letter = place.letter.lock(rt);
+                let mut letter = place.lock(rt);
                 letter.fill(number, seen, next);
                 drop(letter);
-                place.came.give();
             }
         }
         self.hint.tell_delivered(number);
+        self.for_letters.give();
         self.for_nodes.give();
         if next.is_none() {
             self.for_bus.give();
         }
     }
 
-    // A letter has a lock of its own. With one lock for all, the nodes that are due together slept at it.
     /// Replaces `a` and `b` by the node's observations in the window of this number, once it is delivered.
     ///
     /// Returns the window that opened then, or `None` once the run is over. Returns `Stopped`, or at once
@@ -500,21 +496,21 @@ impl Wire {
         ensures refused_a { OnErr result (a.new ≡ a.old) }
         ensures refused_b { OnErr result (b.new ≡ b.old) }
     {
-        let place = self.boxes.as_slice().get(usize::from(node.number()));
+        let place = self.letters.as_slice().get(usize::from(node.number()));
         let (true, Some(place)) = (self.has_node(node), place) else {
             return Err(self.refusal_of_unknown(rt));
         };
-        place.came.look_out(
+        self.for_letters.look_out(
             rt,
             &self.hint,
             &self.rest,
             is_timed(node, number),
             &|_stage| { self.hint.has_delivered(number) },
         );
-        let mut letter = place.letter.lock(rt);
+        let mut letter = place.lock(rt);
         if letter.awaits(number) {
-            letter = place
-                .came
+            letter = self
+                .for_letters
                 .sleepers
                 .wait_while(rt, letter, |letter| letter.awaits(number));
         }
@@ -598,13 +594,13 @@ impl Wire {
         wired.stopped = true;
         self.hint.tell(Stage::Over);
         drop(wired);
-        for place in self.boxes.as_slice() {
-            let mut letter = place.letter.lock(rt);
+        for place in self.letters.as_slice() {
+            let mut letter = place.lock(rt);
             letter.stop();
             drop(letter);
-            place.came.give();
         }
         self.hint.tell_delivered(u32::MAX);
+        self.for_letters.give();
         self.for_nodes.give();
         self.for_bus.give();
     }
