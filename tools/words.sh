@@ -11,7 +11,7 @@ start() {
     shift
     if [ "$name-${1-}" = fr_bench-run ]; then
         . "$top/tools/busy.sh"
-        leave_busy_cores
+        meet_busy_cores
     fi
     if [ -t 2 ] || has_slip "$@"; then
         exec "$top/tools/told" "$name" "$program" "$@"

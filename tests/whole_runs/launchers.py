@@ -1,12 +1,14 @@
 """The launchers at the top, over small repositories whose programs are shell scripts."""
+import contextlib
 import hashlib
 import os
 import pty
+import re
 import shutil
 import signal
 import subprocess
 import time
-from collections.abc import Callable
+from collections.abc import Callable, Iterator, Sequence
 from pathlib import Path
 
 from .runner import SECONDS, Runs
@@ -21,6 +23,10 @@ KILLED = "#!/bin/sh\necho ready\nwhile :; do sleep 0.02; done\n"
 READING = "#!/bin/sh\necho $$\nread -r line\necho \"$line\"\nexit 7\n"
 """A program that prints its process ID, and ends once it has read a line."""
 SHOWS_CORES = "#!/bin/sh\ngrep Cpus_allowed_list /proc/self/status\n"
+SHOWS_SLICE = "#!/bin/sh\nawk '/^se.slice/ {print $3}' /proc/$$/sched\nnice\n"
+"""A program that prints the length of its slices in nanoseconds, if the system has it, and its nice value."""
+LINUX_WITH_SLICES = (6, 12)
+LOOP = ["sh", "-c", "while :; do :; done"]
 A_RUN = ["run", "crates.txt", "crates.txt", "--cycles", "1"]
 SHELLS = ["dash"], ["bash", "--posix"]
 """Shells that systems have as `sh`."""
@@ -131,6 +137,7 @@ class Launchers:
         self.forged()
         self.paths()
         self.busy()
+        self.slices()
         for words, is_terminal in ((["midpoint"], False), (["midpoint"], True), (["no", "command"], False)):
             self.signals(words, is_terminal)
             self.stops(words, is_terminal)
@@ -203,8 +210,12 @@ class Launchers:
             self.runs.compare(f"a call by a link below {name!r}", (ran.stdout, ran.returncode), ("right\n", 0))
 
     def busy(self) -> None:
-        """If all cores are busy, a run in threads is kept on one of them. No other command is."""
+        """Beside a program, if all cores are busy, a run in threads is kept on one of them. No other command is."""
         every, made = len(os.sched_getaffinity(0)), self.checkout(program=SHOWS_CORES)
+        with busy_loop():
+            self.kept_cores(made, every)
+
+    def kept_cores(self, made: Checkout, every: int) -> None:
         for case, online, failing, words, cores in (
                 ("a run on busy cores", 0, [], A_RUN, 1),
                 ("a run on free cores", 1_000_000, [], A_RUN, every),
@@ -213,6 +224,20 @@ class Launchers:
                 ("another command on busy cores", 0, [], ["midpoint"], every)):
             fakes = {"getconf": f"echo {online}"} | {name: "exit 1" for name in failing}
             self.runs.compare(case, cores_of(made, words, fakes), cores)
+
+    def slices(self) -> None:
+        """Beside another program, a run in threads asks for short slices, and keeps its nice value."""
+        made = self.checkout(program=SHOWS_SLICE)
+        common = slice_of(made, ["midpoint"], {})
+        if len(common) == 1 or linux_release() < LINUX_WITH_SLICES:
+            return
+        wanted = ["100000", common[1]] if shutil.which("perl", path=NO_KIT) else common
+        with busy_loop():
+            for case, words, fakes, printed in (
+                    ("a run beside a busy loop", A_RUN, {}, wanted),
+                    ("a run beside a busy loop without perl", A_RUN, {"perl": "exit 1"}, common),
+                    ("another command beside a busy loop", ["midpoint"], {}, common)):
+                self.runs.compare(f"slice and nice value of {case}", slice_of(made, words, fakes), printed)
 
     def signals(self, words: list[str], is_terminal: bool) -> None:
         """Checks that a signal to the launcher ends the program, which may catch it."""
@@ -252,19 +277,44 @@ class Launchers:
         self.runs.compare(f"a signal {place} as the program ends", signalled(told), 7)
 
 
-def cores_of(made: Checkout, words: list[str], fakes: dict[str, str]) -> int:
-    """Returns the number of cores on which the launcher's program may run, where these commands are fakes."""
+def printed_by(made: Checkout, words: list[str], fakes: dict[str, str], before: Sequence[str] = ()) -> list[str]:
+    """Returns the words that the launcher's program prints, where these commands are fakes."""
     folder = made.path / "fakes"
     shutil.rmtree(folder, ignore_errors=True)
     folder.mkdir()
     for name, body in fakes.items():
         (folder / name).write_text(f"#!/bin/sh\n{body}\n")
         (folder / name).chmod(0o755)
-    ran = subprocess.run([made.path / "fr_bench", *words], cwd=made.path, capture_output=True, text=True,
+    ran = subprocess.run([*before, made.path / "fr_bench", *words], cwd=made.path, capture_output=True, text=True,
                          timeout=SECONDS, stdin=subprocess.DEVNULL, check=True,
                          env=os.environ | {"PATH": f"{folder}:{NO_KIT}"})
-    ranges = [part.split("-") for part in ran.stdout.split()[-1].split(",")]
+    return ran.stdout.split()
+
+
+def cores_of(made: Checkout, words: list[str], fakes: dict[str, str]) -> int:
+    """Returns the number of cores on which the launcher's program may run, where these commands are fakes."""
+    ranges = [part.split("-") for part in printed_by(made, words, fakes)[-1].split(",")]
     return sum(int(part[-1]) - int(part[0]) + 1 for part in ranges)
+
+
+def slice_of(made: Checkout, words: list[str], fakes: dict[str, str]) -> list[str]:
+    """Returns the length of slices of the launcher's program, if the system has it, and its nice value."""
+    return printed_by(made, words, fakes, ["nice", "-n", "3"])
+
+
+@contextlib.contextmanager
+def busy_loop() -> Iterator[None]:
+    """Runs a busy loop while the block runs."""
+    with subprocess.Popen(LOOP) as loop:
+        try:
+            yield
+        finally:
+            loop.kill()
+
+
+def linux_release() -> tuple[int, ...]:
+    """Returns the first two numbers of the system's release."""
+    return tuple(int(part) for part in re.findall("[0-9]+", os.uname().release)[:2])
 
 
 def state_of(process: int) -> str:
