@@ -47,8 +47,9 @@ const LONG_PAUSE: u128 = 750;
 /// The wake-up of a call costs less than a slice of another process.
 const SLEEPS: u32 = 64;
 
+// With 65,536, a pause of a virtual machine let a run of sixteen nodes sleep for thousands of windows.
 /// The largest number of calls that sleep at once after a long pause, after any number of long pauses.
-const MOST_SLEEPS: u32 = 65_536;
+const MOST_SLEEPS: u32 = 4_096;
 
 // With 2 and a relief of 8, calls polled too often: a run of two nodes beside one busy loop took 2.2 times its share.
 /// The factor by which each call that meets a long pause raises `next_sleeps`.
