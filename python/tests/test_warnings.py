@@ -63,7 +63,7 @@ PHYSICAL = (
                           "Expected at least 24"),
      "[[node]]", "[physical]\nbit_rate = 5_000_000\nmacrotick_us = 1\n[[node]]"),
     ("cluster.toml:8:1",
-     ("too short for the frames of 1 buffer", "1 words need 119 bits, and have 1 minislot of 50 bits"),
+     ("too short for the frames of 1 buffer", "frames of 1 word need 108 bits, and have 1 minislot of 50 bits"),
      "[[node]]", "[physical]\nbit_rate = 10_000_000\nmacrotick_us = 1.0\n[[node]]"),
     ("cluster.toml:15:1", ("`macrotick_us` of `[physical]` is missing",), "[[node]]",
      "[physical]\nbit_rate = 10_000_000\n[[node]]"),

@@ -28,6 +28,7 @@ WARNINGS = {
     "fifo-overwrites": "the scenario never pops a receive FIFO, and the FIFO overwrites frames",
     "divided-slot": "a static slot is divided among nodes, or owned in some cycles only",
     "standard-range": "a parameter is out of the range of FlexRay 2.1 Rev A",
+    "latest-tx": "a latest minislot leaves too little room for the node's longest dynamic frame",
     "bit-rate": "the bit rate isn't 10 Mbit/s",
     "physical": "a key of `[physical]` is missing or no number",
     "short-slots": "a slot is too short for its frame",

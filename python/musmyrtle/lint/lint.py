@@ -37,6 +37,7 @@ OF_CLUSTER: tuple[tuple[str, Callable[[Cluster, Text], Iterable[Finding]]], ...]
     ("fifo-behind-buffer", receiving.queues_behind_buffers),
     ("divided-slot", ranges.divided_slots),
     ("standard-range", ranges.out_of_range),
+    ("latest-tx", ranges.late_latest),
     ("bit-rate", ranges.other_bit_rate),
     ("physical", physical.wrong_times),
     ("short-slots", physical.short_slots),

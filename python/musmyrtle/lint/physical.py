@@ -3,13 +3,14 @@
 A byte is ten bits on the bus: two of a start sequence, and eight. A transmission start sequence of at least three bits
 and a frame start bit come before the first byte. Two bits of an end sequence come after the last byte; a dynamic frame
 has at least two bits of a trailing sequence more (chapter 3). Eleven bits of silence show that the channel is idle
-again (chapters 3 and 5). A static slot also has an action point offset at both ends. Delays and the clocks' deviations
-come on top (chapter 5), and aren't known.
+again (chapters 3 and 5). The idle phase of a dynamic slot comes after the frame, so only the silence may be in it. A
+static slot also has an action point offset at both ends. Delays and the clocks' deviations come on top (chapter 5), and
+aren't known.
 """
 from collections.abc import Iterator
 from typing import TypeGuard
 
-from musmyrtle.cluster import PARAMETERS, Cluster
+from musmyrtle.cluster import PARAMETERS, Cluster, Parameters
 from musmyrtle.findings import MOST_NOTES, Finding, counted, shown
 from musmyrtle.lint.standard import rule_of
 from musmyrtle.texts import Text
@@ -21,10 +22,10 @@ UNITS = {"bit_rate": "bits a second", "macrotick_us": "microseconds"}
 LONGEST_SLOT = PARAMETERS["static_mt"][1]
 
 
-def bits_of_frame(words: int, is_dynamic: bool) -> int:
-    """Returns the least bits that a frame of so many words takes, with the silence after it."""
+def bits_sent(words: int, is_dynamic: bool) -> int:
+    """Returns the least bits that a frame of so many words takes, without the silence after it."""
     trailing = TRAILING if is_dynamic else 0
-    return START + BITS_OF_BYTE * (BYTES_BESIDE_PAYLOAD + 2 * words) + END + trailing + IDLE
+    return START + BITS_OF_BYTE * (BYTES_BESIDE_PAYLOAD + 2 * words) + END + trailing
 
 
 def bit_and_macrotick(text: Text) -> tuple[float | None, float | None]:
@@ -69,7 +70,7 @@ def short_slots(cluster: Cluster, text: Text) -> Iterator[Finding]:
 
 def static_bits(cluster: Cluster, bits: float) -> tuple[int, float]:
     """Returns the bits that a static frame needs, and those that a static slot has."""
-    return bits_of_frame(cluster.parameters.static_words, False), cluster.parameters.static_mt * bits
+    return bits_sent(cluster.parameters.static_words, False) + IDLE, cluster.parameters.static_mt * bits
 
 
 def short_static_slots(cluster: Cluster, text: Text, bits: float) -> Iterator[Finding]:
@@ -103,21 +104,31 @@ def without_action_point(cluster: Cluster, text: Text) -> Iterator[Finding]:
 
 
 def short_minislots(cluster: Cluster, text: Text, bits: float) -> Iterator[Finding]:
-    parameters = cluster.parameters
-    had_each = parameters.minislot_mt * bits
+    each = cluster.parameters.minislot_mt * bits
     short = []
     for buffer in cluster.buffers():
-        if not buffer.transmits or cluster.is_static(buffer.slot):
-            continue
-        minislots = parameters.minislots_of(buffer.words) + parameters.idle
-        needed, had = bits_of_frame(buffer.words, True), minislots * had_each
-        if needed > had:
-            told = f"need {needed} bits, and have {counted(minislots, 'minislot')} of {had_each:g} bits"
-            short.append((f"{buffer}: {buffer.words} words {told}", buffer.path))
+        why = None
+        if buffer.transmits and not cluster.is_static(buffer.slot):
+            why = why_short(cluster.parameters, buffer.words, each)
+        if why:
+            short.append((f"{buffer}: {why}", buffer.path))
     if short:
         headline = f"minislots are too short for the frames of {counted(len(short), 'buffer')}"
-        reason = (f"p words are {START} + {BITS_OF_BYTE} * ({BYTES_BESIDE_PAYLOAD} + 2 * p) + {END} + {TRAILING} + "
-                  f"{IDLE} bits: start, bytes, end, trailing and silence (chapters 3 and 5). A frame has the minislots "
-                  "of its words, with `idle` more. Expected a greater `minislot_mt`, or a smaller "
-                  "`words_per_minislot`.")
+        reason = (f"p words are {START} + {BITS_OF_BYTE} * ({BYTES_BESIDE_PAYLOAD} + 2 * p) + {END} + {TRAILING} bits: "
+                  f"start, bytes, end and trailing. {IDLE} of silence follow (chapters 3 and 5). A frame has the "
+                  "minislots of its words. The `idle` ones come after it, and have room for the silence alone. "
+                  "Expected a greater `minislot_mt`, or a smaller `words_per_minislot`.")
         yield text.finding(headline, reason, ("params", "minislot_mt"), short[:MOST_NOTES])
+
+
+def why_short(parameters: Parameters, words: int, each: float) -> str | None:
+    """Returns why minislots of so many bits each are too short for a dynamic frame, or nothing where they aren't.
+
+    The frame has to end in the minislots of its words, and the silence after it in those and the idle ones.
+    """
+    filled, needed = parameters.minislots_of(words), bits_sent(words, True)
+    for bits, minislots, what in ((needed, filled, ""), (needed + IDLE, filled + parameters.idle, " with the silence")):
+        if bits > minislots * each:
+            return (f"frames of {counted(words, 'word')} need {bits} bits{what}, and have {counted(minislots, 'minislot')} of "
+                    f"{each:g} bits")
+    return None

@@ -2,8 +2,8 @@
 from collections import defaultdict
 from collections.abc import Iterator
 
-from musmyrtle.cluster import CYCLES, PARAMETERS, Cluster, Ownership
-from musmyrtle.findings import MOST_NOTES, Finding, joined
+from musmyrtle.cluster import CYCLES, PARAMETERS, Buffer, Cluster, Ownership, Parameters
+from musmyrtle.findings import MOST_NOTES, Finding, counted, joined
 from musmyrtle.lint.physical import bit_and_macrotick
 from musmyrtle.lint.standard import CHAPTER, OF_PARAMETERS, STANDARD, Rule, rule_of
 from musmyrtle.places import Path
@@ -27,6 +27,37 @@ def out_of_range(cluster: Cluster, text: Text) -> Iterator[Finding]:
                 key = f"latest_{channel.lower()}"
                 yield text.finding(f"`{key}` of node {node.number} is {value}", allowed(latest), (*node.path, key))
     yield from long_times(cluster, text)
+
+
+def late_latest(cluster: Cluster, text: Text) -> Iterator[Finding]:
+    """Yields a warning for each latest minislot after which a node's longest dynamic frame has too little room."""
+    for node in cluster.nodes:
+        sending = [it for it in node.buffers if it.transmits and not cluster.is_static(it.slot)]
+        for channel, latest in node.latest.items():
+            if any(channel in it.channels for it in sending):
+                longest = max(sending, key=lambda it: it.words)
+                most = most_latest(cluster.parameters, longest)
+                if latest > max(most, 0):
+                    yield late(cluster, text, longest, channel, most)
+
+
+def most_latest(parameters: Parameters, longest: Buffer) -> int:
+    """Returns the greatest latest minislot that leaves room for a frame with its idle phase, at most 0 for none."""
+    return parameters.minislots - parameters.minislots_of(longest.words) - parameters.idle + 1
+
+
+def late(cluster: Cluster, text: Text, longest: Buffer, channel: str, most: int) -> Finding:
+    """Returns why the latest minislot of a node on a channel is above MOST."""
+    parameters, node, key = cluster.parameters, cluster.nodes[longest.node], f"latest_{channel.lower()}"
+    filled, idle = parameters.minislots_of(longest.words), parameters.idle
+    headline = f"`{key}` of node {node.number} is {node.latest[channel]}, and {STANDARD} allows "
+    headline += str(most) if most > 0 else "none"
+    reason = (f"The longest dynamic frame of the node has {counted(longest.words, 'word')}, which fill {filled} of "
+              f"{counted(parameters.minislots, 'minislot')}. With `idle` they have to fit behind `pLatestTx`, which is "
+              f"one for both channels ({CHAPTER}): {parameters.minislots} - ({filled} + {idle}) + 1 = {most}. The bench "
+              "runs with it. Expected ")
+    reason += f"`{key}` of at most {most}, or a shorter frame." if most > 0 else "a shorter frame, or more minislots."
+    return text.finding(headline, reason, (*node.path, key), [(f"{longest}, on {longest.channels}", longest.path)])
 
 
 def allowed(rule: Rule) -> str:

@@ -11,6 +11,9 @@ from musmyrtle.show.tables import Column, Row, Section
 
 WAYS = (Column("cycle", "cycle"), Column("minislot", "minislot"), Column("slot", "slot"),
         Column("node", "node", "name"), Column("buffer", "buffer", "name"))
+LEGEND = ("worst: from a commit just after the fetch of its slot to the end of its frame",
+          "states and worst hold for the lengths that the file gives; longer frames can make them worse, and so can "
+          "a greater words_per_minislot")
 
 
 def latencies(inputs: Inputs) -> tuple[list[Latency], list[Load]]:
@@ -46,7 +49,7 @@ def latency(network: Network, found: list[Latency], loads: list[Load], selection
     rows = [row_of(network, it) for it in found if is_selected(it, selection)]
     shown = [it for it in loads if selection.channels is None or it.channel in selection.channels]
     return [Section("latency", "Transmit buffers in runs without faults", columns(network), rows,
-                    "No transmit buffer is selected."),
+                    "No transmit buffer is selected.", LEGEND),
             load_section(shown)]
 
 

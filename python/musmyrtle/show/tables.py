@@ -226,8 +226,8 @@ class Row:
 class Section:
     """A table, whose KIND is the first key of each row in JSON and CSV.
 
-    A text has the title above the table, and leaves out columns without a value. Without rows it has the line NOTHING,
-    if that isn't empty.
+    A text has the title above the table and the legend below it, and leaves out columns without a value. Without rows
+    it has the line NOTHING, if that isn't empty.
     """
 
     kind: str
@@ -235,6 +235,8 @@ class Section:
     columns: tuple[Column, ...]
     rows: Sequence[Row]
     nothing: str = ""
+    legend: tuple[str, ...] = ()
+    """The lines that say what the columns measure."""
 
 
 def as_json(sections: Iterable[Section]) -> Iterator[str]:
@@ -296,3 +298,4 @@ def text_lines(section: Section, is_coloured: bool) -> Iterator[str]:
     yield coloured(line(it.heading for it in columns), BOLD)
     for row, words in zip(section.rows, cells):
         yield coloured(line(words), RED) if row.is_error else line(words)
+    yield from section.legend
