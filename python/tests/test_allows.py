@@ -45,7 +45,7 @@ class Option(Cases):
     def test_allow(self):
         cluster = self.written("cluster.toml", CLUSTER)
         self.assertEqual(self.run_with(cluster, "--strict")[0], 4)
-        taken = "--allow", "sync-nodes", "--allow=startup-nodes"
+        taken = "--allow", "sync-nodes", "--allow=startup-nodes", "--allow", "unchecked-bits"
         self.assertEqual(self.run_with(cluster, "--strict", *taken), (0, "fr_bench: accepted\n", ""))
         many = self.written("many.toml", "".join(f"other{number} = 1\n" for number in range(60)) + CLUSTER)
         self.assertEqual(self.run_with(many, "--strict", *taken, "--allow", "unread-key")[0], 0)

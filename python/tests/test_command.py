@@ -56,8 +56,8 @@ class Command(Cases):
         quiet, refused = self.written("fine.toml", fine), self.written("refused.toml",
                                                                        CLUSTER.replace("idle = 0", "idle = 3"))
         taken, bad = ["--program", self.stub()], "Params OutOfRange idle"
-        self.assertEqual(self.run_with(quiet, "--strict", "--allow", "fault-tolerance", *taken),
-                         (0, "fr_bench: accepted\n", ""))
+        self.assertEqual(self.run_with(quiet, "--strict", "--allow", "fault-tolerance", "--allow", "unchecked-bits",
+                                       *taken), (0, "fr_bench: accepted\n", ""))
         self.assertEqual(self.run_with(cluster, *taken)[0], 0)
         self.assertEqual(self.run_with(cluster, scenario, "--cycles", "4", "--strict", *taken)[0], 4)
         status, output, _ = self.run_with(refused, "--program", self.stub(bad))

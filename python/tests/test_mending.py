@@ -43,7 +43,7 @@ class Mending(Cases):
         self.assertEqual([refusal for refusal, _ in found.refusals], ["NoRoom 1", "NoRoom 2"])
 
     def test_bits_of_a_dynamic_frame(self):
-        self.warned("cluster.toml:8:1", ("p words are 4 + 10 * (8 + 2 * p) + 2 + 2 + 11 bits",),
+        self.warned("cluster.toml:8:1", ("p words are 4 + 10 * (8 + 2 * p) + 2 + 2 bits", "11 of silence follow"),
                     self.changed(CLUSTER, ("[[node]]", PHYSICAL.format(1))))
 
     def test_a_slot_shorter_than_a_bit(self):

@@ -29,14 +29,15 @@ buffer = [{kind = "event", slot = 3, channels = "A", words = 4}]
 [[node]]
 buffer = [{kind = "receive", slot = 3, channels = "A"}]
 """
-LONG = ('channels = "A", words = 4}]', 'channels = "A", words = 4}, {kind = "event", slot = 3, channels = "B", words = 20}]')
+LONG = ('words = 4}]', 'words = 4}, {kind = "event", slot = 3, channels = "B", words = 20}]')
 
 
 class Minislots(Cases):
     def room(self, minislot: int, idle: int, words: int) -> tuple[str, ...]:
         """Returns the changes for minislots of so many macroticks with so many words, and so many idle ones."""
-        return ("minislot_mt = 6", f"minislot_mt = {minislot}", "cycle_mt = 110", f"cycle_mt = {50 + 10 * minislot}",
-                "idle = 1", f"idle = {idle}", "words_per_minislot = 4", f"words_per_minislot = {words}")
+        return ("minislot_mt = 6", f"minislot_mt = {minislot}",
+                "cycle_mt = 110", f"cycle_mt = {50 + 10 * minislot}", "idle = 1", f"idle = {idle}",
+                "words_per_minislot = 4", f"words_per_minislot = {words}")
 
     def test_the_idle_phase_is_no_room_for_a_frame(self) -> None:
         """8 words of 4 a minislot fill 2 minislots, of 60 bits each; with the idle one there would be 180."""
@@ -52,7 +53,7 @@ class Minislots(Cases):
     def test_the_silence_may_be_in_the_idle_phase(self) -> None:
         """One minislot of 170 bits has room for the frame, and for the silence only with an idle one after it."""
         self.quiet("too short", self.changed(ROOMS, self.room(17, 1, 8)))
-        self.warned("cluster.toml:10:1", ("frames of 4 words need 179 bits with the silence, and have 1 minislot of 170 bits",),
+        self.warned("cluster.toml:10:1", ("need 179 bits with the silence, and have 1 minislot of 170 bits",),
                     self.changed(ROOMS, self.room(17, 0, 8)))
 
 
@@ -103,3 +104,35 @@ class Examples(Cases):
         for file in sorted(EXAMPLES.glob("*/*.toml")):
             names = {it.name for it in lint(Task(str(file))).warnings}
             self.assertFalse(names & {"short-slots", "latest-tx"}, file)
+
+
+class WithoutPhysical(Cases):
+    """Frames of a file that doesn't say how long a macrotick is: the longest one, of 6 us, has 60 bits."""
+
+    def noted(self, cluster: str) -> list[str]:
+        """Returns the names of the notes."""
+        return [it.name for it in self.look(cluster)[0].notes]
+
+    def test_a_note_that_bits_are_not_checked(self) -> None:
+        bare = ROOMS[ROOMS.index("[params]"):]
+        self.assertEqual((self.noted(ROOMS), self.noted(bare)), ([], ["unchecked-bits"]))
+        self.assertEqual(self.noted(bare.replace("[params]", "[params] # lint: allow unchecked-bits")), [])
+        self.quiet("too short", bare)
+
+    def test_frames_that_fit_at_no_macrotick(self) -> None:
+        """A frame of 1 word has 4 + 10 * 10 + 2 + 11 = 117 bits, and a static slot of 1 macrotick 60 at most.
+
+        8 words fill 2 minislots. If each has one macrotick, both have 120 bits at most, and the frame has 168.
+        """
+        bare = ROOMS[ROOMS.index("[params]"):].replace("nit_mt = 10", "nit_mt = 98")
+        self.warned("cluster.toml:5:1", ("room for 60 bits at most, and its frame needs 117", "Expected at least 2"),
+                    bare.replace("static_mt = 20", "static_mt = 1").replace("cycle_mt = 110", "cycle_mt = 160"))
+        short = ROOMS[ROOMS.index("[params]"):].replace("minislot_mt = 6", "minislot_mt = 1")
+        self.warned("cluster.toml:6:1", ("frames of 4 words need 168 bits, and have 2 minislots of 60 bits",
+                                         "then has 60 bits at most"), short.replace("cycle_mt = 110", "cycle_mt = 60"))
+
+    def test_a_file_with_one_of_both_numbers(self) -> None:
+        """Minislots of 6 macroticks of 1 us have 60 bits at 10 Mbit/s, and twice as many at twice the rate."""
+        self.warned("cluster.toml:9:1", ("need 168 bits, and have 2 minislots of 60 bits", "then has 10 bits at most"),
+                    ROOMS.replace("bit_rate = 10_000_000\n", ""))
+        self.quiet("too short", ROOMS.replace("macrotick_us = 1\n", ""))

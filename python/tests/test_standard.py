@@ -78,12 +78,12 @@ class Standard(Cases):
         self.warned("cluster.toml:15:1", ("the cluster has no startup nodes", "at least 2 coldstart nodes"), CLUSTER)
         self.warned("cluster.toml:15:1", ("the cluster has 1 startup node: 0",), self.changed(CLUSTER, BOTH[:2]))
         found, answer = self.look(self.changed(CLUSTER, BOTH))
-        self.assertEqual((found.warnings, [it.name for it in found.notes]), ([], ["fault-tolerance"]))
+        self.assertEqual((found.warnings, [it.name for it in found.notes]), ([], ["fault-tolerance", "unchecked-bits"]))
         self.assertIn("cluster.toml:15:1: note: the cluster has 2 startup nodes: 0 and 1 [fault-tolerance]",
                       self.text(found, answer))
         third = self.changed(CLUSTER, (*BOTH, "latest_a = 4", "own = [{slot = 3, channels = \"AB\", sync = true, "
                                        "startup = true}]\nlatest_a = 4"))
-        self.assertEqual(self.look(third)[0].notes, [])
+        self.assertEqual([it.name for it in self.look(third)[0].notes], ["unchecked-bits"])
 
     def test_divided_slots(self):
         """A slot is divided between nodes, or is without an owner in some cycles. Two lines of a node that share all

@@ -41,6 +41,7 @@ WARNINGS = {
 }
 NOTES = {
     "fault-tolerance": "2 nodes have a startup slot, and none may fail",
+    "unchecked-bits": "the file has no `[physical]`, so slots aren't compared with bits",
     "skipped-line": "a line of the scenario is for no cycle of the run",
     "not-guaranteed": "frames in the slots before it can keep a transmit buffer from sending",
 }

@@ -40,6 +40,7 @@ OF_CLUSTER: tuple[tuple[str, Callable[[Cluster, Text], Iterable[Finding]]], ...]
     ("latest-tx", ranges.late_latest),
     ("bit-rate", ranges.other_bit_rate),
     ("physical", physical.wrong_times),
+    ("unchecked-bits", physical.unchecked_bits),
     ("short-slots", physical.short_slots),
     ("action-point", physical.without_action_point),
 )

@@ -23,15 +23,12 @@ class Offers:
                 for slot in (line.slot, None):
                     self.static[line.node, channel, slot] |= line.cycles.bits
         self.dynamic: dict[tuple[int, str], list[tuple[int, int]]] = defaultdict(list)
+        self.by_slot: dict[tuple[int, str, int | None], int] = defaultdict(int)
         for buffer in cluster.buffers():
-            if buffer.transmits and not cluster.is_static(buffer.slot):
+            if buffer.transmits and not cluster.is_static(buffer.slot) and cluster.nodes[buffer.node].tasks:
                 for channel in buffer.channels:
                     begun = first_minislot(cluster, buffer.slot), buffer.cycles.bits
                     self.dynamic[buffer.node, channel].append(begun)
-        self.by_slot: dict[tuple[int, str, int | None], int] = defaultdict(int)
-        for buffer in cluster.buffers():
-            if buffer.transmits and not cluster.is_static(buffer.slot):
-                for channel in buffer.channels:
                     for slot in (buffer.slot, None):
                         self.by_slot[buffer.node, channel, slot] |= buffer.cycles.bits
         self.first = cache(self.first_of)

@@ -8,11 +8,13 @@ static slot also has an action point offset at both ends. Delays and the clocks'
 aren't known.
 """
 from collections.abc import Iterator
+from dataclasses import dataclass
 from typing import TypeGuard
 
 from musmyrtle.cluster import PARAMETERS, Cluster, Parameters
 from musmyrtle.findings import MOST_NOTES, Finding, counted, shown
 from musmyrtle.lint.standard import rule_of
+from musmyrtle.places import Path
 from musmyrtle.texts import Text
 
 BITS_OF_BYTE = 10
@@ -20,6 +22,7 @@ BYTES_BESIDE_PAYLOAD = 8
 START, END, TRAILING, IDLE = 3 + 1, 2, 2, 11
 UNITS = {"bit_rate": "bits a second", "macrotick_us": "microseconds"}
 LONGEST_SLOT = PARAMETERS["static_mt"][1]
+MACROTICK, NOMINAL_BIT_RATE = rule_of("gdMacrotick"), rule_of("gdBit").greatest
 
 
 def bits_sent(words: int, is_dynamic: bool) -> int:
@@ -55,56 +58,91 @@ def wrong_times(_: Cluster, text: Text) -> Iterator[Finding]:
             yield text.finding(f"`{key}` of `[physical]` {found}", reason, ("physical", key))
 
 
-def bits_of_macrotick(text: Text) -> float | None:
-    bit_rate, macrotick = bit_and_macrotick(text)
-    return None if bit_rate is None or macrotick is None else bit_rate * macrotick / 1_000_000
+def unchecked_bits(_: Cluster, text: Text) -> Iterator[Finding]:
+    """Yields a note of a file that has no bits to compare with."""
+    if "physical" not in text.document:
+        reason = ("Without `bit_rate` and `macrotick_us` there is a warning only for frames that fit at no macrotick "
+                  f"of {MACROTICK.range} at 10 Mbit/s. Expected a table `[physical]` with both, such as "
+                  "`bit_rate = 10_000_000` and `macrotick_us = 1`.")
+        yield text.finding("the file has no `[physical]`, so bits aren't checked", reason, ("params",))
+
+
+@dataclass(frozen=True)
+class Bits:
+    """The bits of a macrotick; without both numbers of `[physical]` the most that it can have in the standard."""
+
+    number: float
+    is_known: bool
+
+    @classmethod
+    def of(cls, text: Text) -> "Bits":
+        """Returns the bits by a cluster file."""
+        bit_rate, macrotick = bit_and_macrotick(text)
+        rate = NOMINAL_BIT_RATE if bit_rate is None else bit_rate
+        time = MACROTICK.greatest if macrotick is None else macrotick
+        return cls(rate * time / 1_000_000, bit_rate is not None and macrotick is not None)
+
+    @property
+    def most(self) -> str:
+        """Returns ` at most` where the number is only the greatest one."""
+        return "" if self.is_known else " at most"
+
+    @property
+    def why(self) -> str:
+        """Returns the sentence about a number that isn't that of the file."""
+        return "" if self.is_known else ("The file doesn't have both numbers of `[physical]`. By appendix B a "
+                                         f"macrotick then has {self.number:g} bits at most. ")
+
+    @property
+    def notes(self) -> list[tuple[str, Path]]:
+        """Returns the place of the numbers, if the file has them."""
+        return [("`[physical]`", ("physical",))] if self.is_known else []
 
 
 def short_slots(cluster: Cluster, text: Text) -> Iterator[Finding]:
     """Yields warnings of static slots and of minislots that are too short for their frames."""
-    bits = bits_of_macrotick(text)
-    if bits is not None:
-        yield from short_static_slots(cluster, text, bits)
-        yield from short_minislots(cluster, text, bits)
+    bits = Bits.of(text)
+    yield from short_static_slots(cluster, text, bits)
+    yield from short_minislots(cluster, text, bits)
 
 
-def static_bits(cluster: Cluster, bits: float) -> tuple[int, float]:
+def static_bits(cluster: Cluster, bits: Bits) -> tuple[int, float]:
     """Returns the bits that a static frame needs, and those that a static slot has."""
-    return bits_sent(cluster.parameters.static_words, False) + IDLE, cluster.parameters.static_mt * bits
+    parameters = cluster.parameters
+    return bits_sent(parameters.static_words, False) + IDLE, parameters.static_mt * bits.number
 
 
-def short_static_slots(cluster: Cluster, text: Text, bits: float) -> Iterator[Finding]:
+def short_static_slots(cluster: Cluster, text: Text, bits: Bits) -> Iterator[Finding]:
     parameters = cluster.parameters
     needed, had = static_bits(cluster, bits)
     if needed > had:
-        room = "is shorter than one bit" if had < 1 else f"has room for {had:g} bits"
-        least = -int(-needed // bits)
-        reason = (f"{parameters.static_words} words are {START} + {BITS_OF_BYTE} * ({BYTES_BESIDE_PAYLOAD} + 2 * "
-                  f"{parameters.static_words}) + {END} + {IDLE} = {needed} bits: start, bytes, end and silence "
-                  f"(chapters 3 and 5). `static_mt` is {parameters.static_mt} macroticks of {bits:g} bits. Expected ")
+        room = "is shorter than one bit" if had < 1 else f"has room for {had:g} bits{bits.most}"
+        least = -int(-needed // bits.number)
+        reason = (f"{bits.why}{parameters.static_words} words are {START} + {BITS_OF_BYTE} * ({BYTES_BESIDE_PAYLOAD} + "
+                  f"2 * {parameters.static_words}) + {END} + {IDLE} = {needed} bits: start, bytes, end and silence "
+                  f"(chapters 3 and 5). `static_mt` is {counted(parameters.static_mt, 'macrotick')} of "
+                  f"{bits.number:g} bits{bits.most}. Expected ")
         reason += f"at least {least}." if least <= LONGEST_SLOT else (
             "`bit_rate` in bits a second and `macrotick_us` in microseconds, such as 10_000_000 and 1.")
         headline = f"a static slot {room}, and its frame needs {needed} at least"
-        yield text.finding(headline, reason, ("params", "static_mt"), [("`[physical]`", ("physical",))])
+        yield text.finding(headline, reason, ("params", "static_mt"), bits.notes)
 
 
 def without_action_point(cluster: Cluster, text: Text) -> Iterator[Finding]:
     """Yields a warning where a static frame fits only without action point offsets at both ends."""
-    bits = bits_of_macrotick(text)
-    if bits is None:
-        return
+    bits = Bits.of(text)
     needed, had = static_bits(cluster, bits)
     least = 2 * rule_of("gdActionPointOffset").least
-    if needed <= had < needed + least * bits:
+    if bits.is_known and needed <= had < needed + least * bits.number:
         headline = f"a static slot has {had - needed:g} bits left, too few for an action point offset"
         reason = (f"Its frame needs {needed} of {had:g} bits. `gdActionPointOffset` is at least 1 macrotick before the "
-                  f"frame and after it, here 2 * {bits:g} bits (chapter 5 and appendix B). The bench doesn't model "
-                  f"action points. Expected `static_mt` of at least {-int(-needed // bits) + least}.")
-        yield text.finding(headline, reason, ("params", "static_mt"), [("`[physical]`", ("physical",))])
+                  f"frame and after it, here 2 * {bits.number:g} bits (chapter 5 and appendix B). The bench doesn't "
+                  f"model action points. Expected `static_mt` of at least {-int(-needed // bits.number) + least}.")
+        yield text.finding(headline, reason, ("params", "static_mt"), bits.notes)
 
 
-def short_minislots(cluster: Cluster, text: Text, bits: float) -> Iterator[Finding]:
-    each = cluster.parameters.minislot_mt * bits
+def short_minislots(cluster: Cluster, text: Text, bits: Bits) -> Iterator[Finding]:
+    each = cluster.parameters.minislot_mt * bits.number
     short = []
     for buffer in cluster.buffers():
         why = None
@@ -114,10 +152,10 @@ def short_minislots(cluster: Cluster, text: Text, bits: float) -> Iterator[Findi
             short.append((f"{buffer}: {why}", buffer.path))
     if short:
         headline = f"minislots are too short for the frames of {counted(len(short), 'buffer')}"
-        reason = (f"p words are {START} + {BITS_OF_BYTE} * ({BYTES_BESIDE_PAYLOAD} + 2 * p) + {END} + {TRAILING} bits: "
-                  f"start, bytes, end and trailing. {IDLE} of silence follow (chapters 3 and 5). A frame has the "
-                  "minislots of its words. The `idle` ones come after it, and have room for the silence alone. "
-                  "Expected a greater `minislot_mt`, or a smaller `words_per_minislot`.")
+        reason = (f"{bits.why}p words are {START} + {BITS_OF_BYTE} * ({BYTES_BESIDE_PAYLOAD} + 2 * p) + {END} + "
+                  f"{TRAILING} bits: start, bytes, end and trailing. {IDLE} of silence follow (chapters 3 and 5). A "
+                  "frame has the minislots of its words. The `idle` ones come after it, and have room for the silence "
+                  "alone. Expected a greater `minislot_mt`, or a smaller `words_per_minislot`.")
         yield text.finding(headline, reason, ("params", "minislot_mt"), short[:MOST_NOTES])
 
 
@@ -129,6 +167,6 @@ def why_short(parameters: Parameters, words: int, each: float) -> str | None:
     filled, needed = parameters.minislots_of(words), bits_sent(words, True)
     for bits, minislots, what in ((needed, filled, ""), (needed + IDLE, filled + parameters.idle, " with the silence")):
         if bits > minislots * each:
-            return (f"frames of {counted(words, 'word')} need {bits} bits{what}, and have {counted(minislots, 'minislot')} of "
-                    f"{each:g} bits")
+            return (f"frames of {counted(words, 'word')} need {bits} bits{what}, and have "
+                    f"{counted(minislots, 'minislot')} of {each:g} bits")
     return None

@@ -4,13 +4,12 @@ from collections.abc import Iterator
 
 from musmyrtle.cluster import CYCLES, PARAMETERS, Buffer, Cluster, Ownership, Parameters
 from musmyrtle.findings import MOST_NOTES, Finding, counted, joined
-from musmyrtle.lint.physical import bit_and_macrotick
+from musmyrtle.lint.physical import MACROTICK, NOMINAL_BIT_RATE, bit_and_macrotick
 from musmyrtle.lint.standard import CHAPTER, OF_PARAMETERS, STANDARD, Rule, rule_of
 from musmyrtle.places import Path
 from musmyrtle.texts import Text
 
 ALL_CYCLES = (1 << len(CYCLES)) - 1
-NOMINAL_BIT_RATE = rule_of("gdBit").greatest
 
 
 def out_of_range(cluster: Cluster, text: Text) -> Iterator[Finding]:
@@ -54,8 +53,8 @@ def late(cluster: Cluster, text: Text, longest: Buffer, channel: str, most: int)
     headline += str(most) if most > 0 else "none"
     reason = (f"The longest dynamic frame of the node has {counted(longest.words, 'word')}, which fill {filled} of "
               f"{counted(parameters.minislots, 'minislot')}. With `idle` they have to fit behind `pLatestTx`, which is "
-              f"one for both channels ({CHAPTER}): {parameters.minislots} - ({filled} + {idle}) + 1 = {most}. The bench "
-              "runs with it. Expected ")
+              f"one for both channels ({CHAPTER}): {parameters.minislots} - ({filled} + {idle}) + 1 = {most}. The "
+              "bench runs with it. Expected ")
     reason += f"`{key}` of at most {most}, or a shorter frame." if most > 0 else "a shorter frame, or more minislots."
     return text.finding(headline, reason, (*node.path, key), [(f"{longest}, on {longest.channels}", longest.path)])
 
@@ -70,9 +69,9 @@ def long_times(cluster: Cluster, text: Text) -> Iterator[Finding]:
     _, macrotick = bit_and_macrotick(text)
     if macrotick is None:
         return
-    rule, path = rule_of("gdMacrotick"), ("physical", "macrotick_us")
-    if not rule.admits(macrotick):
-        yield text.finding(f"`macrotick_us` is {macrotick:g}", allowed(rule), path)
+    path = ("physical", "macrotick_us")
+    if not MACROTICK.admits(macrotick):
+        yield text.finding(f"`macrotick_us` is {macrotick:g}", allowed(MACROTICK), path)
     rule, macroticks = rule_of("gdCycle"), cluster.parameters.cycle_mt
     cycle = macroticks * macrotick
     # A macrotick such as 0.7 isn't exact as a number with a binary point.

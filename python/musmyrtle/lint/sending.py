@@ -2,7 +2,7 @@
 from collections.abc import Iterator
 
 from musmyrtle.cluster import Buffer, Cluster, Node, Ownership
-from musmyrtle.findings import Finding, counted, joined
+from musmyrtle.findings import MOST_NOTES, Finding, counted, joined
 from musmyrtle.lint.standard import rule_of
 from musmyrtle.texts import Text
 
@@ -16,7 +16,9 @@ def first_minislot(cluster: Cluster, slot: int) -> int:
 
 
 def can_send(cluster: Cluster, buffer: Buffer) -> bool:
-    """Returns whether a transmit buffer has a chance to send."""
+    """Returns whether a transmit buffer has a chance to send. Without a task its node has no commit to send."""
+    if cluster.nodes[buffer.node].tasks == 0:
+        return False
     if cluster.is_static(buffer.slot):
         return True
     latest = cluster.nodes[buffer.node].latest[buffer.channels]
@@ -24,9 +26,24 @@ def can_send(cluster: Cluster, buffer: Buffer) -> bool:
 
 
 def silent_buffers(cluster: Cluster, text: Text) -> Iterator[Finding]:
-    for buffer in cluster.buffers():
-        if buffer.transmits and not can_send(cluster, buffer):
-            yield silent_buffer(cluster, text, buffer)
+    for node in cluster.nodes:
+        sending = [it for it in node.buffers if it.transmits]
+        if sending and node.tasks == 0:
+            yield without_task(text, node, sending)
+            continue
+        for buffer in sending:
+            if not can_send(cluster, buffer):
+                yield silent_buffer(cluster, text, buffer)
+
+
+def without_task(text: Text, node: Node, sending: list[Buffer]) -> Finding:
+    """Returns why no transmit buffer of a node without tasks sends."""
+    one, s = (f"{sending[0]} never sends", "") if len(sending) == 1 else (
+        f"the {len(sending)} transmit buffers of node {node.number} never send", "s")
+    reason = (f"Each commit is a task's, and node {node.number} has none. In static slots it sends null frames alone. "
+              f"Expected `tasks = 1` or more, or no transmit buffer{s}.")
+    notes = [(f"{it}, for slot {it.slot}", it.path) for it in sending[:MOST_NOTES]]
+    return text.finding(f"{one}: the node has no task", reason, (*node.path, "tasks"), notes)
 
 
 def silent_buffer(cluster: Cluster, text: Text, buffer: Buffer) -> Finding:
@@ -52,17 +69,26 @@ def silent_buffer(cluster: Cluster, text: Text, buffer: Buffer) -> Finding:
 
 
 def unfilled_slots(cluster: Cluster, text: Text) -> Iterator[Finding]:
+    """Yields a warning for each slot of a node that no transmit buffer is for in any cycle, on a channel."""
     for node in cluster.nodes:
+        lines: dict[int, list[Ownership]] = {}
         for line in node.owned:
-            filling = [it for it in node.buffers
-                       if it.transmits and it.slot == line.slot and it.cycles.meet(line.cycles)]
-            empty = [channel for channel in line.channels if not any(channel in it.channels for it in filling)]
+            lines.setdefault(line.slot, []).append(line)
+        for slot, its in lines.items():
+            filled = {channel for it in node.buffers if it.transmits and it.slot == slot for channel in it.channels}
+            empty = sorted({channel for line in its for channel in line.channels} - filled)
             if empty:
-                channels = joined(empty)
-                headline = f"slot {line.slot} is owned by node {node.number} on {channels}, and never filled there"
-                reason = (f"No transmit buffer of the node is for it, so on {channels} the node sends null frames "
-                          f"alone. Expected a transmit buffer with slot = {line.slot}, or no ownership there.")
-                yield text.finding(headline, reason, line.path)
+                yield unfilled_slot(text, node, empty, [it for it in its if set(it.channels) & set(empty)])
+
+
+def unfilled_slot(text: Text, node: Node, empty: list[str], lines: list[Ownership]) -> Finding:
+    """Returns why a slot that a node owns by these lines is never filled on some channels."""
+    slot, channels = lines[0].slot, joined(empty)
+    headline = f"slot {slot} is owned by node {node.number} on {channels}, and never filled there"
+    reason = (f"No transmit buffer of the node is for it, so on {channels} the node sends null frames alone. Expected "
+              f"a transmit buffer with slot = {slot}, or no ownership there.")
+    notes = [(f"{it} has it too, in {it.cycles}", it.path) for it in lines[1:1 + MOST_NOTES]]
+    return text.finding(headline, reason, lines[0].path, notes)
 
 
 def sync_nodes(cluster: Cluster, text: Text) -> Iterator[Finding]:

@@ -12,8 +12,7 @@ from musmyrtle.show.tables import Column, Row, Section
 WAYS = (Column("cycle", "cycle"), Column("minislot", "minislot"), Column("slot", "slot"),
         Column("node", "node", "name"), Column("buffer", "buffer", "name"))
 LEGEND = ("worst: from a commit just after the fetch of its slot to the end of its frame",
-          "states and worst hold for the lengths that the file gives; longer frames can make them worse, and so can "
-          "a greater words_per_minislot")
+          "states and worst hold for the frame lengths of the file; a longer length isn't the safe side")
 
 
 def latencies(inputs: Inputs) -> tuple[list[Latency], list[Load]]:
