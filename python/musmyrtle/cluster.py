@@ -134,6 +134,13 @@ class Parameters:
         """Returns the minislots that a frame of so many words fills, without the idle ones after it."""
         return -(-(words + 4) // self.words_per_minislot)
 
+    def length_of(self, slot: int, words: int) -> int:
+        """Returns the macroticks from the start of a slot to the end of its frame of so many words.
+
+        A frame ends with its static slot, or with the last minislot that it fills.
+        """
+        return self.static_mt if slot <= self.static_slots else self.minislots_of(words) * self.minislot_mt
+
     @property
     def windows(self) -> int:
         """Returns the largest number of windows in a cycle."""

@@ -175,7 +175,8 @@ class Guarantees(Shows):
     def test_the_load(self) -> None:
         status, output, _ = self.linted(NETWORK, "--load", "--allow", "not-guaranteed")
         self.assertEqual(status, 0)
-        self.assertEqual(output.splitlines()[-2].split(), ["A", "128", "128", "5", "5", "0"])
+        row = next(line for line in output.splitlines() if line.startswith("A "))
+        self.assertEqual(row.split(), ["A", "128", "128", "100", "5", "50", "5", "50", "10", "0", "2"])
 
     def test_no_program(self) -> None:
         """The note is left out with a line on standard error; what the words want isn't."""

@@ -11,7 +11,7 @@ from typing import Any, NoReturn, TextIO
 
 from musmyrtle.findings import MOST_REASONS, block, counted, nearest
 from musmyrtle.lint.allows import NAMES, expected_name
-from musmyrtle.lint.guarantees import Guarantees, load_section
+from musmyrtle.lint.guarantees import Guarantees
 from musmyrtle.lint.lint import Lint, Ran, Task, lint, read_bytes
 from musmyrtle.lint.overwriting import Overwritten
 from musmyrtle.lint.rows import sections
@@ -114,7 +114,8 @@ def arguments() -> Parser:
     parser.add_argument("--guaranteed", metavar=("NODE", "BUFFER"), nargs=2, action="append", default=[],
                         help="end with status 1 unless this transmit buffer, by its name or number, is sent in each of "
                              "its cycles whatever other nodes send; it may be given several times")
-    parser.add_argument("--load", action="store_true", help="print the bus load and the slack of each channel too")
+    parser.add_argument("--load", action="store_true",
+                        help="print the load of each channel too: slots and minislots used, available and missing")
     parser.add_argument("--program", metavar="FILE",
                         help="the fr_bench to ask, or the fr_view for a trace, instead of that which `musmyrtle` finds")
     add_forms(parser)
@@ -287,9 +288,8 @@ def linted(given: argparse.Namespace) -> int:
     if guarantees.is_wanted and not guarantees.is_done and not answer.status:
         raise Stop(USAGE, f"{COMMAND} can't read {given.cluster}, so that it finds no guarantees and no load")
     known = found if is_explained(answer, found) else Lint()
-    loads = [load_section(guarantees.loads)] if guarantees.loads else []
-    text = "\n".join([*told(answer, found, is_bold_on(sys.stdout)), *as_text(loads)])
-    printed(formed(given, [*sections("fr_bench", answer.refusal, known), *loads], [text]))
+    text = "\n".join([*told(answer, found, is_bold_on(sys.stdout)), *as_text(guarantees.loads)])
+    printed(formed(given, [*sections("fr_bench", answer.refusal, known), *guarantees.loads], [text]))
     if answer.status:
         return USAGE if answer.status == USAGE else REFUSED
     if found.errors:

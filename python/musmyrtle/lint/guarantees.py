@@ -6,16 +6,15 @@ from musmyrtle.cluster import Buffer, Cluster
 from musmyrtle.findings import Finding, counted, joined
 from musmyrtle.latencies import (BLOCKED, GUARANTEED, IDLE, POSSIBLE, Latency, Load, Way, read_latencies, read_way,
                                  words_for_way)
+from musmyrtle.lint.loads import load_section
 from musmyrtle.names import tables_of
 from musmyrtle.output import CANNOT_BE_USED, Stop, pass_on
 from musmyrtle.program import VARIABLES, ask, itself, no_answer, usual_program
 from musmyrtle.show.network import name_in
-from musmyrtle.show.tables import Column, Row, Section
+from musmyrtle.show.tables import Section
 from musmyrtle.texts import Text
 from musmyrtle.visible import cut
 
-LOADS = (Column("channel", "channel"), Column("owned", "owned static slots"), Column("static", "of"),
-         Column("least", "least minislots"), Column("most", "most minislots"), Column("slack", "slack"))
 MOST_LINES, LONGEST_LINE = 2500, 4096
 """The lines and the characters of a line that are read: at most 1,026 of latencies, and 2,046 of a way."""
 MOST_WAYS, MOST_FRAMES = 8, 8
@@ -25,13 +24,6 @@ FRONT = "musmyrtle lint: no latencies: "
 
 class NoLatencies(Exception):
     """The program prints no latencies. The message has the reason."""
-
-
-def load_section(loads: Iterable[Load]) -> Section:
-    """Returns the table of the channels."""
-    rows = [Row({"channel": it.channel, "owned": it.owned, "static": it.static, "least": it.least, "most": it.most,
-                 "slack": it.slack}) for it in loads]
-    return Section("load", "Channels: static slots of 64 cycles, dynamic minislots of a cycle", LOADS, rows)
 
 
 def lines_of(words: list[str], is_checked: bool = False) -> list[str]:
@@ -83,7 +75,7 @@ class Guarantees:
     def __init__(self, file: str, wanted: Iterable[tuple[str, str]] = (), has_load: bool = False) -> None:
         """FILE is the cluster file. WANTED has a node and a buffer for each buffer that has to be guaranteed."""
         self.file, self.wanted, self.has_load = file, tuple(wanted), has_load
-        self.loads: list[Load] = []
+        self.loads: list[Section] = []
         self.is_wanted, self.is_done = bool(self.wanted) or has_load, False
 
     def notes_and_errors(self, cluster: Cluster, text: Text) -> tuple[list[Finding], list[Finding]]:
@@ -102,7 +94,7 @@ class Guarantees:
                 raise Stop(CANNOT_BE_USED, str(error)) from None
             pass_on(f"{FRONT}{error}")
             return [], []
-        self.loads = loads if self.has_load else []
+        self.loads = [load_section(loads, cluster)] if self.has_load else []
         by_place = {(it.node, it.buffer): it for it in found}
         errors = [it for it in wanted if by_place[it.node, it.number].state != GUARANTEED]
         weak = [it for it in cluster.buffers() if it not in errors

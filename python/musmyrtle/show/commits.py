@@ -1,6 +1,7 @@
 """The command `commits`: a row for each transmission of each commit, or for the fate of one that wasn't sent.
 
-A latency is the difference of two times that `fr_view windows` prints.
+A latency is the difference of two times that `fr_view windows` prints. The time to the end of the frame has the length
+of the frame as well.
 """
 from collections.abc import Iterator
 
@@ -12,6 +13,8 @@ from musmyrtle.show.selection import Selection
 from musmyrtle.show.tables import Column, Row, Section, Value
 
 FATES = {**ENDS, ARRIVED: "arrived"}
+LATENCY = "from the start of the commit's cycle, in which calls come first, to the start of the frame's window"
+TO_END = "from there to the end of the frame, as worst of musmyrtle latency"
 
 
 def commits(facts: Facts, selection: Selection) -> list[Section]:
@@ -29,7 +32,8 @@ def columns(network: Network) -> tuple[Column, ...]:
     return (Column("node", "node", "name"), Column("buffer", "buffer", "name"), Column("task", ""),
             Column("cycle", "cycle"), Column("entry", ""), Column("data", "bytes", "bytes"), Column("fate", ""),
             Column("ended_cycle", ""), Column("sent_cycle", "sent in"), Column("slot", "slot"),
-            Column("channel", "channel"), network.column("begin", "begin"), network.column("latency", "latency"),
+            Column("channel", "channel"), network.column("begin", "begin"),
+            network.column("latency", "latency", LATENCY), network.column("to_end", "to end", TO_END),
             Column("end", "end", words=FATES), Column("receivers", "receivers", "whole"),
             Column("why", "why", "whole"))
 
@@ -63,13 +67,16 @@ def front(facts: Facts, commit: Commit) -> dict[str, Value]:
 
 
 def row_of(facts: Facts, commit: Commit, sent: Sent, why_lost: str | None) -> Row:
-    """Returns the row of one transmission. Its latency counts from the start of the commit's cycle."""
+    """Returns the row of one transmission. Its latencies count from the start of the commit's cycle."""
     network = facts.network
+    cluster = network.cluster
+    length = cluster.parameters.length_of(sent.slot, cluster.nodes[commit.node].buffers[commit.buffer].words)
     begin = facts.begin(sent.cycle, sent.slot, sent.channel)
     latency = None if begin is None else begin - facts.windows.begin_of_cycle(commit.cycle)
     return Row(front(facts, commit) | {
         "sent_cycle": sent.cycle, "slot": sent.slot, "channel": sent.channel,
         "begin": None if begin is None else network.time(begin),
         "latency": None if latency is None else network.time(latency),
+        "to_end": None if latency is None else network.time(latency + length),
         "end": sent.end, "receivers": network.receivers(sent.receivers), "why": why_lost,
     }, sent.end != ARRIVED)

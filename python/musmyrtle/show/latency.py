@@ -2,7 +2,7 @@
 from musmyrtle.findings import counted
 from musmyrtle.latencies import Latency, Load, read_latencies, read_way, words_for_way
 from musmyrtle.lint.command import USAGE
-from musmyrtle.lint.guarantees import load_section
+from musmyrtle.lint.loads import load_section
 from musmyrtle.output import Stop
 from musmyrtle.show.engines import Inputs
 from musmyrtle.show.network import Network
@@ -11,8 +11,8 @@ from musmyrtle.show.tables import Column, Row, Section
 
 WAYS = (Column("cycle", "cycle"), Column("minislot", "minislot"), Column("slot", "slot"),
         Column("node", "node", "name"), Column("buffer", "buffer", "name"))
-LEGEND = ("worst: from a commit just after the fetch of its slot to the end of its frame",
-          "states and worst hold for the frame lengths of the file; a longer length isn't the safe side")
+STATE = "holds for the frame lengths of the file, as worst does; a longer length isn't the safe side"
+WORST = "from a commit just after the fetch of its slot to the end of its frame"
 
 
 def latencies(inputs: Inputs) -> tuple[list[Latency], list[Load]]:
@@ -48,8 +48,8 @@ def latency(network: Network, found: list[Latency], loads: list[Load], selection
     rows = [row_of(network, it) for it in found if is_selected(it, selection)]
     shown = [it for it in loads if selection.channels is None or it.channel in selection.channels]
     return [Section("latency", "Transmit buffers in runs without faults", columns(network), rows,
-                    "No transmit buffer is selected.", LEGEND),
-            load_section(shown)]
+                    "No transmit buffer is selected."),
+            load_section(shown, network.cluster)]
 
 
 def is_selected(it: Latency, selection: Selection) -> bool:
@@ -61,8 +61,9 @@ def columns(network: Network) -> tuple[Column, ...]:
     """Returns the columns of transmit buffers."""
     return (Column("node", "node", "name"), Column("buffer", "buffer", "name"), Column("slot", "slot"),
             Column("channels", "channels"), Column("base", ""), Column("repetition", ""), Column("cycles", "cycles"),
-            Column("first", "first"), Column("last", "last"), Column("latest", "latest"), Column("state", "state"),
-            Column("guaranteed", "sure cycles"), network.column("worst", "worst"))
+            Column("first", "first"), Column("last", "last"), Column("latest", "latest"),
+            Column("state", "state", meaning=STATE), Column("guaranteed", "sure cycles"),
+            network.column("worst", "worst", WORST))
 
 
 def row_of(network: Network, it: Latency) -> Row:

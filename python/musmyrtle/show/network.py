@@ -57,9 +57,9 @@ class Network:
         """Returns a time in macroticks, with its microseconds."""
         return Time(macroticks, None if self.macrotick is None else macroticks * self.macrotick)
 
-    def column(self, key: str, heading: str) -> Column:
+    def column(self, key: str, heading: str, meaning: str = "") -> Column:
         """Returns a column of times, with the unit in its heading."""
-        return Column(key, f"{heading} [{'MT' if self.macrotick is None else 'us'}]", "time")
+        return Column(key, f"{heading} [{'MT' if self.macrotick is None else 'us'}]", "time", meaning=meaning)
 
 
 def name_in(table: dict[str, object]) -> str | None:

@@ -8,6 +8,9 @@ from musmyrtle.show.selection import Selection
 from musmyrtle.show.sources import READING, Source, Sources
 from musmyrtle.show.tables import Column, Row, Section, Value
 
+AGE = "from the start of the frame's window to the start of the call's cycle, in which calls come first"
+LATENCY = "from the start of the commit's cycle to the start of the call's cycle"
+
 
 def reads(facts: Facts, selection: Selection) -> list[Section]:
     """Returns the tables of `reads`.
@@ -30,7 +33,8 @@ def call_columns(network: Network) -> tuple[Column, ...]:
             Column("buffer", "buffer", "name"), Column("data", "bytes", "bytes"), Column("frame_cycle", "sent in"),
             Column("cycle_count", ""), Column("slot", "slot"), Column("channel", "channel"),
             Column("sender", "sender", "name"), Column("sender_buffer", "its buffer", "name"),
-            Column("commit_cycle", "commit"), network.column("age", "age"), network.column("latency", "latency"))
+            Column("commit_cycle", "commit"), network.column("age", "age", AGE),
+            network.column("latency", "latency", LATENCY))
 
 
 def fifo_columns(network: Network) -> tuple[Column, ...]:

@@ -160,6 +160,8 @@ class Column:
     kind: str = "plain"
     words: Mapping[str, str] = field(default_factory=dict, hash=False)
     """Words for people, for those of the programs."""
+    meaning: str = ""
+    """The measure of the values. Texts have it below the table, if the column is shown."""
 
     @property
     def keys(self) -> tuple[str, ...]:
@@ -226,8 +228,8 @@ class Row:
 class Section:
     """A table, whose KIND is the first key of each row in JSON and CSV.
 
-    A text has the title above the table and the legend below it, and leaves out columns without a value. Without rows
-    it has the line NOTHING, if that isn't empty.
+    A text has the title above the table and the meanings of columns below it, and leaves out columns without a value.
+    Without rows it has the line NOTHING, if that isn't empty.
     """
 
     kind: str
@@ -235,8 +237,6 @@ class Section:
     columns: tuple[Column, ...]
     rows: Sequence[Row]
     nothing: str = ""
-    legend: tuple[str, ...] = ()
-    """The lines that say what the columns measure."""
 
 
 def as_json(sections: Iterable[Section]) -> Iterator[str]:
@@ -298,4 +298,6 @@ def text_lines(section: Section, is_coloured: bool) -> Iterator[str]:
     yield coloured(line(it.heading for it in columns), BOLD)
     for row, words in zip(section.rows, cells):
         yield coloured(line(words), RED) if row.is_error else line(words)
-    yield from section.legend
+    for it in columns:
+        if it.meaning:
+            yield f"{it.heading.partition(' [')[0]}: {it.meaning}"
