@@ -98,11 +98,9 @@ class FaultPlace:
     @cached_property
     def claims(self) -> int:
         """Returns the windows as bits of a number, one of which each other place that shares a window asks for."""
-        if self.segment == EVERY:
-            return ALL_STATIC | ALL_DYNAMIC
-        if self.first is None:
-            return ALL_STATIC if self.segment == "s" else ALL_DYNAMIC
-        return numbered(self.segment, self.first, self.last or 0) | ANY[self.segment]
+        if self.first is not None:
+            return numbered(self.segment, self.first, self.last or 0) | ANY[self.segment]
+        return sum(EVERY_WINDOW[it] for it in ("sm" if self.segment == EVERY else self.segment))
 
     @cached_property
     def asks(self) -> int:
@@ -110,13 +108,11 @@ class FaultPlace:
 
         A dynamic slot may open at each minislot, so it is taken to share a window with each.
         """
-        if self.segment == EVERY:
-            return ALL_STATIC | ALL_DYNAMIC | ANY["m"] | ANY["d"]
-        if self.segment == "s":
-            return self.claims
-        if self.first is None:
-            return ALL_DYNAMIC | ANY["m"] | ANY["d"]
-        return numbered(self.segment, self.first, self.first) | ALL_DYNAMIC | ANY["d" if self.segment == "m" else "m"]
+        if self.first is not None:
+            other = {"s": 0, "m": ANY["d"], "d": ANY["m"]}[self.segment]
+            return numbered(self.segment, self.first, self.last or 0) | EVERY_WINDOW[self.segment] | other
+        static, dynamic = EVERY_WINDOW["s"] | ANY["s"], EVERY_WINDOW["m"] | ANY["m"] | ANY["d"]
+        return {"s": static, "m": dynamic, EVERY: static | dynamic}[self.segment]
 
     def __str__(self) -> str:
         if self.first is None:
@@ -124,15 +120,12 @@ class FaultPlace:
         return f"{self.segment}{self.first}" + ("" if self.first == self.last else f"-{self.last}")
 
 
-ALL_DYNAMIC, ANY = 1, {"s": 0, "m": 2, "d": 4}
-"""The bits for every window of the dynamic segment, for any minislot, and for any dynamic slot."""
+EVERY_WINDOW, ANY = {"s": 1, "m": 2, "d": 2}, {"s": 4, "m": 8, "d": 16}
+"""The bits for every window of a segment, and for any static slot, any minislot and any dynamic slot."""
 SEGMENTS = "smd"
 
 
 def numbered(segment: str, first: int, last: int) -> int:
-    """Returns the bits for numbers of a segment. Each number has three, after those for any."""
+    """Returns the bits for numbers of a segment. Each number has three, after those for every and any."""
     count = last - first + 1
-    return ((1 << 3 * count) - 1) // 7 << 3 * first + SEGMENTS.index(segment)
-
-
-ALL_STATIC = numbered("s", 1, MOST_PLACE)
+    return ((1 << 3 * count) - 1) // 7 << 3 * first + 2 + SEGMENTS.index(segment)

@@ -1,8 +1,8 @@
 """The lines of a scenario: calls of tasks, and fault lines with those that they meet."""
-from dataclasses import dataclass
+from dataclasses import dataclass, field
 from functools import cached_property
 
-from musmyrtle.named_windows import MOST_CYCLE, FaultPlace, RunCycles
+from musmyrtle.named_windows import FaultPlace, RunCycles
 
 FORMS = {
     "commit": ("NODE", "TASK", "CYCLE", "BUFFER", "HEX"),
@@ -106,41 +106,52 @@ class FaultLines:
     def meeting(self, line: FaultLine) -> FaultLine | None:
         """Returns the first line so far that is the same sort of fault for a common window."""
         found = self.sorts.get(line.sort)
-        return found.meeting(line) if found and found.has_meeting(line) else None
+        return found.meeting(line) if found else None
+
+
+@dataclass
+class LinesOfCycles:
+    """Lines for the same cycles, which are bits of a number: each with its place among all lines, and the windows that
+    they claim together."""
+
+    cycles: int
+    claims: int = 0
+    lines: list[tuple[int, FaultLine]] = field(default_factory=list)
+
+    def meeting(self, asks: int) -> tuple[int, FaultLine]:
+        """Returns the first line that claims one of the windows, and its place."""
+        return next(it for it in self.lines if it[1].place.claims & asks)
 
 
 class LinesOfSort:
     """Fault lines of one kind, node and channel.
 
-    For each cycle the windows that any of them claims are kept, and those of lines for every cycle apart, so that most
-    lines are looked up in no list.
+    They are kept by their first and last cycle and step, not by each cycle: a line may name all of 1,024.
     """
 
     def __init__(self) -> None:
-        self.lines: list[FaultLine] = []
-        self.by_cycle: dict[int, int] = {}
-        self.in_every = self.in_any = 0
+        self.by_cycles: dict[RunCycles, LinesOfCycles] = {}
+        self.claims = self.count = 0
 
     def add(self, line: FaultLine) -> None:
-        self.lines.append(line)
-        claims = line.place.claims
-        self.in_any |= claims
-        if line.cycles.last is None:
-            self.in_every |= claims
-            return
-        for cycle in line.cycles.within(MOST_CYCLE + 1):
-            self.by_cycle[cycle] = self.by_cycle.get(cycle, 0) | claims
-
-    def has_meeting(self, line: FaultLine) -> bool:
-        """Returns whether a line is for a common window."""
-        asks = line.place.asks
-        if not asks & self.in_any:
-            return False
-        if line.cycles.last is None or asks & self.in_every:
-            return True
-        return any(asks & self.by_cycle.get(cycle, 0) for cycle in line.cycles.within(MOST_CYCLE + 1))
+        its = self.by_cycles.get(line.cycles)
+        if its is None:
+            its = self.by_cycles[line.cycles] = LinesOfCycles(line.cycles.bits)
+        its.lines.append((self.count, line))
+        its.claims |= line.place.claims
+        self.claims |= line.place.claims
+        self.count += 1
 
     def meeting(self, line: FaultLine) -> FaultLine | None:
         """Returns the first line that is for a common window."""
-        bits, asks = line.cycles.bits, line.place.asks
-        return next((it for it in self.lines if bits & it.cycles.bits and asks & it.place.claims), None)
+        bits, asks, found = line.cycles.bits, line.place.asks, None
+        if not asks & self.claims:
+            return None
+        for it in self.by_cycles.values():
+            # They come in the order of their first lines.
+            if found and it.lines[0][0] > found[0]:
+                break
+            if asks & it.claims and bits & it.cycles:
+                first = it.meeting(asks)
+                found = min(found or first, first, key=lambda its: its[0])
+        return found[1] if found else None

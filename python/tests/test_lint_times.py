@@ -96,8 +96,21 @@ FAULTS_3 = {
         f"babble {node} AB {first}-1023/16 m{place} x" for node in range(16) for first in range(16)
         for place in range(1, 9)]),
     "dynamic slots": (None, [f"mute {node} AB * d{1023 + place}" for node in range(4) for place in range(1, 901)]),
+    "lost nodes in all cycles": ("BadFault 2", ["lost 0 0-1023"] * 4090),
+    "slots in each third cycle": ("BadFault 1", ["mute 0 A 0-1023/3 s1-2"] * 4090),
+    "all slots in all cycles": ("BadFault 1", ["mute 0 A 0-1023 s*"] * 4090),
+    "all minislots in each other cycle": ("BadFault 1", ["mute 0 A 0-1023/2 m*"] * 4090),
+    "all windows in all cycles": ("BadFault 1", ["mute 0 A * *"] * 4090),
+    "lost nodes in one cycle each": (None, [f"lost {node} {cycle}" for node in range(4) for cycle in range(1022)]),
+    "one slot in cycles with different steps": ("BadFault 1", [
+        f"corrupt A 0-1023/{1 + number % 1000} s1 0" for number in range(4090)]),
+    "slots and cycles that all differ": (None, [
+        f"mute 0 A {first}-{first + 4 * (slot % 250)}/4 s{slot}" for slot in range(1, 1023) for first in range(4)]),
     "lines of later cycles": (None, ["lost 0 1000"] * 4094),
     "expectations of one buffer in each cycle": (None, [f"expect 0 * 0 x{number % 2:04}" for number in range(4094)]),
+    "expectations of one buffer in all cycles": (None, ["expect 0 0-1023 0 x0000"] * 4090),
+    "expectations with different steps": (None, [f"expect 0 0-1023/{1 + number % 1000} 0 x{number:04x}"
+                                                 for number in range(4090)]),
     "expectations of missing buffers": (None, [f"expect-none {number % 16} * 63" for number in range(4094)]),
     "comments": (None, ["#" * 250] * 4094),
     "names like that of a node": ("BadLine 2", [f"pop nodd{number} 0 0" for number in range(4094)]),

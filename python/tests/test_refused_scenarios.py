@@ -167,12 +167,13 @@ class RefusedScenarios(Cases):
 
     def test_version_3_is_accepted(self):
         found, _ = self.look(CLUSTER_3, SCENARIO_3, 4)
-        self.assertEqual((found.refusals, [it.name for it in found.notes]), ([], []))
+        self.assertEqual((found.refusals, [it.name for it in found.notes]), ([], ["unchecked-bits"]))
 
     def test_lines_that_are_left_out(self):
         """A run of two cycles leaves out lines 5, 6, 8 and 11. A script that is left out has no number."""
         found, answer = self.look(CLUSTER_3, SCENARIO_3, 2)
-        self.assertEqual((found.refusals, [it.name for it in found.notes]), ([], ["skipped-line"]))
+        self.assertEqual((found.refusals, [it.name for it in found.notes]),
+                         ([], ["unchecked-bits", "skipped-line"]))
         text = self.text(found, answer)
         self.assertIn("scenario:5: note: 4 lines of the scenario left out [skipped-line]", text)
         for line in (6, 8, 11):

@@ -5,11 +5,39 @@ from musmyrtle.cluster import Buffer, Cluster
 from musmyrtle.findings import Finding, Note, counted, joined
 from musmyrtle.lint.receiving import Traffic, is_common
 from musmyrtle.missed import NOTHING, Miss
+from musmyrtle.named_windows import RunCycles
 from musmyrtle.scenario import Scenario
 from musmyrtle.scenario_lines import Line
 from musmyrtle.texts import Text
 
 AS_MISSED = "The run reports it as missed."
+
+
+class Expected:
+    """The contents that lines expect of one buffer. Cycles are bits of a number, since a line may name all of 1,024."""
+
+    def __init__(self) -> None:
+        self.lines: dict[RunCycles, Line] = {}
+        """The first line for each choice of cycles, in the order of the file."""
+        self.named = 0
+        self.contents: dict[str, int] = {}
+        """The cycles in which the first line that names them expects this content."""
+
+    def unlike(self, line: Line, cycles: int) -> tuple[Line, int] | None:
+        """Returns the first line that expects something else in the first possible cycle of the run, and that cycle.
+
+        The line is kept.
+        """
+        bits, content = line.cycles.bits & (1 << cycles) - 1, content_of(line)
+        known = self.contents.get(content, 0)
+        unlike = bits & self.named & ~known
+        self.contents[content] = known | bits & ~self.named
+        self.named |= bits
+        self.lines.setdefault(line.cycles, line)
+        if not unlike:
+            return None
+        first = unlike & -unlike
+        return next(it for its, it in self.lines.items() if its.bits & first), first.bit_length() - 1
 
 
 class Expectations:
@@ -20,8 +48,8 @@ class Expectations:
         self.traffic = Traffic(cluster)
         self.babbles = [it for it in scenario.faults if it.kind == "babble" and it.size]
         """The faults that may be frames which no transmit buffer has."""
-        self.expected: dict[tuple[str, str], dict[int, Line]] = {}
-        """The first line for each cycle, by node and buffer."""
+        self.expected: dict[tuple[str, str], Expected] = {}
+        """The contents that lines expect, by node and buffer."""
 
     def findings(self, cycles: int) -> Iterator[Finding]:
         """Yields at most one finding for each line, for a run of so many cycles."""
@@ -80,15 +108,15 @@ class Expectations:
 
     def unlike(self, line: Line, cycles: int) -> Finding | None:
         """Returns the fault of a line that contradicts an earlier one. It is kept for its other cycles."""
-        before = self.expected.setdefault((line.word("NODE"), line.word("BUFFER")), {})
-        for cycle in line.cycles.within(cycles):
-            other = before.setdefault(cycle, line)
-            if content_of(other) != content_of(line):
-                headline = f"lines {other.number} and {line.number} expect different contents in cycle {cycle}"
-                reason = f"Expected other cycles, or one of both lines. {AS_MISSED}"
-                note = Note(f"line {other.number}", self.scenario.place_of(other))
-                return Finding(headline, reason, self.scenario.place_of(line), (note,))
-        return None
+        before = self.expected.setdefault((line.word("NODE"), line.word("BUFFER")), Expected())
+        unlike = before.unlike(line, cycles)
+        if unlike is None:
+            return None
+        other, cycle = unlike
+        headline = f"lines {other.number} and {line.number} expect different contents in cycle {cycle}"
+        reason = f"Expected other cycles, or one of both lines. {AS_MISSED}"
+        note = Note(f"line {other.number}", self.scenario.place_of(other))
+        return Finding(headline, reason, self.scenario.place_of(line), (note,))
 
     def note(self, buffer: Buffer) -> Note:
         return Note(f"{buffer}, of kind {buffer.kind} for slot {buffer.slot}", self.text.place_of(buffer.path))
