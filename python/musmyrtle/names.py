@@ -12,8 +12,9 @@ from musmyrtle.cluster_file import document_of
 from musmyrtle.findings import counted, nearest
 from musmyrtle.visible import cut
 
-LINE_NAME = re.compile(r"[A-Za-z0-9_.-]{1,32}")
-RIGHT_NAME = "1 to 32 letters, digits, `_`, `-` and `.`"
+LONGEST_NAME = 32
+LINE_NAME = re.compile(rf"[A-Za-z0-9_.-]{{1,{LONGEST_NAME}}}")
+RIGHT_NAME = f"1 to {LONGEST_NAME} letters, digits, `_`, `-` and `.`"
 
 
 class UnknownName(KeyError):

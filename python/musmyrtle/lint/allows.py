@@ -16,6 +16,8 @@ WARNINGS = {
     "unread-key": "a key is unknown",
     "idle-key": "a key is read elsewhere, and means nothing where it stands",
     "repeated-name": "two nodes, or two buffers of a node, have the same `name`",
+    "unusable-name": "a scenario can't use the `name` of a node or a buffer",
+    "ambiguous-number": "a number in a scenario is also the name of another node or buffer",
     "never-sends": "a transmit buffer has no chance to send",
     "unfilled-slot": "a slot is owned, and no transmit buffer is for it",
     "sync-nodes": "fewer than 2 or more than 15 nodes have a sync slot",

@@ -6,7 +6,7 @@ from pathlib import Path
 from musmyrtle.cluster import Cluster
 from musmyrtle.cluster import Reading as ClusterReading
 from musmyrtle.findings import Finding
-from musmyrtle.lint import physical, ranges, receiving, sending, unread
+from musmyrtle.lint import naming, physical, ranges, receiving, sending, unread
 from musmyrtle.lint.allows import NOTES, Allows
 from musmyrtle.lint.clashes import clashes
 from musmyrtle.lint.expecting import Expectations, missed
@@ -24,7 +24,8 @@ TRACE_LIMIT = 98_548_055
 """The bytes of the longest trace."""
 
 OF_CLUSTER: tuple[tuple[str, Callable[[Cluster, Text], Iterable[Finding]]], ...] = (
-    ("repeated-name", ranges.repeated_names),
+    ("repeated-name", naming.repeated_names),
+    ("unusable-name", naming.unusable_names),
     ("never-sends", sending.silent_buffers),
     ("unfilled-slot", sending.unfilled_slots),
     ("sync-nodes", sending.sync_nodes),
@@ -172,6 +173,7 @@ def lint_scenario(task: Task, cluster: Cluster, text: Text, found: Lint, ran: Ra
     scenario = ScenarioReading(name, data, cycles, named_in(text.document)).scenario
     found.refusals += scenario.refusals or Run(cluster, text, scenario, cycles).refusals()
     if not found.refusals:
+        found.warn("ambiguous-number", naming.ambiguous_numbers(scenario, text))
         found.warn("skipped-line", skipped_lines(scenario, cycles))
         found.warn("idle-fault", Strikes(cluster, scenario, cycles).findings())
         found.warn("fifo-overwrites", overwriting_fifos(cluster, text, scenario, ran.overwritten))

@@ -116,25 +116,3 @@ def divided_slot(text: Text, slot: int, channels: list[str], lines: list[Ownersh
               "divide it by cycles is a feature of version 3. Expected one owner, without `base` and `repetition`.")
     notes = [(f"{it} has slot {slot} on {it.channels} in {it.cycles}", it.path) for it in lines[1:]]
     return text.finding(f"slot {slot} on {joined(channels)} {what}", reason, lines[0].path, notes[:MOST_NOTES])
-
-
-def repeated_names(_: Cluster, text: Text) -> Iterator[Finding]:
-    """Yields a warning for each node, and for each buffer of a node, with the name of an earlier one."""
-    nodes = text.document["node"]
-    yield from repeated(text, nodes, ("node",), "node {}")
-    for number, node in enumerate(nodes):
-        yield from repeated(text, node.get("buffer", []), ("node", number, "buffer"), f"buffer {{}} of node {number}")
-
-
-def repeated(text: Text, tables: list[dict[str, object]], path: Path, who: str) -> Iterator[Finding]:
-    first: dict[str, int] = {}
-    for number, table in enumerate(tables):
-        name = table.get("name")
-        if not isinstance(name, str):
-            continue
-        before = first.setdefault(name, number)
-        if before != number:
-            headline = f"{who.format(number)} has the name of {who.format(before)}"
-            reason = "Host programs find nodes and buffers by name, and refuse this one. Expected another name."
-            notes = [(who.format(before), (*path, before, "name"))]
-            yield text.finding(headline, reason, (*path, number, "name"), notes)
