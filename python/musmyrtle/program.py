@@ -12,6 +12,7 @@ from pathlib import Path
 from threading import Thread
 from typing import IO, Any
 
+from musmyrtle.idle_lines import idle_line_of
 from musmyrtle.missed import MISSED, Miss, misses_of
 from musmyrtle.output import pass_on
 
@@ -38,6 +39,8 @@ class Answer:
     """True for a refusal by a line `refused NAME`. Otherwise the program failed, and the refusal has its message."""
     misses: tuple[Miss, ...] = ()
     """The expectations of the scenario that the run missed."""
+    idle: tuple[int, ...] = ()
+    """The lines of the scenario whose faults had no effect in the run."""
 
     @property
     def is_one(self) -> bool:
@@ -136,7 +139,7 @@ def ask(program: str, words: list[str], started: Started = subprocess.Popen,
     The lines by which a launcher explains a refusal aren't, since this package has longer reasons of its own, nor those
     of the form KNOWN. LISTEN reads what the program prints, in a thread of its own, until its end.
     """
-    refusal, misses = None, list[Miss]()
+    refusal, misses, idle = None, list[Miss](), list[int]()
     told: deque[str] = deque(maxlen=MOST_TOLD)
     streams: dict[str, Any] = {"stdin": subprocess.DEVNULL, "stdout": subprocess.PIPE if listen else subprocess.DEVNULL,
                                "stderr": subprocess.PIPE}
@@ -150,10 +153,11 @@ def ask(program: str, words: list[str], started: Started = subprocess.Popen,
             elif refusal is None or not line.startswith(f"{Path(program).name}: "):
                 told.append(line)
                 misses += misses_of(MISSED, [line])
+                idle += [it for it in (idle_line_of(line),) if it is not None]
                 if known is None or not known.fullmatch(line):
                     pass_on(line)
     if running.returncode == 0 or running.returncode == MISSED and misses and refusal is None:
-        return Answer(0, None, misses=tuple(misses) if running.returncode else ())
+        return Answer(0, None, misses=tuple(misses) if running.returncode else (), idle=tuple(idle))
     is_named = refusal is not None
     return Answer(running.returncode, refusal or " ".join(told).strip() or f"status {running.returncode}", is_named)
 

@@ -8,8 +8,8 @@ import unittest
 from pathlib import Path
 
 from musmyrtle.lint import command
-from musmyrtle.lint.command import told, words_for
-from musmyrtle.lint.lint import Lint, Task, lint
+from musmyrtle.lint.command import KNOWN, idle_lines, told, words_for
+from musmyrtle.lint.lint import Lint, Ran, Task, lint
 from musmyrtle.program import Answer, ask
 
 
@@ -54,11 +54,11 @@ class Cases(unittest.TestCase):
         """Returns the findings and the program's answer; without a program the answer that the findings predict."""
         script = None if scenario is None else self.written("scenario", scenario)
         task = Task(self.written("cluster.toml", cluster), script, cycles)
-        found = lint(task)
+        answer = None if PROGRAM is None else ask(PROGRAM, words_for(task), known=KNOWN)
+        found = lint(task, Ran(idle=() if answer is None or answer.status else idle_lines(task, answer)))
         expected = found.refusals[0][0] if found.refusals else None
-        if PROGRAM is None:
+        if answer is None:
             return found, Answer(1 if expected else 0, expected)
-        answer = ask(PROGRAM, words_for(task))
         self.assertEqual(answer.refusal, expected)
         return found, answer
 

@@ -78,11 +78,21 @@ STRIKES = (
     ("scenario:12:12", ("Node 0 begins nothing on A at minislot 1",), "babble 2 B * s* x00", "mute 0 A * m1"),
     ("scenario:12:13", ("A frame of a static slot has 80 bits", "No bit past the end"), "babble 2 B * s* x00",
      "corrupt A * s1 80"),
-    ("scenario:12:13", ("No node sends on B at s3",), "babble 2 B * s* x00", "corrupt B * s3 1"),
+    ("scenario:12:13", ("No transmission with a bit 1 passes alone on B at s3 in any cycle",), "babble 2 B * s* x00",
+     "corrupt B * s3 1"),
+    ("scenario:12:12", ("Node 2 begins nothing on A at minislot 4 in cycle 0",), "babble 2 B * s* x00",
+     "mute 2 A 0 m4"),
+    ("scenario:12:12", ("Node 2 begins nothing on A at minislot 1 in cycle 2: no commit is pending",),
+     "babble 2 B * s* x00", "mute 2 A 2 m1"),
+    ("scenario:12:13", ("No transmission with a bit 0 passes alone on A at m1 in cycle 2",), "babble 2 B * s* x00",
+     "corrupt A 2 m1 0"),
+    ("scenario:12:13", ("passes alone on A at s3 in any cycle of the run",), "babble 2 B * s* x00", "corrupt A * s3 1"),
+    ("scenario:12:13", ("The longest transmission has 2096 bits",), "babble 2 B * s* x00", "corrupt A 1 m2 2096"),
 )
-FINE = ("mute 0 A * s1", "mute 1 B 2 s*", "mute 2 A 0 m1", "mute 2 A 0 m4", "corrupt A 0 s1 79", "corrupt A * s* 0",
-        "corrupt A 1 m2 2095",
-        "corrupt A * s3 1", "babble 0 B 0 m4 x00", "babble 1 A 0 s3 x00")
+"""Node 2 commits to its dynamic buffer in cycles 0, 1 and 3. Its frame opens slot 4 at minislot 1, and has 80 bits. The
+guardian of A stops its babbles there."""
+FINE = ("mute 0 A * s1", "mute 1 B 2 s*", "mute 2 A 0 m1", "corrupt A 0 s1 79", "corrupt A * s* 0",
+        "corrupt A 1 m1 79", "babble 0 B 0 m4 x00", "babble 1 A 0 s3 x00")
 
 
 class Warnings(Cases):

@@ -3,7 +3,6 @@ from collections import defaultdict
 
 from musmyrtle.cluster import CYCLES, Buffer, Cluster, Fault, Ownership
 from musmyrtle.findings import MOST_NOTES
-from musmyrtle.lint.offers import Offers
 
 Claim = Ownership | Buffer
 
@@ -17,14 +16,23 @@ def senders(cluster: Cluster, is_static: bool) -> list[Buffer]:
 
 
 def not_owned(cluster: Cluster) -> list[Fault]:
-    found, offers = [], Offers(cluster)
+    found, owned = [], owned_cycles(cluster)
     for buffer in senders(cluster, True):
         for channel in buffer.channels:
-            missing = buffer.cycles.bits & ~offers.static.get((buffer.node, channel, buffer.slot), 0)
+            missing = buffer.cycles.bits & ~owned[buffer.node, channel, buffer.slot]
             if missing:
                 first = next(cycle for cycle in CYCLES if missing >> cycle & 1)
                 found.append(fault_of_unowned(cluster, buffer, channel, first))
                 break
+    return found
+
+
+def owned_cycles(cluster: Cluster) -> dict[tuple[int, str, int], int]:
+    """Returns the cycles in which a node owns a slot on a channel, as bits of a number."""
+    found: dict[tuple[int, str, int], int] = defaultdict(int)
+    for line in cluster.owned():
+        for channel in line.channels:
+            found[line.node, channel, line.slot] |= line.cycles.bits
     return found
 
 

@@ -10,6 +10,7 @@ from dataclasses import replace
 from typing import Any, NoReturn, TextIO
 
 from musmyrtle.findings import MOST_REASONS, block, counted, nearest
+from musmyrtle.idle_lines import FORM as IDLE
 from musmyrtle.lint.allows import NAMES, expected_name
 from musmyrtle.lint.guarantees import Guarantees
 from musmyrtle.lint.lint import Lint, Ran, Task, lint, read_bytes
@@ -18,15 +19,18 @@ from musmyrtle.lint.rows import sections
 from musmyrtle.lint.runs import MOST_CYCLES
 from musmyrtle.lint.trace_why import MAGIC, NoAnswer, TraceFile, ask_why, finding_of, is_trace
 from musmyrtle.missed import FORM
-from musmyrtle.output import Stop, write
-from musmyrtle.program import Answer, ask, by_option, no_answer, usual_program
+from musmyrtle.output import Stop, pass_on, write
+from musmyrtle.program import VARIABLES, Answer, ask, by_option, no_answer, usual_program
+from musmyrtle.scenario_lines import FAULTS, LOST
 from musmyrtle.show.tables import Section, as_csv, as_json, as_text
 from musmyrtle.version import version
 from musmyrtle.visible import cut, visible
 
 COMMAND = "musmyrtle lint"
-KNOWN = re.compile(f"line [0-9]+ names no cycle of the run|{FORM.pattern}")
+KNOWN = re.compile(f"line [0-9]+ names no cycle of the run|{IDLE.pattern}|{FORM.pattern}")
 """The messages of the program in whose place there are notes and warnings."""
+FAULT = re.compile(rf"^[ \t]*(?:{'|'.join((*FAULTS, LOST))})\b".encode(), re.MULTILINE)
+NOT_KNOWN = f"{COMMAND}: faults without effect aren't known: "
 FINE, REFUSED, USAGE, WARNED, BROKEN_OFF = 0, 1, 2, 4, 130
 MOST_WARNINGS, MOST_REPEATED = 40, 200
 ABOUT = """Explains the faults of a cluster file, and of a scenario for it: place, reason, and expected form.
@@ -160,6 +164,24 @@ def words_for(task: Task) -> list[str]:
     return ["run", "--cycles", str(task.cycles), "--", task.file(task.cluster), task.file(task.scenario)]
 
 
+def idle_lines(task: Task, answer: Answer) -> tuple[int, ...]:
+    """Returns the lines of faults without effect: those of the answer, or otherwise those of `fr_view outcome`."""
+    if answer.idle or task.scenario is None or not FAULT.search(read_bytes(task.file(task.scenario)) or b""):
+        return answer.idle
+    program, words = usual_program("fr_view"), ["outcome", *words_for(task)[1:]]
+    if program is None:
+        pass_on(f"{NOT_KNOWN}there is no fr_view: name one by the variable {VARIABLES['fr_view']}, or put it on PATH")
+        return ()
+    try:
+        found = ask(program, words, known=KNOWN)
+    except OSError as error:
+        pass_on(f"{NOT_KNOWN}{program} can't be run: {error.strerror}")
+        return ()
+    if found.status:
+        pass_on(f"{NOT_KNOWN}{no_answer(program, words, found)}")
+    return found.idle
+
+
 @contextmanager
 def lasting(task: Task) -> Iterator[Task]:
     """Yields the task with files that can be read again, also by another process."""
@@ -284,7 +306,8 @@ def linted(given: argparse.Namespace) -> int:
             raise Stop(USAGE, no_answer(given.program, words_for(task), answer))
         wanted = [(node, buffer) for node, buffer in given.guaranteed]
         guarantees = Guarantees(task.file(task.cluster), wanted, given.load)
-        found = lint(task, Ran(overwritten, answer.misses), None if answer.status else guarantees)
+        ran = Ran(overwritten, answer.misses, () if answer.status else idle_lines(task, answer))
+        found = lint(task, ran, None if answer.status else guarantees)
     if guarantees.is_wanted and not guarantees.is_done and not answer.status:
         raise Stop(USAGE, f"{COMMAND} can't read {given.cluster}, so that it finds no guarantees and no load")
     known = found if is_explained(answer, found) else Lint()

@@ -11,9 +11,9 @@ from musmyrtle.lint.allows import NOTES, Allows
 from musmyrtle.lint.clashes import clashes
 from musmyrtle.lint.expecting import Expectations, missed
 from musmyrtle.lint.guarantees import Guarantees
+from musmyrtle.lint.idle_faults import idle_faults
 from musmyrtle.lint.overwriting import overwriting_fifos
-from musmyrtle.lint.runs import Run, skipped_lines
-from musmyrtle.lint.strikes import Strikes, small_journals
+from musmyrtle.lint.runs import Run, skipped_lines, small_journals
 from musmyrtle.lint.trace_why import is_trace
 from musmyrtle.missed import Miss
 from musmyrtle.names import named_in
@@ -120,6 +120,8 @@ class Ran:
     """The frames that the FIFO of each node overwrote."""
     misses: tuple[Miss, ...] = ()
     """The expectations that it missed."""
+    idle: tuple[int, ...] = ()
+    """The lines of the scenario whose faults had no effect."""
 
 
 def lint(task: Task, ran: Ran = Ran(), guarantees: Guarantees | None = None) -> Lint:
@@ -175,7 +177,7 @@ def lint_scenario(task: Task, cluster: Cluster, text: Text, found: Lint, ran: Ra
     if not found.refusals:
         found.warn("ambiguous-number", naming.ambiguous_numbers(scenario, text))
         found.warn("skipped-line", skipped_lines(scenario, cycles))
-        found.warn("idle-fault", Strikes(cluster, scenario, cycles).findings())
+        found.warn("idle-fault", idle_faults(cluster, scenario, ran.idle))
         found.warn("fifo-overwrites", overwriting_fifos(cluster, text, scenario, ran.overwritten))
         wrong = list(Expectations(cluster, text, scenario).findings(cycles))
         found.warn("wrong-expectation", wrong)

@@ -215,6 +215,11 @@ def slot_rooms(cluster: Cluster, text: Text, cycles: int) -> list[tuple[Node, Fi
     return [(nodes[0], slot_room(cluster, text, cycles, nodes)) for nodes in short.values()]
 
 
+def small_journals(cluster: Cluster, text: Text, cycles: int) -> Iterator[Finding]:
+    """Yields the same without the nodes."""
+    return (finding for _, finding in slot_rooms(cluster, text, cycles))
+
+
 def slot_room(cluster: Cluster, text: Text, cycles: int, nodes: list[Node]) -> Finding:
     """Returns why the journals of nodes with the same room are too small for so many cycles."""
     windows = cluster.parameters.windows
