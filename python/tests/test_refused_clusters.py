@@ -170,6 +170,7 @@ class RefusedClusters(Cases):
     def test_a_file_of_the_newer_toml(self):
         """A last comma and a line break in an inline table, an escape of TOML 1.1, and a byte order mark."""
         newer = "\ufeff" + self.changed(CLUSTER, (EVENT, EVENT.replace("}", ',\n  name = "\\e",}')))
-        self.quiet("", newer.replace(", sync = true", ", sync = true, startup = true,").replace(
+        found, _ = self.look(newer.replace(", sync = true", ", sync = true, startup = true,").replace(
             'slot = 2, channels = "AB"}]\nbuf', 'slot = 2, channels = "AB", sync = true, startup = true}]\nbuf'))
+        self.assertEqual((found.refusals, [it.name for it in found.warnings]), ([], ["unusable-name"]))
         self.refused("BadNode 0", "cluster.toml:16:1", ("is 9",), newer.replace("tasks = 2", "tasks = 9", 1))
