@@ -31,6 +31,19 @@ class WithoutTasks(Cases):
         self.warned("cluster.toml:18:1", ("nothing comes to the receive FIFO of node 0",),
                     self.silenced(DYNAMIC, DYNAMIC.replace("tasks = 2", "tasks = 0")))
 
+    def test_expectations_of_what_never_comes(self) -> None:
+        """Nodes 2 and 3 divide slot 4 on A by cycles, with frames of 1 and 2 words. Node 3 has no task."""
+        cluster = self.changed(CLUSTER, (
+            'slot = 4, channels = "A", words = 1', 'slot = 4, channels = "A", words = 1, repetition = 2',
+            '{kind = "receive", slot = 2, channels = "A"}', '{kind = "receive", slot = 4, channels = "A"}'))
+        cluster += ('\n[[node]]\ntasks = 0\nlatest_a = 3\nbuffer = [{kind = "event", slot = 4, channels = "A", '
+                    'words = 2, base = 1, repetition = 2}]\n')
+        for payload, headlines in (("x0a0b", []), ("x0a0b0c0d", [
+                "the payload has 4 bytes, and frames that buffer 1 of node 0 receives have 2"])):
+            found, _ = self.look(cluster, f"frscenario 3\nexpect 0 0 1 {payload}\nend\n", 1)
+            self.assertEqual(found.refusals, [])
+            self.assertEqual([it.headline for it in found.warnings if it.name == "wrong-expectation"], headlines)
+
     def test_a_node_without_transmit_buffers_needs_no_task(self) -> None:
         self.quiet("has no task", f'{CLUSTER}\n[[node]]\ntasks = 0\n'
                                   'buffer = [{kind = "receive", slot = 1, channels = "A"}]\n')

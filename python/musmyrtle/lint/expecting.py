@@ -3,7 +3,7 @@ from collections.abc import Iterable, Iterator
 
 from musmyrtle.cluster import Buffer, Cluster
 from musmyrtle.findings import Finding, Note, counted, joined
-from musmyrtle.lint.receiving import Traffic, is_common
+from musmyrtle.lint.receiving import Traffic
 from musmyrtle.missed import NOTHING, Miss
 from musmyrtle.named_windows import RunCycles
 from musmyrtle.scenario import Scenario
@@ -78,7 +78,7 @@ class Expectations:
 
     def wrong_payload(self, line: Line, buffer: Buffer) -> Finding | None:
         """Returns why no frame of this payload comes to a receive buffer."""
-        if not self.is_babbled(buffer) and not self.traffic.comes_to(buffer):
+        if not self.is_babbled(buffer) and not self.traffic.to(buffer):
             headline = f"nothing comes to {buffer}"
             reason = f"No other node sends data in slot {buffer.slot} that the buffer receives. {AS_MISSED}"
             return Finding(headline, reason, self.scenario.place_of(line, "BUFFER"), (self.note(buffer),))
@@ -98,8 +98,7 @@ class Expectations:
             return [2 * self.cluster.parameters.static_words]
         if self.is_babbled(buffer):
             return None
-        senders = self.traffic.senders.get(buffer.slot, ())
-        return sorted({2 * it.words for it in senders if it.node != buffer.node and is_common(buffer, it)})
+        return sorted({2 * it.words for it in self.traffic.to(buffer)})
 
     def is_babbled(self, buffer: Buffer) -> bool:
         """Returns whether a babble may bring a frame to the buffer."""

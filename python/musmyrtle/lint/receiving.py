@@ -22,10 +22,10 @@ class Traffic:
             if buffer.transmits:
                 self.senders.setdefault(buffer.slot, []).append(buffer)
 
-    def comes_to(self, receiver: Buffer) -> bool:
-        """Returns whether another node may send a frame that the receive buffer admits."""
-        return any(it.node != receiver.node and is_common(receiver, it) and can_send(self.cluster, it)
-                   for it in self.senders.get(receiver.slot, ()))
+    def to(self, receiver: Buffer) -> list[Buffer]:
+        """Returns the transmit buffers of other nodes that may send a frame that the receive buffer admits."""
+        return [it for it in self.senders.get(receiver.slot, ()) if it.node != receiver.node
+                and is_common(receiver, it) and can_send(self.cluster, it)]
 
     def is_queued(self, node: Node, queue: Queue, sender: Buffer) -> bool:
         """Returns whether the FIFO gets any frame of the buffer that no receive buffer of its node admits."""
@@ -40,7 +40,7 @@ class Traffic:
 def idle_receivers(cluster: Cluster, text: Text) -> Iterator[Finding]:
     traffic = Traffic(cluster)
     for buffer in cluster.buffers():
-        if not buffer.transmits and not traffic.comes_to(buffer):
+        if not buffer.transmits and not traffic.to(buffer):
             yield idle_receiver(traffic, text, buffer)
     for node in cluster.nodes:
         queue = node.queue
