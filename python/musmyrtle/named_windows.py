@@ -33,6 +33,11 @@ class RunCycles:
         """Returns those of a run of so many cycles."""
         return range(self.first, cycles if self.last is None else min(cycles, self.last + 1), self.step)
 
+    @property
+    def is_one(self) -> bool:
+        """Returns whether this is a single cycle."""
+        return self.last is not None and self.first + self.step > self.last
+
     @cached_property
     def bits(self) -> int:
         """Returns the cycles as bits of a number: a 1 and STEP - 1 zeros, as many times as there are cycles."""

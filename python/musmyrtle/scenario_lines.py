@@ -1,4 +1,5 @@
 """The lines of a scenario: calls of tasks, and fault lines with those that they meet."""
+from collections.abc import Iterable
 from dataclasses import dataclass, field
 from functools import cached_property
 
@@ -126,32 +127,53 @@ class LinesOfCycles:
 class LinesOfSort:
     """Fault lines of one kind, node and channel.
 
-    They are kept by their first and last cycle and step, not by each cycle: a line may name all of 1,024.
+    They are kept by their first and last cycle and step, not by each cycle: a line may name all of 1,024. Those of one
+    cycle are apart, so that a line of one cycle is compared with few of them.
     """
 
     def __init__(self) -> None:
-        self.by_cycles: dict[RunCycles, LinesOfCycles] = {}
-        self.claims = self.count = 0
+        self.of_one: dict[int, LinesOfCycles] = {}
+        self.of_several: dict[RunCycles, LinesOfCycles] = {}
+        self.claims = self.cycles = self.count = 0
 
     def add(self, line: FaultLine) -> None:
-        its = self.by_cycles.get(line.cycles)
+        cycles = line.cycles
+        its = self.of_one.get(cycles.first) if cycles.is_one else self.of_several.get(cycles)
         if its is None:
-            its = self.by_cycles[line.cycles] = LinesOfCycles(line.cycles.bits)
+            its = LinesOfCycles(cycles.bits)
+            if cycles.is_one:
+                self.of_one[cycles.first] = its
+            else:
+                self.of_several[cycles] = its
         its.lines.append((self.count, line))
         its.claims |= line.place.claims
         self.claims |= line.place.claims
+        self.cycles |= cycles.bits
         self.count += 1
 
     def meeting(self, line: FaultLine) -> FaultLine | None:
         """Returns the first line that is for a common window."""
-        bits, asks, found = line.cycles.bits, line.place.asks, None
-        if not asks & self.claims:
+        cycles, asks = line.cycles, line.place.asks
+        if not asks & self.claims or not cycles.bits & self.cycles:
             return None
-        for it in self.by_cycles.values():
-            # They come in the order of their first lines.
-            if found and it.lines[0][0] > found[0]:
-                break
-            if asks & it.claims and bits & it.cycles:
-                first = it.meeting(asks)
-                found = min(found or first, first, key=lambda its: its[0])
-        return found[1] if found else None
+        of_one: Iterable[LinesOfCycles] = self.of_one.values()
+        if cycles.is_one:
+            of_one = [self.of_one[cycles.first]] if cycles.first in self.of_one else []
+        found = [it for it in (first_meeting(of_one, cycles.bits, asks),
+                               first_meeting(self.of_several.values(), cycles.bits, asks)) if it]
+        return min(found, key=lambda it: it[0])[1] if found else None
+
+
+def first_meeting(lines: Iterable[LinesOfCycles], cycles: int, asks: int) -> tuple[int, FaultLine] | None:
+    """Returns the first line for one of the cycles that claims one of the windows, and its place.
+
+    The lines come in the order of the first ones.
+    """
+    found: tuple[int, FaultLine] | None = None
+    for it in lines:
+        if found and it.lines[0][0] > found[0]:
+            break
+        if asks & it.claims and cycles & it.cycles:
+            first = it.meeting(asks)
+            found = min(found or first, first, key=lambda its: its[0])
+    return found
