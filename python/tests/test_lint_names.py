@@ -36,7 +36,7 @@ class UnusableNames(Cases):
                  f"Expected 1 to 32 letters, digits, `_`, `-` and `.`, such as `{like}`.")])
 
     def test_names_that_resemble_no_right_one(self) -> None:
-        for name in ("", "車", " "):
+        for name in ("", "車", " ", "\uff12", "2 "):
             (_, _, reason), = self.unusable(named(f'"{name}"'))
             self.assertEqual(reason, "Expected 1 to 32 letters, digits, `_`, `-` and `.`.")
 

@@ -63,10 +63,11 @@ def why_unusable(what: str, number: int, name: object) -> str | None:
 
 
 def suggested(name: str) -> str:
-    """Returns a name of the right form that is like this one, or nothing if there is none."""
+    """Returns a name of the right form that is like this one, or nothing if only a number is."""
     letters = normalize("NFKD", name.translate(GERMAN))
     plain = OTHER_CHARACTERS.sub("-", "".join(it for it in letters if not combining(it)))
-    return plain[:LONGEST_NAME].strip("-")
+    found = plain[:LONGEST_NAME].strip("-")
+    return "" if found.isdecimal() else found
 
 
 def ambiguous_numbers(scenario: Scenario, text: Text) -> Iterator[Finding]:
