@@ -62,13 +62,28 @@ class TestOutcomes(unittest.TestCase):
         self.assertEqual(self.changed("9:A x1111", "9:A x2222"), [(0, "rx 1", "changed", 1)])
         self.assertEqual(self.changed("rx 2 - -", "rx 2 4:B x1111"), [(0, "rx 2", "changed", 1)])
         self.assertEqual(self.changed("6:A x0c0d", "6:B x0c0d"), [(1, "rx 1", "channel", 1)])
-        self.assertEqual(self.changed("2 2 0 0 0", "2 1 0 1 0"), [(0, "tx 0", "pending", 1)])
+        self.assertEqual(self.changed("2 2 0 0 0", "2 1 0 1 0"), [(0, "tx 0", "pending", 1), (0, "tx 0", "unsent", 1)])
         self.assertEqual(self.changed("2 2 0 0 0", "2 1 1 0 0"), [(0, "tx 0", "unsent", 1)])
         self.assertEqual(self.changed("A 2 0 0 0 0", "A 0 2 0 0 1"), [(0, "A", "counted", 5)])
         older = OUTCOME.replace("9:A", "4:A")
         self.assertEqual(self.compared(older, OUTCOME), [(0, "rx 1", "newer", 1)])
         waiting = OUTCOME.replace("2 2 0 0 0", "2 1 0 1 0")
         self.assertEqual(self.compared(waiting, OUTCOME), [(0, "tx 0", "sent", 1)])
+
+    def test_each_effect_on_commits_has_its_own_row(self):
+        """Of six commits a starved buffer sends none: one is pending, and the five before it are overwritten. If the
+        last one alone is late, a sent one and the pending one are two rows, and so are a late one and one sent more."""
+        for without, having, wanted in (
+                ("6 6 0 0 0", "6 0 5 1 0", [("pending", 1), ("unsent", 6)]),
+                ("6 6 0 0 0", "6 5 0 1 0", [("pending", 1), ("unsent", 1)]),
+                ("6 6 0 0 0", "6 4 2 0 0", [("unsent", 2)]),
+                ("6 3 3 0 0", "6 4 1 1 0", [("pending", 1), ("sent", 1)]),
+                ("6 3 3 0 0", "6 3 2 1 0", [("pending", 1)]),
+                ("6 5 0 1 0", "6 4 2 0 0", [("unsent", 1)]),
+                ("6 5 0 1 0", "6 6 0 0 0", [("sent", 1)]),
+                ("6 5 0 1 0", "6 5 1 0 0", [("sent", 0)])):
+            one, other = (OUTCOME.replace("2 2 0 0 0", it, 1) for it in (without, having))
+            self.assertEqual(self.compared(one, other), [(0, "tx 0", *it) for it in wanted], having)
 
     def test_words_of_effects(self):
         """Each effect is a cost, harmless, a failure, or the lack of a run."""

@@ -97,8 +97,9 @@ class TestLog(unittest.TestCase):
         self.refused("is of another program, cluster, scenario or number of cycles", True, (b"cluster", b"others"))
         self.refused("is of another program, cluster, scenario or number of cycles", True, (b"clusters", b"cenario"))
         head = json.loads(data.split(b"\n")[0])
-        self.file.write_text(json.dumps({**head, "musmyrtle faults": 1}) + "\n")
-        self.refused("is of another version of musmyrtle")
+        for version in (1, 2):
+            self.file.write_text(json.dumps({**head, "musmyrtle faults": version}) + "\n")
+            self.refused("is of another version of musmyrtle")
 
     def test_a_run_without_an_answer_is_not_noted(self):
         log = self.opened()

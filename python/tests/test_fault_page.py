@@ -3,12 +3,13 @@ import re
 import unittest
 
 from musmyrtle.faults.campaign import failed
-from musmyrtle.faults.costs import IDLE, Difference
+from musmyrtle.faults.costs import IDLE, Difference, sent_otherwise
 from musmyrtle.faults.labels import Labels, grouped, ranges
 from musmyrtle.faults.listing import BOTH, LeftOut, SingleFault
 from musmyrtle.faults.page import Subject, page
 from musmyrtle.faults.table import BadTable, Done, Results, not_compared, read_ranks, summary, table, worse
 from musmyrtle.visible import visible
+from musmyrtle.world.replies import TransmitBuffer
 from tests.campaigns import cluster_of
 from tests.two_nodes import TWO_NODES
 
@@ -28,6 +29,12 @@ def lost(node: int, thing: str = "rx 1") -> Difference:
 
 def killed(told: str = "signal 9") -> Difference:
     return Difference(None, "-", "killed", 1, "-", told)
+
+
+def commits(without: str, having: str) -> list[Difference]:
+    """Returns the differences of a transmit buffer with these counts of commits."""
+    one, other = (TransmitBuffer(*map(int, it.split())) for it in (without, having))
+    return list(sent_otherwise(0, 0, one, other))
 
 
 COUNTED = Difference(1, "A", "counted", 2, "2 0 0 0 0", "0 0 0 0 0")
@@ -75,6 +82,15 @@ class TestSummary(unittest.TestCase):
         self.assertIn("of the babbles in guarded static slots that aren't the node's own, 0, no run completed; "
                       "1 more failed", self.lines(alone))
 
+    def test_commits_that_were_not_sent(self):
+        """A run with a commit that is late and others that weren't sent counts as pending, and a note has the rest."""
+        done = [(fault("mute", 0, "A", "s1"), commits("10 10 0 0 0", having))
+                for having in ("10 0 9 1 0", "10 9 1 0 0", "10 10 0 0 0")]
+        lines = self.lines(done)
+        self.assertEqual(lines[2].split(), ["all", "3", "1", "0", "0", "0", "0", "1", "1", "0"])
+        self.assertIn("in 1 run counted by a worse effect fewer commits were sent (unsent), too", lines)
+        self.assertEqual([it for it in self.lines() if "unsent), too" in it], [])
+
     def test_harmless_effects_are_named(self):
         told = next(line for line in self.lines() if line.startswith("harmless: "))
         for effect in ("counted", "channel", "newer", "sent"):
@@ -98,6 +114,49 @@ class TestAgainst(unittest.TestCase):
         self.assertEqual(worse(DONE, before), [])
         self.assertEqual(list(not_compared(DONE, before)), ["not compared: 2 runs that failed\n"])
         self.assertIn("lost\t1\tB\t*\tall\t-\t-\tidle\t0\t-\t-\n", list(table(DONE)))
+
+    MUTED = fault("mute", 0, "A", "s1")
+
+    def is_worse(self, before: list[Difference], after: list[Difference]) -> list[str]:
+        """Returns the effects that are worse than in a table with other differences of the same fault."""
+        ranks = read_ranks("".join(table([(self.MUTED, before)])))
+        return [it.effect for _, it in worse([(self.MUTED, after)], ranks)]
+
+    def test_a_frame_that_starves(self):
+        """With the fault one commit was late, of ten. Now nine more are overwritten, and one is late as before."""
+        late, starved = (commits("10 10 0 0 0", it) for it in ("10 9 0 1 0", "10 0 9 1 0"))
+        self.assertEqual([(it.effect, it.amount) for it in starved], [("pending", 1), ("unsent", 10)])
+        self.assertEqual(self.is_worse(late, starved), ["unsent"])
+        self.assertEqual(self.is_worse(starved, late), [])
+        self.assertEqual(self.is_worse(starved, starved), [])
+        self.assertEqual(self.is_worse([], late), ["pending", "unsent"])
+        self.assertEqual(self.is_worse(commits("10 10 0 0 0", "10 9 1 0 0"), late), ["pending"])
+
+    def test_rows_of_an_earlier_version(self):
+        """These have `pending` alone where fewer commits were sent, too. Their states say how many."""
+        late, starved = (commits("10 10 0 0 0", it) for it in ("10 9 0 1 0", "10 0 9 1 0"))
+        self.assertEqual(self.is_worse(late[:1], late), [])
+        self.assertEqual(self.is_worse(starved[:1], starved), [])
+        self.assertEqual(self.is_worse(late[:1], starved), ["unsent"])
+
+    def test_frames_of_a_fifo(self):
+        """Lost and other frames are counts of their own. None is worse than frames that weren't comparable."""
+        def fifo(*effects: tuple[str, int]) -> list[Difference]:
+            return [Difference(1, "queue", effect, amount, "4 0", "2 0") for effect, amount in effects]
+        both = fifo(("lost", 2), ("changed", 1))
+        self.assertEqual(self.is_worse(fifo(("lost", 2)), both), ["changed"])
+        self.assertEqual(self.is_worse(both, fifo(("lost", 3), ("changed", 1))), ["lost"])
+        self.assertEqual(self.is_worse(both, fifo(("lost", 2))), [])
+        self.assertEqual(self.is_worse(fifo(("not comparable", 1)), both), [])
+        self.assertEqual(self.is_worse(both, fifo(("not comparable", 1))), ["not comparable"])
+
+    def test_one_state_of_a_receive_buffer(self):
+        """An older frame is better than none, and worse than one that is less old."""
+        def older(by: int) -> list[Difference]:
+            return [Difference(1, "rx 1", "older", by, "9:A x1111", f"{9 - by}:A x1111")]
+        self.assertEqual(self.is_worse([lost(1)], older(3)), [])
+        self.assertEqual(self.is_worse(older(3), [lost(1)]), ["lost"])
+        self.assertEqual((self.is_worse(older(3), older(2)), self.is_worse(older(3), older(4))), ([], ["older"]))
 
     def test_an_idle_node_that_sends_now(self):
         before = read_ranks("".join(table(DONE)))
@@ -156,6 +215,12 @@ class TestPage(unittest.TestCase):
                 (fault("mute", 0, "A", "s1"), [killed(mark)])]
         text = page(Subject(mark, mark), results(done, labels=labels, overwritten={0: 1}, quiet=(1,)))
         self.assertEqual((text.count("&lt;i&gt;&amp;") > 8, text.count("<i>")), (True, 0))
+
+    def test_both_effects_on_commits(self):
+        text = self.page([(fault("lost", 0, BOTH, "all"), commits("10 10 0 0 0", "10 0 9 1 0"))])
+        self.assertIn('<td class="pending"><a href="#c0-0-0">pending, unsent<br>1 fault</a></td>', text)
+        self.assertIn("tx 0: 1 commit more pending", text)
+        self.assertIn("tx 0: 10 commits fewer sent", text)
 
     def test_a_sort_that_is_not_listed(self):
         """A table without faults doesn't look like one of faults without effects."""

@@ -159,14 +159,21 @@ def held_effect(one: Held, other: Held) -> tuple[str, int]:
 
 
 def sent_otherwise(node: int, buffer: int, one: TransmitBuffer, other: TransmitBuffer) -> Iterator[Difference]:
+    for effect, amount in sent_effects(one, other):
+        yield Difference(node, f"tx {buffer}", effect, amount, spelled_sent(one), spelled_sent(other))
+
+
+def sent_effects(one: TransmitBuffer, other: TransmitBuffer) -> Iterator[tuple[str, int]]:
+    """Yields each effect on the commits of a buffer with its number of commits, the costs first."""
     if one == other:
         return
-    effect, amount = "sent", abs(other.sent - one.sent)
+    # A commit that starves is pending, and those that it overwrote weren't sent: neither count has the other in it.
     if other.pending > one.pending:
-        effect, amount = "pending", other.pending - one.pending
-    elif other.sent < one.sent:
-        effect = "unsent"
-    yield Difference(node, f"tx {buffer}", effect, amount, spelled_sent(one), spelled_sent(other))
+        yield "pending", other.pending - one.pending
+    if other.sent < one.sent:
+        yield "unsent", one.sent - other.sent
+    elif other.sent > one.sent or other.pending <= one.pending:
+        yield "sent", other.sent - one.sent
 
 
 def spelled_sent(it: TransmitBuffer) -> str:

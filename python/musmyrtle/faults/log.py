@@ -13,7 +13,7 @@ from musmyrtle.faults.costs import EFFECTS, NOT_COMPARABLE, Difference
 from musmyrtle.faults.listing import SingleFault
 from musmyrtle.faults.whole_files import Unusable, unusable
 
-LOG_VERSION = 2
+LOG_VERSION = 3
 UNNOTED = (*UNANSWERED, NOT_COMPARABLE)
 """The effects of a run that is repeated."""
 

@@ -103,7 +103,9 @@ class Matrix:
             return f'<td class="harmless">{link}harmless</a></td>'
         count = sum(any(it.effect == bad.effect for it in differences) for _, differences in found)
         by = f" by {bad.amount}" if bad.effect == "older" else ""
-        return f'<td class="{style(bad)}">{link}{bad.effect}{by}<br>{counted(count, "fault")}</a></td>'
+        is_unsent = bad.effect == "pending" and any(it.effect == "unsent" for _, its in found for it in its)
+        more = ", unsent" if is_unsent else ""
+        return f'<td class="{style(bad)}">{link}{bad.effect}{by}{more}<br>{counted(count, "fault")}</a></td>'
 
     def section(self, number: int, row: Row, column: int) -> Iterator[str]:
         found = row.of_receiver(column)

@@ -3,11 +3,14 @@ from collections.abc import Iterable, Iterator
 from dataclasses import dataclass, field
 
 from musmyrtle.cluster import Cluster
-from musmyrtle.faults.costs import COSTS, EFFECTS, FAILED, IDLE, LOSSES, NOT_COMPARABLE, RANKS, Difference, worst
+from musmyrtle.faults.costs import (
+    COSTS, EFFECTS, FAILED, IDLE, LOSSES, NOT_COMPARABLE, RANKS, Difference, sent_effects, worst,
+)
 from musmyrtle.faults.labels import ONE_CHANNEL, Labels
 from musmyrtle.faults.listing import KINDS, LeftOut, SingleFault, is_stopped
 from musmyrtle.findings import counted
 from musmyrtle.show.tables import Column, Row, Section, Value
+from musmyrtle.world.replies import TransmitBuffer
 
 COLUMNS = ("kind", "node", "channels", "cycles", "place", "receiver", "thing", "effect", "amount", "without", "with")
 HEADING = "\t".join(COLUMNS) + "\n"
@@ -91,9 +94,9 @@ def list_rows(faults: Iterable[SingleFault]) -> Section:
 
 @dataclass(frozen=True)
 class Ranks:
-    """The rank of each thing in a printed table: by the words of the fault, the receiver and the thing."""
+    """The effects of each thing in a printed table, with their amounts: by the words of fault, receiver and thing."""
 
-    ranks: dict[tuple[str, ...], tuple[int, int]]
+    effects: dict[tuple[str, ...], dict[str, int]]
     is_of_one_channel: bool
     """True for a table of an earlier version, which had no faults of both channels."""
 
@@ -101,19 +104,42 @@ class Ranks:
         """Returns whether the list of the table can have had the fault."""
         return not (self.is_of_one_channel and fault.is_of_both)
 
+    def is_exceeded(self, fault: SingleFault, found: Difference) -> bool:
+        """Returns whether a cost is greater than in the table, or not in it.
+
+        A receive buffer has one state, whose effects are ordered. The effects on a transmit buffer or a FIFO are counts
+        of their own, and each is compared with itself.
+        """
+        before = self.effects.get((*fault.words, "-" if found.node is None else str(found.node), found.thing), {})
+        if found.effect in APART and NOT_COMPARABLE not in before and not found.thing.startswith("rx"):
+            return found.amount > before.get(found.effect, 0)
+        return found.rank > max(((RANKS[effect], amount) for effect, amount in before.items()), default=(-1, 0))
+
+
+APART = ("lost", "changed", "pending", "unsent")
+"""The costs that a FIFO or a transmit buffer can have at once."""
+
 
 def read_ranks(text: str) -> Ranks:
     lines = text.split("\n")
     if lines[0] + "\n" not in (HEADING, HEADING_OF_ONE_CHANNEL) or lines[-1]:
         raise BadTable("isn't a whole table of faults")
-    ranks: dict[tuple[str, ...], tuple[int, int]] = {}
+    found: dict[tuple[str, ...], dict[str, int]] = {}
     for number, line in enumerate(lines[1:-1], 2):
         words = line.split("\t")
         if len(words) != len(COLUMNS) or words[7] not in EFFECTS or not words[8].isdecimal():
             raise BadTable(f"has no fault in line {number}")
-        key = tuple(words[:7])
-        ranks[key] = max(ranks.get(key, (-1, 0)), (RANKS[words[7]], int(words[8])))
-    return Ranks(ranks, lines[0] + "\n" != HEADING)
+        of_thing = found.setdefault(tuple(words[:7]), {})
+        for effect, amount in ((words[7], int(words[8])), *effects_of_states(words)):
+            of_thing[effect] = max(of_thing.get(effect, 0), amount)
+    return Ranks(found, lines[0] + "\n" != HEADING)
+
+
+def effects_of_states(words: list[str]) -> Iterator[tuple[str, int]]:
+    """Yields the effects by the states of a transmit buffer: tables of earlier versions have only the worst one."""
+    states = [[int(it) for it in word.split(" ") if it.isdecimal()] for word in words[9:11]]
+    if words[6].startswith("tx ") and [len(it) for it in states] == [5, 5]:
+        yield from sent_effects(TransmitBuffer(*states[0]), TransmitBuffer(*states[1]))
 
 
 def worse(done: Done, before: Ranks) -> list[tuple[SingleFault, Difference]]:
@@ -121,13 +147,8 @@ def worse(done: Done, before: Ranks) -> list[tuple[SingleFault, Difference]]:
 
     A fault that its list can't have had isn't compared.
     """
-    found = []
-    for fault, differences in done:
-        for it in differences if before.has(fault) else ():
-            key = (*fault.words, "-" if it.node is None else str(it.node), it.thing)
-            if it.is_cost and it.rank > before.ranks.get(key, (-1, 0)):
-                found.append((fault, it))
-    return found
+    return [(fault, it) for fault, differences in done if before.has(fault) for it in differences
+            if it.is_cost and before.is_exceeded(fault, it)]
 
 
 def not_compared(done: Done, before: Ranks) -> Iterator[str]:
@@ -227,6 +248,10 @@ def notes(results: Results) -> Iterator[str]:
     if results.idle:
         yield (f"{counted(len(results.idle), 'fault')} idle, without a run, since the node sends nothing there: "
                + ", ".join(f"node {it.node} on {' and '.join(it.channels)}" for it in results.idle))
+    hidden = sum(verdict(it) not in ("unsent", "failed") and any(one.effect == "unsent" for one in it)
+                 for _, it in results.runs)
+    if hidden:
+        yield f"in {counted(hidden, 'run')} counted by a worse effect fewer commits were sent (unsent), too"
     if results.left_out.taken:
         taken = counted(results.left_out.taken, "fault")
         yield f"{taken} left out: the scenario has one of the kind in each of their windows"
