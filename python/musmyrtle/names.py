@@ -140,6 +140,12 @@ def tables_of(value: object) -> list[dict[str, object]]:
     return [item if isinstance(item, dict) else {} for item in value] if isinstance(value, list) else []
 
 
+def name_in(table: Mapping[str, object]) -> str | None:
+    """Returns the key `name` of a table, if it is a string."""
+    name = table.get("name")
+    return name if isinstance(name, str) else None
+
+
 def named(tables: list[dict[str, object]], node: int | None, wrong: list[str],
           repeated: list[tuple[int | None, str]]) -> dict[str, int]:
     """Returns the places of tables, by name, and adds their faults to WRONG and REPEATED."""

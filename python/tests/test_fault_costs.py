@@ -5,7 +5,7 @@ from musmyrtle.faults.costs import COSTS, EFFECTS, FAILED, HARMLESS, IDLE, Calen
 from musmyrtle.faults.listing import Selection
 from musmyrtle.faults.table import verdict
 from musmyrtle.outcomes import BadOutcome, read_outcome
-from musmyrtle.named_windows import RunCycles
+from musmyrtle.selections import cycles_of
 from tests.campaigns import PROGRAM, CampaignCases, cluster_of, scenario_of
 from tests.cases import CLUSTER, SCENARIO
 from tests.two_nodes import OUTCOME, SCENE, TWO_NODES
@@ -188,15 +188,15 @@ class TestRuns(CampaignCases):
     def test_one_cycle_alone(self):
         """Lost in the second cycle, the frame of the first one stays."""
         campaign = self.campaign(TWO_NODES, SCENE, 2)
-        found = self.found(campaign, Selection(frozenset(["mute"]), frozenset([1]), None, RunCycles.of("1")))
+        found = self.found(campaign, Selection(frozenset(["mute"]), frozenset([1]), None, cycles_of("1")))
         got = [(it.thing, it.effect, it.amount, it.having) for it in found["mute 1 A 1 s2"]]
         self.assertEqual(got, [("rx 1", "older", 1, "0:A x1111"), ("A", "counted", 1, "1 0 0 0 0")])
 
     def test_a_range_of_cycles(self):
         """Both cycles of the run are all of them, and every second one is the first."""
         campaign = self.campaign(TWO_NODES, SCENE, 2)
-        for word, same in (("0-1", None), ("0-1/2", RunCycles.of("0"))):
-            narrowed = [self.found(campaign, Selection(cycles=it)) for it in (RunCycles.of(word), same)]
+        for word, same in (("0-1", None), ("0-1/2", cycles_of("0"))):
+            narrowed = [self.found(campaign, Selection(cycles=it)) for it in (cycles_of(word), same)]
             self.assertEqual(*(list(it.values()) for it in narrowed))
             self.assertIn(f"lost 0 AB {word} all", narrowed[0])
 

@@ -4,7 +4,7 @@ from unittest.mock import patch
 from musmyrtle.faults.campaign import NoReference
 from musmyrtle.faults.frames import data_frame
 from musmyrtle.faults.listing import Selection, SingleFault
-from musmyrtle.named_windows import RunCycles
+from musmyrtle.selections import cycles_of
 from musmyrtle.world.refusals import Memory, SessionOver
 from tests.campaigns import CampaignCases
 from tests.two_nodes import PARAMETERS
@@ -126,7 +126,7 @@ class TestForged(CampaignCases):
     def test_all_that_a_node_sends_in_one_cycle(self):
         """Slot 4 opens at minislot 4 in cycle 0, too late, and is sent in cycle 1. There it is lost, though it would be
         sent in cycle 0 if slot 3 were lost then."""
-        found = self.at(self.campaign_of(latest=3), "all", "lost", cycles=RunCycles.of("1"))
+        found = self.at(self.campaign_of(latest=3), "all", "lost", cycles=cycles_of("1"))
         lines = {name: it.lines for name, it in found.items()}
         self.assertEqual(lines, {"lost 0 AB 1 all": ("lost 0 1",), "lost 0 A 1 all": ("mute 0 A 1 *",),
                                  "lost 0 B 1 all": ()})

@@ -6,10 +6,11 @@ from musmyrtle.faults.campaign import Campaign
 from musmyrtle.faults.fifo_costs import fifo_effects
 from musmyrtle.faults.children import Children
 from musmyrtle.faults.fifos import Fifo, Senders, StoredFrame, Unread, read_fifo, senders_of
+from musmyrtle.faults.gates import Gate
 from musmyrtle.faults.listing import Selection
-from musmyrtle.faults.table import Results, has_effect, summary, verdict
+from musmyrtle.faults.table import Results, summary, verdict
 from musmyrtle.links import links_in
-from musmyrtle.named_windows import RunCycles
+from musmyrtle.selections import cycles_of
 from tests.campaigns import PROGRAM, CampaignCases
 from tests.two_nodes import PARAMETERS
 
@@ -51,7 +52,7 @@ class TestContent(CampaignCases):
     def queue(self, campaign: Campaign, name: str) -> list[tuple]:
         kind, node, _, cycle, place = name.split(" ")
         selection = Selection(frozenset([kind]), frozenset([int(node)]), frozenset([place]),
-                              None if cycle == "*" else RunCycles.of(cycle))
+                              None if cycle == "*" else cycles_of(cycle))
         return [(it.effect, it.amount, it.without, it.having) for it in self.found(campaign, selection)[name]
                 if it.thing == "queue"]
 
@@ -117,7 +118,8 @@ class TestContent(CampaignCases):
         self.assertEqual((row.effect, row.amount, row.without, row.having.split(":")[0]),
                          ("not comparable", 1, "2 0", "0 0"))
         self.assertIn("status 3", row.having)
-        self.assertEqual((row.is_cost, verdict(done[0][1]), has_effect(done, ["lost"])), (True, "not comparable", True))
+        self.assertEqual((row.is_cost, verdict(done[0][1])), (True, "not comparable"))
+        self.assertEqual(Gate(frozenset(["lost"])).found(done[0][1]), [row])
         told = "".join(summary(Results(done[:1], campaign.cluster, 2)))
         self.assertIn("all                     1         0               1     0", told)
 

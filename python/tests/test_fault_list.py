@@ -4,11 +4,10 @@ from argparse import ArgumentTypeError
 
 from musmyrtle.faults.frames import data_frame
 from musmyrtle.faults.listing import LeftOut, Listing, Selection, SingleFault, is_stopped
-from musmyrtle.faults.options import numbers_of, places_of
 from musmyrtle.faults.played import Begun, forged_babble
 from musmyrtle.faults.table import listed
-from musmyrtle.named_windows import RunCycles
 from musmyrtle.scenario import Reading as ScenarioReading
+from musmyrtle.selections import Directory, Span, cycles_of, places_of
 from tests.campaigns import cluster_of
 from tests.cases import CLUSTER
 from tests.two_nodes import TWO_NODES
@@ -115,16 +114,16 @@ class TestList(unittest.TestCase):
         self.assertEqual(self.names(TWO_NODES, 2, only("noise", places=places_of("2"), nodes=frozenset([0]))),
                          ["noise 0 AB * s2", "noise 0 A * s2", "noise 0 B * s2"])
         self.assertEqual(self.names(TWO_NODES, 2, only("header", nodes=frozenset([1]))), ["header - A * s2"])
-        found = faults_of(TWO_NODES, 2, only("mute", cycles=RunCycles.of("1"), places=places_of("s*")))[0]
+        found = faults_of(TWO_NODES, 2, only("mute", cycles=cycles_of("1"), places=places_of("s*")))[0]
         self.assertEqual([it.lines for it in found], [("mute 0 A 1 s*",), ("mute 0 B 1 s*",), ("mute 1 A 1 s*",)])
 
     def test_words(self):
-        self.assertEqual(numbers_of("1,3-5"), {1, 3, 4, 5})
+        self.assertEqual(cycles_of("1,3-5").numbers, [1, 3, 4, 5])
         self.assertEqual(places_of("1,3-4,m7-8,s*,all"), {"s1", "s3", "s4", "m7", "m8", "s*", "all"})
-        self.assertEqual(numbers_of("3-3"), {3})
+        self.assertEqual(Span.of("3-3"), Span(3, 3))
         for word in ("4-3", "1,", "-1", "1-", "x", "12345"):
             with self.assertRaises(ArgumentTypeError, msg=word):
-                numbers_of(word)
+                cycles_of(word)
 
     def test_what_the_cluster_does_not_have(self):
         """The two nodes have two static slots and no minislots, the three nodes three and four."""
@@ -135,8 +134,13 @@ class TestList(unittest.TestCase):
                 (TWO_NODES, "0", "2-9", "static slot 3: its static slots are 1 to 2"),
                 (TWO_NODES, "0", "m1", f"minislot 1: {no_minislots}"), (CLUSTER, "0-2", "1-3,m1-4,s*,all", None),
                 (CLUSTER, "2", "m0", "minislot 0: its minislots are 1 to 4"),
-                (CLUSTER, "2", "s*,m5", "minislot 5: its minislots are 1 to 4")):
-            selection = Selection(nodes=numbers_of(nodes), places=places_of(places))
+                (CLUSTER, "2", "s*,m5", "minislot 5: its minislots are 1 to 4"), (CLUSTER, "2", "d4-7,m*", None),
+                (CLUSTER, "2", "5", "static slot 5: its static slots are 1 to 3, and d5 is a dynamic one"),
+                (CLUSTER, "2", "d3", "dynamic slot 3: its dynamic slots are 4 to 7"),
+                (CLUSTER, "2", "d8", "dynamic slot 8: its dynamic slots are 4 to 7"),
+                (TWO_NODES, "0", "d3", "dynamic slot 3: it has no dynamic slots"),
+                (TWO_NODES, "0", "m*", "m*: it has no minislots")):
+            selection = Selection(nodes=Directory([], []).numbers_of_nodes([nodes]), places=places_of(places))
             self.assertEqual(selection.missing(cluster_of(text)), wanted, (nodes, places))
         self.assertEqual(Selection().missing(cluster_of(TWO_NODES)), None)
 
@@ -158,7 +162,8 @@ class TestList(unittest.TestCase):
             ("lost 2 AB * all", ("lost 2 *",)), ("lost 2 A * all", ("mute 2 A * *",)), ("lost 2 B * all", ())])
         found = faults_of(CLUSTER, 2, only("noise", nodes=frozenset([0])), commit, plays)[0]
         dynamic = [(it.channels, it.place) for it in found if it.is_dynamic]
-        self.assertEqual(dynamic, [("AB", "m1"), ("AB", "m2"), ("A", "m1"), ("A", "m2"), ("B", "m1")])
+        self.assertEqual(dynamic, [("AB", "m1"), ("AB", "m2"), ("AB", "m*"), ("A", "m1"), ("A", "m2"), ("A", "m*"),
+                                   ("B", "m1"), ("B", "m*")])
         found, left_out = faults_of(CLUSTER, 2, only("forged", nodes=frozenset([0])), commit, plays)
         lines = {(it.channels, it.place): it.lines for it in found if it.is_dynamic}
         frames = {(cycle, channel): data_frame(4, cycle, bytes.fromhex("a55a"), channel).hex()
@@ -168,6 +173,54 @@ class TestList(unittest.TestCase):
                                                   for cycle in (0, 1) for channel in "AB"))
         self.assertEqual([it[:15] for it in lines["A", "m2"]], ["babble 0 A 1 m2"])
         self.assertEqual(left_out, LeftOut())
+
+    def test_a_babbling_idiot(self):
+        """All minislots are one place of the kind `noise`. It leaves out what a babble of the scenario takes: minislot
+        3 in each cycle, or in cycle 1 all of it. A cluster without minislots has no such place."""
+        idiot = only("noise", nodes=frozenset([0]), places=places_of("m*"))
+        lines = {it.channels: it.lines for it in faults_of(CLUSTER, 2, idiot)[0]}
+        self.assertEqual(lines, {it: (f"babble 0 {it} * m* xff",) for it in ("AB", "A", "B")})
+        taken = {it.channels: it.lines for it in faults_of(CLUSTER, 2, idiot, "babble 0 A * m3 x00\n")[0]}
+        of_a = tuple(f"babble 0 A 0-1 m{it} xff" for it in (1, 2, 4))
+        self.assertEqual(taken, {"AB": (*of_a, "babble 0 B * m* xff"), "A": of_a, "B": ("babble 0 B * m* xff",)})
+        asked = only("noise", nodes=frozenset([0]), places=places_of("m*"), cycles=cycles_of("0-1"))
+        found, left_out = faults_of(CLUSTER, 2, asked, "".join(f"babble 0 A * m{it} x00\n" for it in range(1, 5)))
+        self.assertEqual(([it.channels for it in found], left_out), (["AB", "B"], LeftOut(taken=1)))
+        self.assertEqual([it.place for it in faults_of(TWO_NODES, 2, only("noise"))[0] if "m" in it.place], [])
+        self.assertEqual([it for it in faults_of(CLUSTER, 2, only("forged"))[0] if it.place == "m*"], [])
+
+    def test_dynamic_slots(self):
+        """The three nodes have the dynamic slots 4 to 7, and node 2 commits to its buffer for slot 4. A fault in such a
+        slot is listed only where it is asked for, and those of its frames only where somebody sends."""
+        commit, asked = "commit 2 0 1 0 x7001\n", {"places": places_of("d4-5")}
+        found = faults_of(CLUSTER, 2, Selection(**asked), commit)[0]
+        names = [str(it) for it in found]
+        self.assertEqual([it for it in names if it[0] not in "nf"], [
+            "mute 2 A * d4", "header - A * d4", "payload - A * d4", "trailer - A * d4"])
+        self.assertEqual([it for it in names if it.startswith("noise 1")],
+                         [f"noise 1 {channels} * d{slot}" for channels in ("AB", "A", "B") for slot in (4, 5)])
+        lines = {str(it): it.lines for it in found}
+        self.assertEqual((lines["mute 2 A * d4"], lines["noise 1 AB * d4"]),
+                         (("mute 2 A * d4",), ("babble 1 AB * d4 xff",)))
+        # One word: the trailer follows 40 bits of header and 16 of payload.
+        self.assertEqual([lines[f"{kind} - A * d4"] for kind in ("header", "payload", "trailer")],
+                         [(f"corrupt A * d4 {bit}",) for bit in (15, 40, 56)])
+        frames = [data_frame(5, cycle, bytes.fromhex("a55a"), "B").hex() for cycle in (0, 1)]
+        self.assertEqual(lines["forged 0 B * d5"], tuple(f"babble 0 B {it} d5 x{frames[it]}" for it in (0, 1)))
+        self.assertEqual([it for it in faults_of(CLUSTER, 2, Selection(), commit)[0] if "d" in it.place], [])
+        self.assertEqual(all(it.is_dynamic for it in found), True)
+
+    def test_cycles_of_several_parts(self):
+        """Each part has a line of its own, and a loss of all too. Parts that share cycles are spelled anew."""
+        asked = Selection(frozenset(["mute", "lost"]), frozenset([0]), places_of("s1,all"), cycles_of("0-4/2,7"))
+        lines = {str(it): it.lines for it in faults_of(TWO_NODES, 9, asked)[0]}
+        self.assertEqual(lines["mute 0 A 0-4/2,7 s1"], ("mute 0 A 0-4/2 s1", "mute 0 A 7 s1"))
+        self.assertEqual(lines["lost 0 AB 0-4/2,7 all"], ("mute 0 AB 0-4/2 s*", "mute 0 AB 7 s*"))
+        plays = Plays([], [Begun(2, 1, "A", "muted"), Begun(7, 1, "A", "muted")])
+        found = faults_of(CLUSTER, 9, only("lost", nodes=frozenset([2]), cycles=cycles_of("0-4/2,7")),
+                          "commit 2 0 1 0 x7001\n", plays)[0]
+        self.assertEqual(found[0].lines, ("lost 2 0-4/2", "lost 2 7"))
+        self.assertEqual([str(cycles_of(it)) for it in ("0-4,3-6", "5,1,5", "0-8/4,4")], ["0-6", "1,5", "0-8/4"])
 
     def test_no_slot_at_a_minislot(self):
         """If no slot opens, no frame can be forged, and the scenario isn't named as the reason."""

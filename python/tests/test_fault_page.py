@@ -1,13 +1,17 @@
 """Tests of the costs of faults in the table, the summary and the page."""
 import re
 import unittest
+from dataclasses import replace
+from html import escape
 
 from musmyrtle.faults.campaign import failed
 from musmyrtle.faults.costs import IDLE, Difference, sent_otherwise
 from musmyrtle.faults.labels import Labels, grouped, ranges
 from musmyrtle.faults.listing import BOTH, LeftOut, SingleFault
 from musmyrtle.faults.page import Subject, page
-from musmyrtle.faults.table import BadTable, Done, Results, not_compared, read_ranks, summary, table, worse
+from musmyrtle.faults.table import (
+    BadTable, Done, Results, not_compared, read_ranks, summary, table, total_rows, worse,
+)
 from musmyrtle.visible import visible
 from musmyrtle.world.replies import TransmitBuffer
 from tests.campaigns import cluster_of
@@ -61,9 +65,10 @@ class TestSummary(unittest.TestCase):
     def test_each_run_is_counted_once(self):
         """The seven faults have six runs, two of which failed, and one costs something lost and something changed."""
         rows = [line.split() for line in self.lines()]
-        columns = "harmless not comparable lost older changed pending unsent failed".split()
+        columns = "harmless not comparable lost older changed pending unsent failed proved".split()
         self.assertEqual(rows[0], ["kind", "runs", *columns])
-        numbers = {" ".join(it[:-9]): [int(number) for number in it[-9:]] for it in rows[1:6]}
+        numbers = {" ".join(it[:-10]): [int(number) for number in it[-10:-1]] for it in rows[1:6]}
+        self.assertEqual({it[-1] for it in rows[1:6]}, {"0"})
         self.assertEqual(numbers, {
             "lost, both channels": [2, 0, 0, 1, 0, 0, 0, 0, 1], "mute, one channel": [1, 1, 0, 0, 0, 0, 0, 0, 0],
             "noise, both channels": [2, 1, 0, 0, 0, 0, 0, 0, 1], "noise, one channel": [1, 0, 0, 1, 0, 0, 0, 0, 0],
@@ -87,9 +92,29 @@ class TestSummary(unittest.TestCase):
         done = [(fault("mute", 0, "A", "s1"), commits("10 10 0 0 0", having))
                 for having in ("10 0 9 1 0", "10 9 1 0 0", "10 10 0 0 0")]
         lines = self.lines(done)
-        self.assertEqual(lines[2].split(), ["all", "3", "1", "0", "0", "0", "0", "1", "1", "0"])
+        self.assertEqual(lines[2].split(), ["all", "3", "1", "0", "0", "0", "0", "1", "1", "0", "0"])
         self.assertIn("in 1 run counted by a worse effect fewer commits were sent (unsent), too", lines)
         self.assertEqual([it for it in self.lines() if "unsent), too" in it], [])
+
+    def test_what_is_proved_has_no_run(self):
+        """Two babbles that guardians stop have no run. They are counted apart, with the promise, and so in JSON and on
+        the page; a row with nothing else is shown, too."""
+        stopped = [(replace(fault("noise", 1, channels, "s1"), is_proved=True), []) for channels in ("A", BOTH)]
+        done = [*stopped, (fault("noise", 1, "A", "s2"), [lost(1)])]
+        told = ("2 faults proved harmless, without a run: guardians stop each babble in guarded static slots that "
+                "aren't the node's own (promise alike of fr_core); --run-proved runs them")
+        lines = self.lines(done)
+        self.assertIn(told, lines)
+        self.assertEqual([it.split()[-10:] for it in lines[1:4]], [
+            list("0000000001"), list("1001000001"), list("1001000002")])
+        total = total_rows(results(done)).rows[0].values
+        self.assertEqual(total, {"faults": 3, "runs": 1, "idle": 0, "proved": 2, "promise": "alike of fr_core"})
+        self.assertEqual(total_rows(results(done[2:])).rows[0].values,
+                         {"faults": 1, "runs": 1, "idle": 0, "proved": 0, "promise": None})
+        text = page(Subject("cluster.toml", "scenario"), results(done))
+        self.assertIn(f"<p>{escape(told)}.</p>", text)
+        self.assertIn("<p>Scenario scenario, 2 cycles. Each of 1 fault came in a run of its own", text)
+        self.assertIn('<th>node 1</th><td class="nothing"><span>-</span></td>', text)
 
     def test_harmless_effects_are_named(self):
         told = next(line for line in self.lines() if line.startswith("harmless: "))

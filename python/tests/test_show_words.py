@@ -128,7 +128,7 @@ class Keys(Shows):
         """The line of FAULTS: `lost 0 A * all 1 rx 1 lost 1 2:A x0c0d -`."""
         words = ("faults", *THREE, "--kinds", "lost", "--nodes", "0")
         text = self.asked(*words, "--csv")[1]
-        self.assertIn("difference,lost,0,A,*,all,1,rx 1,lost,1,2:A x0c0d,-\n", text)
+        self.assertIn("difference,lost,0,A,*,all,1,rx 1,lost,1,2:A x0c0d,-,,,,,\n", text)
         rows = [json.loads(line) for line in self.asked(*words, "--json")[1].splitlines()]
         self.assertIn({"kind": "difference", "fault": "lost", "node": 0, "channels": "A", "cycles": "*", "place": "all",
                        "receiver": 1, "thing": "rx 1", "effect": "lost", "amount": 1, "without": "2:A x0c0d",

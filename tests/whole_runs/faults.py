@@ -44,19 +44,23 @@ class Faults:
         self.runs.compare("the status of a whole list", (status, table[:len(HEADING)]), (0, HEADING))
         self.runs.compare("the words of each line", {line.count("\t") for line in lines}, {10})
         listed = self.ask(*THREE_NODES, "--list")
-        places = {line.removesuffix("\tidle"): number for number, line in enumerate(listed[0].splitlines())}
+        places = {"\t".join(line.split("\t")[:5]): number for number, line in enumerate(listed[0].splitlines())}
         order = [places["\t".join(line.split("\t")[:5])] for line in lines[1:]]
         self.runs.compare("the order of the lines", (order, listed[1:]), (sorted(order), ("", 0)))
         for cores in ("1", "3"):
             self.runs.compare(f"the table by {cores} cores", self.ask(*THREE_NODES, "--cores", cores), (table, told, 0))
         stopped = "in guarded static slots that aren't the node's own, 8, none made any difference to a node\n"
-        count = re.search(r"^all +(\d+)", told, re.MULTILINE)
+        count = re.search(r"^all +(\d+).* 8$", told, re.MULTILINE)
         idle = ["lost\t2\tB\t*\tall"]
         found = [line.removesuffix("\tidle") for line in listed[0].splitlines() if line.endswith("\tidle")]
         in_table = [f"{it}\t-\t-\tidle\t0\t-\t-" in lines for it in idle]
         self.runs.compare("what is idle", (found, in_table), (idle, [True]))
-        wanted = (True, len(places) - len(idle))
-        self.runs.compare("what guardians stop", (stopped in told, count and int(count[1])), wanted)
+        proved = [line for line in listed[0].splitlines() if line.endswith("\tproved")]
+        wanted = (True, 8, len(places) - len(idle) - 8)
+        self.runs.compare("what is proved harmless", (
+            "\n8 faults proved harmless, without a run: " in told, len(proved), count and int(count[1])), wanted)
+        ran = self.ask(*THREE_NODES, "--run-proved")
+        self.runs.compare("what guardians stop", (ran[0], stopped in ran[1], ran[2]), (table, True, 0))
         return table
 
     def statuses(self, table):
@@ -80,7 +84,7 @@ class Faults:
         lines = [it for it in table.splitlines(True) if "\tAB\t" not in it and "\tidle\t" not in it]
         earlier.write_text("".join(lines).replace("\tchannels\t", "\tchannel\t", 1))
         told, status = self.ask(*THREE_NODES, "--against", earlier, "--fail-on", "worse")[1:]
-        wanted = ["not compared: 25 faults on both channels, since the table is of an earlier version, which had none; "
+        wanted = ["not compared: 28 faults on both channels, since the table is of an earlier version, which had none; "
                   "make it anew", f"no things worse than in {earlier}"]
         self.runs.compare("a table of an earlier version", (told.splitlines()[-2:], status), (wanted, 0))
 
@@ -102,7 +106,7 @@ class Faults:
         # In the car the scenario has a babble of node 9 in each static slot of A, so 5 of it are left on AB and B. Slot
         # 56 on B is node 5's own in some cycles, so of it 4 are left on AB and B, and 5 on A.
         for words, count in (([both, scene, "--cycles", "4"], 7 * 3 * 2), (car, (5 + 5 + 4 + 4 + 5) * 2)):
-            told, status = self.ask(*words, *babbles)[1:]
+            told, status = self.ask(*words, *babbles, "--run-proved")[1:]
             wanted = f"in guarded static slots that aren't the node's own, {count}, none made any difference to a node"
             self.runs.compare(f"babbles on both channels in {words[0]}", (wanted in told, status), (True, 0))
         by_numbers, by_names = (self.ask(car[0], scene, "--cycles", "8", "--kinds", "lost", "--nodes", "1,2")
@@ -132,7 +136,11 @@ class Faults:
         for words, told in ((["--nodes", "9", "--fail-on", "lost"], "cluster has no node 9: its nodes are 0 to 2"),
                             (["--slots", "99"], "cluster has no static slot 99: its static slots are 1 to 3"),
                             (["--slots", "m99"], "cluster has no minislot 99: its minislots are 1 to 4"),
+                            (["--slots", "d8"], "cluster has no dynamic slot 8: its dynamic slots are 4 to 7"),
+                            (["--slots", "4"], "cluster has no static slot 4: its static slots are 1 to 3, and d4 is a "
+                                               "dynamic one"),
                             (["--in-cycle", "9"], "run has no cycle 9: it has 4 cycles"),
+                            (["--in-cycle", "0,2-9/7"], "run has no cycle 9: it has 4 cycles"),
                             (["--in-cycles", "2-9"], "run has no cycle 9: it has 4 cycles")):
             for more in ([], ["--list"]):
                 output, error, status = self.ask(*THREE_NODES, *words, *more)
@@ -218,10 +226,10 @@ class Faults:
         is_told = f"--joblog {log} --resume goes on".encode() in told
         self.runs.compare("a run that is broken off", (output, is_told, running.returncode), (b"", True, 130))
         done = log.read_text().splitlines(True)
-        self.runs.compare("what is done by then", 5 < len(done) < 94, True)
+        self.runs.compare("what is done by then", 5 < len(done) < 95, True)
         log.write_text("".join(done)[:-20])
         self.runs.compare("it goes on", self.ask(*words, "--resume")[::2], (table, 0))
-        self.runs.compare("each fault is noted once", len(log.read_text().splitlines()), 95)
+        self.runs.compare("each fault is noted once", len(log.read_text().splitlines()), 96)
         self.runs.compare("nothing is left to do", self.ask(*words, "--resume")[::2], (table, 0))
         other = [*THREE_NODES[:3], "5", "--joblog", str(log), "--program", slow, "--resume"]
         self.runs.compare("a log of another run", self.ask(*other)[::2], ("", 2))

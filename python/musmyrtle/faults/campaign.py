@@ -56,6 +56,11 @@ def unplayed(error: SessionOver | Refused) -> list[Difference]:
     return failed(effect, f"fr_world: {error}")
 
 
+def without_run(fault: SingleFault) -> list[Difference]:
+    """Returns the differences of a fault that has no run: none if it is proved to be harmless."""
+    return [] if fault.is_proved else [Difference(None, "-", IDLE, 0, "-", "-")]
+
+
 class Campaign:
     """A cluster and a scenario with the run without a fault, which is the reference for the others.
 
@@ -137,14 +142,13 @@ class Campaign:
 
         Returns all in the order of the list, and reports the number done to TELL.
         """
-        runs = [it for it in faults if not it.is_idle]
+        runs = [it for it in faults if it.has_run]
         todo = [it for it in runs if str(it) not in log.done]
         with closing(self.measured(todo)) as measured:
             for number, (fault, found) in enumerate(measured, 1):
                 log.add(fault, found)
                 tell(len(runs) - len(todo) + number, len(runs))
-        idle = [Difference(None, "-", IDLE, 0, "-", "-")]
-        return [(it, idle if it.is_idle else log.done[str(it)]) for it in faults]
+        return [(it, log.done[str(it)] if it.has_run else without_run(it)) for it in faults]
 
     def measured(self, faults: list[SingleFault]) -> Measured:
         """Yields each fault with its differences, in the order in which runs end."""
@@ -189,7 +193,7 @@ class ListPlays:
     def recorded(self) -> list[Begun]:
         return self.base.begun
 
-    def lose(self, node: int, channels: str, cycles: range) -> list[Begun]:
+    def lose(self, node: int, channels: str, cycles: Collection[int]) -> list[Begun]:
         with for_a_list():
             return self.player.lose(node, channels, cycles)
 

@@ -7,10 +7,11 @@ import time
 from pathlib import Path
 
 from musmyrtle.breaking import BrokenOff, breaking_off, temporary_folder
-from musmyrtle.cluster import Cluster
+from musmyrtle.cluster_file import document_of
 from musmyrtle.faults.campaign import Campaign, Means, NoReference
 from musmyrtle.faults.children import Children
-from musmyrtle.faults.costs import FAILED, Difference
+from musmyrtle.faults.costs import Difference
+from musmyrtle.faults.gates import Gate
 from musmyrtle.faults.hosts import Hosts, NoParallel
 from musmyrtle.faults.host_campaign import HostCampaign
 from musmyrtle.faults.host_runs import HostJob
@@ -22,7 +23,8 @@ from musmyrtle.faults.options import COMMAND, arguments, parsed
 from musmyrtle.faults.page import Subject, page
 from musmyrtle.faults.runs import CLUSTER_FILE, Folder
 from musmyrtle.faults.table import (
-    BadTable, Ranks, Results, has_effect, list_rows, listed, not_compared, read_ranks, summary, table, table_rows,
+    BadTable, Ranks, Results, is_failed, list_rows, listed, not_compared, read_ranks, summary, table, table_rows,
+    total_rows,
 )
 from musmyrtle.faults.table import told as told_difference
 from musmyrtle.faults.table import worse
@@ -31,6 +33,7 @@ from musmyrtle.findings import counted
 from musmyrtle.lint.command import FINE, USAGE, formed
 from musmyrtle.output import Stop, write
 from musmyrtle.program import by_option, is_launcher, itself
+from musmyrtle.selections import Directory, UnknownWord
 from musmyrtle.visible import visible
 from musmyrtle.world.refusals import NotStarted, SessionOver
 from musmyrtle.world.world_program import usual_world
@@ -87,23 +90,40 @@ def try_page(file: str) -> None:
 
 
 class Progress:
-    """A line on a terminal that shows the progress of the runs."""
+    """A line on a terminal that shows the progress of the list and of the runs."""
 
     def __init__(self) -> None:
         self.is_shown = sys.stderr is not None and sys.stderr.isatty()
         self.began, self.last = time.monotonic(), 0.0
         self.first: int | None = None
 
-    def __call__(self, done: int, of: int) -> None:
+    def is_due(self) -> bool:
+        """Returns whether the line is to be shown again."""
         now = time.monotonic()
+        if not self.is_shown or now - self.last < 0.1:
+            return False
+        self.last = now
+        return True
+
+    def listed(self, count: int) -> None:
+        """Shows the number of faults in the list so far."""
+        if self.is_due():
+            say(f"\r\x1b[K{counted(count, 'fault')} listed")
+
+    def end(self) -> None:
+        """Removes the line."""
+        if self.is_shown:
+            say("\r\x1b[K")
+
+    def __call__(self, done: int, of: int) -> None:
         if self.first is None:
             self.first = done
-        if not self.is_shown or (now - self.last < 0.1 and done < of):
-            return
-        self.last = now
-        fresh = done - self.first
-        left = f", {(now - self.began) * (of - done) / fresh:.0f} s to go" if fresh and done < of else ""
-        say(f"\r\x1b[K{done} of {of} faults{left}" + ("\r\x1b[K" if done == of else ""))
+        if done == of:
+            self.end()
+        elif self.is_due():
+            fresh = done - self.first
+            left = f", {(self.last - self.began) * (of - done) / fresh:.0f} s to go" if fresh else ""
+            say(f"\r\x1b[K{done} of {of} faults{left}")
 
 
 def means_of(given: argparse.Namespace) -> Means:
@@ -117,12 +137,23 @@ def means_of(given: argparse.Namespace) -> Means:
     return Means(str(Path(program).resolve()), world, given.cores, hosts)
 
 
-def selected(given: argparse.Namespace, cluster: Cluster) -> Selection:
-    """Returns the faults to list. Ends with status 2 if the cluster doesn't have what they are for."""
-    selection = Selection(given.kinds, given.nodes, given.slots, given.in_cycles)
-    missing = selection.missing(cluster)
+def selected(given: argparse.Namespace, inputs: Inputs) -> Selection:
+    """Returns the faults to list. Ends with status 2 if the cluster doesn't have what they or the gate are for."""
+    directory = Directory.of(document_of(inputs.data[0]))
+    try:
+        nodes = None if given.nodes is None else directory.numbers_of_nodes([given.nodes])
+        given.gate = Gate(given.fail_on, directory.receivers(given.buffers) if given.buffers else None)
+    except UnknownWord as error:
+        arguments().error(str(error))
+    # A host program can ask for more than a node observes, so no promise says what it then does.
+    is_proof_counted = not given.run_proved and given.host is None
+    selection = Selection(given.kinds, nodes, given.slots, given.in_cycles, is_proof_counted)
+    missing = selection.missing(inputs.cluster)
     if missing:
         arguments().error(f"the cluster has no {missing}")
+    idle = given.gate.idle(inputs.cluster)
+    if idle:
+        arguments().error(f"argument --buffers: {idle}")
     return selection
 
 
@@ -130,7 +161,7 @@ def with_scenario(given: argparse.Namespace, folder: Path) -> tuple[Campaign, In
     """Returns the campaign of a scenario, after its run without a fault."""
     children = Children()
     inputs = accepted(given, folder, children)
-    selection = selected(given, inputs.cluster)
+    selection = selected(given, inputs)
     means, files = means_of(given), Folder(folder, *inputs.data, given.cycles, children)
     try:
         return Campaign(inputs.cluster, inputs.scenario, files, means), inputs, selection
@@ -142,7 +173,7 @@ def with_scenario(given: argparse.Namespace, folder: Path) -> tuple[Campaign, In
 def with_host(given: argparse.Namespace, folder: Path) -> tuple[HostCampaign, Inputs, Selection]:
     """Returns the campaign of a host program, after its run without a fault."""
     inputs = accepted_host(given, folder)
-    selection = selected(given, inputs.cluster)
+    selection = selected(given, inputs)
     means = means_of(given)
     job = HostJob(given.host, str(folder / CLUSTER_FILE), inputs.cluster, given.cycles, means.world, means.program)
     return HostCampaign(job, means.cores), inputs, selection
@@ -157,8 +188,9 @@ def measured(given: argparse.Namespace, folder: Path) -> Results | None:
     else:
         campaign, inputs, selection = with_scenario(given, folder)
         program = itself(given.program)
-    listing = campaign.listing(selection)
-    faults = listing.faults()
+    listing, progress = campaign.listing(selection), Progress()
+    faults = listing.faults(progress.listed)
+    progress.end()
     if given.list:
         write(sys.stdout, formed(given, [list_rows(faults)], listed(faults)))
         return None
@@ -176,7 +208,7 @@ def measured(given: argparse.Namespace, folder: Path) -> Results | None:
 def concluded(given: argparse.Namespace, found: Results, before: Ranks | None) -> int:
     """Prints the table and the summary, and writes the page. Returns the status."""
     done = found.done
-    write(sys.stdout, formed(given, [table_rows(done)], table(done)))
+    write(sys.stdout, formed(given, [table_rows(done), total_rows(found)], table(done)))
     say("".join(summary(found)))
     if given.html:
         try:
@@ -190,10 +222,15 @@ def concluded(given: argparse.Namespace, found: Results, before: Ranks | None) -
         say(f"{counted(len(greater), 'thing')} worse than in {visible(given.against)}\n")
         say("".join(worse_line(*it, found.labels) for it in greater[:MOST_WORSE]))
         say(f"and {len(greater) - MOST_WORSE} more\n" if len(greater) > MOST_WORSE else "")
-    if has_effect(done, FAILED):
+    # A difference that has one of the effects may be worse than before, too.
+    counting = {id(it) for _, its in done for it in given.gate.found(its)}
+    counting |= {id(it) for it in given.gate.worse(it for _, it in greater)}
+    if given.buffers:
+        say(f"{counted(len(counting), 'cost')} of --fail-on {','.join(sorted(given.fail_on))} at --buffers "
+            f"{visible(','.join(given.buffers))}\n")
+    if any(is_failed(its) for _, its in done):
         return UNDONE
-    is_found = has_effect(done, given.fail_on) or bool(greater and "worse" in given.fail_on)
-    return FOUND if is_found else FINE
+    return FOUND if counting else FINE
 
 
 def worse_line(fault: SingleFault, found: Difference, labels: Labels) -> str:

@@ -3,8 +3,8 @@ from collections.abc import Callable, Collection
 from contextlib import closing
 from dataclasses import replace
 
-from musmyrtle.faults.campaign import NoReference, failed, misplaced
-from musmyrtle.faults.costs import IDLE, Calendar, Difference, Ended, differences
+from musmyrtle.faults.campaign import NoReference, failed, misplaced, without_run
+from musmyrtle.faults.costs import Calendar, Difference, Ended, differences
 from musmyrtle.faults.host_pool import Pool
 from musmyrtle.faults.host_runs import Forgery, HostJob, HostRan, Loss
 from musmyrtle.faults.listing import Listing, Selection, SingleFault
@@ -74,14 +74,13 @@ class HostCampaign:
 
         Returns all in the order of the list, and reports the number done to TELL.
         """
-        runs = [it for it in faults if not it.is_idle]
+        runs = [it for it in faults if it.has_run]
         todo = [it for it in runs if str(it) not in log.done]
         with closing(self.pool.all(map(self.job_of, todo))) as ends:
             for number, (fault, ran) in enumerate(zip(todo, ends), 1):
                 log.add(fault, self.measure(fault, ran))
                 tell(len(runs) - len(todo) + number, len(runs))
-        idle = [Difference(None, "-", IDLE, 0, "-", "-")]
-        return [(it, idle if it.is_idle else log.done[str(it)]) for it in faults]
+        return [(it, log.done[str(it)] if it.has_run else without_run(it)) for it in faults]
 
 
 def commits_of(ran: HostRan) -> Scenario:
@@ -103,7 +102,7 @@ class HostPlays:
         """Returns the transmissions that begin in the dynamic segment in the run without the fault."""
         return self.campaign.begun
 
-    def lose(self, node: int, channels: str, cycles: range) -> list[Begun]:
+    def lose(self, node: int, channels: str, cycles: Collection[int]) -> list[Begun]:
         """Returns the node's offers in the dynamic segment in a run that loses all of them."""
         return self.ran(replace(self.campaign.job, loss=Loss(node, channels, cycles))).played.begun
 

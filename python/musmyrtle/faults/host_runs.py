@@ -2,7 +2,7 @@
 import importlib
 import os
 import sys
-from collections.abc import Callable, Iterator
+from collections.abc import Callable, Collection, Iterator
 from contextlib import ExitStack, suppress
 from dataclasses import dataclass, field
 
@@ -31,7 +31,7 @@ class Loss:
 
     node: int
     channels: str
-    cycles: range
+    cycles: Collection[int]
 
 
 @dataclass(frozen=True)

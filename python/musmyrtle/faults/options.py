@@ -4,16 +4,17 @@ import os
 import re
 from collections.abc import Callable
 
+from musmyrtle.faults.gates import FAIL_ON
 from musmyrtle.faults.hosts import SSH_OPTIONS
-from musmyrtle.faults.listing import ALL, ALL_STATIC, KINDS
+from musmyrtle.faults.listing import KINDS
 from musmyrtle.faults.runs import OUTCOME
 from musmyrtle.findings import counted
 from musmyrtle.lint.command import Parser, add_forms, cycles_of, shown_examples
-from musmyrtle.named_windows import RunCycles
 from musmyrtle.program import by_option, usual_program
+from musmyrtle.selections import cycles_of as cycles_word
+from musmyrtle.selections import places_of
 
 COMMAND = "musmyrtle faults"
-FAIL_ON = ("lost", "older", "changed", "worse")
 ABOUT = """Prints the costs of each single fault of a network: a run for each, compared with the run without it.
 
 The table goes to standard output: a line for each fault and each thing of a node that it changes. The summary goes to
@@ -29,29 +30,6 @@ SSHLOGIN = f"""a machine, as parallel names it: 8/bench1, or 8/ssh -p 2222 bench
 {SSH_OPTIONS}; another command, as /usr/bin/ssh, has to give such options itself"""
 
 
-def numbers_of(word: str) -> frozenset[int]:
-    """Returns the numbers of a text such as `1,3-5`."""
-    found: set[int] = set()
-    for part in word.split(","):
-        first, _, last = part.partition("-")
-        if not re.fullmatch(r"[0-9]{1,4}(-[0-9]{1,4})?", part) or int(last or first) < int(first):
-            raise argparse.ArgumentTypeError(f"{part!r} is no number, and no range as 3-5")
-        found |= set(range(int(first), int(last or first) + 1))
-    return frozenset(found)
-
-
-def places_of(word: str) -> frozenset[str]:
-    """Returns the places of a text such as `1,3-5,m7,s*,all`."""
-    found: set[str] = set()
-    for part in word.split(","):
-        if part in (ALL_STATIC, ALL):
-            found.add(part)
-        else:
-            front = "m" if part.startswith("m") else "s"
-            found |= {f"{front}{number}" for number in numbers_of(part.removeprefix(front))}
-    return frozenset(found)
-
-
 def words_of(known: tuple[str, ...]) -> Callable[[str], frozenset[str]]:
     def read(word: str) -> frozenset[str]:
         for part in word.split(","):
@@ -59,13 +37,6 @@ def words_of(known: tuple[str, ...]) -> Callable[[str], frozenset[str]]:
                 raise argparse.ArgumentTypeError(f"{part!r} is none of {', '.join(known)}")
         return frozenset(word.split(","))
     return read
-
-
-def cycles_word(word: str) -> RunCycles:
-    found = RunCycles.of(word)
-    if found is None or found.last is None:
-        raise argparse.ArgumentTypeError(f"{word!r} is no cycle, and no range as 8-16 or 0-14/2")
-    return found
 
 
 def cores_of(word: str) -> int:
@@ -86,15 +57,21 @@ def arguments() -> argparse.ArgumentParser:
     add("--list", action="store_true", help="print the faults, and run none")
     add("--kinds", metavar="KIND,..", type=words_of(tuple(KINDS)), default=frozenset(KINDS),
         help=f"of the kinds {', '.join(KINDS)} only these")
-    add("--nodes", metavar="N,..", type=numbers_of, help="only faults of these nodes, as 0,3-5, and of their frames")
+    add("--nodes", metavar="NODE,..", help="only faults of these nodes, as 0,3-5,brake, and of their frames")
     add("--slots", metavar="PLACE,..", type=places_of,
-        help="only faults at these places: static slots as 1,3-5, minislots as m7, s* for all static slots, and all")
-    add("--in-cycle", "--in-cycles", metavar="C[-D[/STEP]]", type=cycles_word, dest="in_cycles",
-        help="in this cycle of the run, or in these, as 8-16 or 0-14/2, instead of in every one")
+        help="only faults at these places: static slots as 1,s3-5, minislots as m7, dynamic slots as d9, s* or m* for "
+             "all of a segment, and all")
+    add("--in-cycle", "--in-cycles", metavar="CYCLE,..", type=cycles_word, dest="in_cycles",
+        help="in these cycles of the run, as 8-16 or 0-14/2,20, instead of in every one")
+    add("--run-proved", action="store_true",
+        help="run the faults that are proved to be harmless, too: babbles that guardians stop")
     add("--html", metavar="FILE", help="write a page with the matrix of nodes as well")
     add("--fail-on", metavar="WORD,..", type=words_of(FAIL_ON), default=frozenset(),
-        help="end with status 3 where a fault costs this: lost (also not comparable), older, changed, or worse "
-             "with --against")
+        help="end with status 3 where a fault costs this: lost (also not comparable), older, changed, pending, "
+             "unsent, or worse with --against")
+    add("--buffers", metavar="NODE[.BUFFER],..", action="append", default=[],
+        help="only costs of these buffers count for --fail-on, by names or numbers; a node is all its buffers and its "
+             "FIFO")
     add("--against", metavar="TABLE", help="report faults that cost more than in this earlier table")
     add_forms(parser)
     add("--cores", metavar="N", type=cores_of, default=os.cpu_count() or 1, help="the runs at once (all cores)")
@@ -112,8 +89,9 @@ def arguments() -> argparse.ArgumentParser:
 def parsed(words: list[str]) -> argparse.Namespace:
     parser = arguments()
     given = parser.parse_args(words)
-    if given.in_cycles is not None and given.in_cycles.last >= given.cycles:
-        parser.error(f"the run has no cycle {given.in_cycles.last}: it has {counted(given.cycles, 'cycle')}")
+    missing = given.in_cycles and given.in_cycles.missing(given.cycles)
+    if missing is not None:
+        parser.error(f"the run has no cycle {missing}: it has {counted(given.cycles, 'cycle')}")
     if (given.scenario is None) == (given.host is None):
         parser.error("it takes either a SCENARIO, or a host program by --host MODULE:FUNCTION")
     if given.host is not None and given.parallel:
@@ -122,6 +100,8 @@ def parsed(words: list[str]) -> argparse.Namespace:
         parser.error("--resume wants --joblog FILE")
     if (given.sshlogin or given.sshloginfile) and not given.parallel:
         parser.error("--sshlogin and --sshloginfile want --parallel")
+    if given.buffers and not given.fail_on:
+        parser.error(f"--buffers wants --fail-on, with some of {', '.join(FAIL_ON)}")
     if "worse" in given.fail_on and given.against is None:
         parser.error("--fail-on worse wants --against TABLE")
     given.program = given.program or usual_program(OUTCOME[0])

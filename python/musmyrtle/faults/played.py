@@ -94,7 +94,7 @@ class Player:
             play.read_fifos()
             return play.played
 
-    def lose(self, node: int, channels: str, cycles: range) -> list[Begun]:
+    def lose(self, node: int, channels: str, cycles: Collection[int]) -> list[Begun]:
         """Returns the node's offers in the dynamic segment, all of which the run loses on these channels and cycles."""
         def due(cycle: int, window: Window) -> list[str]:
             return [f"mute {node} {channel}" for channel in channels]

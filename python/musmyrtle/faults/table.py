@@ -4,10 +4,10 @@ from dataclasses import dataclass, field
 
 from musmyrtle.cluster import Cluster
 from musmyrtle.faults.costs import (
-    COSTS, EFFECTS, FAILED, IDLE, LOSSES, NOT_COMPARABLE, RANKS, Difference, sent_effects, worst,
+    COSTS, EFFECTS, FAILED, IDLE, NOT_COMPARABLE, RANKS, Difference, sent_effects, worst,
 )
 from musmyrtle.faults.labels import ONE_CHANNEL, Labels
-from musmyrtle.faults.listing import KINDS, LeftOut, SingleFault, is_stopped
+from musmyrtle.faults.listing import KINDS, PROMISE, LeftOut, SingleFault, is_stopped
 from musmyrtle.findings import counted
 from musmyrtle.show.tables import Column, Row, Section, Value
 from musmyrtle.world.replies import TransmitBuffer
@@ -18,6 +18,7 @@ HEADING_OF_ONE_CHANNEL = HEADING.replace("channels", "channel")
 """The heading of earlier versions, in which each fault is of one channel."""
 Done = list[tuple[SingleFault, list[Difference]]]
 """Faults in the order of their list, each with the differences of its run."""
+PROVED = "proved"
 HARMLESS_WORDS = ("harmless: counters alone (counted), the frame by the other channel (channel), a newer frame "
                   "(newer), more sent (sent)")
 
@@ -42,12 +43,16 @@ class Results:
 
     @property
     def runs(self) -> Done:
-        """Returns the faults that have a run: all but those of idle nodes."""
-        return [(fault, found) for fault, found in self.done if not fault.is_idle]
+        """Returns the faults that have a run: all but those of idle nodes, and those that are proved harmless."""
+        return [(fault, found) for fault, found in self.done if fault.has_run]
 
     @property
     def idle(self) -> list[SingleFault]:
         return [fault for fault, _ in self.done if fault.is_idle]
+
+    @property
+    def proved(self) -> list[SingleFault]:
+        return [fault for fault, _ in self.done if fault.is_proved]
 
 
 def table(done: Done) -> Iterator[str]:
@@ -61,9 +66,11 @@ def table(done: Done) -> Iterator[str]:
 
 
 def listed(faults: Iterable[SingleFault]) -> Iterator[str]:
-    """Yields a line for each fault: its words, and `idle` where its node sends nothing there."""
+    """Yields a line for each fault: its words, and `idle` where its node sends nothing there, or `proved` where a proof
+    takes the place of a run."""
     for fault in faults:
-        yield "\t".join((*fault.words, IDLE) if fault.is_idle else fault.words) + "\n"
+        more = (IDLE,) if fault.is_idle else (PROVED,) if fault.is_proved else ()
+        yield "\t".join((*fault.words, *more)) + "\n"
 
 
 FAULT = (Column("fault", "fault"), Column("node", "node"), Column("channels", "channels"), Column("cycles", "cycles"),
@@ -88,8 +95,16 @@ def table_rows(done: Done) -> Section:
 
 def list_rows(faults: Iterable[SingleFault]) -> Section:
     """Returns the list of faults as rows, for JSON and CSV."""
-    rows = [Row({**fault_values(it), "is_idle": it.is_idle}) for it in faults]
-    return Section("fault", "", (*FAULT, Column("is_idle", "idle")), rows)
+    rows = [Row({**fault_values(it), "is_idle": it.is_idle, "is_proved": it.is_proved}) for it in faults]
+    return Section("fault", "", (*FAULT, Column("is_idle", "idle"), Column("is_proved", "proved")), rows)
+
+
+def total_rows(results: Results) -> Section:
+    """Returns the row with the number of faults, of their runs, and of those without a run, for JSON and CSV."""
+    proved = len(results.proved)
+    values: dict[str, Value] = {"faults": len(results.done), "runs": len(results.runs), "idle": len(results.idle),
+                                "proved": proved, "promise": PROMISE if proved else None}
+    return Section("total", "", tuple(Column(key, key) for key in values), [Row(values)])
 
 
 @dataclass(frozen=True)
@@ -190,25 +205,25 @@ def kind_label(kind: str, is_of_both: bool) -> str:
 def rows(results: Results) -> Iterator[tuple[str, str, list[int]]]:
     """Yields the rows of the summary.
 
-    A row is a kind, on both channels or on one, with its label, its description, and the counts of its runs. The last
-    row is for all kinds.
+    A row is a kind, on both channels or on one, with its label, its description, and the counts of its runs and of its
+    faults that are proved harmless. The last row is for all kinds.
     """
-    runs = results.runs
+    done = [(fault, it) for fault, it in results.done if not fault.is_idle]
     for kind, what in KINDS.items():
         for is_of_both in (True, False):
-            found = [it for fault, it in runs if fault.kind == kind and fault.is_of_both == is_of_both]
+            found = [(fault, it) for fault, it in done if fault.kind == kind and fault.is_of_both == is_of_both]
             if found:
                 yield kind_label(kind, is_of_both), what, counts(found)
-    yield "all", "", counts([it for _, it in runs])
+    yield "all", "", counts(done)
 
 
-COUNTED = ("runs", "harmless", *COSTS, "failed")
-"""The headings of the counts of runs. Each run is counted once after the first, by its worst effect."""
+COUNTED = ("runs", "harmless", *COSTS, "failed", PROVED)
+"""The headings of the counts. Each run is counted once after the first, by its worst effect. The last has no runs."""
 
 
-def counts(runs: list[list[Difference]]) -> list[int]:
-    words = [verdict(it) for it in runs]
-    return [len(runs), *(words.count(it) for it in COUNTED[1:])]
+def counts(done: Done) -> list[int]:
+    words = [verdict(it) for fault, it in done if fault.has_run]
+    return [len(words), *(words.count(it) for it in COUNTED[1:-1]), sum(fault.is_proved for fault, _ in done)]
 
 
 def verdict(found: list[Difference]) -> str:
@@ -239,6 +254,9 @@ def summary(results: Results) -> Iterator[str]:
 def notes(results: Results) -> Iterator[str]:
     """Yields sentences on the runs as a whole."""
     yield from stopped(results)
+    if results.proved:
+        yield (f"{counted(len(results.proved), 'fault')} proved harmless, without a run: guardians stop each babble in "
+               f"guarded static slots that aren't the node's own (promise {PROMISE}); --run-proved runs them")
     for node, count in sorted(results.overwritten.items()):
         yield (f"{results.labels.node(node)}: FIFO not emptied by its tasks: {counted(count, 'frame')} overwritten "
                "without any fault")
@@ -289,10 +307,3 @@ def hurting(done: Done) -> list[tuple[list[SingleFault], list[Difference]]]:
 def weight(found: list[Difference]) -> tuple[tuple[int, int], ...]:
     of_each = ([it.amount for it in found if it.effect == cost] for cost in COSTS)
     return tuple((len(amounts), sum(amounts)) for amounts in of_each)
-
-
-def has_effect(done: Done, effects: Iterable[str]) -> bool:
-    """Returns whether a fault has one of the effects. A fault that isn't comparable counts as lost."""
-    wanted = set(effects)
-    wanted |= set(LOSSES) if "lost" in wanted else set()
-    return any(it.effect in wanted for _, found in done for it in found)

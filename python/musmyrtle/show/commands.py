@@ -11,6 +11,7 @@ from musmyrtle.breaking import BrokenOff, breaking_off
 from musmyrtle.lint.command import FINE, formed, is_bold_on, printed
 from musmyrtle.missed import MISSED
 from musmyrtle.output import Stop
+from musmyrtle.selections import single_slot
 from musmyrtle.show import monitor, options, page
 from musmyrtle.show.commits import commits
 from musmyrtle.show.engines import COMMAND, Inputs, opened
@@ -20,7 +21,7 @@ from musmyrtle.show.log import log
 from musmyrtle.show.options import Words
 from musmyrtle.show.parameters import check
 from musmyrtle.show.reads import reads
-from musmyrtle.show.selection import Selection, known_slots, numbers_of_nodes
+from musmyrtle.show.selection import Selection, known_buffers, known_places, numbers_of_nodes
 from musmyrtle.show.senders import plan
 from musmyrtle.show.summary import run
 from musmyrtle.show.tables import Section, as_text
@@ -42,12 +43,16 @@ class Command:
     main: Main
 
 
-def selection_of(given: argparse.Namespace, inputs: Inputs) -> Selection:
+def selection_of(given: argparse.Namespace, inputs: Inputs, has_minislots: bool = False) -> Selection:
     """Returns the rows that the words select."""
     channels = None if given.channel is None else frozenset(given.channel)
-    cycles, is_errors = getattr(given, "in_cycles", None), getattr(given, "errors", False)
-    nodes, slots = numbers_of_nodes(given.node, inputs.network), known_slots(given.slot, inputs)
-    return Selection(nodes, slots, channels, cycles, is_errors)
+    named, is_errors = getattr(given, "in_cycles", None), getattr(given, "errors", False)
+    cycles = frozenset(named.numbers) if named else None
+    nodes = numbers_of_nodes(given.node, inputs.network)
+    buffers = known_buffers(getattr(given, "buffer", []), nodes, inputs.network)
+    places = known_places(given.slot, inputs, has_minislots)
+    static_slots = inputs.network.cluster.parameters.static_slots
+    return Selection(nodes, places, channels, cycles, is_errors, buffers, static_slots)
 
 
 def table(name: str, purpose: str, words: Words, examples: tuple[str, ...],
@@ -79,7 +84,7 @@ def of_cluster(make: Callable[[Inputs], list[Section]]) -> Callable[[Inputs, arg
     return lambda inputs, _: make(inputs)
 
 
-def selected(make: Callable[[Facts, Selection], list[Section]]
+def selected(make: Callable[[Facts, Selection], list[Section]], has_minislots: bool = False
              ) -> Callable[[Inputs, argparse.Namespace], list[Section]]:
     """Returns the tables of a run, of which only some rows are selected.
 
@@ -88,7 +93,7 @@ def selected(make: Callable[[Facts, Selection], list[Section]]
     def sections(inputs: Inputs, given: argparse.Namespace) -> list[Section]:
         facts = Facts(inputs)
         facts.run()
-        return make(facts, selection_of(given, inputs))
+        return make(facts, selection_of(given, inputs, has_minislots))
     return sections
 
 
@@ -96,7 +101,7 @@ def guarantees(inputs: Inputs, given: argparse.Namespace) -> list[Section]:
     """Returns the tables of `latency`. The program comes first, since only an accepted cluster has names."""
     answer = latencies(inputs)
     tables = latency(inputs.network, *answer, selection_of(given, inputs))
-    return tables + way(inputs, given.slot, given.channel)
+    return tables + way(inputs, given.slot and single_slot(given.slot), given.channel)
 
 
 TABLES = (
@@ -112,11 +117,12 @@ TABLES = (
           "expectations of the scenario that were missed.",
           Words(has_run=True), (RUN_EXAMPLE,), lambda inputs, _: run(Facts(inputs))),
     table("log", "Prints all transmissions of a run and their fates.", Words(True, True, True),
-          (f"log {RUN} --slot 1 --channel B", f"log {RUN} --errors --csv"), selected(log)),
+          (f"log {RUN} --slot 1 --channel B", f"log {RUN} --errors --csv"),
+          selected(log, has_minislots=True)),
     table("commits", "Prints what came of each commit of a run: when it was sent, its latency and its receivers.",
-          Words(True, True, True), (f"commits {RUN} --node 0 --in-cycles 2",), selected(commits)),
+          Words(True, True, True, True), (f"commits {RUN} --node 0 --in-cycles 2",), selected(commits)),
     table("reads", "Prints what tasks read and popped in a run, and what each receive FIFO holds and lost.",
-          Words(True, True, True), (f"reads {RUN} --node 1",), selected(reads)),
+          Words(True, True, True, True), (f"reads {RUN} --node 1",), selected(reads)),
 )
 COMMANDS = (
     Command("lint", "Explains the faults of a cluster file, a scenario or a trace.",

@@ -20,8 +20,8 @@ TO_END = "from there to the end of the frame, as worst of musmyrtle latency"
 def commits(facts: Facts, selection: Selection) -> list[Section]:
     """Returns the table of `commits`.
 
-    Nodes select the sender or a receiver, and cycles that of the commit. With errors alone it has commits without
-    a receiver, and transmissions that didn't arrive.
+    Nodes and buffers select the sender or a receiver, and cycles that of the commit. With errors alone it has commits
+    without a receiver, and transmissions that didn't arrive.
     """
     rows = [row for it in facts.commits if selection.has_cycle(it.cycle) for row in rows_of(facts, it, selection)]
     return [Section("commit", "", columns(facts.network), rows, "No commit is selected.")]
@@ -41,7 +41,8 @@ def columns(network: Network) -> tuple[Column, ...]:
 def rows_of(facts: Facts, commit: Commit, selection: Selection) -> Iterator[Row]:
     """Yields the selected rows of a commit."""
     buffer = facts.network.cluster.nodes[commit.node].buffers[commit.buffer]
-    if not commit.sent and selection.has_node(commit.node) and any(
+    is_named = selection.has_node(commit.node) and selection.has_buffer(commit.node, commit.buffer)
+    if not commit.sent and is_named and any(
             selection.has_place(buffer.slot, channel) for channel in buffer.channels):
         unsent: dict[str, Value] = {"slot": buffer.slot, "channel": buffer.channels, "end": commit.fate,
                                     "receivers": facts.network.receivers("-"), "why": why(facts, commit)}
@@ -54,9 +55,16 @@ def rows_of(facts: Facts, commit: Commit, selection: Selection) -> Iterator[Row]
 
 def is_selected(commit: Commit, sent: Sent, selection: Selection) -> bool:
     """Returns whether the row of a transmission is printed."""
-    nodes = [commit.node, *(int(it.split(":")[0]) for it in sent.receivers.split(",") if it != "-")]
-    return (any(selection.has_node(it) for it in nodes) and selection.has_place(sent.slot, sent.channel)
+    places = [(commit.node, commit.buffer), *receivers_of(sent)]
+    return (any(selection.has_node(node) for node, _ in places)
+            and any(selection.has_buffer(*it) for it in places) and selection.has_place(sent.slot, sent.channel)
             and (not selection.is_errors or sent.end != ARRIVED or not commit.is_delivered))
+
+
+def receivers_of(sent: Sent) -> list[tuple[int, int | None]]:
+    """Returns the receivers of a transmission by node and buffer, or None for a receive FIFO."""
+    words = [it.split(":") for it in sent.receivers.split(",") if it != "-"]
+    return [(int(node), None if what == "queue" else int(what.removeprefix("b"))) for node, what in words]
 
 
 def front(facts: Facts, commit: Commit) -> dict[str, Value]:

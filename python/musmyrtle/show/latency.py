@@ -23,11 +23,11 @@ def latencies(inputs: Inputs) -> tuple[list[Latency], list[Load]]:
         raise Stop(USAGE, f"{inputs.program('fr_view')} prints no latencies: {error}") from None
 
 
-def way(inputs: Inputs, slots: frozenset[int] | None, channel: str | None) -> list[Section]:
+def way(inputs: Inputs, slot: int | None, channel: str | None) -> list[Section]:
     """Returns the way to the latest start of a slot, if one slot and a channel are given."""
-    if slots is None or len(slots) != 1 or channel is None:
+    if slot is None or channel is None:
         return []
-    slot, network = min(slots), inputs.network
+    network = inputs.network
     words = [*words_for_way(slot, channel), "--", inputs.task.file(inputs.task.cluster)]
     try:
         found = read_way(inputs.ask("fr_view", words).lines)

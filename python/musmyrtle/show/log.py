@@ -30,7 +30,7 @@ def is_error(it: Transmission) -> bool:
 def is_selected(it: Transmission, selection: Selection) -> bool:
     """Returns whether the row of a transmission is printed."""
     return (selection.has_node(it.node) and selection.has_cycle(it.cycle)
-            and selection.has_place(it.slot, it.channel) and (is_error(it) or not selection.is_errors))
+            and selection.has_place(it.slot, it.channel, it.minislot) and (is_error(it) or not selection.is_errors))
 
 
 def row_of(facts: Facts, it: Transmission) -> Row:

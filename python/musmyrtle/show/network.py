@@ -1,7 +1,7 @@
 """The network of a cluster file: the names of its nodes and buffers, and its times in macroticks and microseconds."""
 from musmyrtle.cluster import Cluster, Reading
 from musmyrtle.lint.physical import bit_and_macrotick
-from musmyrtle.names import tables_of
+from musmyrtle.selections import Directory
 from musmyrtle.show.tables import Column, Name, Receiver, Receivers, Time
 from musmyrtle.texts import Text
 
@@ -12,9 +12,8 @@ class Network:
     def __init__(self, text: Text, cluster: Cluster) -> None:
         self.cluster = cluster
         self.macrotick = bit_and_macrotick(text)[1]
-        tables = tables_of(text.document.get("node"))
-        self.node_names = [name_in(table) for table in tables]
-        self.buffer_names = [[name_in(it) for it in tables_of(table.get("buffer"))] for table in tables]
+        directory = Directory.of(text.document)
+        self.node_names, self.buffer_names = directory.nodes, directory.buffers
 
     @classmethod
     def of(cls, text: Text) -> "Network | None":
@@ -59,10 +58,4 @@ class Network:
 
     def column(self, key: str, heading: str, meaning: str = "") -> Column:
         """Returns a column of times, with the unit in its heading."""
-        return Column(key, f"{heading} [{'MT' if self.macrotick is None else 'us'}]", "time", meaning=meaning)
-
-
-def name_in(table: dict[str, object]) -> str | None:
-    """Returns the key `name` of a table, if it is a string."""
-    name = table.get("name")
-    return name if isinstance(name, str) else None
+        return Column(key, f"{heading} [{'MT' if self.macrotick is None else 'us'}]", "time")

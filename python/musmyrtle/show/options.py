@@ -3,9 +3,10 @@ import argparse
 from dataclasses import dataclass
 from textwrap import fill
 
-from musmyrtle.faults.options import numbers_of
 from musmyrtle.findings import counted
-from musmyrtle.lint.command import Parser, add_forms, cycles_of, shown_examples
+from musmyrtle.lint.command import Parser, add_forms, shown_examples
+from musmyrtle.lint.command import cycles_of as number_of_cycles
+from musmyrtle.selections import cycles_of, places_in
 
 CLUSTER, SCENARIO = "CLUSTER", "SCENARIO"
 WIDTH = 110
@@ -13,11 +14,13 @@ WIDTH = 110
 
 @dataclass(frozen=True)
 class Words:
-    """The words of a command: whether it takes a run, and whether its rows can be selected by place and by cycle."""
+    """The words of a command: whether it takes a run, and whether its rows can be selected by place, by cycle and by
+    buffer."""
 
     has_run: bool = False
     has_places: bool = False
     has_cycles: bool = False
+    has_buffers: bool = False
 
 
 def statuses(has_run: bool) -> str:
@@ -37,11 +40,15 @@ def arguments(name: str, purpose: str, words: Words, examples: tuple[str, ...]) 
     add("cluster", metavar=CLUSTER, help="a cluster file")
     if words.has_run:
         add("scenario", metavar=SCENARIO, help="a scenario of this cluster")
-        add("--cycles", metavar="N", type=cycles_of, required=True, help="the cycles of the run, 1 to 1024")
+        add("--cycles", metavar="N", type=number_of_cycles, required=True, help="the cycles of the run, 1 to 1024")
     if words.has_places:
         add_places(parser)
+    if words.has_buffers:
+        add("--buffer", metavar="[NODE.]BUFFER,..", action="append", default=[],
+            help="only rows of these buffers, as brake.force or 2.0-1, or of one of each --node, as force")
     if words.has_cycles:
-        add("--in-cycles", metavar="CYCLE,..", type=numbers_of, help="only rows of these cycles of the run, as 0,3-5")
+        add("--in-cycles", metavar="CYCLE,..", type=cycles_of,
+            help="only rows of these cycles of the run, as 0-10/2,13")
         add("--errors", action="store_true", help="only rows with an error")
     add_forms(parser)
     return parser
@@ -50,16 +57,19 @@ def arguments(name: str, purpose: str, words: Words, examples: tuple[str, ...]) 
 def add_places(parser: argparse.ArgumentParser) -> None:
     """Adds the options that select rows by their node, slot and channel."""
     add = parser.add_argument
-    add("--node", metavar="NODE", action="append", default=[],
-        help="only rows of this node, by its name or number; it may be given several times")
-    add("--slot", metavar="SLOT,..", type=numbers_of, help="only rows of these slots, as 1,3-5")
+    add("--node", metavar="NODE,..", action="append", default=[],
+        help="only rows of these nodes, by names or numbers, as brake,0,3-5; it may be given several times")
+    add("--slot", metavar="PLACE,..", type=places_in,
+        help="only rows of these slots, as 1,3-5, or s3-5 for static and d7 for dynamic ones, s* or m* for all of a "
+             "segment, and in `log` m4 for a minislot")
     add("--channel", choices=("A", "B"), help="only rows of this channel")
 
 
 def parsed(parser: argparse.ArgumentParser, words: list[str]) -> argparse.Namespace:
     """Returns the words of a command. Ends with status 2 for wrong ones."""
     given = parser.parse_args(words)
-    outside = [it for it in getattr(given, "in_cycles", None) or () if it >= given.cycles]
+    named = getattr(given, "in_cycles", None)
+    outside = [it for it in named.numbers if it >= given.cycles] if named else []
     if outside:
         parser.error(f"the run has no cycle {min(outside)}: it has {counted(given.cycles, 'cycle')}")
     return given

@@ -15,13 +15,14 @@ LATENCY = "from the start of the commit's cycle to the start of the call's cycle
 def reads(facts: Facts, selection: Selection) -> list[Section]:
     """Returns the tables of `reads`.
 
-    Nodes select the reading one, and cycles that of the call, or of the frame in a FIFO. With errors alone they have
-    calls without a frame, and overwritten frames.
+    Nodes and buffers select the reading one, and cycles that of the call, or of the frame in a FIFO. With errors alone
+    they have calls without a frame, and overwritten frames.
     """
     sources = Sources(facts.commits)
     calls = [(it, sources.of(it)) for it in facts.calls if it.kind in READING]
     rows = [row_of(facts, it, source) for it, source in calls if is_selected(it, selection)]
-    nodes = [it.number for it in facts.network.cluster.nodes if it.queue and selection.has_node(it.number)]
+    nodes = [it.number for it in facts.network.cluster.nodes if it.queue and selection.has_node(it.number)
+             and selection.has_buffer(it.number, None)]
     held = [row for node in nodes for row in fifo_rows(facts, node, selection)]
     return [Section("call", "Calls", call_columns(facts.network), rows, "No call is selected."),
             Section("fifo", "Receive FIFOs: waiting and overwritten frames", fifo_columns(facts.network), held)]
@@ -47,6 +48,7 @@ def fifo_columns(network: Network) -> tuple[Column, ...]:
 def is_selected(call: Call, selection: Selection) -> bool:
     """Returns whether the row of a call is printed."""
     return (selection.has_node(call.node) and selection.has_cycle(call.cycle)
+            and selection.has_buffer(call.node, call.buffer)
             and selection.has_place(call.slot, call.channel) and (call.data is None or not selection.is_errors))
 
 
