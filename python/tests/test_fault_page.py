@@ -1,8 +1,13 @@
 """Tests of the costs of faults in the table, the summary and the page."""
+import base64
+import hashlib
 import re
+import time
 import unittest
 from dataclasses import replace
 from html import escape
+from pathlib import Path
+from tempfile import TemporaryDirectory
 
 from musmyrtle.faults.campaign import failed
 from musmyrtle.faults.costs import IDLE, Difference, sent_otherwise
@@ -15,6 +20,7 @@ from musmyrtle.faults.table import (
 from musmyrtle.visible import visible
 from musmyrtle.world.replies import TransmitBuffer
 from tests.campaigns import cluster_of
+from tests.chromium import CHROMIUM, chromium
 from tests.two_nodes import TWO_NODES
 
 BIDI = "\u202e"
@@ -246,6 +252,32 @@ class TestPage(unittest.TestCase):
         self.assertIn('<td class="pending"><a href="#c0-0-0">pending, unsent<br>1 fault</a></td>', text)
         self.assertIn("tx 0: 1 commit more pending", text)
         self.assertIn("tx 0: 10 commits fewer sent", text)
+
+    def test_the_policy(self):
+        """A browser takes the one style of the page, by its digest, and nothing else. The page has no script, no style
+        of an element, and no address of a file."""
+        text = self.page()
+        style, = re.findall(r"<style>(.*?)</style>", text, re.DOTALL)
+        digest = base64.b64encode(hashlib.sha256(style.encode()).digest()).decode()
+        policy, = re.findall(r'<meta http-equiv="Content-Security-Policy" content="([^"]*)">', text)
+        self.assertEqual(policy, f"default-src 'none'; style-src 'sha256-{digest}'; base-uri 'none'; "
+                                 "form-action 'none'")
+        self.assertLess(text.index("Content-Security-Policy"), text.index("<title>"))
+        self.assertEqual(re.findall(r"<script|<link|<img| style=| src=| on[a-z]+=|href=\"(?!#)", text), [])
+
+    @unittest.skipUnless(CHROMIUM, "there is no Chromium")
+    def test_the_policy_in_a_browser(self):
+        """The style of the page is applied. A script that a name had brought in would not run, nor would its style."""
+        strange = "<p id=strange style='color: red'>x</p><script>document.title = 'ran'</script>"
+        with TemporaryDirectory() as folder, chromium() as tab:
+            file = Path(folder) / "faults.html"
+            file.write_text(self.page().replace("</body>", f"{strange}</body>"))
+            tab.ask("Page.navigate", url=file.as_uri())
+            while not tab.valued("document.readyState === 'complete' && document.getElementById('strange') !== null"):
+                time.sleep(0.01)
+            found = tab.valued("[getComputedStyle(document.querySelector('td.lost')).backgroundColor, "
+                               "getComputedStyle(document.getElementById('strange')).color, document.title]")
+        self.assertEqual(found, ["rgb(179, 38, 30)", "rgb(34, 34, 34)", "Costs of single faults in cluster.toml"])
 
     def test_a_sort_that_is_not_listed(self):
         """A table without faults doesn't look like one of faults without effects."""

@@ -188,6 +188,42 @@ class HostFaults(Shows):
         self.written("hosts_of_test.py", f"{HOSTS}\n")
         self.assertEqual(self.host("calls", "--kinds", "lost", "--joblog", log, "--resume")[0], 2)
 
+    def test_strange_modules(self) -> None:
+        """Files with names of Python's own modules and of the package note that they run. None does, neither for the
+        package nor for the host program, and a line says so. Another module of the folder does, as the program asks."""
+        noted = self.folder / "noted"
+        for name in ("json", "random", "heapq", "colorsys", "queue", "msvcrt", "musmyrtle"):
+            self.written(f"{name}.py", f"open({str(noted)!r}, 'a').write(__name__)\n")
+        (self.folder / "wave").mkdir()
+        self.written("wave/__init__.py", f"open({str(noted)!r}, 'a').write(__name__)\n")
+        self.written("helper.py", "payload = b'\\0\\1'\n")
+        self.written("strange.py", "import helper, queue, random\nprint('no part of the table')\n"
+                                   "import os\nos.system('echo nor this')\n"
+                                   "def drive(world):\n    import colorsys, json, wave\n"
+                                   "    assert random.random() < 1 and colorsys.rgb_to_hsv(0, 0, 0)\n"
+                                   "    world['pedal']['position'].commit(helper.payload)\n")
+        words = "--kinds", "lost", "--nodes", "0"
+        status, output, told = self.faults(self.cluster, "--host", "strange:drive", *words)
+        scene = "frscenario 3\ncommit pedal 0 0 position x0001\nend\n"
+        expected = self.faults(self.cluster, self.written("scenario", scene), *words)
+        self.assertEqual((status, output, noted.exists()), (0, expected[1], False))
+        self.assertEqual(told.splitlines()[0], "musmyrtle faults: not imported from the current folder: colorsys.py, "
+                         "heapq.py, json.py, msvcrt.py, musmyrtle.py and 3 more, named as modules of Python or of "
+                         "musmyrtle")
+        self.assertEqual("\n".join(told.splitlines()[1:]), expected[2].rstrip("\n"))
+
+    def test_modules_that_are_not_imported(self) -> None:
+        """A module that ends Python would end the command with its status, without a run."""
+        self.written("leaves.py", "import sys\nsys.exit(0)\n")
+        self.written("random.py", "def drive(world):\n    pass\n")
+        warned = "musmyrtle faults: not imported from the current folder: random.py, named as modules of Python or " \
+            "of musmyrtle\nmusmyrtle faults: --host "
+        for host, why in (("leaves:drive", "it ends Python when it is imported: SystemExit: 0"),
+                          ("random:drive", "random is a module of Python or of musmyrtle, so random.py can't be "
+                                           "imported: rename it"),
+                          ("hosts_of_test:none", "AttributeError: module 'hosts_of_test' has no attribute 'none'")):
+            self.assertEqual(self.faults(self.cluster, "--host", host), (2, "", f"{warned}{host}: {why}\n"))
+
     def test_a_signal_ends_all_processes(self) -> None:
         begun = self.folder / "begun"
         command = [sys.executable, "-B", str(TOP / "musmyrtle"), "faults", self.cluster, "--host", "hosts_of_test:slow"]

@@ -19,7 +19,7 @@ from musmyrtle.program import VARIABLES
 from musmyrtle.show.commands import COMMANDS
 from musmyrtle.show.main import EVERY
 from musmyrtle.show.manual import manual
-from musmyrtle.show.tables import Column, Name, Receiver, Receivers, Row, Section, Time, as_csv, as_json, as_text
+from musmyrtle.show.tables import Column, Name, Receiver, Receivers, Row, Section, Time, as_csv, as_json, as_text, cell
 from musmyrtle.version import version
 from tests import judging
 from tests.shows import NETWORK, POP, SCENE, THREE, Shows
@@ -133,6 +133,32 @@ class Keys(Shows):
         self.assertIn({"kind": "difference", "fault": "lost", "node": 0, "channels": "A", "cycles": "*", "place": "all",
                        "receiver": 1, "thing": "rx 1", "effect": "lost", "amount": 1, "without": "2:A x0c0d",
                        "with": "-"}, rows)
+
+
+class Spreadsheets(Shows):
+    def test_texts_that_a_spreadsheet_computes(self) -> None:
+        """They have an apostrophe in front in CSV alone. Names stay whole in JSON, and in texts."""
+        for name in ("=1+1", "+49", "-2+3", "@SUM(1)", "'quoted", "\uff1dA1", "-"):
+            with self.subTest(name):
+                run = self.run_of(NETWORK.replace('"pedal"', f'"{name}"'))
+                text = self.printed("check", run[0], "--csv")
+                cells = [row for row in csv.reader(io.StringIO(text)) if row[0] == "node"]
+                heading = next(csv.reader(io.StringIO(text)))
+                wanted = name if name == "-" else f"'{name}"
+                self.assertEqual(cells[0][heading.index("node_name")], wanted)
+                self.assertEqual(self.values("node", "node_name", "check", run[0])[0], (name,))
+                self.assertIn(f"\n{name} (0) ", self.printed("check", run[0]))
+
+    def test_numbers_stay(self) -> None:
+        """A number below zero is one, and so is one in a column of texts."""
+        self.assertEqual([cell(it) for it in (-5, -0.5, 7, True, "7", "-", "", "x=1", "-5", "=", "\t=1")],
+                         ["-5", "-0.5", "7", "true", "7", "-", "", "x=1", "'-5", "'=", "\\x09=1"])
+
+    def test_faults(self) -> None:
+        """The marks of a failed run are no texts that are computed."""
+        rows = csv.reader(io.StringIO(self.asked("faults", *THREE, "--kinds", "lost", "--nodes", "2", "--csv")[1]))
+        idle = [row for row in rows if row[8] == "idle"]
+        self.assertEqual({tuple(row[7:12]) for row in idle}, {("-", "idle", "0", "-", "-")})
 
 
 class Escapes(Shows):

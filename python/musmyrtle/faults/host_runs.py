@@ -1,7 +1,4 @@
 """Runs of a host program in a world, in place of a scenario: what one process of the pool does."""
-import importlib
-import os
-import sys
 from collections.abc import Callable, Collection, Iterator
 from contextlib import ExitStack, suppress
 from dataclasses import dataclass, field
@@ -10,6 +7,7 @@ from musmyrtle.cluster import Cluster
 from musmyrtle.faults.answers import NO_REFUSALS
 from musmyrtle.faults.children import Children
 from musmyrtle.faults.fifos import Fifo, Unread, fifo_of, senders_of
+from musmyrtle.faults.modules import Unloadable, loaded
 from musmyrtle.faults.played import REQUEST_SECONDS, Begun, Occasion, Played, forged_babble, slot_of
 from musmyrtle.faults.traces import fetched
 from musmyrtle.world.faults import Mute
@@ -81,14 +79,12 @@ def function_of(host: str) -> HostFunction:
     module, _, name = host.partition(":")
     if not module or not name:
         raise NoHost("it isn't MODULE:FUNCTION")
-    if os.getcwd() not in sys.path:
-        sys.path.insert(0, os.getcwd())
     try:
-        found: object = importlib.import_module(module)
+        found: object = loaded(module)
         for part in name.split("."):
             found = getattr(found, part)
-    except Exception as error:
-        raise NoHost(f"{type(error).__name__}: {error}") from None
+    except (Unloadable, AttributeError) as error:
+        raise NoHost(str(error) if isinstance(error, Unloadable) else f"AttributeError: {error}") from None
     if not callable(found):
         raise NoHost(f"{name} isn't a function")
     return found

@@ -10,12 +10,13 @@ from musmyrtle.faults.answers import NO_REFUSALS, Answer
 from musmyrtle.faults.campaign import NoReference, no_outcome
 from musmyrtle.faults.children import Children
 from musmyrtle.faults.host_runs import HostFunction, NoHost, function_of
+from musmyrtle.faults.modules import strange_warning
 from musmyrtle.faults.runs import CLUSTER_FILE, SCENARIO_FILE, outcome_words
 from musmyrtle.faults.whole_files import write_file
 from musmyrtle.lint.command import REFUSED, USAGE, is_bold_on, told
 from musmyrtle.lint.lint import Lint, Task, lint, read_bytes
 from musmyrtle.names import Names
-from musmyrtle.output import Stop, write
+from musmyrtle.output import Stop, pass_on, write
 from musmyrtle.program import Answer as Asked
 from musmyrtle.program import ask
 from musmyrtle.scenario import Reading as ScenarioReading
@@ -72,6 +73,9 @@ def accepted_host(given: argparse.Namespace, folder: Path) -> Inputs:
         answer = Asked(REFUSED, found.refusals[0][0] if found.refusals else "Read")
         write(sys.stderr, ["\n".join(told(answer, found, is_bold_on(sys.stderr)))])
         raise Stop(REFUSED)
+    warning = strange_warning()
+    if warning:
+        pass_on(f"musmyrtle faults: {warning}")
     try:
         source = source_of(function_of(given.host))
     except NoHost as error:

@@ -1,4 +1,6 @@
 """A page of the costs of faults, which is self-contained: without a script, a font or anything from outside."""
+import base64
+import hashlib
 from collections.abc import Iterator
 from dataclasses import dataclass
 from html import escape
@@ -50,7 +52,7 @@ def page(subject: Subject, results: Results) -> str:
     labels, runs = results.labels, results.runs
     title = f"Costs of single faults in {visible(subject.cluster_file)}"
     parts = [
-        f'<!DOCTYPE html>\n<html lang="en"><head><meta charset="utf-8"><title>{escape(title)}</title>',
+        f'<!DOCTYPE html>\n<html lang="en"><head><meta charset="utf-8">{policy(STYLE)}<title>{escape(title)}</title>',
         f"<style>{STYLE}</style></head><body><h1>{escape(title)}</h1>",
         f"<p>Scenario {escape(visible(subject.scenario_file))}, {counted(results.cycles, 'cycle')}. Each of "
         f"{counted(len(runs), 'fault')} came in a run of its own, which was compared with the run without it.</p>",
@@ -60,6 +62,14 @@ def page(subject: Subject, results: Results) -> str:
         "<h2>Kinds of faults</h2>", *kinds(results), *failures(runs), "</body></html>\n",
     ]
     return "\n".join(parts)
+
+
+def policy(style: str) -> str:
+    """Returns the mark by which a browser takes this style alone: no script, no other style and nothing from outside.
+    """
+    digest = base64.b64encode(hashlib.sha256(style.encode()).digest()).decode()
+    allowed = f"default-src 'none'; style-src 'sha256-{digest}'; base-uri 'none'; form-action 'none'"
+    return f'<meta http-equiv="Content-Security-Policy" content="{allowed}">'
 
 
 def key() -> Iterator[str]:

@@ -13,6 +13,8 @@ Plain = int | float | str | bool | None | Sequence[int] | Sequence[Mapping[str, 
 """A value of a JSON object."""
 BOLD, RED, USUAL = "\x1b[1m", "\x1b[31m", "\x1b[0m"
 ABSENT = "-"
+COMPUTED = tuple("=+-@\t\r'\uff1d\uff0b\uff0d\uff20")
+"""The first signs of texts that a spreadsheet computes, in both widths, and the one that marks a text."""
 LONGEST_TEXT = 120
 LONGEST_NUMBERS = 360
 """The characters of a list of numbers in a text. Of a longer one the numbers that are left out are counted."""
@@ -188,7 +190,7 @@ class Column:
             return [",".join(it.word for it in value.receivers)]
         if isinstance(value, Numbers):
             return [str(value)]
-        return ["" if it is None else visible(spelled(it)) for it in self.fields(value).values()]
+        return ["" if it is None else cell(it) for it in self.fields(value).values()]
 
     def text(self, value: Value) -> str:
         """Returns the value for people, in one line."""
@@ -207,6 +209,16 @@ def shortened(text: str) -> str:
     """Returns `x0123456789abcdef..cd` for many bytes, and other texts as they are."""
     is_long = len(text) > 1 + 2 * MOST_BYTES and BYTES.fullmatch(text)
     return f"{text[:1 + 2 * FIRST_BYTES]}..{text[-2:]}" if is_long else text
+
+
+def cell(value: object) -> str:
+    """Returns a value for CSV.
+
+    A text that a spreadsheet would compute has an apostrophe in front, by which it is a text there, and so has one that
+    begins with an apostrophe. Numbers stay as they are, and `-` alone computes nothing.
+    """
+    text = visible(spelled(value))
+    return f"'{text}" if isinstance(value, str) and text != ABSENT and text.startswith(COMPUTED) else text
 
 
 def spelled(value: object) -> str:
