@@ -190,7 +190,8 @@ class HostFaults(Shows):
 
     def test_strange_modules(self) -> None:
         """Files with names of Python's own modules and of the package note that they run. None does, neither for the
-        package nor for the host program, and a line says so. Another module of the folder does, as the program asks."""
+        package nor for the host program, and a line names them. Another module of the folder does, as the program
+        asks."""
         noted = self.folder / "noted"
         for name in ("json", "random", "heapq", "colorsys", "queue", "msvcrt", "musmyrtle"):
             self.written(f"{name}.py", f"open({str(noted)!r}, 'a').write(__name__)\n")

@@ -63,17 +63,21 @@ def try_outputs(given: argparse.Namespace) -> None:
 
     It does so before the runs, which may take long.
     """
-    outputs = {"--joblog": given.joblog, "--html": given.html}
     inputs = [("the cluster file", given.cluster), ("the scenario", given.scenario),
               ("the table of --against", given.against), ("the program", given.program),
               ("the program", itself(given.program)), ("the program of --world", given.world or itself(usual_world())),
               *(("the file of --sshloginfile", it) for it in given.sshloginfile)]
-    spare_inputs({option: file for option, file in outputs.items() if file is not None},
-                 [(what, file) for what, file in inputs if file is not None])
+    spare_inputs(outputs_of(given), [(what, file) for what, file in inputs if file is not None])
     if given.joblog is not None and not given.resume and is_begun(given.joblog):
         raise already(given.joblog)
     if given.html:
         try_page(given.html)
+
+
+def outputs_of(given: argparse.Namespace) -> dict[str, str]:
+    """Returns the files that are written, by their options."""
+    files = {"--joblog": given.joblog, "--html": given.html}
+    return {option: file for option, file in files.items() if file is not None}
 
 
 def try_page(file: str) -> None:
@@ -173,6 +177,8 @@ def with_scenario(given: argparse.Namespace, folder: Path) -> tuple[Campaign, In
 def with_host(given: argparse.Namespace, folder: Path) -> tuple[HostCampaign, Inputs, Selection]:
     """Returns the campaign of a host program, after its run without a fault."""
     inputs = accepted_host(given, folder)
+    # The file of the module is known once it is imported.
+    spare_inputs(outputs_of(given), [("the module of --host", inputs.module)] if inputs.module else [])
     selection = selected(given, inputs)
     means = means_of(given)
     job = HostJob(given.host, str(folder / CLUSTER_FILE), inputs.cluster, given.cycles, means.world, means.program)
@@ -240,8 +246,8 @@ def worse_line(fault: SingleFault, found: Difference, labels: Labels) -> str:
 def ran(given: argparse.Namespace) -> int:
     """Runs the whole command and returns the status."""
     try:
-        before = ranks_before(given.against)
         try_outputs(given)
+        before = ranks_before(given.against)
         with temporary_folder("musmyrtle-faults-") as folder:
             found = measured(given, folder)
             return FINE if found is None else concluded(given, found, before)

@@ -31,6 +31,8 @@ class Inputs:
     cluster: Cluster
     scenario: Scenario
     data: tuple[bytes, bytes]
+    module: str | None = None
+    """The file of the host program, if it has one."""
 
 
 def accepted(given: argparse.Namespace, folder: Path, children: Children) -> Inputs:
@@ -77,18 +79,19 @@ def accepted_host(given: argparse.Namespace, folder: Path) -> Inputs:
     if warning:
         pass_on(f"musmyrtle faults: {warning}")
     try:
-        source = source_of(function_of(given.host))
+        file = file_of(function_of(given.host))
     except NoHost as error:
         raise Stop(USAGE, f"--host {given.host}: {error}") from None
     cluster = ClusterReading(read_text(given.cluster, data).document).cluster
     assert cluster is not None
-    return Inputs(cluster, Scenario(given.host), (data, given.host.encode() + source))
+    source = (read_bytes(file) if file else None) or b""
+    return Inputs(cluster, Scenario(given.host), (data, given.host.encode() + source), file)
 
 
-def source_of(function: HostFunction) -> bytes:
-    """Returns the bytes of the module of a function, as far as it is in a file."""
+def file_of(function: HostFunction) -> str | None:
+    """Returns the file of the module of a function, if it has one."""
     file = getattr(sys.modules.get(getattr(function, "__module__", "")), "__file__", None)
-    return (read_bytes(file) if file else None) or b""
+    return file if isinstance(file, str) else None
 
 
 def copied(given: argparse.Namespace, folder: Path) -> tuple[Task, dict[str, bytes]]:

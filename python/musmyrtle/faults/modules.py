@@ -40,13 +40,13 @@ class OwnModules(MetaPathFinder):
 
 
 def is_current(folder: str) -> bool:
-    """Returns whether an entry of the path is the current folder. That of Python's own modules isn't one."""
+    """Returns whether an entry of the path is the current folder. The folder of Python's own modules isn't one."""
     real = os.path.realpath(folder or os.curdir)
     return real == os.path.realpath(os.curdir) and real != STANDARD
 
 
 def loaded(name: str) -> ModuleType:
-    """Imports a module, with the current folder first in the path. What it prints is dropped. Raises `Unloadable`."""
+    """Imports a module, with the current folder first in the path. Its output is dropped. Raises `Unloadable`."""
     if os.getcwd() not in sys.path:
         sys.path.insert(0, os.getcwd())
     if not any(isinstance(it, OwnModules) for it in sys.meta_path):

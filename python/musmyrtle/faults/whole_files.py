@@ -1,8 +1,11 @@
 """Output files of a command: none of its inputs, and written whole or not at all."""
 import os
 import shutil
+import stat
 from contextlib import suppress
 from pathlib import Path
+
+from musmyrtle.spared import Output, clash
 
 
 class Unusable(Exception):
@@ -19,19 +22,22 @@ def spare_inputs(outputs: dict[str, str], inputs: list[tuple[str, str]]) -> None
     The outputs are given by their options, and the inputs by their kinds. Another name, a symbolic or a hard link
     doesn't hide it.
     """
-    taken = list(inputs)
-    for option, file in outputs.items():
-        for what, other in taken:
-            if is_same(file, other):
-                raise Unusable(f"{option} {file} is {what}, which would be overwritten: name another file")
-        taken.append((f"the file of {option}", file))
+    named = [Output(file, f"{option} {file}", f"the file of {option}") for option, file in outputs.items()]
+    found = clash(named, inputs)
+    # The shell has opened these two, which may be one file.
+    for number, stream in ((1, "standard output"), (2, "standard error")):
+        found = found or clash([Output(f"/dev/fd/{number}", stream, "")] if is_file(number) else [],
+                               [*inputs, *((it.what, it.file) for it in named)])
+    if found:
+        raise Unusable(found)
 
 
-def is_same(one: str, other: str) -> bool:
+def is_file(number: int) -> bool:
+    """Returns whether a descriptor is a regular file."""
     try:
-        return os.path.samefile(one, other) and os.path.isfile(one)
+        return stat.S_ISREG(os.fstat(number).st_mode)
     except OSError:
-        return os.path.realpath(one) == os.path.realpath(other)
+        return False
 
 
 def write_file(file: Path, data: bytes) -> None:

@@ -7,6 +7,7 @@ from collections import deque
 from collections.abc import Iterable
 from dataclasses import dataclass
 
+from musmyrtle.spared import Output
 from musmyrtle.world.child import Child, Gone, Late
 from musmyrtle.world.faults import is_fault_line
 from musmyrtle.world.opening import refused_cluster
@@ -53,6 +54,16 @@ class Outputs:
         nodes = None if self.trace_nodes is None else ",".join(map(str, self.trace_nodes))
         numbers = (("trace-nodes", nodes), ("keep", self.keep))
         return named + [f"--{option}={value}" for option, value in numbers if value is not None]
+
+    def files(self, nodes: int) -> list[Output]:
+        """Returns the files that are written for a cluster of so many nodes."""
+        named = [Output(os.fspath(name), f"{what} {os.fspath(name)}", f"the file of {what}")
+                 for what, name in (("record", self.record), ("capture", self.capture)) if name is not None]
+        traced = () if self.traces is None else range(nodes) if self.trace_nodes is None else self.trace_nodes
+        for node in traced:
+            file = os.path.join(os.fspath(self.traces or ""), str(node))
+            named.append(Output(file, f"the trace {file}", f"the trace of node {node}"))
+        return named
 
     def refused(self, said: str) -> str | None:
         """Returns the file of a refusal that the program prints, or None for another one."""

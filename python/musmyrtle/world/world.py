@@ -11,9 +11,11 @@ from functools import partial
 
 from musmyrtle.cluster_file import Clock, clock_of, payload_length
 from musmyrtle.names import Names, UnknownName
+from musmyrtle.spared import Output, clash
 from musmyrtle.texts import FILE_LIMIT
 from musmyrtle.world.bounds import (
-    MOST_CYCLES, MOST_ENDLESS, endless_cycles, kept_cycles, run_cycles, some_cycles, traced_nodes, window_number,
+    MOST_CYCLES, MOST_ENDLESS, MOST_NODE, endless_cycles, kept_cycles, run_cycles, some_cycles, traced_nodes,
+    window_number,
 )
 from musmyrtle.world.faults import Fault, fault_line
 from musmyrtle.world.node import Buffer, Node
@@ -60,8 +62,9 @@ class World:
         which `fr_bench audit` reads once the world is closed, or as it comes if the file is a named pipe. TRACE_NODES
         are the nodes whose traces are written, otherwise all. All these files are emptied first, and each call that
         returns has its windows and entries there. Raises `ValueError` for a world that keeps its history, for nodes
-        without TRACES, and for numbers out of range. Raises `SessionOver` where a file can't be opened. If one can't be
-        written, the call with the window or the entry raises it.
+        without TRACES, for numbers out of range, and where a file is the cluster file, the program or another one of
+        these files, by whatever name: then nothing is emptied. Raises `SessionOver` where a file can't be opened. If
+        one can't be written, the call with the window or the entry raises it.
 
         PROGRAM is the `fr_world` to run, which `usual_world` finds otherwise. TIMEOUT is the time limit in seconds of
         each request and of the opening, or None. Raises `BadCycles` for another number of cycles, `NoRoom` where a
@@ -82,17 +85,32 @@ class World:
         except ValueError as error:
             raise BadCycles(*error.args) from None
         self._most_cycles = MOST_ENDLESS if self._is_endless else MOST_CYCLES
+        self._program, self._cycles = program or usual_world(), cycles
         self._cluster, self._data = cluster, regular_file(cluster)
+        self._spare_inputs(outputs.files(0 if traces is None else self._count_nodes()))
         self._faults: list[tuple[Fault, Callable[[Window], bool]]] = []
         self._unread = ""
         self._read_clock: Clock | None = None
-        self._program, self._cycles = program or usual_world(), cycles
         self._session = Session(self._program, cluster, cycles, timeout, endless=self._is_endless, outputs=outputs)
         try:
             self._names = self._read_names(self._data)
         except BaseException:
             self._session.close()
             raise
+
+    def _count_nodes(self) -> int:
+        """Returns the number of nodes that the cluster file has, or the greatest one if that isn't known."""
+        try:
+            return MOST_NODE + 1 if self._data is None else len(Names.of(self._data).buffers)
+        except ValueError:
+            return MOST_NODE + 1
+
+    def _spare_inputs(self, outputs: list[Output]) -> None:
+        """Raises `ValueError` where a file to write is the cluster file, the program or another file to write."""
+        inputs = [("the cluster file", os.fspath(self._cluster)), ("the program", os.fspath(self._program))]
+        found = clash(outputs, inputs)
+        if found:
+            raise ValueError(found)
 
     def __enter__(self) -> "World":
         return self
@@ -262,7 +280,8 @@ class World:
         It has the records of `fr_view bus`: each transmission that passed alone and wasn't too long, from each window
         that is sealed. The program of the world writes it: it is started anew, and is asked again the requests that
         changed the bus. Raises `NoHistory` in a world without history, and `ValueError` for a cluster file that was no
-        regular file, since the program can't read it twice. Raises `NotStarted` where the program can't be started,
+        regular file, since the program can't read it twice, and where the file is the cluster file or the program.
+        Raises `NotStarted` where the program can't be started,
         `OSError` where a file can't be written, and `SessionOver`, also where a request now has another reply, as after
         a refusal because of memory.
         """
@@ -271,6 +290,7 @@ class World:
             raise NoHistory(("NoHistory",), "capture")
         if self._data is None:
             raise ValueError("the capture needs a cluster file that is a regular file")
+        self._spare_inputs([Output(os.fspath(path), f"capture {os.fspath(path)}", "")])
         with self._session.lock:
             # It raises `SessionOver` where the session is over.
             self.ask("now")
@@ -282,15 +302,16 @@ class World:
     def page(self, path: FileName, *, program: FileName | None = None) -> None:
         """Writes a page in which the cycles that are done are explored in a browser, as `musmyrtle page` does.
 
-        PROGRAM is the `fr_view` to run, which is otherwise looked for. Raises `ValueError` where no cycle is done, or
-        where the calls are those of no scenario: each one comes between two cycles, and in each cycle those of task 0
-        come first. Raises `NoHistory` in a world without history, `OSError` where the file can't be written, and
-        `SessionOver` where a program can't be asked.
+        PROGRAM is the `fr_view` to run, which is otherwise looked for. Raises `ValueError` where no cycle is done,
+        where the file is the cluster file or the program, and where the calls are those of no scenario: each one comes
+        between two cycles, and in each cycle those of task 0 come first. Raises `NoHistory` in a world without history,
+        `OSError` where the file can't be written, and `SessionOver` where a program can't be asked.
         """
         # Each program that opens a world would wait for these imports.
         from musmyrtle.show.page_session import first_of_cycle, page_of_session, traces_of
         if self._data is None:
             raise ValueError("the page needs a cluster file that is a regular file")
+        self._spare_inputs([Output(os.fspath(path), f"page {os.fspath(path)}", "")])
         with self._session.lock:
             traces = list(traces_of(self.block))
             records = [self.record(number) for number in range(first_of_cycle(traces[0], self.now()))]
