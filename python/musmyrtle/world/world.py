@@ -62,9 +62,9 @@ class World:
         which `fr_bench audit` reads once the world is closed, or as it comes if the file is a named pipe. TRACE_NODES
         are the nodes whose traces are written, otherwise all. All these files are emptied first, and each call that
         returns has its windows and entries there. Raises `ValueError` for a world that keeps its history, for nodes
-        without TRACES, for numbers out of range, and where a file is the cluster file, the program or another one of
-        these files, by whatever name: then nothing is emptied. Raises `SessionOver` where a file can't be opened. If
-        one can't be written, the call with the window or the entry raises it.
+        without TRACES, and for numbers out of range. It is also raised, and nothing is emptied, if a file is the
+        cluster file, the program or another one of these files, by whatever name. Raises `SessionOver` where a file
+        can't be opened. If one can't be written, the call with the window or the entry raises it.
 
         PROGRAM is the `fr_world` to run, which `usual_world` finds otherwise. TIMEOUT is the time limit in seconds of
         each request and of the opening, or None. Raises `BadCycles` for another number of cycles, `NoRoom` where a
@@ -302,10 +302,10 @@ class World:
     def page(self, path: FileName, *, program: FileName | None = None) -> None:
         """Writes a page in which the cycles that are done are explored in a browser, as `musmyrtle page` does.
 
-        PROGRAM is the `fr_view` to run, which is otherwise looked for. Raises `ValueError` where no cycle is done,
-        where the file is the cluster file or the program, and where the calls are those of no scenario: each one comes
-        between two cycles, and in each cycle those of task 0 come first. Raises `NoHistory` in a world without history,
-        `OSError` where the file can't be written, and `SessionOver` where a program can't be asked.
+        PROGRAM is the `fr_view` to run, which is otherwise looked for. Raises `ValueError` where no cycle is done, and
+        where the file is the cluster file or the program. It is also raised where the calls are those of no scenario:
+        each one comes between two cycles, and in each cycle those of task 0 come first. Raises `NoHistory` in a world
+        without history, `OSError` where the file can't be written, and `SessionOver` where a program can't be asked.
         """
         # Each program that opens a world would wait for these imports.
         from musmyrtle.show.page_session import first_of_cycle, page_of_session, traces_of
