@@ -5,6 +5,7 @@ import subprocess
 import sys
 import time
 from pathlib import Path
+from unittest.mock import patch
 
 from tests.shows import FIRST, NETWORK, SECOND, Shows
 
@@ -212,6 +213,18 @@ class HostFaults(Shows):
                          "heapq.py, json.py, msvcrt.py, musmyrtle.py and 3 more, named as modules of Python or of "
                          "musmyrtle")
         self.assertEqual("\n".join(told.splitlines()[1:]), expected[2].rstrip("\n"))
+
+    def test_modules_that_python_imported_before(self) -> None:
+        """With the current folder in PYTHONPATH Python has imported a module there before the command begins."""
+        standard = str(Path(os.__file__).parent / "fnmatch.py")
+        self.written("fnmatch.py", f"exec(open({standard!r}).read())\n")
+        self.written("wave.py", "")
+        front = "musmyrtle faults: "
+        named = " from the current folder: {}.py, named as modules of Python or of musmyrtle"
+        with patch.dict(os.environ, {"PYTHONPATH": "."}):
+            told = self.host("calls", "--kinds", "lost", "--nodes", "1")[2].splitlines()
+        self.assertEqual(told[:2], [f"{front}imported{named.format('fnmatch')}",
+                                    f"{front}not imported{named.format('wave')}"])
 
     def test_modules_that_are_not_imported(self) -> None:
         """A module that ends Python would end the command with its status, without a run."""

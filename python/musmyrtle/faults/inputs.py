@@ -10,7 +10,7 @@ from musmyrtle.faults.answers import NO_REFUSALS, Answer
 from musmyrtle.faults.campaign import NoReference, no_outcome
 from musmyrtle.faults.children import Children
 from musmyrtle.faults.host_runs import HostFunction, NoHost, function_of
-from musmyrtle.faults.modules import strange_warning
+from musmyrtle.faults.modules import strange_warnings
 from musmyrtle.faults.runs import CLUSTER_FILE, SCENARIO_FILE, outcome_words
 from musmyrtle.faults.whole_files import write_file
 from musmyrtle.lint.command import REFUSED, USAGE, is_bold_on, told
@@ -75,8 +75,7 @@ def accepted_host(given: argparse.Namespace, folder: Path) -> Inputs:
         answer = Asked(REFUSED, found.refusals[0][0] if found.refusals else "Read")
         write(sys.stderr, ["\n".join(told(answer, found, is_bold_on(sys.stderr)))])
         raise Stop(REFUSED)
-    warning = strange_warning()
-    if warning:
+    for warning in strange_warnings():
         pass_on(f"musmyrtle faults: {warning}")
     try:
         file = file_of(function_of(given.host))

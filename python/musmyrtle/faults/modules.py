@@ -79,14 +79,23 @@ def strange_modules() -> list[str]:
     return sorted(found) if is_current(os.curdir) else []
 
 
-def strange_warning() -> str | None:
-    """Returns the line on the files of the current folder that aren't imported, or None without any."""
+def strange_warnings() -> Iterator[str]:
+    """Yields a line on the files of the current folder that aren't imported, and one on those that were imported before
+    this command had a say, as with the folder in PYTHONPATH."""
     found = [it for it in strange_modules() if not is_package_of_this(it)]
-    if not found:
-        return None
-    named = ", ".join(cut(it) for it in found[:MOST_NAMED])
-    more = f" and {len(found) - MOST_NAMED} more" if len(found) > MOST_NAMED else ""
-    return f"not imported from the current folder: {named}{more}, named as modules of Python or of musmyrtle"
+    imported = [it for it in found if is_imported(it)]
+    named = "named as modules of Python or of musmyrtle"
+    for what, files in (("imported", imported), ("not imported", [it for it in found if it not in imported])):
+        if files:
+            more = f" and {len(files) - MOST_NAMED} more" if len(files) > MOST_NAMED else ""
+            yield f"{what} from the current folder: {', '.join(map(cut, files[:MOST_NAMED]))}{more}, {named}"
+
+
+def is_imported(name: str) -> bool:
+    """Returns whether a file or a package of the current folder is the module that Python has of this name."""
+    file = getattr(sys.modules.get(name.partition(".")[0]), "__file__", None)
+    return isinstance(file, str) and os.path.realpath(file) in (
+        os.path.realpath(name), os.path.realpath(os.path.join(name, "__init__.py")))
 
 
 def is_package_of_this(name: str) -> bool:
