@@ -23,10 +23,58 @@ explain() {
     fi
 }
 
-# Prints a line. Characters that a terminal would obey are left out.
+# Prints a line, with an escape for each character that a terminal would obey.
 say() {
-    line=$(printf '%s' "$1" | LC_ALL=C tr '\001-\037\177' '?')
-    printf '%s: %s\n' "$name" "$line" >&2
+    printf '%s: %s\n' "$name" "$(escaped "$1")" >&2
+}
+
+# Prints a text with escapes as `\x1b` and `\u202e`, as python/musmyrtle/visible.py spells them: for control characters,
+# formatting characters such as those that turn the direction of writing, spaces other than the usual one, characters
+# for private use, and bytes that are no UTF-8. Characters that no version of Unicode has yet are printed.
+escaped() {
+    # The awk of many systems knows no UTF-8, so this reads bytes. The bar keeps a line feed at the end.
+    printf '%s|' "$1" | LC_ALL=C awk '
+        BEGIN {
+            for (i = 1; i < 256; i++) byte[sprintf("%c", i)] = i
+            # Firsts and lasts, in ascending order.
+            count = split("127 160 173 173 1536 1541 1564 1564 1757 1757 1807 1807 2192 2193 2274 2274 5760 5760 " \
+                "6158 6158 8192 8207 8232 8239 8287 8292 8294 8303 12288 12288 57344 63743 65279 65279 65529 65531 " \
+                "69821 69821 69837 69837 78896 78904 113824 113827 119155 119162 917505 917505 917536 917631 " \
+                "983040 1048573 1048576 1114109", hidden, " ")
+        }
+        function escape(code) {
+            return sprintf(code < 256 ? "\\x%02x" : code < 65536 ? "\\u%04x" : "\\U%08x", code)
+        }
+        function is_hidden(code,    i) {
+            if (code < 127) return code < 32
+            for (i = 1; i < count && hidden[i] <= code; i += 2) if (code <= hidden[i + 1]) return 1
+            return 0
+        }
+        # Sets `code` to the character at a place, and returns its length, or 0 where the bytes are no UTF-8.
+        function read_at(text, place,    first, length_, least, i, next_) {
+            first = byte[substr(text, place, 1)]
+            if (first < 128) { code = first; return 1 }
+            if (first < 194 || first > 244) return 0
+            length_ = first < 224 ? 2 : first < 240 ? 3 : 4
+            least = first < 224 ? 128 : first < 240 ? 2048 : 65536
+            code = first - (first < 224 ? 192 : first < 240 ? 224 : 240)
+            for (i = 1; i < length_; i++) {
+                next_ = byte[substr(text, place + i, 1)]
+                if (next_ < 128 || next_ > 191) return 0
+                code = code * 64 + next_ - 128
+            }
+            return code < least || code > 1114111 || code > 55295 && code < 57344 ? 0 : length_
+        }
+        { text = NR == 1 ? $0 : text "\n" $0 }
+        END {
+            for (place = 1; place < length(text); place += size) {
+                size = read_at(text, place)
+                if (!size) { printf "\\udc%02x", byte[substr(text, place, 1)]; size = 1 }
+                else if (is_hidden(code)) printf "%s", escape(code)
+                else printf "%s", substr(text, place, size)
+            }
+        }
+    ' 2>/dev/null || printf '%s' "$1" | LC_ALL=C tr -c ' -~' '?'
 }
 
 explain_words() {

@@ -29,6 +29,7 @@ SLIPS: list[tuple[str, Words, str]] = [
     ("fr_bench", ("check",), "missing: FILE"),
     ("fr_bench", ("plan", CLUSTER, SCENARIO), f"one word too many: {SCENARIO}"),
     ("fr_bench", ("check", b"\xff"), "a word isn't UTF-8"),
+    ("fr_bench", ("check", CLUSTER, "--\u202efree\x9b"), r"check has no option --\u202efree\x9b"),
     ("fr_bench", ("check", CLUSTER, "--free"), "check has no option --free"),
     ("fr_bench", ("run",), "missing: FILE, SCENARIO, --cycles N"),
     ("fr_bench", ("run", CLUSTER, "--cycles", "4"), "missing: SCENARIO"),
@@ -110,7 +111,12 @@ UNREAD: list[tuple[str, Words, str]] = [
     ("fr_bench", ("check", f"{CLUSTER}/more"), f"no such file: {CLUSTER}/more ({CLUSTER} isn't a folder)"),
     ("fr_bench", ("check", "dangling"), "no such file: dangling (a link to nothing)"),
     ("fr_bench", ("check", "closed"), "permission denied: closed"),
-    ("fr_bench", ("check", "\x1b[1m\n"), "no such file: ?[1m?"),
+    # The escapes are those of `musmyrtle`: control characters, also of the second set, and turned writing.
+    ("fr_bench", ("check", "\x1b[1m\n"), r"no such file: \x1b[1m\x0a"),
+    ("fr_bench", ("check", "\x9b2J\x85\x7f"), r"no such file: \x9b2J\x85\x7f"),
+    ("fr_bench", ("check", "\u202elmot.\u2066\u2069"), r"no such file: \u202elmot.\u2066\u2069"),
+    ("fr_view", ("schedule", "\u200b\u2028\ufeff\xa0\U000e0001"), r"no such file: \u200b\u2028\ufeff\xa0\U000e0001"),
+    ("fr_view", ("schedule", "f\xfcnf \u4e94.toml"), "no such file: f\xfcnf \u4e94.toml"),
     ("fr_bench", ("run", CLUSTER, "missing", "--cycles", "4"), "no such file: missing"),
     ("fr_bench", ("run", "lost", "missing", "--cycles", "4"), "no such file: lost"),
     ("fr_view", ("trace", "1", CLUSTER, "closed", "--cycles", "4"), "permission denied: closed"),
@@ -167,6 +173,8 @@ class Slips:
         self.words()
         self.files()
         self.streams()
+        self.closed()
+        self.limited()
         self.helps()
         self.versions()
         self.agreement()
@@ -217,6 +225,50 @@ class Slips:
         closing = ["sh", "-c", 'exec "$@" <&-', "sh", self.top / "tools/told", "fr_bench", self.programs["fr_bench"]]
         ran = subprocess.run([*closing, "audit"], capture_output=True, timeout=SECONDS)
         self.runs.compare("standard input that is closed", (ran.stderr, ran.returncode), (b"refused Read\n", 1))
+
+    def shell(self, command: str, *words: str | Path) -> tuple[bytes, bytes, int]:
+        """Returns the output, the standard error and the status of a shell command."""
+        ran = subprocess.run(["sh", "-c", command, "sh", *words], cwd=self.top, capture_output=True, timeout=SECONDS,
+                             stdin=subprocess.DEVNULL)
+        return ran.stdout, ran.stderr, ran.returncode
+
+    def closed(self) -> None:
+        """Checks that a closed standard stream fails, and that no file of the program gets its number."""
+        world = f"printf 'cycle\\nnow\\n' | ./fr_world {CLUSTER} --endless --record=record"
+        for streams, errors in ((">&-", b"refused Write\n"), (">&- 2>&-", b""), (">&- 2>&- 0<&-", b"")):
+            (self.top / "record").unlink(missing_ok=True)
+            got = self.shell(f"{world} {streams}")
+            replies = [it for it in (b"frworld", b"open") if it in self.record()]
+            self.runs.compare(f"a world with {streams}", (got, replies), ((b"", errors, 1), []))
+        got = self.shell(f"{world} 2>&-")
+        self.runs.compare("a world without standard error", (got, self.record()[:9]),
+                          ((b"frworld 1\nopen 7 1 0 1 1\nopen 7 1 0 1 1\n", b"", 0), b"0 0 - 1 A"))
+        for words, streams, wanted in (
+                (f"fr_bench check {CLUSTER}", ">&-", (b"", b"refused Write\n", 1)),
+                (f"fr_view windows {' '.join(RUN)}", ">&-", (b"", b"refused Write\n", 1)),
+                ("fr_bench audit", "<&-", (b"", b"refused Read\n", 1)),
+                ("fr_bench chek", "2>&-", (b"", b"", 2)),
+                ("fr_bench --help", ">&-", (b"", b"fr_bench: the help can't be written\n", 1)),
+                (f"fr_bench check {CLUSTER}", "<&- >&- 2>&-", (b"", b"", 1))):
+            for when in ("a first", "a later"):
+                if when == "a first":
+                    (self.top / "out" / f"{words.split()[0]}.found").unlink(missing_ok=True)
+                self.runs.compare(f"{when} call of {words} {streams}", self.shell(f"./{words} {streams}"), wanted)
+
+    def record(self) -> bytes:
+        """Returns the record that a world wrote, if there is one."""
+        file = self.top / "record"
+        return file.read_bytes() if file.exists() else b""
+
+    def limited(self) -> None:
+        """Checks that an output beyond the limit of file sizes ends as a refused write, and not by a signal."""
+        windows = f"fr_view windows {' '.join(RUN[:2])} --cycles 64"
+        told = f"trap '' XFSZ; sh tools/told fr_view {self.programs['fr_view']} {windows.partition(' ')[2]}"
+        for command in (f"./{windows}", f"./{windows} --endless", told):
+            got = self.shell(f"ulimit -f 1; {command} > windows")
+            self.runs.compare(f"{command} in a small file", got, (b"", b"refused Write\n", 1))
+        world = f"echo 'run 100' | ./fr_world {CLUSTER} --endless --record=record"
+        self.runs.compare("a small record", self.shell(f"ulimit -f 1; {world}")[1:], (b"refused Record\n", 1))
 
     def helps(self) -> None:
         for program in self.programs:
