@@ -1,4 +1,6 @@
 """The output of a command to standard output and standard error, also where these fail."""
+import errno
+import io
 import os
 import sys
 from collections.abc import Iterable
@@ -30,14 +32,32 @@ def write(stream: TextIO | None, texts: Iterable[str]) -> None:
     if stream is None:
         raise Stop(CANNOT_BE_USED, "the output can't be written: it is closed")
     try:
-        stream.writelines(texts)
-        stream.flush()
+        if isinstance(stream, io.TextIOWrapper) and isinstance(stream.buffer, io.RawIOBase):
+            write_unbuffered(stream, stream.buffer, texts)
+        else:
+            stream.writelines(texts)
+            stream.flush()
     except OSError as error:
         # Python writes the rest at its own end, and reports a failure in its own words.
         os.dup2(os.open(os.devnull, os.O_WRONLY), stream.fileno())
         if isinstance(error, BrokenPipeError):
             raise
         raise Stop(CANNOT_BE_USED, f"the output can't be written: {error.strerror}") from None
+
+
+def write_unbuffered(stream: io.TextIOWrapper, raw: io.RawIOBase, texts: Iterable[str]) -> None:
+    """Writes the whole text to a stream without a buffer, as PYTHONUNBUFFERED makes it.
+
+    A file system that is nearly full takes a part of what is written, and Python would drop the rest without an error.
+    """
+    stream.flush()
+    for text in texts:
+        rest = memoryview(text.encode(stream.encoding, stream.errors or "strict"))
+        while rest:
+            taken = raw.write(rest)
+            if taken is None:
+                raise BlockingIOError(errno.EAGAIN, os.strerror(errno.EAGAIN))
+            rest = rest[taken:]
 
 
 def pass_on(line: str) -> None:

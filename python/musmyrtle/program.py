@@ -15,11 +15,15 @@ from typing import IO, Any
 from musmyrtle.idle_lines import idle_line_of
 from musmyrtle.missed import MISSED, Miss, misses_of
 from musmyrtle.output import pass_on
+from musmyrtle.streams import RESTORED
 
 CHECKOUT = Path(__file__).resolve().parents[2]
 VARIABLES = {"fr_bench": "MUSMYRTLE_BENCH", "fr_view": "MUSMYRTLE_VIEW", "fr_world": "MUSMYRTLE_WORLD",
              "fr_monitor": "MUSMYRTLE_MONITOR"}
 """The variables that name the programs."""
+OF_THE_MACHINE = {"Read": "its input can't be read", "Write": "its output can't be written", "Memory": "out of memory",
+                  "Thread": "a thread can't be started, or its run didn't complete"}
+"""The refusals that report a failure of the machine, each with what failed. They are no verdict on the input."""
 REFUSED_LINE = re.compile(r"refused [A-Z][A-Za-z]*( .*)?")
 MOST_TOLD, LONGEST_TOLD, MOST_SAID = 20, 4096, 300
 """The number of lines and of characters in a line that are kept of a program's messages, and of characters repeated."""
@@ -43,13 +47,23 @@ class Answer:
     """The lines of the scenario whose faults had no effect in the run."""
 
     @property
-    def is_one(self) -> bool:
-        """Returns whether the program answered.
+    def failure(self) -> str | None:
+        """Returns the name in `OF_THE_MACHINE`, if the program reports such a failure.
 
-        A signal and a status that docs/formats/commands.md doesn't have are no answer.
+        An input that can't be read by others either is a verdict on the input.
+        """
+        name = (self.refusal or "").split(" ")[0]
+        return name if self.status == 1 and self.is_named and name in OF_THE_MACHINE else None
+
+    def is_one(self, found: str | None = None) -> bool:
+        """Returns whether the program answered. FOUND is the refusal that this package finds in the input.
+
+        A signal and a status that docs/formats/commands.md doesn't have are no answer. Nor is a failure of the machine,
+        unless it is what is found here, as for a file that isn't there.
         """
         is_usage = self.status == 2 and self.refusal == "usage"
-        return self.status == 0 or self.status == 1 and self.is_named or is_usage
+        is_refused = self.status == 1 and self.is_named and (self.failure is None or self.refusal == found)
+        return self.status == 0 or is_refused or is_usage
 
 
 def usual_program(name: str = "fr_bench") -> str | None:
@@ -126,10 +140,21 @@ def listened(running: subprocess.Popen[Any], listen: Callable[[IO[str]], None] |
     if listen is None or running.stdout is None:
         yield
         return
-    listening = Thread(target=listen, args=(running.stdout,), daemon=True)
+    failures, reading = list[Exception](), listen
+
+    def work(output: IO[str]) -> None:
+        try:
+            reading(output)
+        except Exception as error:
+            # A thread would print a traceback of it. The program mustn't wait for a reader.
+            failures.append(error)
+            output.close()
+    listening = Thread(target=work, args=(running.stdout,), daemon=True)
     listening.start()
     yield
     listening.join()
+    if failures:
+        raise failures[0]
 
 
 def ask(program: str, words: list[str], started: Started = subprocess.Popen,
@@ -142,7 +167,7 @@ def ask(program: str, words: list[str], started: Started = subprocess.Popen,
     refusal, misses, idle = None, list[Miss](), list[int]()
     told: deque[str] = deque(maxlen=MOST_TOLD)
     streams: dict[str, Any] = {"stdin": subprocess.DEVNULL, "stdout": subprocess.PIPE if listen else subprocess.DEVNULL,
-                               "stderr": subprocess.PIPE}
+                               "stderr": subprocess.PIPE, "restore_signals": RESTORED}
     with (started([program, *words], text=True, errors="replace", **streams) as running,
           listened(running, listen)):
         # A line without an end comes in parts, so that a program can't fill the memory.
@@ -166,6 +191,8 @@ def no_answer(program: str, words: list[str], answer: Answer) -> str:
     """Describes a program without an answer: its words, its end and its message."""
     said = f"refused {answer.refusal}" if answer.is_named else answer.refusal or ""
     said = "" if said == f"status {answer.status}" else f": {said[-MOST_SAID:]}"
+    if answer.failure:
+        said = f"{said} ({OF_THE_MACHINE[answer.failure]}), which is no verdict on the input"
     return f"{' '.join([program, *words])} {how_it_ended(answer.status)}{said}"
 
 

@@ -71,8 +71,8 @@ class Command(Cases):
         status, output, _ = self.run_with(refused, "--program", self.stub())
         told = "fr_bench decides, although musmyrtle lint finds a reason to refuse the input: Params OutOfRange idle."
         self.assertEqual((status, output), (0, f"fr_bench: accepted\n\n{told}\n"))
-        status, output, _ = self.run_with(cluster, "--program", self.stub("Memory"))
-        self.assertEqual((status, output.splitlines()[2]), (1, "No reason is known for `Memory`."))
+        status, output, _ = self.run_with(cluster, "--program", self.stub("TooLong"))
+        self.assertEqual((status, output.splitlines()[2]), (1, "No reason is known for `TooLong`."))
 
     def failing(self, *lines: str) -> str:
         """Writes a program that does this."""

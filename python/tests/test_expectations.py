@@ -317,5 +317,5 @@ class Reader(Shows):
             program.chmod(0o755)
             with self.subTest(does), patch("sys.stderr"):
                 answer = ask(str(program), ["run"])
-                self.assertEqual(answer.is_one, is_one)
+                self.assertEqual(answer.is_one(), is_one)
                 self.assertEqual(len(answer.misses), does == f"echo '{line}' >&2; exit 3")

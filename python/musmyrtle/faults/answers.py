@@ -5,9 +5,10 @@ from dataclasses import dataclass
 
 from musmyrtle.breaking import SIGNALLED
 from musmyrtle.missed import MISSED, miss_of
+from musmyrtle.program import OF_THE_MACHINE
 
 REFUSED = 1
-NO_REFUSALS = ("Read", "Write", "Memory", "Truncated", "Thread")
+NO_REFUSALS = (*OF_THE_MACHINE, "Truncated")
 """Refusals that report a fault of the machine. The scenario of a run is whole, so none of them is about the run."""
 REFUSAL = re.compile(r"refused ([A-Z][A-Za-z]*)( .*)?")
 UNANSWERED = ("killed", "unreadable")

@@ -9,6 +9,7 @@ from contextlib import contextmanager, suppress
 from typing import Any
 
 from musmyrtle.breaking import deferred
+from musmyrtle.streams import RESTORED
 
 GRACE = 2.0
 """The seconds between SIGTERM and SIGKILL."""
@@ -30,7 +31,7 @@ class Children:
         self.is_over = False
 
     @contextmanager
-    def started(self, words: list[str], **how: Any) -> Iterator[Process]:
+    def started(self, words: list[str], restore_signals: bool = RESTORED, **how: Any) -> Iterator[Process]:
         """Runs a program, and waits for its end. An exception in the block ends the program and its process group."""
         started: list[Process] = []
         try:
@@ -38,7 +39,7 @@ class Children:
             with deferred(), self.lock:
                 if self.is_over:
                     raise Over
-                started.append(subprocess.Popen(words, process_group=0, **how))
+                started.append(subprocess.Popen(words, process_group=0, restore_signals=restore_signals, **how))
                 self.running.update(started)
             with started[0] as process:
                 try:

@@ -7,7 +7,8 @@ import time
 from pathlib import Path
 
 from musmyrtle.breaking import BrokenOff, breaking_off, temporary_folder
-from musmyrtle.cluster_file import document_of
+from musmyrtle.cluster import Cluster
+from musmyrtle.ending import FINE, status_of
 from musmyrtle.faults.campaign import Campaign, Means, NoReference
 from musmyrtle.faults.children import Children
 from musmyrtle.faults.costs import Difference
@@ -23,14 +24,14 @@ from musmyrtle.faults.options import COMMAND, arguments, parsed
 from musmyrtle.faults.page import Subject, page
 from musmyrtle.faults.runs import CLUSTER_FILE, Folder
 from musmyrtle.faults.table import (
-    BadTable, Ranks, Results, is_failed, list_rows, listed, not_compared, read_ranks, summary, table, table_rows,
-    total_rows,
+    HEADINGS, LONGEST_HEADING, BadTable, Ranks, Results, has_effect, list_rows, listed, not_compared, read_ranks,
+    summary, table, table_rows,
 )
 from musmyrtle.faults.table import told as told_difference
 from musmyrtle.faults.table import worse
 from musmyrtle.faults.whole_files import Unusable, replace_file, spare_inputs
 from musmyrtle.findings import counted
-from musmyrtle.lint.command import FINE, USAGE, formed
+from musmyrtle.lint.command import USAGE, formed
 from musmyrtle.output import Stop, write
 from musmyrtle.program import by_option, is_launcher, itself
 from musmyrtle.selections import Directory, UnknownWord
@@ -50,7 +51,10 @@ def ranks_before(file: str | None) -> Ranks | None:
     if file is None:
         return None
     try:
-        return read_ranks(Path(file).read_text(encoding="utf-8"))
+        with open(file, encoding="utf-8") as source:
+            # Another file may have no end.
+            first = source.readline(LONGEST_HEADING)
+            return read_ranks(first + source.read() if first in HEADINGS else first)
     except OSError as error:
         raise Stop(USAGE, f"--against {file}: {error.strerror}") from None
     except ValueError as error:
@@ -255,11 +259,6 @@ def ran(given: argparse.Namespace) -> int:
         raise Stop(UNDONE, str(error)) from None
     except Unusable as error:
         raise Stop(USAGE, str(error)) from None
-    except BrokenPipeError:
-        raise
-    except OSError as error:
-        # A file or folder vanished meanwhile, or there is no folder for temporary files.
-        raise Stop(USAGE, ": ".join(str(it) for it in (error.filename, error.strerror or error) if it)) from None
     except BrokenOff as signal:
         how = f"; --joblog {given.joblog} --resume goes on" if given.joblog else ""
         raise Stop(signal.status, f"broken off{how}") from None
@@ -267,12 +266,7 @@ def ran(given: argparse.Namespace) -> int:
 
 def main(words: list[str]) -> int:
     """Does the command, and returns the status."""
-    try:
+    def work() -> int:
         with breaking_off():
             return ran(parsed(words))
-    except Stop as stop:
-        return stop.tell(COMMAND)
-    except BrokenOff as signal:
-        return signal.status
-    except BrokenPipeError:
-        return FINE
+    return status_of(COMMAND, work)

@@ -67,7 +67,9 @@ def answers(folder: Folder, program: str, faults: list[SingleFault],
     environment = surroundings(folder.path)
     try:
         with open(arguments) as given, folder.children.started(
-                command(sent, hosts), stdin=given, stdout=subprocess.PIPE, cwd=sent.folder, env=environment) as running:
+                command(sent, hosts), stdin=given, stdout=subprocess.PIPE, cwd=sent.folder, env=environment,
+                # `parallel` and its tools expect the usual signals.
+                restore_signals=True) as running:
             for number, answer in read_answers(running.stdout or (), sent):
                 yield faults[number], answer
     except FileNotFoundError as error:

@@ -72,7 +72,7 @@ def accepted_host(given: argparse.Namespace, folder: Path) -> Inputs:
         write_file(copy, data)
     found = lint(Task(given.cluster, files={} if data is None else {given.cluster: str(copy)}))
     if data is None or found.refusals:
-        answer = Asked(REFUSED, found.refusals[0][0] if found.refusals else "Read")
+        answer = Asked(REFUSED, found.refusal or "Read")
         write(sys.stderr, ["\n".join(told(answer, found, is_bold_on(sys.stderr)))])
         raise Stop(REFUSED)
     for warning in strange_warnings():
@@ -115,6 +115,5 @@ def is_of_inputs(answer: Asked, found: Lint) -> bool:
     """
     if answer.status == 0:
         return bool(found.refusals)
-    first = found.refusals[0][0] if found.refusals else None
     is_refused = answer.status == REFUSED and answer.is_named and answer.refusal is not None
-    return is_refused and (answer.refusal not in NO_REFUSALS or answer.refusal == first)
+    return is_refused and (answer.refusal not in NO_REFUSALS or answer.refusal == found.refusal)

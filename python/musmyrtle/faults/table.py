@@ -16,6 +16,7 @@ COLUMNS = ("kind", "node", "channels", "cycles", "place", "receiver", "thing", "
 HEADING = "\t".join(COLUMNS) + "\n"
 HEADING_OF_ONE_CHANNEL = HEADING.replace("channels", "channel")
 """The heading of earlier versions, in which each fault is of one channel."""
+HEADINGS, LONGEST_HEADING = (HEADING, HEADING_OF_ONE_CHANNEL), len(HEADING)
 Done = list[tuple[SingleFault, list[Difference]]]
 """Faults in the order of their list, each with the differences of its run."""
 PROVED = "proved"
@@ -137,7 +138,7 @@ APART = ("lost", "changed", "pending", "unsent")
 
 def read_ranks(text: str) -> Ranks:
     lines = text.split("\n")
-    if lines[0] + "\n" not in (HEADING, HEADING_OF_ONE_CHANNEL) or lines[-1]:
+    if lines[0] + "\n" not in HEADINGS or lines[-1]:
         raise BadTable("isn't a whole table of faults")
     found: dict[tuple[str, ...], dict[str, int]] = {}
     for number, line in enumerate(lines[1:-1], 2):

@@ -9,6 +9,7 @@ from contextlib import ExitStack, contextmanager, suppress
 from dataclasses import replace
 from typing import Any, NoReturn, TextIO
 
+from musmyrtle.ending import FINE, reason_of, status_of
 from musmyrtle.findings import MOST_REASONS, block, counted, nearest
 from musmyrtle.idle_lines import FORM as IDLE
 from musmyrtle.lint.allows import NAMES, expected_name
@@ -29,9 +30,7 @@ from musmyrtle.visible import cut, visible
 COMMAND = "musmyrtle lint"
 KNOWN = re.compile(f"line [0-9]+ names no cycle of the run|{IDLE.pattern}|{FORM.pattern}")
 """The messages of the program in whose place there are notes and warnings."""
-FAULT = re.compile(rf"^[ \t]*(?:{'|'.join((*FAULTS, LOST))})\b".encode(), re.MULTILINE)
-NOT_KNOWN = f"{COMMAND}: faults without effect aren't known: "
-FINE, REFUSED, USAGE, WARNED, BROKEN_OFF = 0, 1, 2, 4, 130
+REFUSED, USAGE, WARNED = 1, 2, 4
 MOST_WARNINGS, MOST_REPEATED = 40, 200
 ABOUT = """Explains the faults of a cluster file, and of a scenario for it: place, reason, and expected form.
 
@@ -209,7 +208,7 @@ def lasting_file(name: str, copies: ExitStack) -> str:
         copy.write(data)
         copy.flush()
     except OSError as error:
-        raise Stop(USAGE, f"{name} can't be copied: {error.strerror}") from None
+        raise Stop(USAGE, f"{name} can't be copied: {reason_of(error)}") from None
     return copy.name
 
 
@@ -222,7 +221,7 @@ def told(answer: Answer, found: Lint, is_bold: bool = False) -> Iterator[str]:
         return
     yield f"fr_bench: refused {refusal}\n" if answer.status else "fr_bench: accepted\n"
     if answer.refusal is None and found.refusals:
-        yield f"fr_bench decides, although {COMMAND} finds a reason to refuse the input: {found.refusals[0][0]}.\n"
+        yield f"fr_bench decides, although {COMMAND} finds a reason to refuse the input: {found.refusal}.\n"
         return
     if answer.refusal is not None:
         yield from told_reasons(answer, found, is_bold)
@@ -249,7 +248,7 @@ def told_reasons(answer: Answer, found: Lint, is_bold: bool) -> Iterator[str]:
 
 def is_explained(answer: Answer, found: Lint) -> bool:
     """Returns whether the first refusal printed is the program's, or neither has any."""
-    return answer.refusal == (found.refusals[0][0] if found.refusals else None)
+    return answer.refusal == found.refusal
 
 
 def is_bold_on(stream: TextIO | None) -> bool:
@@ -302,12 +301,13 @@ def linted(given: argparse.Namespace) -> int:
                          known=KNOWN)
         except OSError as error:
             raise Stop(USAGE, f"{given.program} can't be run: {error.strerror}") from None
-        if not answer.is_one:
+        if not answer.is_one() and answer.failure is None:
             raise Stop(USAGE, no_answer(given.program, words_for(task), answer))
         wanted = [(node, buffer) for node, buffer in given.guaranteed]
         guarantees = Guarantees(task.file(task.cluster), wanted, given.load)
-        ran = Ran(overwritten, answer.misses, () if answer.status else idle_lines(task, answer))
-        found = lint(task, ran, None if answer.status else guarantees)
+        found = lint(task, Ran(overwritten, answer.misses), None if answer.status else guarantees)
+        if not answer.is_one(found.refusal):
+            raise Stop(USAGE, no_answer(given.program, words_for(task), answer))
     if guarantees.is_wanted and not guarantees.is_done and not answer.status:
         raise Stop(USAGE, f"{COMMAND} can't read {given.cluster}, so that it finds no guarantees and no load")
     known = found if is_explained(answer, found) else Lint()
@@ -322,11 +322,4 @@ def linted(given: argparse.Namespace) -> int:
 
 def main(words: list[str]) -> int:
     """Does the command, and returns the status."""
-    try:
-        return linted(parsed(words))
-    except Stop as stop:
-        return stop.tell(COMMAND)
-    except BrokenPipeError:
-        return FINE
-    except KeyboardInterrupt:
-        return BROKEN_OFF
+    return status_of(COMMAND, lambda: linted(parsed(words)))

@@ -1,7 +1,6 @@
 """The findings about a cluster file and a scenario, beside the answer of `fr_bench`."""
 from collections.abc import Callable, Iterable
 from dataclasses import dataclass, field, replace
-from pathlib import Path
 
 from musmyrtle.cluster import Cluster
 from musmyrtle.cluster import Reading as ClusterReading
@@ -64,6 +63,11 @@ class Lint:
     """The names of warnings that are silenced everywhere."""
     allows: Allows | None = None
 
+    @property
+    def refusal(self) -> str | None:
+        """Returns the words of the first refusal, or None."""
+        return self.refusals[0][0] if self.refusals else None
+
     def warn(self, name: str, findings: Iterable[Finding], further: int = 0) -> None:
         """Adds the findings of a name to the warnings, or to the notes, unless they are silenced.
 
@@ -107,8 +111,18 @@ def read_bytes(file: str) -> bytes | None:
 
 
 def unreadable(file: str, what: str) -> Finding:
-    path = Path(file)
-    found = "is a folder" if path.is_dir() else "can't be read" if path.exists() else "isn't there"
+    found = "can't be read"
+    try:
+        with open(file, "rb"):
+            pass
+    except FileNotFoundError:
+        found = "isn't there"
+    except IsADirectoryError:
+        found = "is a folder"
+    except OSError as error:
+        found = f"{found}: {error.strerror}"
+    except ValueError as error:
+        found = f"{found}: {error}"
     return Finding(f"{what} {file!r} {found}", "Expected the name of a file that can be read.")
 
 

@@ -9,6 +9,7 @@ from musmyrtle.lint.trace_lines import ENTRIES, PLAN, Fault, bad_trace_line
 from musmyrtle.places import Place
 from musmyrtle.scenario import LONGEST_LINE, truncated
 from musmyrtle.scenario_words import columns
+from musmyrtle.streams import RESTORED
 from musmyrtle.visible import cut
 
 MAGIC = b"frtrace"
@@ -71,7 +72,8 @@ def ask_why(program: str, file: str) -> Why:
     Raises `NoAnswer`, and `OSError` where the program can't be run.
     """
     with open(file, "rb") as trace:
-        ran = subprocess.run([program, "why"], stdin=trace, capture_output=True, text=True, errors="replace")
+        ran = subprocess.run([program, "why"], stdin=trace, capture_output=True, text=True, errors="replace",
+                             restore_signals=RESTORED)
     lines = dict(line.partition(" ")[::2] for line in ran.stdout.splitlines())
     if ran.returncode == 0 and "accepted" in lines:
         return Why(None)

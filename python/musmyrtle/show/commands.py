@@ -7,11 +7,10 @@ from dataclasses import dataclass
 import musmyrtle.faults.command
 import musmyrtle.faults.options
 import musmyrtle.lint.command
-from musmyrtle.breaking import BrokenOff, breaking_off
-from musmyrtle.lint.command import FINE, formed, is_bold_on, printed
+from musmyrtle.breaking import breaking_off
+from musmyrtle.ending import FINE, status_of
+from musmyrtle.lint.command import formed, is_bold_on, printed
 from musmyrtle.missed import MISSED
-from musmyrtle.output import Stop
-from musmyrtle.selections import single_slot
 from musmyrtle.show import monitor, options, page
 from musmyrtle.show.commits import commits
 from musmyrtle.show.engines import COMMAND, Inputs, opened
@@ -62,7 +61,7 @@ def table(name: str, purpose: str, words: Words, examples: tuple[str, ...],
         return options.arguments(name, purpose, words, examples)
 
     def main(given_words: list[str]) -> int:
-        try:
+        def work() -> int:
             with breaking_off():
                 given = options.parsed(parser(), given_words)
                 scenario = (given.scenario, given.cycles) if words.has_run else (None, None)
@@ -70,12 +69,7 @@ def table(name: str, purpose: str, words: Words, examples: tuple[str, ...],
                     found = sections(inputs, given)
                     printed(formed(given, found, as_text(found, is_bold_on(sys.stdout))))
             return MISSED if inputs.misses else FINE
-        except Stop as stop:
-            return stop.tell(COMMAND)
-        except BrokenOff as signal:
-            return signal.status
-        except BrokenPipeError:
-            return FINE
+        return status_of(COMMAND, work)
     return Command(name, purpose, examples, parser, main)
 
 

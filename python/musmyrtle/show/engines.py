@@ -8,6 +8,7 @@ from functools import cached_property
 from tempfile import TemporaryFile
 from typing import IO, NoReturn
 
+from musmyrtle.ending import reason_of
 from musmyrtle.faults.children import Children
 from musmyrtle.findings import block, counted
 from musmyrtle.lint.command import MOST_REPEATED, REFUSED, USAGE, is_bold_on, lasting
@@ -33,7 +34,7 @@ def temporary_file() -> IO[bytes]:
     try:
         return TemporaryFile()
     except OSError as error:
-        raise Stop(USAGE, f"a temporary file can't be made: {error.strerror}") from None
+        raise Stop(USAGE, f"a temporary file can't be made: {reason_of(error)}") from None
 
 
 @dataclass(frozen=True)
@@ -178,16 +179,17 @@ class Inputs:
         if refusals and told.split(" ")[0] in self.awaited:
             raise Awaited(told)
         answer = Answer(status, told, bool(refusals))
-        if not answer.is_one or answer.status == USAGE:
+        found = lint(self.task) if answer.status == REFUSED else Lint()
+        if not answer.is_one(found.refusal) or answer.status == USAGE:
             raise Stop(USAGE, no_answer(program, words, answer))
-        write(sys.stderr, ["\n".join(reasons(told, lint(self.task)))])
+        write(sys.stderr, ["\n".join(reasons(told, found))])
         raise Stop(REFUSED)
 
 
 def reasons(refusal: str, found: Lint) -> Iterator[str]:
     """Yields the refusal and its reasons, as `lint` prints them."""
     yield f"{COMMAND}: refused {visible(cut(refusal, MOST_REPEATED))}\n"
-    if not found.refusals or found.refusals[0][0] != refusal:
+    if found.refusal != refusal:
         yield f"No reason is known for `{visible(cut(refusal, MOST_REPEATED))}`.\n"
         return
     for words, finding in found.refusals[:MOST_REASONS]:

@@ -5,8 +5,9 @@ from collections.abc import Callable, Iterator
 from contextlib import suppress
 from textwrap import fill
 
+from musmyrtle.ending import FINE, status_of
 from musmyrtle.findings import nearest
-from musmyrtle.lint.command import FINE, USAGE, Parser
+from musmyrtle.lint.command import USAGE, Parser
 from musmyrtle.output import Stop, write
 from musmyrtle.program import VARIABLES, places
 from musmyrtle.show.commands import COMMANDS, RUN_EXAMPLE, Command
@@ -90,14 +91,7 @@ def done(words: list[str]) -> int:
 
 def main(words: list[str] | None = None) -> int:
     """Does the command of these words, or of those of the process. Returns the status."""
-    try:
-        return done(sys.argv[1:] if words is None else words)
-    except Stop as stop:
-        return stop.tell(COMMAND)
-    except BrokenPipeError:
-        return FINE
-    except KeyboardInterrupt:
-        return 130
+    return status_of(COMMAND, lambda: done(sys.argv[1:] if words is None else words))
 
 
 if __name__ == "__main__":

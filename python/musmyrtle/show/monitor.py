@@ -6,15 +6,15 @@ import subprocess
 import sys
 from collections.abc import Callable, Iterable, Iterator
 from contextlib import ExitStack
-from tempfile import TemporaryFile
 from typing import IO
 
-from musmyrtle.breaking import BrokenOff, breaking_off
+from musmyrtle.breaking import breaking_off
+from musmyrtle.ending import status_of
 from musmyrtle.findings import counted
-from musmyrtle.lint.command import FINE, USAGE, Parser, add_forms, formed, is_bold_on, printed, shown_examples
+from musmyrtle.lint.command import USAGE, Parser, add_forms, formed, is_bold_on, printed, shown_examples
 from musmyrtle.output import Stop, pass_on, write
-from musmyrtle.program import Answer, is_launcher, itself, no_answer, places
-from musmyrtle.show.engines import COMMAND, Inputs, opened
+from musmyrtle.program import REFUSED_LINE, Answer, is_launcher, itself, no_answer
+from musmyrtle.show.engines import COMMAND, Inputs, opened, temporary_file
 from musmyrtle.show.network import Network
 from musmyrtle.show.options import CLUSTER
 from musmyrtle.show.recordings import (BACK, FINDING, FRAME, Senders, back_row, channel_row, finding_row, found_row,
@@ -22,7 +22,7 @@ from musmyrtle.show.recordings import (BACK, FINDING, FRAME, Senders, back_row, 
 from musmyrtle.show.tables import Column, Row, Section, as_json, as_text
 from musmyrtle.visible import cut
 
-FOUND, REFUSED = 3, 1
+FOUND = 3
 MOST_NUMBER = 4294967295
 LONGEST_LINE = 120
 """The characters of a line that a message has."""
@@ -113,6 +113,8 @@ def source_of(given: argparse.Namespace, files: ExitStack) -> IO[bytes]:
 def recording_of(name: str, files: ExitStack) -> IO[bytes]:
     """Returns the recording, opened."""
     if name == STANDARD_INPUT:
+        if sys.stdin is None:
+            raise Stop(USAGE, "the recording can't be read: standard input is closed")
         return sys.stdin.buffer
     try:
         return files.enter_context(open(name, "rb"))
@@ -171,22 +173,20 @@ def asked(inputs: Inputs, program: str, words: list[str], source: IO[bytes], add
     Raises `Stop` where the program can't be run, or prints a line that ADD can't read.
     """
     # A pipe for the messages could fill while the rows are read.
-    try:
-        with (TemporaryFile() as messages, inputs.children.started(
-                [program, *words], stdin=source, stdout=subprocess.PIPE, stderr=messages) as process):
-            for line in process.stdout or ():
-                # A line without an end is that of a program that ended within it, which its status tells.
-                if line.endswith(b"\n"):
-                    read(program, line.decode(errors="replace").rstrip("\n"), add)
-            process.wait()
-            messages.seek(0)
-            told = messages.read().decode(errors="replace").splitlines()
-    except BrokenPipeError:
-        raise
-    except OSError as error:
-        raise Stop(USAGE, f"{program} can't be run: {error.strerror}. fr_monitor is looked for in this order: "
-                          f"{places('fr_monitor')}") from None
-    return process.returncode, told
+    with temporary_file() as messages:
+        try:
+            with inputs.children.started([program, *words], stdin=source, stdout=subprocess.PIPE,
+                                         stderr=messages) as process:
+                for line in process.stdout or ():
+                    # A line without an end is that of a program that ended within it, which its status tells.
+                    if line.endswith(b"\n"):
+                        read(program, line.decode(errors="replace").rstrip("\n"), add)
+        except BrokenPipeError:
+            raise
+        except OSError as error:
+            raise inputs.no_start(program, "fr_monitor", error) from None
+        messages.seek(0)
+        return process.returncode, messages.read().decode(errors="replace").splitlines()
 
 
 def read(program: str, line: str, add: Callable[[str], None]) -> None:
@@ -208,10 +208,18 @@ def judged(inputs: Inputs, given: argparse.Namespace, source: IO[bytes], add: Ca
     program = inputs.program("fr_monitor")
     program = itself(program) if is_launcher(program) else program
     status, told = asked(inputs, program, words, source, add)
-    if status not in (FINE, FOUND, REFUSED):
-        answer = Answer(status, " ".join(told).strip() or f"status {status}", False)
+    answer = answer_of(status, told)
+    if status == USAGE or status != FOUND and not answer.is_one():
         raise Stop(USAGE, no_answer(program, words, answer))
     return status, told
+
+
+def answer_of(status: int, told: list[str]) -> Answer:
+    """Returns the answer of a program with these messages."""
+    refusals = [it.removeprefix("refused ") for it in told if REFUSED_LINE.fullmatch(it)]
+    if refusals:
+        return Answer(status, refusals[-1])
+    return Answer(status, " ".join(told).strip() or f"status {status}" if status else None, False)
 
 
 def outcome(given: argparse.Namespace, inputs: Inputs, source: IO[bytes]) -> int:
@@ -259,7 +267,6 @@ REASONS = {
     "Truncated": "the recording ends within the block that begins at byte {}; the tables have what came before",
     "NoClock": "channel {} has a sender, and no static slot with an owner in cycle {}: without a clock its cycles "
                "aren't known",
-    "Read": "the recording can't be read on", "Write": "the tables can't be written", "Memory": "out of memory",
 }
 """The reasons of refusals, with the words after their names."""
 
@@ -275,16 +282,11 @@ def explained(line: str) -> str:
 
 def main(words: list[str]) -> int:
     """Does the command, and returns the status."""
-    try:
+    def work() -> int:
         with breaking_off(), ExitStack() as files:
             given = arguments().parse_args(words)
             source = source_of(given, files)
             with opened(given.cluster) as inputs:
                 status = outcome(given, inputs, source)
         return status
-    except Stop as stop:
-        return stop.tell(COMMAND)
-    except BrokenOff as signal:
-        return signal.status
-    except BrokenPipeError:
-        return FINE
+    return status_of(COMMAND, work)

@@ -9,10 +9,11 @@ from html import escape
 from pathlib import Path
 from typing import IO
 
-from musmyrtle.breaking import BrokenOff, breaking_off
-from musmyrtle.lint.command import FINE, Parser, shown_examples
+from musmyrtle.breaking import breaking_off
+from musmyrtle.ending import FINE, status_of
+from musmyrtle.lint.command import Parser, shown_examples
 from musmyrtle.missed import MISSED
-from musmyrtle.output import Stop, pass_on, write
+from musmyrtle.output import pass_on, write
 from musmyrtle.show.engines import COMMAND, Awaited, Inputs, opened
 from musmyrtle.show.facts import Facts
 from musmyrtle.show.monitor import MOST_NUMBER, add_judging, explained, source_of, tell
@@ -175,11 +176,8 @@ def done_recording(given: argparse.Namespace) -> int:
 
 def main(words: list[str]) -> int:
     """Does the command, and returns the status."""
-    try:
+    def work() -> int:
         with breaking_off():
             given = parsed(words)
             return done_recording(given) if given.recording is not None else done_run(given)
-    except Stop as stop:
-        return stop.tell(COMMAND)
-    except BrokenOff as signal:
-        return signal.status
+    return status_of(COMMAND, work)

@@ -38,7 +38,7 @@ MOST_WINDOWS, MOST_TIME = 4_000_000, 2**32 - 1
 TOO_MANY = "BadCycles"
 """The refusal of a run with more static slots and minislots than any may have."""
 MISSING, BROKEN = "missing", "broken"
-ENDED_EARLY = ("BadBlock", "Truncated", "Read")
+ENDED_EARLY = ("BadBlock", "Truncated")
 """The refusals of a recording whose front has a page."""
 NOT_KNOWN = ("This page is drawn from a recording of a real bus. A frame is shown with the node that the cluster "
              "configures for its slot: the recording doesn't say who sent it, what tasks committed, or what receivers "

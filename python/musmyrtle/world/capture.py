@@ -6,6 +6,7 @@ import subprocess
 from pathlib import Path
 from tempfile import TemporaryDirectory
 
+from musmyrtle.streams import RESTORED
 from musmyrtle.world.refusals import SessionOver
 from musmyrtle.world.session import VERSION, Change, shown
 from musmyrtle.world.world_program import not_started
@@ -29,7 +30,7 @@ def captured(program: str, cluster: bytes, cycles: int, changes: list[Change]) -
         command = [program, str(file), "--endless", "--cycles", str(cycles), f"--capture={capture}"]
         requests = "".join(f"{change.request}\n" for change in changes)
         try:
-            ran = subprocess.run(command, input=requests.encode(), capture_output=True)
+            ran = subprocess.run(command, input=requests.encode(), capture_output=True, restore_signals=RESTORED)
         except OSError as error:
             raise not_started(program, error) from None
         if ran.returncode:

@@ -11,6 +11,8 @@ import time
 from collections import deque
 from collections.abc import Sequence
 
+from musmyrtle.streams import RESTORED, fill_streams
+
 CHUNK = 65536
 SAID = 8192
 """Bytes kept of the end of standard error."""
@@ -40,7 +42,10 @@ class Child:
 
     def __init__(self, command: Sequence[str]) -> None:
         pipe = subprocess.PIPE
-        self._process = subprocess.Popen(command, stdin=pipe, stdout=pipe, stderr=pipe, bufsize=0)
+        # A pipe with the number of a closed standard stream would get what is printed there.
+        fill_streams()
+        self._process = subprocess.Popen(command, stdin=pipe, stdout=pipe, stderr=pipe, bufsize=0,
+                                         restore_signals=RESTORED)
         self._files = [file for file in (self._process.stdin, self._process.stdout, self._process.stderr) if file]
         for file in self._files:
             os.set_blocking(file.fileno(), False)
