@@ -28,9 +28,9 @@ say() {
     printf '%s: %s\n' "$name" "$(escaped "$1")" >&2
 }
 
-# Prints a text with escapes as `\x1b` and `\u202e`, as python/musmyrtle/visible.py spells them: for control characters,
-# formatting characters such as those that turn the direction of writing, spaces other than the usual one, characters
-# for private use, and bytes that are no UTF-8. Characters that no version of Unicode has yet are printed.
+# Prints a text with escapes as `\x1b` and `\u202e`, which python/musmyrtle/visible.py spells so. They stand for control
+# characters, formatting characters such as those that turn the direction of writing, and spaces other than the usual
+# one. They also stand for characters for private use, and for bytes that are no UTF-8.
 escaped() {
     # The awk of many systems knows no UTF-8, so this reads bytes. The bar keeps a line feed at the end.
     printf '%s|' "$1" | LC_ALL=C awk '

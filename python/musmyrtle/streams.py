@@ -2,10 +2,10 @@
 import os
 
 RESTORED = False
-"""Whether a program gets the usual effects of the signals that Python ignores.
+"""False, so that programs ignore the signals that Python ignores.
 
-One of them is SIGXFSZ, which ends a program that writes beyond `ulimit -f`. Where it is ignored the write fails, and
-the program reports that.
+One of them is SIGXFSZ, which would end a program that writes beyond `ulimit -f`. Ignored, it lets the write fail, which
+the program reports.
 """
 
 

@@ -35,7 +35,7 @@ def shell(command: str, *words: str | Path, cwd: Path = TOP) -> tuple[int, str, 
 
 class Closed(Shows):
     def test_a_command(self) -> None:
-        """Each command of a closed output ends with status 2, and says so where it can."""
+        """Each command with a closed output ends with status 2, and with a line where that can be written."""
         for words in (["check", THREE[0]], ["run", *THREE], ["page", *THREE], ["lint", THREE[0]], ["man"], ["--help"]):
             for streams, told in ((">&-", CLOSED), (">&- <&-", CLOSED), (">&- 2>&- <&-", "")):
                 with self.subTest(words=words, streams=streams):
@@ -54,7 +54,7 @@ class Closed(Shows):
             self.assertEqual(shell('./musmyrtle "$@" <&-', *words), (2, "", told))
 
     def test_a_host_program(self) -> None:
-        """What it prints gets neither into the record of its world nor into the pipes to it."""
+        """Its output gets neither into the record of its world nor into the pipes to it."""
         program, record = self.written("host.py", HOST), self.folder / "record"
         for streams in (">&-", "2>&-", "<&- >&- 2>&-"):
             with self.subTest(streams=streams):
