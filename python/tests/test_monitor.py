@@ -191,15 +191,63 @@ class Waits(unittest.TestCase):
 
 
 class Refusals(Monitor):
+    def cut(self, records: list[tuple[int, bytes]]) -> str:
+        """Returns the name of a recording without its last byte."""
+        path = self.folder / "cut.pcap"
+        path.write_bytes((HEADER + b"".join(sealed(*it) for it in records))[:-1])
+        return str(path)
+
     def test_recordings(self) -> None:
-        broken = self.written("broken", "no capture")
-        cut = self.folder / "cut.pcap"
-        cut.write_bytes((HEADER + b"".join(sealed(*it) for it in frames(1)))[:-1])
-        for name, told in ((broken, "musmyrtle: refused NoCapture: the recording is no pcap or pcapng file\n"),
-                           (str(cut), "musmyrtle: refused Truncated 99: the recording ends within the block that "
-                                      "begins at byte 99; the tables have what came before\n")):
-            status, _, error = self.asked("monitor", self.cluster, name)
-            self.assertEqual((status, error), (1, told))
+        """The tables begin with the refusal, and say nothing about findings that nobody looked for."""
+        cases: list[tuple[str, str, str, list[str]]] = [
+            (self.written("broken", "no capture"), "NoCapture", "the recording is no pcap or pcapng file", []),
+            (self.cut(frames(1)), "Truncated 99", "the recording ends within the block that begins at byte 99; "
+             "the tables have what came before", ["", "Records"])]
+        for name, refusal, why, rest in cases:
+            status, output, error = self.asked("monitor", self.cluster, name)
+            self.assertEqual((status, error), (1, f"musmyrtle: refused {refusal}: {why}\n"))
+            lines = [" ".join(it.split()) for it in output.splitlines()]
+            self.assertEqual(lines[:5], ["The recording is refused", "refusal reason", f"{refusal} {why}", *rest])
+            self.assertNotIn("no finding", output)
+            rows = [json.loads(it) for it in self.asked("monitor", self.cluster, name, "--json")[1].splitlines()]
+            self.assertEqual(rows[0], {"kind": "refused", "refusal": refusal, "why": why})
+            self.assertEqual({it["kind"] for it in rows[1:]}, {"total", "channel", "slot"} if rest else set())
+            table = list(csv.DictReader(io.StringIO(self.asked("monitor", self.cluster, name, "--csv")[1])))
+            self.assertEqual((table[0]["kind"], table[0]["refusal"], table[0]["why"]), ("refused", refusal, why))
+
+    def test_findings_before_the_end(self) -> None:
+        """In JSON the findings come first, since they are printed as they come."""
+        broken = bytearray(frame("A", 2, 0))
+        broken[5] ^= 0x40
+        records = [*frames(1)[:2], (SLOT, bytes(broken)), frames(1)[3]]
+        output = self.asked("monitor", self.cluster, self.cut(records), "--json")[1]
+        self.assertEqual([json.loads(it)["kind"] for it in output.splitlines()][:3], ["finding", "refused", "count"])
+        text = self.asked("monitor", self.cluster, self.cut(records))[1]
+        self.assertLess(text.index("The recording is refused"), text.index("HeaderCrc"))
+
+    def test_other_files(self) -> None:
+        """The message has the kind of the file, and what to give in its place."""
+        ethernet = struct.pack("<IHHiIII", 0xA1B2C3D4, 2, 4, 0, 0, 262144, 1)
+        interface = struct.pack("<IIHHIIIII", 1, 20, 227, 0, 0, 20, 0, 0, 0)[:20]
+        section = struct.pack("<IIIHHqI", 0x0A0D0D0A, 28, 0x1A2B3C4D, 1, 0, -1, 28)
+        for data, status, told in (
+                (ethernet + sealed(0, bytes(14)), 3,
+                 "no record is of FlexRay: the recording has link type 1 (Ethernet); "
+                 "expected link type 210 (FlexRay), with frames or symbols"),
+                (section + interface + struct.pack("<IIIIIIIII", 6, 36, 0, 0, 0, 4, 4, 0, 36), 3,
+                 "no record is of FlexRay: the recording has link type 227 (CAN); "
+                 "expected link type 210 (FlexRay), with frames or symbols"),
+                (HEADER + sealed(0, b"\x7f\0"), 3, "no record is of FlexRay: all records are others; "
+                 "expected link type 210 (FlexRay), with frames or symbols"),
+                (b"LOGG\0\0", 1, "the recording is a BLF file; "
+                 "export it as a capture (pcap or pcapng) of link type 210"),
+                (b"\x1f\x8b\x08", 1, "the recording is a file that gzip packed; unpack it first"),
+                (NETWORK.encode(), 1, "the recording is a cluster file; expected a capture of link type 210")):
+            with self.subTest(told=told):
+                file = self.folder / "other"
+                file.write_bytes(data)
+                found = self.asked("monitor", self.cluster, str(file))
+                self.assertEqual((found[0], found[2].splitlines()[-1]), (status, f"musmyrtle: {told}"))
 
     def test_a_cluster_without_a_clock(self) -> None:
         """Both nodes own their slots in even cycles alone."""

@@ -10,6 +10,7 @@ from typing import IO
 
 from musmyrtle.breaking import breaking_off
 from musmyrtle.ending import status_of
+from musmyrtle.file_kinds import CAPTURE, EXPORT, FLEXRAY, UNPACK, described, kind_of_file, link_types_of
 from musmyrtle.findings import counted
 from musmyrtle.lint.command import USAGE, Parser, add_forms, formed, is_bold_on, printed, shown_examples
 from musmyrtle.output import Stop, pass_on, write
@@ -22,11 +23,11 @@ from musmyrtle.show.recordings import (BACK, FINDING, FRAME, Senders, back_row, 
 from musmyrtle.show.tables import Column, Row, Section, as_json, as_text
 from musmyrtle.visible import cut
 
-FOUND = 3
+FOUND, REFUSED = 3, "refused"
 MOST_NUMBER = 4294967295
 LONGEST_LINE = 120
 """The characters of a line that a message has."""
-STANDARD_INPUT = "-"
+STANDARD_INPUT, TOTAL = "-", "records "
 PURPOSE = ("Compares a recording of a real bus with the cluster. Prints each frame that the schedule doesn't allow,\n"
            "and each missing one, with the reason.")
 CLUSTER_FILE, RECORDING_FILE = "examples/three-nodes/cluster.toml", "examples/recordings/disturbed.pcap"
@@ -46,6 +47,7 @@ CHANNELS = (Column("channel", "channel"), Column("frames", "frames"), Column("cy
 SLOTS = (Column("slot", "slot"), Column("channel", "channel"), Column("nodes", ""), Column("names", "sender", "whole"),
          Column("data", "data"), Column("null", "null"), Column("missing", "missing"),
          Column("other", "findings"), *SPANS)
+REFUSALS = (Column("refusal", "refusal"), Column("why", "reason", "whole"))
 COUNTS = (Column("name", "finding"), Column("count", "count"), Column("meaning", "meaning"))
 
 
@@ -140,7 +142,7 @@ class Tables:
             kind, row = FINDING, finding_row(self.network, words, self.senders.of(words))
         elif words[0] == BACK:
             kind, row = FINDING, back_row(self.network, words)
-        elif words[0] == "records":
+        elif words[0] == TOTAL.strip():
             kind, row = "total", total_row(words)
         elif words[0] == "channel":
             kind, row = "channel", channel_row(words)
@@ -153,15 +155,22 @@ class Tables:
         self.rows[kind].append(row)
         return Section(kind, "", KINDS[kind][1], [row])
 
+    def refuse(self, refusal: str, has_front: bool) -> None:
+        """Adds the refusal of the recording. If nothing of it was judged, there are no other tables."""
+        if not has_front:
+            self.rows = {it: [] for it in KINDS}
+        self.rows[REFUSED].append(Row({"refusal": refusal, "why": reason_of(refusal)}, True))
+
     def sections(self) -> list[Section]:
-        """Returns all tables."""
-        return [Section(kind, title, columns, self.rows[kind], nothing)
+        """Returns all tables. Of a refused recording they don't state that there is no finding."""
+        return [Section(kind, title, columns, self.rows[kind], "" if self.rows[REFUSED] else nothing)
                 for kind, (title, columns, nothing) in KINDS.items()]
 
 
 KINDS: dict[str, tuple[str, tuple[Column, ...], str]] = {
-    FINDING: ("Findings", FINDINGS, ""), "count": ("Counts of findings", COUNTS, "There is no finding."),
-    "total": ("Records", TOTALS, ""), "channel": ("Channels", CHANNELS, ""), "slot": ("Slots", SLOTS, ""),
+    REFUSED: ("The recording is refused", REFUSALS, ""), FINDING: ("Findings", FINDINGS, ""),
+    "count": ("Counts of findings", COUNTS, "There is no finding."), "total": ("Records", TOTALS, ""),
+    "channel": ("Channels", CHANNELS, ""), "slot": ("Slots", SLOTS, ""),
 }
 """The kinds of rows, each with a title, columns, and a line for a table without rows."""
 
@@ -205,18 +214,37 @@ def judged(inputs: Inputs, given: argparse.Namespace, source: IO[bytes], add: Ca
     Raises `Stop` where the program gives no answer.
     """
     words = [*more, *words_of(given, inputs, macrotick(given, inputs.network))]
-    program = inputs.program("fr_monitor")
+    program, totals = inputs.program("fr_monitor"), list[list[str]]()
     program = itself(program) if is_launcher(program) else program
-    status, told = asked(inputs, program, words, source, add)
+
+    def noted(line: str) -> None:
+        if line.startswith(TOTAL):
+            totals.append(line.split(" "))
+        add(line)
+    status, told = asked(inputs, program, words, source, noted)
     answer = answer_of(status, told)
     if status == USAGE or status != FOUND and not answer.is_one():
         raise Stop(USAGE, no_answer(program, words, answer))
-    return status, told
+    file = "/dev/stdin" if given.recording == STANDARD_INPUT else given.recording
+    return status, told + [f"{COMMAND}: {it}" for it in mistaken(file, total_row(totals[-1]) if totals else None)]
+
+
+def mistaken(file: str, total: Row | None) -> Iterator[str]:
+    """Yields why a recording has no record of FlexRay, with the kind of the file if that is known."""
+    if total is None or total.values["records"] != total.values["foreign"]:
+        return
+    kind, types = kind_of_file(file), link_types_of(file)
+    if total.values["records"]:
+        others = f"the recording has {described(types)}" if types and types != [FLEXRAY] else "all records are others"
+        yield f"no record is of FlexRay: {others}; expected link type {FLEXRAY} (FlexRay), with frames or symbols"
+    elif kind is not None and kind is not CAPTURE:
+        advice = kind.advice if kind.advice in (EXPORT, UNPACK) else f"expected a capture of link type {FLEXRAY}"
+        yield f"the recording is {kind.name}; {advice}"
 
 
 def answer_of(status: int, told: list[str]) -> Answer:
     """Returns the answer of a program with these messages."""
-    refusals = [it.removeprefix("refused ") for it in told if REFUSED_LINE.fullmatch(it)]
+    refusals = refusals_of(told)
     if refusals:
         return Answer(status, refusals[-1])
     return Answer(status, " ".join(told).strip() or f"status {status}" if status else None, False)
@@ -230,13 +258,29 @@ def outcome(given: argparse.Namespace, inputs: Inputs, source: IO[bytes]) -> int
 
     def add(line: str) -> None:
         section = tables.add(line)
-        if section is not None and given.json:
+        if section is not None and given.json and section.kind == FINDING:
             write(sys.stdout, as_json([section]))
     status, told = judged(inputs, given, source, add, "--frames")
-    if not given.json and any(tables.rows.values()):
-        printed(shown(given, tables.sections()))
+    for refusal in refusals_of(told):
+        if refusal.split(" ")[0] in OF_RECORDINGS:
+            tables.refuse(refusal, has_front(told))
+    sections = tables.sections()
+    if given.json:
+        write(sys.stdout, as_json(it for it in sections if it.kind != FINDING))
+    elif any(tables.rows.values()):
+        printed(shown(given, sections))
     tell(told)
     return status
+
+
+def refusals_of(told: list[str]) -> list[str]:
+    """Returns the refusals of the recording in the messages of the program, without the word `refused`."""
+    return [it.removeprefix("refused ") for it in told if REFUSED_LINE.fullmatch(it)]
+
+
+def has_front(told: list[str]) -> bool:
+    """Returns whether a recording with these messages was judged, or a front of it."""
+    return all(it.split(" ")[0] in ENDED_EARLY for it in refusals_of(told))
 
 
 def tell(told: list[str]) -> None:
@@ -261,6 +305,9 @@ def told_text(sections: list[Section]) -> Iterator[str]:
             f"\n{counted(more, 'further finding')} aren't printed; --findings N prints more\n"
 
 
+ENDED_EARLY = ("BadBlock", "Truncated")
+"""The refusals of a recording whose front was judged."""
+OF_RECORDINGS = ("NoCapture", *ENDED_EARLY)
 REASONS = {
     "NoCapture": "the recording is no pcap or pcapng file",
     "BadBlock": "the block or record that begins at byte {} is broken; the tables have what came before",
@@ -271,13 +318,17 @@ REASONS = {
 """The reasons of refusals, with the words after their names."""
 
 
+def reason_of(refusal: str) -> str | None:
+    """Returns the reason of a refusal, or None where none is known."""
+    name, *words = refusal.split(" ")
+    reason = REASONS.get(name)
+    return None if reason is None or reason.count("{}") != len(words) else reason.format(*words)
+
+
 def explained(line: str) -> str:
     """Returns a refusal with its reason."""
-    name, *words = line.removeprefix("refused ").split(" ")
-    reason = REASONS.get(name)
-    if reason is None or reason.count("{}") != len(words):
-        return line
-    return f"{line}: {reason.format(*words)}"
+    reason = reason_of(line.removeprefix("refused "))
+    return f"{line}: {reason}" if reason else line
 
 
 def main(words: list[str]) -> int:

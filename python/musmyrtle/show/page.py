@@ -16,11 +16,11 @@ from musmyrtle.missed import MISSED
 from musmyrtle.output import pass_on, write
 from musmyrtle.show.engines import COMMAND, Awaited, Inputs, opened
 from musmyrtle.show.facts import Facts
-from musmyrtle.show.monitor import MOST_NUMBER, add_judging, explained, source_of, tell
+from musmyrtle.show.monitor import MOST_NUMBER, add_judging, explained, has_front, source_of, tell
 from musmyrtle.show.options import CLUSTER, SCENARIO, statuses
 from musmyrtle.show.page_data import packed_run
 from musmyrtle.show.page_endless import packed_endless
-from musmyrtle.show.page_recording import has_page, packed_recording, range_of, recorded
+from musmyrtle.show.page_recording import packed_recording, range_of, recorded
 from musmyrtle.visible import visible
 from musmyrtle.world.bounds import MOST_CYCLES, MOST_ENDLESS
 
@@ -60,7 +60,7 @@ def page_of_recording(inputs: Inputs, given: argparse.Namespace, source: IO[byte
     """Returns the page of a recording, and the status. A recording that is refused from its start has no page."""
     found, status, told = recorded(inputs, given, source)
     page = None
-    if has_page(told):
+    if has_front(told):
         cut_off = "; ".join(explained(it) for it in told if it.startswith("refused "))
         page = assembled(packed_recording(inputs, given, found, cut_off), f"Recording of {inputs.task.cluster}")
     tell(told)

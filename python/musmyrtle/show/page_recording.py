@@ -38,8 +38,6 @@ MOST_WINDOWS, MOST_TIME = 4_000_000, 2**32 - 1
 TOO_MANY = "BadCycles"
 """The refusal of a run with more static slots and minislots than any may have."""
 MISSING, BROKEN = "missing", "broken"
-ENDED_EARLY = ("BadBlock", "Truncated")
-"""The refusals of a recording whose front has a page."""
 NOT_KNOWN = ("This page is drawn from a recording of a real bus. A frame is shown with the node that the cluster "
              "configures for its slot: the recording doesn't say who sent it, what tasks committed, or what receivers "
              "stored.")
@@ -58,12 +56,6 @@ def recorded(inputs: Inputs, given: argparse.Namespace, source: IO[bytes]) -> tu
     found = Recorded(inputs.network)
     status, told = judged(inputs, given, source, found.add, "--frames")
     return found, status, told
-
-
-def has_page(told: list[str]) -> bool:
-    """Returns whether a recording with these messages has a page: it was read, or a front of it."""
-    refusals = [it.removeprefix("refused ").split(" ")[0] for it in told if it.startswith("refused ")]
-    return all(it in ENDED_EARLY for it in refusals)
 
 
 # ---- the cycles that are shown
@@ -218,7 +210,8 @@ def packed_recording(inputs: Inputs, given: argparse.Namespace, found: Recorded,
     counts = sorted((node, number, count) for (node, number), count in bus.errors.items())
     add_counted(counts, columns)
     add_nothing_seen(columns)
-    return columns.packed(header_of(inputs, given, bus, list(missing_of(part, cut_off))))
+    header = header_of(inputs, given, bus, list(missing_of(part, cut_off)))
+    return columns.packed({**header, "no_finding": no_finding(part, cut_off)})
 
 
 def add_no_host(columns: Columns) -> None:
@@ -252,6 +245,13 @@ def missing_of(part: Shown, cut_off: str) -> Iterator[str]:
         yield CUT_OFF.format(visible(cut_off))
     if len(part.cycles) < part.all:
         yield NARROWED.format(f"{part.cycles.start} to {part.cycles.stop - 1}", counted(part.all, "cycle"))
+
+
+def no_finding(part: Shown, cut_off: str) -> str:
+    """Returns the sentence of a page without findings. Nothing is stated about what the page doesn't have."""
+    if len(part.cycles) < part.all:
+        return "There is no finding in the cycles of this page."
+    return "There is no finding before the end of what could be read." if cut_off else "There is no finding."
 
 
 def header_of(inputs: Inputs, given: argparse.Namespace, bus: Bus, missing: list[str]) -> dict[str, Any]:

@@ -61,6 +61,6 @@ function unplacedTable(run) {
 /** Fills an element with the findings, and with the records that aren't drawn. */
 function showFindings(place, run, choose) {
   const tables = [findingsTable(run), unplacedTable(run)].filter((it) => it.rows.length);
-  place.replaceChildren(...(run.header.findings.length ? [] : [element("p", {}, "There is no finding.")]),
+  place.replaceChildren(...(run.header.findings.length ? [] : [element("p", {}, run.header.no_finding)]),
                         ...tables.map((it) => tableElement(it, choose)));
 }
