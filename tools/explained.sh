@@ -88,17 +88,38 @@ explain_words() {
         usage="$name COMMAND ..; COMMAND is one of$commands"
     else
         read_block "${command:-$name}"
-        usage=${block#usage: }
-        usage=${usage%%
-*}
+        join_usage
         more="./$name${command:+ $command} --help describes the words"
     fi
     if [ -n "$slip" ]; then
         [ -z "$misspelt" ] || find_nearest "$misspelt"
+        explain_pipe
         say "$slip"
     fi
     say "usage: $usage"
     [ ! -t 2 ] || say "$more"
+}
+
+# Adds to `slip` how a program reads a file of the words from a pipe.
+explain_pipe() {
+    case $input$slip in
+    'missing: FILE'*) [ ! -p /dev/stdin ] || slip="$slip; standard input isn't read: /dev/stdin as FILE names the pipe" ;;
+    esac
+}
+
+# Sets `usage` to the usage in `block`, in one line. Further forms of a command begin below the first one.
+join_usage() {
+    usage=
+    while IFS= read -r line; do
+        case $line in
+        'usage: '*) usage=${line#usage: } ;;
+        "       $name "*) usage="$usage | ${line#       }" ;;
+        '        '*) usage="$usage ${line#"${line%%[! ]*}"}" ;;
+        *) return ;;
+        esac
+    done <<END
+$block
+END
 }
 
 # Sets `slip` to a description of the first word, which is no command.
@@ -172,12 +193,63 @@ is_cause() {
     [ -f "$file" ] && "$program" "$question" -- "$file" </dev/null >/dev/null 2>&1
 }
 
+# Prints what the program with the words reads from the terminal, if it reads anything.
+explain_input() {
+    read_words "$@"
+    case $input$slip in
+    requests)
+        say 'type a request a line: nodes and buffers are numbers, and no line has a cycle, as commit 0 0 0 x0a0b'
+        say './fr_world --help lists the requests'
+        ;;
+    TRACE | NUMBERS | RECORDING)
+        say "reading $input from the terminal, to its end (Ctrl-D); < FILE reads a file"
+        ;;
+    esac
+}
+
+# Explains `refused BadLine N` on a terminal: the first line of a file of requests that is a line of a scenario, has a
+# name, or ends with a carriage return. Of a pipe the lines aren't known any more.
+explain_session() {
+    if [ -f /dev/stdin ]; then
+        wrong=$(find_wrong_request 2>/dev/null </dev/stdin)
+        [ -z "$wrong" ] || say "$wrong"
+    elif [ -p /dev/stdin ] && [ -t 1 ]; then
+        say 'a line has the reply refused BadLine if it is no request: it has a name, a cycle, or more than a line feed'
+    fi
+}
+
+find_wrong_request() {
+    # The file is opened anew, since the program has read this one to its end.
+    LC_ALL=C awk '
+        BEGIN {
+            split("commit=NODE TASK BUFFER HEX,withdraw=NODE TASK BUFFER,read=NODE TASK BUFFER,pop=NODE TASK", calls, ",")
+            for (i in calls) { split(calls[i], call, "="); form[call[1]] = call[1] " " call[2] }
+            split("receive next look fetch put take observe report status trace origin lost", others, " ")
+            for (i in others) has_node[others[i]]
+        }
+        function tell(what) { printf "line %d %s\n", NR, what; exit }
+        /\r$/ { tell("ends with a carriage return; requests end with a line feed alone") }
+        /^(frscenario|end|expect|expect-none)( |$)/ {
+            tell("is of a scenario: ./fr_view answers FILE SCENARIO --cycles N runs one")
+        }
+        $1 in form && NF == split(form[$1], words, " ") + 1 {
+            tell("has a cycle, as in a scenario; a request is " form[$1])
+        }
+        ($1 in form || $1 in has_node) && NF > 1 && $2 !~ /^[0-9]+$/ {
+            tell("names a node, as in a scenario; a request has its number")
+        }
+        ($1 == "receive" || $1 in form && $1 != "pop") && NF > 3 && $4 !~ /^[0-9]+$/ {
+            tell("names a buffer, as in a scenario; a request has its number")
+        }
+    ' /dev/stdin
+}
+
 # On a terminal, names the command that explains the refusal.
 hint() {
     [ -t 2 ] || return 0
     case $name-$command in
-    fr_bench-audit | fr_view-capture | fr_view-frames) say './fr_view why < TRACE says why' ;;
+    fr_bench-audit | fr_view-capture | fr_view-frames) say './fr_view why < TRACE says why a trace is refused' ;;
     fr_bench-midpoint | fr_view-why | fr_world-* | *-) ;;
-    *) say './musmyrtle lint FILE [SCENARIO --cycles N] says why' ;;
+    *) say './musmyrtle lint FILE [SCENARIO --cycles N] says why an input is refused' ;;
     esac
 }

@@ -260,7 +260,10 @@ find_missing() {
     done
     case "$options $given" in
     *--cycles*--cycles* | *' --endless '*) ;;
-    *--cycles*) missing="$missing, --cycles N" ;;
+    *--cycles*)
+        missing="$missing, --cycles N"
+        [ "$name" != fr_world ] || find_length
+        ;;
     esac
     if [ "$command" = trace ] && [ "$count" -gt 0 ] && ! is_in_range NODE "$node"; then
         if [ "$count" -eq 2 ]; then
@@ -272,6 +275,17 @@ find_missing() {
         slip="missing: ${missing#, }"
     elif [ "$name" = fr_world ]; then
         find_stray
+    fi
+}
+
+# Changes `missing` for a world without a length: options of an endless one want --endless, and one may be meant.
+find_length() {
+    find_stray
+    if [ -n "$slip" ]; then
+        missing="${missing%, --cycles N}, --endless (${slip%% *} needs it)"
+        slip=
+    else
+        missing="$missing or --endless"
     fi
 }
 

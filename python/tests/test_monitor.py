@@ -198,7 +198,7 @@ class Refusals(Monitor):
         return str(path)
 
     def test_recordings(self) -> None:
-        """The tables begin with the refusal, and say nothing about findings that nobody looked for."""
+        """The tables begin with the refusal, and state nothing about findings."""
         cases: list[tuple[str, str, str, list[str]]] = [
             (self.written("broken", "no capture"), "NoCapture", "the recording is no pcap or pcapng file", []),
             (self.cut(frames(1)), "Truncated 99", "the recording ends within the block that begins at byte 99; "

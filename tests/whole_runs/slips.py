@@ -1,9 +1,11 @@
 """Slips on command lines, each with a text that the launcher's further lines must have, and calls for help."""
+import contextlib
 import os
 import pty
 import random
 import re
 import subprocess
+import termios
 from pathlib import Path
 from typing import Any
 
@@ -66,7 +68,10 @@ SLIPS: list[tuple[str, Words, str]] = [
     ("fr_view", ("run", *RUN), "./fr_bench run"),
     ("fr_view", ("why", "node.trace"), "why reads TRACE on standard input: < node.trace"),
     ("fr_view", ("fifo", "node.trace"), "fifo reads TRACE on standard input: < node.trace"),
-    ("fr_world", (CLUSTER,), "missing: --cycles N"),
+    ("fr_world", (CLUSTER,), "missing: --cycles N or --endless"),
+    ("fr_world", (CLUSTER, "--keep", "4"), "missing: --endless (--keep needs it)"),
+    ("fr_world", (CLUSTER, "--record=lines"), "missing: --endless (--record needs it)"),
+    ("fr_world", ("--trace", "traces", "--trace-nodes=0"), "missing: FILE, --endless (--trace"),
     ("fr_world", (CLUSTER, "4"), "--cycles is missing in front of 4"),
     ("fr_world", (CLUSTER, "--cycles"), "--cycles has no value"),
     ("fr_world", (CLUSTER, "--cycles=1025"), "from 1 to 1024, not 1025"),
@@ -173,6 +178,7 @@ class Slips:
         self.words()
         self.files()
         self.streams()
+        self.terminals()
         self.closed()
         self.limited()
         self.helps()
@@ -231,6 +237,55 @@ class Slips:
         ran = subprocess.run(["sh", "-c", command, "sh", *words], cwd=self.top, capture_output=True, timeout=SECONDS,
                              stdin=subprocess.DEVNULL)
         return ran.stdout, ran.stderr, ran.returncode
+
+    def terminals(self) -> None:
+        """Checks the lines of a session at a terminal that show why a line is no request, and those about input."""
+        requests = self.top / "requests"
+        for text, line in (
+                ("now\ncommit 0 0 0 0 x0a0b\n", "line 2 has a cycle, as in a scenario; a request is commit NODE TASK "
+                 "BUFFER HEX"),
+                ("pop 0 0 1\n", "line 1 has a cycle, as in a scenario; a request is pop NODE TASK"),
+                ("look brake\n", "line 1 names a node, as in a scenario; a request has its number"),
+                ("read 1 0 force\n", "line 1 names a buffer, as in a scenario; a request has its number"),
+                ("now\nnow\r\n", "line 2 ends with a carriage return; requests end with a line feed alone"),
+                ("frscenario 3\n", "line 1 is of a scenario: ./fr_view answers FILE SCENARIO --cycles N runs one"),
+                ("commit 0 0 0 x0a0b\ncycle\nmute 0 A 2 s1 # a fault\n", "")):
+            requests.write_text(text)
+            told = f"fr_world: {line}\r\n" if line else ""
+            self.runs.compare(f"{text!r} at a terminal", self.seen(f"./fr_world {CLUSTER} --cycles 4 < requests"), told)
+        got = self.shell(f"cat {CLUSTER} | ./fr_bench check")[1]
+        self.runs.compare("a cluster file in a pipe", got.splitlines()[1:2], [
+            b"fr_bench: missing: FILE; standard input isn't read: /dev/stdin as FILE names the pipe"])
+        typed = ("fr_world: type a request a line: nodes and buffers are numbers, and no line has a cycle, as commit 0 0 0 "
+                 "x0a0b\r\nfr_world: ./fr_world --help lists the requests\r\n")
+        piped = "fr_world: a line has the reply refused BadLine if it is no request: it has a name, a cycle, or more " \
+            "than a line feed\r\n"
+        reading = "reading {} from the terminal, to its end (Ctrl-D); < FILE reads a file\r\n"
+        for command, told in ((f"./fr_world {CLUSTER} --cycles 4 < /dev/tty > /dev/null", typed),
+                              (f"echo now | ./fr_world {CLUSTER} --cycles 4 > /dev/tty", piped),
+                              (f"echo now | ./fr_world {CLUSTER} --cycles 4 > /dev/null", ""),
+                              ("./fr_bench midpoint < /dev/tty > /dev/null", f"fr_bench: {reading.format('NUMBERS')}")):
+            got = self.seen(command)
+            self.runs.compare(f"{command} at a terminal: {got!r}", told in got and bool(told) == bool(got), True)
+
+    def seen(self, command: str) -> str:
+        """Returns what a shell command writes to its terminal, where the end of the input is typed."""
+        ours, theirs = pty.openpty()
+        # Without an echo the terminal has only what is written to it.
+        settings = termios.tcgetattr(theirs)
+        settings[3] &= ~termios.ECHO
+        termios.tcsetattr(theirs, termios.TCSANOW, settings)
+        running = subprocess.Popen(["setsid", "--ctty", "--wait", "sh", "-c", f"{command} 2>/dev/tty"], cwd=self.top,
+                                   stdin=theirs, stdout=subprocess.DEVNULL, stderr=subprocess.DEVNULL)
+        os.close(theirs)
+        os.write(ours, b"\x04")
+        running.wait(SECONDS)
+        text = b""
+        with contextlib.suppress(OSError):
+            while more := os.read(ours, 4096):
+                text += more
+        os.close(ours)
+        return text.decode(errors="replace")
 
     def closed(self) -> None:
         """Checks that a closed standard stream fails, and that no file of the program gets its number."""

@@ -1,4 +1,5 @@
 """The refusals of a world, each an exception of its name."""
+from musmyrtle.visible import visible
 
 
 class SessionOver(RuntimeError):
@@ -83,7 +84,12 @@ class Refused(Exception):
 
 
 class BadLine(Refused):
-    """The line is no request."""
+    """The line is no request. The text of the exception has the reason."""
+
+    def __str__(self) -> str:
+        # Most sessions have no such line, so that they needn't wait for the import.
+        from musmyrtle.world.bad_lines import why_no_request
+        return f"{' '.join(self.names)}: {why_no_request(self.line)}: {visible(self.line)}"
 
 
 class BadFault(Refused):
