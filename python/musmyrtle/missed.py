@@ -26,6 +26,16 @@ class Miss:
     found: str
     others: int
 
+    def __str__(self) -> str:
+        return self.text(f"node {self.node}", f"buffer {self.buffer}")
+
+    def text(self, node: str, buffer: str) -> str:
+        """Returns the report of the programs, with these words for the node and the buffer."""
+        cycles = "cycle" if self.others == 1 else "cycles"
+        more = f" (and in {self.others} other {cycles})" if self.others else ""
+        return (f"line {self.line}: {node} {buffer} at the end of cycle {self.cycle}: expected {self.expected}, "
+                f"found {self.found}{more}")
+
 
 def miss_of(text: str) -> Miss | None:
     """Returns the missed expectation that a line of standard error reports, or None for another line."""

@@ -12,7 +12,7 @@ from pathlib import Path
 from threading import Thread
 from typing import IO, Any
 
-from musmyrtle.idle_lines import idle_line_of
+from musmyrtle.floods import condensed, is_of_many
 from musmyrtle.missed import MISSED, Miss, misses_of
 from musmyrtle.output import pass_on
 from musmyrtle.streams import RESTORED
@@ -158,13 +158,15 @@ def listened(running: subprocess.Popen[Any], listen: Callable[[IO[str]], None] |
 
 
 def ask(program: str, words: list[str], started: Started = subprocess.Popen,
-        listen: Callable[[IO[str]], None] | None = None, known: re.Pattern[str] | None = None) -> Answer:
+        listen: Callable[[IO[str]], None] | None = None, known: re.Pattern[str] | None = None,
+        spelled: Callable[[Miss], str] = str) -> Answer:
     """Returns the program's answer. Messages of its launcher, such as that it builds first, are passed on.
 
     The lines by which a launcher explains a refusal aren't, since this package has longer reasons of its own, nor those
-    of the form KNOWN. LISTEN reads what the program prints, in a thread of its own, until its end.
+    of the form KNOWN. Lines that are alike are passed on at the end, and SPELLED returns the text of a missed
+    expectation. LISTEN reads what the program prints, in a thread of its own, until its end.
     """
-    refusal, misses, idle = None, list[Miss](), list[int]()
+    refusal, misses, alike = None, list[Miss](), list[str]()
     told: deque[str] = deque(maxlen=MOST_TOLD)
     streams: dict[str, Any] = {"stdin": subprocess.DEVNULL, "stdout": subprocess.PIPE if listen else subprocess.DEVNULL,
                                "stderr": subprocess.PIPE, "restore_signals": RESTORED}
@@ -178,9 +180,14 @@ def ask(program: str, words: list[str], started: Started = subprocess.Popen,
             elif refusal is None or not line.startswith(f"{Path(program).name}: "):
                 told.append(line)
                 misses += misses_of(MISSED, [line])
-                idle += [it for it in (idle_line_of(line),) if it is not None]
-                if known is None or not known.fullmatch(line):
+                if known is not None and known.fullmatch(line):
+                    continue
+                if is_of_many(line):
+                    alike.append(line)
+                else:
                     pass_on(line)
+    for line in condensed(alike, spelled):
+        pass_on(line)
     if running.returncode == 0 or running.returncode == MISSED and misses and refusal is None:
         return Answer(0, None, misses=tuple(misses) if running.returncode else (), idle=tuple(idle))
     is_named = refusal is not None

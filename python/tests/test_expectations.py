@@ -38,6 +38,14 @@ line {4}: node 3 buffer 0 at the end of cycle 0: expected x0001, found no receiv
 line {5}: node 0 buffer 63 at the end of cycle 1: expected nothing, found no receive buffer
 line {6}: node 0 buffer 0 at the end of cycle 0: expected x0001, found no receive buffer
 """
+NAMED = """line {0}: brake (1) position (1) at the end of cycle 0: expected x0002, found x0001 (and in 1 other cycle)
+line {2}: brake (1) position (1) at the end of cycle 1: expected nothing, found x0001
+line {3}: brake (1) unused (3) at the end of cycle 0: expected x0003, found nothing
+line {4}: node 3 buffer 0 at the end of cycle 0: expected x0001, found no receive buffer (and in 1 other cycle)
+line {5}: pedal (0) buffer 63 at the end of cycle 1: expected nothing, found no receive buffer
+line {6}: pedal (0) position (0) at the end of cycle 0: expected x0001, found no receive buffer
+"""
+"""The same, as `musmyrtle` passes it on."""
 LEFT_OUT = "line {7} names no cycle of the run\n"
 IDLE = "line 10 struck nothing\n"
 BEGIN = SCENE.replace("frscenario 1", "frscenario 3").removesuffix("end\n")
@@ -142,7 +150,7 @@ class Tables(Expecting):
         for words in (("log",), ("commits", "--json"), ("reads",), ("page",)):
             with self.subTest(words):
                 status, output, told = self.asked(words[0], *self.missing(), *words[1:])
-                self.assertEqual((status, told), (3, numbered(f"{LEFT_OUT}{TOLD}")))
+                self.assertEqual((status, told), (3, numbered(f"{LEFT_OUT}{NAMED}")))
                 self.assertTrue(output)
 
 
@@ -233,7 +241,7 @@ class Campaigns(Expecting):
             status, output, told = self.asked("faults", cluster, self.written(name, scene(*lines)), *words)
             found.append((status, output))
             passed = [line for line in told.splitlines(True) if line.startswith("line ")]
-            self.assertEqual("".join(passed), IDLE + "" if not lines else numbered(f"{LEFT_OUT}{IDLE}{TOLD}"))
+            self.assertEqual("".join(passed), IDLE + "" if not lines else numbered(f"{LEFT_OUT}{IDLE}{NAMED}"))
         self.assertEqual(found[0], found[1])
         self.assertEqual((found[0][0], found[0][1].count("\n") > 1), (0, True))
 

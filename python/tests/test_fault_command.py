@@ -201,7 +201,7 @@ class TestFiles(Command):
         for more, limit, told in ((["--html", str(page)], small, f"--html {page}: File too large"),
                                   (["--joblog", "/dev/full"], small, "--joblog /dev/full: No space left on device"),
                                   (["--list"], 150, "the temporary folder .* can't be written: File too large"),
-                                  (["--list"], 0, "No usable temporary directory found in .*")):
+                                  (["--list"], 0, "no folder for temporary files can be used .*; name one by .*")):
             _, got, status = self.apart(more, limit)
             self.assertRegex(got.splitlines()[-1], f"^musmyrtle faults: {told}$")
             self.assertEqual((got.count("\n") == 1, status), (more[0] != "--html", 2))

@@ -15,12 +15,14 @@ from musmyrtle.faults.runs import CLUSTER_FILE, SCENARIO_FILE, outcome_words
 from musmyrtle.faults.whole_files import write_file
 from musmyrtle.lint.command import REFUSED, USAGE, is_bold_on, told
 from musmyrtle.lint.lint import Lint, Task, lint, read_bytes
+from musmyrtle.missed import Miss
 from musmyrtle.names import Names
 from musmyrtle.output import Stop, pass_on, write
 from musmyrtle.program import Answer as Asked
 from musmyrtle.program import ask
 from musmyrtle.scenario import Reading as ScenarioReading
 from musmyrtle.scenario import Scenario
+from musmyrtle.show.network import Network, missed_text
 from musmyrtle.texts import read_text
 
 
@@ -43,7 +45,8 @@ def accepted(given: argparse.Namespace, folder: Path, children: Children) -> Inp
     task, data = copied(given, folder)
     files = task.file(given.cluster), task.file(given.scenario)
     try:
-        answer = ask(given.program, outcome_words(*files, given.cycles), children.started)
+        answer = ask(given.program, outcome_words(*files, given.cycles), children.started,
+                     spelled=lambda miss: named(task, miss))
     except OSError as error:
         raise Stop(USAGE, f"{given.program} can't be run: {error.strerror}") from None
     found = lint(task)
@@ -59,6 +62,12 @@ def accepted(given: argparse.Namespace, folder: Path, children: Children) -> Inp
     assert cluster is not None
     scenario = ScenarioReading(given.scenario, files_read[1], given.cycles, Names.of(files_read[0])).scenario
     return Inputs(cluster, scenario, files_read)
+
+
+def named(task: Task, miss: Miss) -> str:
+    """Returns a missed expectation with the names of its node and buffer."""
+    network = Network.of(read_text(task.cluster, read_bytes(task.file(task.cluster)) or b""))
+    return str(miss) if network is None else missed_text(network, miss)
 
 
 def accepted_host(given: argparse.Namespace, folder: Path) -> Inputs:

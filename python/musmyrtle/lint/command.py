@@ -4,14 +4,15 @@ import io
 import os
 import re
 import sys
+from collections import Counter
 from collections.abc import Iterable, Iterator
 from contextlib import ExitStack, contextmanager, suppress
 from dataclasses import replace
 from typing import Any, NoReturn, TextIO
 
 from musmyrtle.ending import FINE, reason_of, status_of
-from musmyrtle.findings import MOST_REASONS, block, counted, nearest
-from musmyrtle.idle_lines import FORM as IDLE
+from musmyrtle.findings import MOST_REASONS, Finding, block, counted, nearest
+from musmyrtle.floods import MOST_ALIKE, SHOWN
 from musmyrtle.lint.allows import NAMES, expected_name
 from musmyrtle.lint.guarantees import Guarantees
 from musmyrtle.lint.lint import Lint, Ran, Task, lint, read_bytes
@@ -32,6 +33,8 @@ KNOWN = re.compile(f"line [0-9]+ names no cycle of the run|{IDLE.pattern}|{FORM.
 """The messages of the program in whose place there are notes and warnings."""
 REFUSED, USAGE, WARNED = 1, 2, 4
 MOST_WARNINGS, MOST_REPEATED = 40, 200
+OF_LINES = ("missed-expectation", "wrong-expectation", "idle-fault")
+"""The warnings that each line of a long scenario may have. Of many only the first ones are printed."""
 ABOUT = """Explains the faults of a cluster file, and of a scenario for it: place, reason, and expected form.
 
 fr_bench runs first, by `check CLUSTER` or by `run CLUSTER SCENARIO --cycles N`, and decides what is refused. An
@@ -225,15 +228,30 @@ def told(answer: Answer, found: Lint, is_bold: bool = False) -> Iterator[str]:
         return
     if answer.refusal is not None:
         yield from told_reasons(answer, found, is_bold)
-    for finding in found.warnings[:MOST_WARNINGS]:
+    kept, counts = few_alike(found.warnings)
+    for finding in kept[:MOST_WARNINGS]:
         yield block("warning", finding, is_bold)
+    for name, count in counts.items():
+        yield f"and {counted(count, 'more warning')} [{name}]\n"
     for finding in found.notes[:MOST_WARNINGS]:
         yield block("note", finding, is_bold)
     for finding in found.errors:
         yield block("error", finding, is_bold)
-    more = len(found.warnings[MOST_WARNINGS:]) + found.further_warnings
+    more = len(kept[MOST_WARNINGS:]) + found.further_warnings
     if more:
         yield f"and {counted(more, 'more warning')}\n"
+
+
+def few_alike(findings: list[Finding]) -> tuple[list[Finding], dict[str, int]]:
+    """Returns the findings, of many about lines of the scenario only the first ones, and the others' number by name."""
+    counts = Counter(it.name for it in findings if it.name in OF_LINES)
+    places: Counter[str] = Counter()
+    kept = []
+    for it in findings:
+        places[it.name] += 1
+        if counts[it.name] <= MOST_ALIKE or places[it.name] <= SHOWN:
+            kept.append(it)
+    return kept, {name: count - SHOWN for name, count in counts.items() if count > MOST_ALIKE}
 
 
 def told_reasons(answer: Answer, found: Lint, is_bold: bool) -> Iterator[str]:

@@ -11,12 +11,13 @@ from typing import IO, NoReturn
 from musmyrtle.ending import reason_of
 from musmyrtle.faults.children import Children
 from musmyrtle.findings import block, counted
+from musmyrtle.floods import condensed
 from musmyrtle.lint.command import MOST_REPEATED, REFUSED, USAGE, is_bold_on, lasting
 from musmyrtle.lint.lint import Lint, Task, lint, read_bytes
 from musmyrtle.missed import Miss, miss_of, misses_of
 from musmyrtle.output import Stop, pass_on, write
 from musmyrtle.program import REFUSED_LINE, Answer, is_launcher, itself, no_answer, places, usual_program
-from musmyrtle.show.network import Network
+from musmyrtle.show.network import Network, missed_text
 from musmyrtle.texts import NoText, read_text
 from musmyrtle.visible import cut, visible
 
@@ -163,14 +164,23 @@ class Inputs:
             self.stop(program, words, status, lines)
         self.misses = misses or self.misses
         idle = [it for it in lines if it.startswith(IDLE_FRONT) and it.endswith(IDLE_BACK)]
-        for line in lines:
-            is_known = line in idle or not self.passes_misses_on and miss_of(line)
-            is_known = is_known or not self.is_endless and line.endswith(NOT_JUDGED)
-            if not is_known and line not in self.passed_on:
+        told_on = [it for it in lines if not self.is_told_otherwise(it, idle)]
+        for line in condensed(told_on, self.spelled):
+            if line not in self.passed_on:
                 self.passed_on.add(line)
                 pass_on(line)
         numbers = (it.removeprefix(IDLE_FRONT).removesuffix(IDLE_BACK) for it in idle)
         return [int(it) for it in numbers if it.isdecimal()]
+
+    def is_told_otherwise(self, line: str, idle: list[str]) -> bool:
+        """Returns whether the command itself prints what a line says, or asks another view for it."""
+        if line in idle or not self.is_endless and line.endswith(NOT_JUDGED):
+            return True
+        return not self.passes_misses_on and miss_of(line) is not None
+
+    def spelled(self, miss: Miss) -> str:
+        """Returns a missed expectation with the names of its node and buffer."""
+        return missed_text(self.network, miss)
 
     def stop(self, program: str, words: list[str], status: int, lines: list[str]) -> NoReturn:
         """Raises `Stop` for a program that refused or failed, after the reason of a refusal."""
