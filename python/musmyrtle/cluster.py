@@ -8,6 +8,7 @@ from functools import cached_property
 from typing import Any
 
 from musmyrtle.findings import MOST_REASONS, alike, joined, shown
+from musmyrtle.other_words import value_meant
 from musmyrtle.places import Path
 
 PARAMETERS = {
@@ -174,6 +175,12 @@ class Fault:
     notes: tuple[tuple[str, Path], ...] = ()
 
 
+def question(value: str, words: tuple[str, ...]) -> str:
+    """Returns the question for the words that are meant by a value, or nothing where none is known."""
+    meant = joined([f'"{it}"' for it in value_meant(value, words)], "or")
+    return f" Is {meant} meant?" if meant else ""
+
+
 class Reader:
     """Reads the keys of one table, and notes their faults."""
 
@@ -192,9 +199,9 @@ class Reader:
         notes = [(f"`{it}` is an unknown key: is `{key}` meant?", (*self.path, it)) for it in meant]
         self.note(f"{self.who} has no `{key}`", f"Expected `{key}` with {right}.", notes=notes)
 
-    def wrong(self, key: str, right: str) -> None:
+    def wrong(self, key: str, right: str, hint: str = "") -> None:
         found = shown(self.table[key])
-        self.note(f"`{key}` of {self.who} is {found}", f"Expected {right}.", (*self.path, key))
+        self.note(f"`{key}` of {self.who} is {found}", f"Expected {right}.{hint}", (*self.path, key))
 
     def number(self, key: str, least: int, greatest: int, usual: int | None = None, why: str = "") -> int:
         right = f"a whole number from {least} to {greatest}{why}"
@@ -223,7 +230,7 @@ class Reader:
         value = self.table[key]
         if isinstance(value, str) and value in words:
             return value
-        self.wrong(key, right)
+        self.wrong(key, right, question(value, words) if isinstance(value, str) else "")
         return words[0]
 
     def cycles(self) -> Cycles:
@@ -316,7 +323,8 @@ class Reading:
         if type(guard) is not str or guard not in GUARDS:
             right = joined([f'"{it}"' for it in GUARDS], "or")
             headline = f"`guard` at the top of the file is {shown(guard)}"
-            self.faults.append(Fault("BadGuard", headline, f"Expected {right}.", ("guard",)))
+            hint = question(guard, GUARDS) if type(guard) is str else ""
+            self.faults.append(Fault("BadGuard", headline, f"Expected {right}.{hint}", ("guard",)))
             return "AB"
         return "" if guard == "none" else guard
 

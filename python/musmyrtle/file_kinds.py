@@ -28,10 +28,16 @@ class Kind:
     name: str
     advice: str = ""
 
+    @property
+    def sentence(self) -> str:
+        """Returns the advice as a sentence before another one, or nothing."""
+        return f"{self.advice[0].upper()}{self.advice[1:]}. " if self.advice else ""
+
 
 CAPTURE = Kind("a capture of a bus", "`musmyrtle monitor CLUSTER RECORDING` compares it with a cluster")
-SCENARIO = Kind("a scenario", "the cluster file comes first, and then the scenario")
-CLUSTER = Kind("a cluster file", "the cluster file comes first, and then the scenario")
+SWAPPED = "are the two files swapped? The cluster file comes first, and then the scenario"
+SCENARIO = Kind("a scenario", SWAPPED)
+CLUSTER = Kind("a cluster file", SWAPPED)
 TRACE = Kind("a trace", "`musmyrtle lint TRACE` explains a trace, and takes nothing else")
 NO_IMPORT = "there is no import of it: write the cluster as docs/formats/cluster.md describes"
 EXPORT = "export it as a capture (pcap or pcapng) of link type 210"

@@ -4,6 +4,7 @@ from dataclasses import dataclass
 from itertools import islice
 from textwrap import wrap
 
+from musmyrtle.other_words import meant_by, plain
 from musmyrtle.places import Place
 from musmyrtle.visible import cut, visible
 
@@ -62,14 +63,13 @@ def shown(value: object) -> str:
     return cut(str(value))
 
 
-def plain(word: str) -> str:
-    return word.lower().replace("_", "").replace("-", "")
-
-
 def nearest(word: str, known: tuple[str, ...] | list[str]) -> str | None:
-    """Returns the known word that this one resembles most, if one is near enough to be meant."""
+    """Returns the known word that this one stands for elsewhere, or that it resembles most, if one is near enough."""
     if len(word) > LONGEST_MEANT:
         return None
+    meant = meant_by(word, known)
+    if meant:
+        return meant[0]
     # Few files have such words, and each call of a command would wait for the import.
     from difflib import get_close_matches
     plain_words = {plain(it): it for it in known}

@@ -3,10 +3,13 @@
 All three versions are read. A line of version 3 is kept as the lines of version 2 that it stands for, but for its
 cycles and places, with the column of each word in the text.
 """
+import re
 from collections.abc import Iterator
 from dataclasses import dataclass, field
 
+from musmyrtle.file_kinds import SCENARIO, Kind, kind_of
 from musmyrtle.findings import Finding
+from musmyrtle.mending import MARK, wide_hint
 from musmyrtle.names import LineNames, Names
 from musmyrtle.places import Place
 from musmyrtle.scenario_lines import EXPECTATIONS, FaultLine, Line
@@ -61,6 +64,10 @@ class Scenario:
         return 1 if self.version < NEWEST or cycles is None else len(line.cycles.within(cycles))
 
 
+NEARLY = re.compile(r"\s*frscenario\s*v?([123])\s*", re.IGNORECASE)
+"""A first line that means a version."""
+
+
 class Reading:
     """The reading of a scenario's bytes, for a run of so many cycles of a cluster with these names.
 
@@ -84,15 +91,17 @@ class Reading:
         try:
             text = data.decode()
         except UnicodeDecodeError as error:
-            headline = f"the byte 0x{data[error.start]:02x} is no UTF-8"
+            kind = None if kind_of(data) is SCENARIO else kind_of(data)
+            headline = f"the file is {kind.name}" if kind else f"the byte 0x{data[error.start]:02x} is no UTF-8"
             number = data.count(b"\n", 0, error.start) + 1
             self.scenario.text = data.decode(errors="replace").split("\n")
-            self.refuse("BadMagic", headline, "A scenario is UTF-8, and but for comments ASCII.", number)
+            reason = kind.sentence if kind else wide_hint(data) or "A scenario is UTF-8, and but for comments ASCII."
+            self.refuse("BadMagic", headline, reason.strip(), number)
             return
         lines = text.split("\n")
         self.scenario.text = lines
         if len(lines) < 2 or lines[0] not in MAGICS:
-            self.refuse("BadMagic", *bad_magic(lines), 1)
+            self.refuse("BadMagic", *bad_magic(lines, kind_of(data)), 1)
             return
         self.version = self.scenario.version = MAGICS[lines[0]]
         self.read_lines(lines)
@@ -171,7 +180,8 @@ class Reading:
         return truncated(lines, Words.of(lines[-1], self.version).words == ("end",))
 
 
-def bad_magic(lines: list[str]) -> tuple[str, str]:
+def bad_magic(lines: list[str], kind: Kind | None = None) -> tuple[str, str]:
+    """Returns why a text of this kind doesn't begin as a scenario, and what is expected."""
     right = "Expected `frscenario 3`, `frscenario 2` or `frscenario 1`, and a line feed."
     if lines == [""]:
         return "the scenario is empty", right
@@ -179,6 +189,13 @@ def bad_magic(lines: list[str]) -> tuple[str, str]:
         return "the first line ends with a carriage return", f"Lines end with a line feed alone. {right}"
     if lines[0] in MAGICS:
         return "the first line has no line feed", right
+    if lines[0].startswith(MARK):
+        return "the file begins with a byte order mark", f"Expected a file saved as UTF-8 without that mark. {right}"
+    if kind is not None and kind is not SCENARIO:
+        return f"the file is {kind.name}, and no scenario", f"{kind.sentence}{right}"
+    found = NEARLY.fullmatch(lines[0])
+    if found:
+        return f"the first line isn't `frscenario {found[1]}`", f"Expected small letters and one space. {right}"
     return "the first line doesn't name the format", right
 
 

@@ -4,6 +4,7 @@ from collections.abc import Iterable
 from dataclasses import dataclass
 
 from musmyrtle.findings import nearest
+from musmyrtle.mending import comment_in
 from musmyrtle.named_windows import MOST_CYCLE, MOST_PLACE, FaultPlace, RunCycles
 from musmyrtle.names import LineNames
 from musmyrtle.scenario_lines import EXPECTATIONS, FAULTS, FORMS, LOST, FaultLine, Line
@@ -75,7 +76,7 @@ class Words:
             headline = f"version {self.version} has no line `{self.kind}`"
             return headline, f"Expected `frscenario {since}` as the first line.", 1
         meant = nearest(self.kind, tuple(forms))
-        hint = f"Is `{meant}` meant? " if meant else ""
+        hint = self.comment_hint(self.kind) or (f"Is `{meant}` meant? " if meant else "")
         return f"no line begins with `{cut(self.kind)}`", f"{hint}Expected one of {', '.join(forms)}.", self.columns[0]
 
     def wrong_count(self) -> Wrong | None:
@@ -84,7 +85,14 @@ class Words:
             return None
         headline = f"the line has {len(self.words)} words, and `{self.kind}` has {right}"
         end = self.columns[-1] + len(self.words[-1])
-        return headline, f"Expected `{' '.join([self.kind, *self.form])}`.", end
+        comment = next(filter(None, map(self.comment_hint, self.words[1:])), "")
+        return headline, f"{comment}Expected `{' '.join([self.kind, *self.form])}`.", end
+
+    def comment_hint(self, word: str) -> str:
+        """Returns what to write in the place of a comment of another format that begins with a word, or nothing."""
+        hint = comment_in(word)
+        newest = "" if self.version == NEWEST else f" Only `frscenario {NEWEST}` has comments."
+        return f"{hint}{newest} " if hint else ""
 
     def wrong_word(self) -> Wrong | None:
         for at, name in enumerate(self.form, 1):
@@ -92,7 +100,8 @@ class Words:
             if right:
                 whole = " ".join([self.kind, *self.form])
                 newer = self.newer(name, self.words[at])
-                return f"{name} is `{cut(self.words[at])}`", f"{right}, in `{whole}`.{newer}", self.columns[at]
+                hint = slip_in(name, self.words[at])
+                return f"{name} is `{cut(self.words[at])}`", f"{hint}{right}, in `{whole}`.{newer}", self.columns[at]
         return None
 
     def newer(self, name: str, word: str) -> str:
@@ -168,6 +177,15 @@ def fault_lines_of(lines: Iterable[str]) -> list[FaultLine]:
     """Returns the fault lines of some right lines of version 3 with numbers: those of one channel each."""
     found = (it for line in lines for it in Words.of(line, NEWEST).lines(0))
     return [it for it in found if isinstance(it, FaultLine)]
+
+
+def slip_in(name: str, word: str) -> str:
+    """Returns what to mend in a word that has the form of other formats, or nothing."""
+    if name == "HEX":
+        begin = word.lower().removeprefix("0")
+        return f"Expected `{begin}`, without the 0. " if word[:1] == "0" and HEX.fullmatch(begin) else \
+            f"Expected `x{word.lower()}`. " if HEX.fullmatch(f"x{word.lower()}") else ""
+    return f"Expected no `{word[-1]}` after a word. " if len(word) > 1 and word[-1] in ",;:" else ""
 
 
 RIGHT_CYCLES = (f"Expected `*` for every cycle, `C`, `C-D`, or `C-D/STEP` for each STEPth cycle from C on up to D, "

@@ -2,13 +2,16 @@
 from collections.abc import Iterable
 from dataclasses import dataclass
 
+from musmyrtle.file_kinds import CLUSTER, kind_of
 from musmyrtle.findings import Finding, Note
+from musmyrtle.mending import toml_hint, wide_hint
 from musmyrtle.places import Path, Place, Places
 from musmyrtle.toml_reader import Reader
 from musmyrtle.toml_tables import BY_HEADER, Table
 from musmyrtle.toml_values import NoToml
 
 FILE_LIMIT = 1_048_576
+EXPECTED = "Expected a text in TOML with a table `[params]`, and a table `[[node]]` for each node."
 
 
 class NoText(Exception):
@@ -46,27 +49,38 @@ def read_text(file: str, data: bytes) -> Text:
     """Reads the bytes of a cluster file. Raises `NoText` for a file that is too long or no TOML."""
     if len(data) > FILE_LIMIT:
         headline = f"the file has {len(data)} bytes"
-        raise NoText("TooLong", Finding(headline, f"A cluster file has at most {FILE_LIMIT} bytes."))
+        why = Finding(headline, f"A cluster file has at most {FILE_LIMIT} bytes.")
+        raise NoText("TooLong", other_kind(file, data) or why)
     try:
         text = data.decode()
     except UnicodeDecodeError as error:
-        raise NoText("Toml", not_utf8(file, data, error.start)) from None
+        raise NoText("Toml", other_kind(file, data) or not_utf8(file, data, error.start)) from None
     text = text.removeprefix("\ufeff")
     try:
         document = Reader(text).document()
     except NoToml as error:
-        raise NoText("Toml", no_toml(Places(file, text, Table(BY_HEADER)), error)) from None
+        why = other_kind(file, data) or no_toml(Places(file, text, Table(BY_HEADER)), error)
+        raise NoText("Toml", why) from None
     return Text(file, document, Places(file, text, document))
+
+
+def other_kind(file: str, data: bytes) -> Finding | None:
+    """Returns what a file is that is no cluster file, and what to do with it, or None where its bytes don't tell."""
+    kind = kind_of(data)
+    if kind is None or kind is CLUSTER:
+        return None
+    return Finding(f"{file} is {kind.name}, and no cluster file", f"{kind.sentence}{EXPECTED}")
 
 
 def not_utf8(file: str, data: bytes, at: int) -> Finding:
     begin = data.rfind(b"\n", 0, at) + 1
     source = data[begin:].split(b"\n", 1)[0].decode(errors="replace")
     place = Place(file, data.count(b"\n", 0, at) + 1, len(data[begin:at].decode(errors="replace")) + 1, source)
-    reason = "TOML is UTF-8. Expected a file saved as UTF-8."
+    reason = wide_hint(data) or "TOML is UTF-8. Expected a file saved as UTF-8."
     return Finding(f"the byte 0x{data[at]:02x} is no UTF-8", reason, place)
 
 
 def no_toml(places: Places, error: NoToml) -> Finding:
     notes = () if error.note is None else (Note(error.note[0], places.at(error.note[1])),)
-    return Finding(error.why, error.right, places.at(error.at), notes)
+    hint = toml_hint(places.text, error.at)
+    return Finding(error.why, f"{hint} {error.right}" if hint else error.right, places.at(error.at), notes)

@@ -101,7 +101,7 @@ class Keys(Shows):
             ("faults", [*run, "--kinds", "lost"]), ("faults --list", [*run, "--kinds", "lost"]),
             ("lint", [guarded, "--load"]), ("lint", [guarded, "--guaranteed", "brake", "state"]),
             ("latency", [guarded, "--slot", "4", "--channel", "A"]), ("check", [guarded]), ("plan", [guarded]),
-            ("monitor", [THREE[0], str(TOP / "examples/recordings/disturbed.pcap")]),
+            ("monitor", [THREE[0], str(TOP / "examples/recordings/disturbed.pcap")]), ("monitor", [THREE[0], THREE[0]]),
             *((it, run) for it in ("run", "log", "commits", "reads")),
             ("run", [run[0], missing, "--cycles", "2"]),
         ):

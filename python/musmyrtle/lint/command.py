@@ -11,7 +11,7 @@ from dataclasses import replace
 from typing import Any, NoReturn, TextIO
 
 from musmyrtle.ending import FINE, reason_of, status_of
-from musmyrtle.findings import MOST_REASONS, Finding, block, counted, nearest
+from musmyrtle.findings import MOST_REASONS, Finding, block, counted, joined, nearest
 from musmyrtle.floods import MOST_ALIKE, SHOWN
 from musmyrtle.lint.allows import NAMES, expected_name
 from musmyrtle.lint.guarantees import Guarantees
@@ -21,9 +21,9 @@ from musmyrtle.lint.rows import sections
 from musmyrtle.lint.runs import MOST_CYCLES
 from musmyrtle.lint.trace_why import MAGIC, NoAnswer, TraceFile, ask_why, finding_of, is_trace
 from musmyrtle.missed import FORM
-from musmyrtle.output import Stop, pass_on, write
-from musmyrtle.program import VARIABLES, Answer, ask, by_option, no_answer, usual_program
-from musmyrtle.scenario_lines import FAULTS, LOST
+from musmyrtle.other_words import OUTPUTS, meant_by
+from musmyrtle.output import Stop, write
+from musmyrtle.program import Answer, ask, by_option, no_answer, usual_program
 from musmyrtle.show.tables import Section, as_csv, as_json, as_text
 from musmyrtle.version import version
 from musmyrtle.visible import cut, visible
@@ -53,6 +53,8 @@ SILENCED = """warnings: each ends with its name, as `[sync-nodes]`. `--allow NAM
 
 UNCLEAR, VALUE_MISSING = ("unrecognized arguments: ", "the following arguments are required: "), "expected one argument"
 """The beginnings and the end of messages of `argparse` that don't say what to write."""
+ONE_VALUE = type(argparse.ArgumentParser().add_argument("--one"))
+"""The kind of options that keep their last value."""
 
 
 class PrintVersion(argparse.Action):
@@ -79,9 +81,26 @@ class Parser(argparse.ArgumentParser):
         more = f"; {self.prog} --help describes the words" if is_unclear else ""
         unknown = message.removeprefix(UNCLEAR[0])
         if unknown != message:
-            meant = nearest(unknown.partition(" ")[0], list(self._option_string_actions))
-            message, more = f"unknown words: {unknown}", f"; did you mean {meant}?" if meant else more
+            message, more = f"unknown words: {unknown}", self.hint(unknown.partition(" ")[0]) or more
         self.exit(USAGE, f"{self.prog}: {visible(cut(message, MOST_REPEATED))}{more}\n")
+
+    def hint(self, word: str) -> str:
+        """Returns what is meant by an unknown word, or nothing where nothing is near."""
+        options = list(self._option_string_actions)
+        option = word.partition("=")[0]
+        if option in OUTPUTS:
+            return f"; {self.prog} writes to standard output: > FILE"
+        meant = meant_by(option, options) or [it for it in (nearest(option, options),) if it]
+        return f"; did you mean {joined(meant, 'or')}?" if meant else ""
+
+    def parse_known_args(self, args: Any = None, namespace: Any = None) -> Any:
+        """Reads words. Of an option that stands twice only the last value would count, so it is an error."""
+        words = list(sys.argv[1:] if args is None else args)
+        given = [it.partition("=")[0] for it in words[:words.index("--") if "--" in words else None]]
+        for option, action in self._option_string_actions.items():
+            if given.count(option) > 1 and isinstance(action, ONE_VALUE):
+                self.error(f"{option} stands twice")
+        return super().parse_known_args(words, namespace)
 
 
 def shown_examples(examples: Iterable[str]) -> str:

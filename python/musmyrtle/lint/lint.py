@@ -1,11 +1,12 @@
 """The findings about a cluster file and a scenario, beside the answer of `fr_bench`."""
+import os
 from collections.abc import Callable, Iterable
 from dataclasses import dataclass, field, replace
 
 from musmyrtle.cluster import Cluster
 from musmyrtle.cluster import Reading as ClusterReading
-from musmyrtle.findings import Finding
-from musmyrtle.lint import naming, physical, ranges, receiving, sending, unread
+from musmyrtle.findings import Finding, nearest
+from musmyrtle.lint import physical, ranges, receiving, sending, unread
 from musmyrtle.lint.allows import NOTES, Allows
 from musmyrtle.lint.clashes import clashes
 from musmyrtle.lint.expecting import Expectations, missed
@@ -19,6 +20,8 @@ from musmyrtle.names import named_in
 from musmyrtle.scenario import Reading as ScenarioReading
 from musmyrtle.texts import FILE_LIMIT, NoText, Text, read_text
 
+MOST_NAMES = 500
+"""The names of a folder among which that of a missing file is looked for."""
 TRACE_LIMIT = 98_548_055
 """The bytes of the longest trace."""
 
@@ -111,19 +114,30 @@ def read_bytes(file: str) -> bytes | None:
 
 
 def unreadable(file: str, what: str) -> Finding:
-    found = "can't be read"
+    found, hint = "can't be read", ""
     try:
         with open(file, "rb"):
             pass
     except FileNotFoundError:
-        found = "isn't there"
+        found, hint = "isn't there", nearby(file)
     except IsADirectoryError:
         found = "is a folder"
     except OSError as error:
         found = f"{found}: {error.strerror}"
     except ValueError as error:
         found = f"{found}: {error}"
-    return Finding(f"{what} {file!r} {found}", "Expected the name of a file that can be read.")
+    return Finding(f"{what} {file!r} {found}", f"{hint}Expected the name of a file that can be read.")
+
+
+def nearby(file: str) -> str:
+    """Returns a question for the file in the same folder whose name is nearest to one that isn't there, or nothing."""
+    folder, name = os.path.split(file)
+    try:
+        names = sorted(os.listdir(folder or "."))[:MOST_NAMES]
+        meant = next((it for it in names if it.startswith(f"{name}.")), None) or nearest(name, names)
+    except (OSError, ValueError):
+        return ""
+    return f"Is {os.path.join(folder, meant)} meant? " if meant else ""
 
 
 @dataclass(frozen=True)

@@ -5,6 +5,7 @@ from typing import Any
 
 from musmyrtle.cluster import BUFFER_KEYS, NODE_KEYS, OWN_KEYS, PARAMETERS, QUEUE_KEYS
 from musmyrtle.findings import Finding, joined, nearest
+from musmyrtle.other_words import has_no_key, meant_by
 from musmyrtle.places import Path
 from musmyrtle.texts import Text
 from musmyrtle.visible import cut
@@ -47,8 +48,11 @@ def unread_keys(text: Text) -> tuple[list[Finding], int]:
 
 
 def unread_key(text: Text, key: str, who: str, table: dict[str, Any], path: Path, keys: tuple[str, ...]) -> Finding:
-    meant = nearest(key, [it for it in keys if it not in table])
-    hint = f"Is `{meant}` meant? " if meant else ""
+    free = [it for it in keys if it not in table]
+    nearby = meant_by(key, free) or [it for it in (nearest(key, free),) if it]
+    hint = f"{'Are' if len(nearby) > 1 else 'Is'} {joined([f'`{it}`' for it in nearby])} meant? " if nearby else ""
+    if has_no_key(key):
+        hint = "It is a parameter of the standard that the bench doesn't have. "
     reason = f"{hint}Keys of {who} are {joined([f'`{it}`' for it in keys])}."
     return text.finding(f"`{cut(key)}` of {who} is an unknown key", reason, (*path, key))
 

@@ -1,5 +1,6 @@
 """The command `musmyrtle`: finds the command of its first word, and does it."""
 import argparse
+import os
 import sys
 from collections.abc import Callable, Iterator
 from contextlib import suppress
@@ -20,6 +21,12 @@ from musmyrtle.visible import cut, visible
 SHELLS = {"bash": bash, "zsh": zsh}
 HELP, VERSION = ("help", "--help", "-h"), ("--version", "-V")
 WIDTH = 110
+OF_PROGRAMS = {
+    "fr_bench": ("audit", "midpoint"),
+    "fr_view": ("schedule", "links", "capture", "frames", "fifo", "why", "matrix", "trace", "outcome", "answers",
+                "record", "windows", "reasons", "origins", "received", "bus"),
+}
+"""The commands of the programs that this command doesn't have."""
 
 
 def texts(name: str, purpose: str, example: str, adding: Callable[[argparse.ArgumentParser], None],
@@ -83,10 +90,22 @@ def done(words: list[str]) -> int:
     for command in EVERY:
         if command.name == words[0]:
             return command.main(words[1:])
+    raise Stop(USAGE, no_command(words[0]))
+
+
+def no_command(word: str) -> str:
+    """Returns why a word is no command, and what to write."""
+    if os.path.isfile(word):
+        return f"the first word must be a command, not the file {cut(word)}: {COMMAND} lint {cut(word)}"
+    for program in ("fr_bench", "fr_view"):
+        if word in OF_PROGRAMS[program]:
+            return f"{word} is a command of ./{program}: ./{program} {word}"
     names = [it.name for it in EVERY]
-    meant = nearest(words[0], [*names, *HELP, *VERSION])
+    meant = nearest(word, [*names, *HELP, *VERSION])
+    if word.startswith("-") and not meant:
+        return f"the first word must be a command, not the option {cut(word)}; the commands are {', '.join(names)}"
     more = f"did you mean {meant}?" if meant else f"the commands are {', '.join(names)}"
-    raise Stop(USAGE, f"there is no command {cut(words[0]) or 'without a name'}; {more}")
+    return f"there is no command {cut(word) or 'without a name'}; {more}"
 
 
 def main(words: list[str] | None = None) -> int:
