@@ -1,4 +1,4 @@
-"""What to mend where a text has the signs of another format: comments, quotes, units, and marks of an editor."""
+"""Hints for texts with the signs of another format: comments, quotes, units, and marks of an editor."""
 import re
 
 COMMENTS = ("//", "/*", ";", "--", "!", "%")
