@@ -196,7 +196,8 @@ is_cause() {
 # Prints what the program with the words reads from the terminal, if it reads anything.
 explain_input() {
     read_words "$@"
-    case $input$slip in
+    find_unread
+    case $input$slip$unread in
     requests)
         say 'type a request a line: nodes and buffers are numbers, and no line has a cycle, as commit 0 0 0 x0a0b'
         say './fr_world --help lists the requests'

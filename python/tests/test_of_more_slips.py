@@ -86,7 +86,7 @@ COMMANDS = (
     (("run", "c", "s", "--cycle", "4"), "the following arguments are required: --cycles"),
     (("run", "c", "s", "--cycles", "4", "--cycles", "8"), "musmyrtle run: --cycles stands twice"),
     (("run", "c", "s", "--cycles=4", "--cycles=8"), "musmyrtle run: --cycles stands twice"),
-    (("faults", "c", "s", "--cycles", "4", "--html", "a", "--html", "b"), "--html stands twice"),
+    (("faults", "c", "s", "--cycles", "4", "--cycles", "4"), "--cycles stands twice"),
     (("audit",), "audit is a command of ./fr_bench: ./fr_bench audit"),
     (("matrix", "c", "s"), "matrix is a command of ./fr_view: ./fr_view matrix"),
     (("simulate", "c", "s"), "there is no command simulate; did you mean run?"),

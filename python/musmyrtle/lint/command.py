@@ -53,8 +53,8 @@ SILENCED = """warnings: each ends with its name, as `[sync-nodes]`. `--allow NAM
 
 UNCLEAR, VALUE_MISSING = ("unrecognized arguments: ", "the following arguments are required: "), "expected one argument"
 """The beginnings and the end of messages of `argparse` that don't say what to write."""
-ONE_VALUE = type(argparse.ArgumentParser().add_argument("--one"))
-"""The kind of options that keep their last value."""
+ONCE = ("--cycles",)
+"""Options that may stand only once, as for the programs. A later one of the others replaces the one before."""
 
 
 class PrintVersion(argparse.Action):
@@ -94,11 +94,11 @@ class Parser(argparse.ArgumentParser):
         return f"; did you mean {joined(meant, 'or')}?" if meant else ""
 
     def parse_known_args(self, args: Any = None, namespace: Any = None) -> Any:
-        """Reads words. Of an option that stands twice only the last value would count, so it is an error."""
+        """Reads words. Ends with status 2 where an option of `ONCE` stands twice."""
         words = list(sys.argv[1:] if args is None else args)
         given = [it.partition("=")[0] for it in words[:words.index("--") if "--" in words else None]]
-        for option, action in self._option_string_actions.items():
-            if given.count(option) > 1 and isinstance(action, ONE_VALUE):
+        for option in ONCE:
+            if given.count(option) > 1:
                 self.error(f"{option} stands twice")
         return super().parse_known_args(words, namespace)
 

@@ -1,12 +1,13 @@
 """The reason why a world isn't opened: the refusal of the program, and the explanation by `musmyrtle lint`."""
 import os
 
+from musmyrtle.program import OF_THE_MACHINE
 from musmyrtle.visible import visible
 from musmyrtle.world.refusals import BadCycles, ClusterRefused, NoRoom
 
 REFUSED = "refused "
-OF_THE_MACHINE = ("Memory", "Write", "Record", "Capture")
-"""Refusals that aren't about the cluster file."""
+OF_OUTPUTS = ("Record", "Capture", "Trace")
+"""Refusals of the files to which a world writes."""
 
 
 def refused_cluster(said: str, cluster: str) -> ClusterRefused | BadCycles | NoRoom | None:
@@ -20,15 +21,16 @@ def refused_cluster(said: str, cluster: str) -> ClusterRefused | BadCycles | NoR
     if not places:
         return None
     refusal, _, explained = lines[places[-1]].removeprefix(REFUSED).partition(": ")
-    if refusal in OF_THE_MACHINE:
-        return None
     if refusal == "BadCycles":
         return BadCycles("a run of the cluster can't have so many cycles")
     name, _, node = refusal.partition(" ")
     if name == "NoRoom" and node.isdigit():
         return NoRoom(int(node))
     told = " ".join(filter(None, (explained, *lines[places[-1] + 1:])))
-    return ClusterRefused(refusal, visible(reason_of(refusal, cluster) or told))
+    reason = reason_of(refusal, cluster) or told
+    # A failure of the machine is no verdict on a file that can be read.
+    is_of_machine = name in (*OF_OUTPUTS, *OF_THE_MACHINE) and not (name == "Read" and reason)
+    return None if is_of_machine else ClusterRefused(refusal, visible(reason))
 
 
 def reason_of(refusal: str, cluster: str) -> str:
