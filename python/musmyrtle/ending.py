@@ -14,7 +14,7 @@ NO_FOLDER = "No usable temporary directory found in "
 
 
 def status_of(command: str, work: Callable[[], int]) -> int:
-    """Does a command, and returns its status. This is the one place where failures of the machine end a command."""
+    """Does a command, and returns its status. Failures of the machine end a command here, and nowhere else."""
     try:
         fill_streams()
         return work()

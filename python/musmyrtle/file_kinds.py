@@ -87,7 +87,7 @@ def kind_of_file(file: str) -> Kind | None:
 
 
 def link_types_of(file: str) -> list[int]:
-    """Returns the link types that the begin of a capture names, each once, or none where it is no such file."""
+    """Returns the link types that the begin of a capture names, each once, or none for another file."""
     data = begin_of(file)
     with suppress(struct.error):
         if data[:4] in PCAP:

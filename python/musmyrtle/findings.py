@@ -64,7 +64,7 @@ def shown(value: object) -> str:
 
 
 def nearest(word: str, known: tuple[str, ...] | list[str]) -> str | None:
-    """Returns the known word that this one stands for elsewhere, or that it resembles most, if one is near enough."""
+    """Returns the known word that another tool spells so, or the nearest one, if it may be meant."""
     if len(word) > LONGEST_MEANT:
         return None
     meant = meant_by(word, known)

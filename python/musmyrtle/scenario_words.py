@@ -89,7 +89,7 @@ class Words:
         return headline, f"{comment}Expected `{' '.join([self.kind, *self.form])}`.", end
 
     def comment_hint(self, word: str) -> str:
-        """Returns what to write in the place of a comment of another format that begins with a word, or nothing."""
+        """Returns what to write for a word that begins a comment of another format, or nothing."""
         hint = comment_in(word)
         newest = "" if self.version == NEWEST else f" Only `frscenario {NEWEST}` has comments."
         return f"{hint}{newest} " if hint else ""

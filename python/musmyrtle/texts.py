@@ -65,7 +65,7 @@ def read_text(file: str, data: bytes) -> Text:
 
 
 def other_kind(file: str, data: bytes) -> Finding | None:
-    """Returns what a file is that is no cluster file, and what to do with it, or None where its bytes don't tell."""
+    """Returns the kind of a file that is no cluster file, and what to do with it, or None if it isn't known."""
     kind = kind_of(data)
     if kind is None or kind is CLUSTER:
         return None

@@ -67,7 +67,7 @@ class Closed(Shows):
 
 class Limited(Shows):
     def test_a_page(self) -> None:
-        """Python itself drops the rest of a write that is cut off, without an error, where its output has no buffer."""
+        """Without a buffer, Python drops the rest of a write that is cut off, and raises no error."""
         file, told = self.folder / "page.html", "musmyrtle: the output can't be written: File too large\n"
         for unbuffered in ("PYTHONUNBUFFERED=", "PYTHONUNBUFFERED=1"):
             for words in (["page", *THREE], ["log", *THREE]):

@@ -239,7 +239,7 @@ class Slips:
         return ran.stdout, ran.stderr, ran.returncode
 
     def terminals(self) -> None:
-        """Checks the lines of a session at a terminal that show why a line is no request, and those about input."""
+        """Checks the lines at a terminal that show why a line is no request, and those about input."""
         requests = self.top / "requests"
         for text, line in (
                 ("now\ncommit 0 0 0 0 x0a0b\n", "line 2 has a cycle, as in a scenario; a request is commit NODE TASK "

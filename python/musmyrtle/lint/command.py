@@ -262,7 +262,7 @@ def told(answer: Answer, found: Lint, is_bold: bool = False) -> Iterator[str]:
 
 
 def few_alike(findings: list[Finding]) -> tuple[list[Finding], dict[str, int]]:
-    """Returns the findings, of many about lines of the scenario only the first ones, and the others' number by name."""
+    """Returns the findings, of many about lines only the first ones, and the number of the others by name."""
     counts = Counter(it.name for it in findings if it.name in OF_LINES)
     places: Counter[str] = Counter()
     kept = []

@@ -130,7 +130,7 @@ def unreadable(file: str, what: str) -> Finding:
 
 
 def nearby(file: str) -> str:
-    """Returns a question for the file in the same folder whose name is nearest to one that isn't there, or nothing."""
+    """Returns a question for the file whose name is nearest to one that isn't there, or nothing."""
     folder, name = os.path.split(file)
     try:
         names = sorted(os.listdir(folder or "."))[:MOST_NAMES]
