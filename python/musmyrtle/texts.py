@@ -69,7 +69,10 @@ def other_kind(file: str, data: bytes) -> Finding | None:
     kind = kind_of(data)
     if kind is None or kind is CLUSTER:
         return None
-    return Finding(f"{file} is {kind.name}, and no cluster file", f"{kind.sentence}{EXPECTED}")
+    first = data.split(b"\n", 1)[0]
+    source = "" if b"\0" in first else first.decode(errors="replace")
+    headline = f"the file is {kind.name}, and no cluster file"
+    return Finding(headline, f"{kind.sentence}{EXPECTED}", Place(file, 1, None, source))
 
 
 def not_utf8(file: str, data: bytes, at: int) -> Finding:

@@ -26,7 +26,9 @@ LINES = (
     ("babble 2 A", "expected `babble NODE CH HEX` or `babble NODE CHS CYCLES PLACE HEX`"),
     ("read  1 0 1", "expected one space between two words, and none at the ends"),
     ("run 04", "N is `04`, and has to be a number from 0 to 1024"),
-    ("mute brake AB 0 s1", "no fault line"), ("lost brake 0", "Names of nodes are for scenarios"),
+    ("mute brake AB 0 s1", "Names of nodes are for scenarios"),
+    ("mute 2 AB 0 s9999", "N from 1 to 8000, in `mute NODE CHANNELS CYCLES PLACE`: mute 2"),
+    ("corrupt AC 0 s1 3", "no fault line: CHANNELS is `AC`"), ("lost brake 0", "Names of nodes are for scenarios"),
     ("commit 0 0 0 x" + "00" * 700, "a request has at most 1200 bytes"),
 )
 
@@ -35,7 +37,7 @@ class Lines(unittest.TestCase):
     def test_reasons(self) -> None:
         for line, why in LINES:
             with self.subTest(line=line[:40]):
-                self.assertIn(why, why_no_request(line))
+                self.assertIn(why, f"{why_no_request(line)}: {line}")
 
     def test_the_requests_are_those_of_the_document(self) -> None:
         table = (TOP / "docs/WORLD.md").read_text().partition("### Requests and replies")[2].partition("###")[0]

@@ -113,7 +113,10 @@ class Slips(Cases):
     def test_other_files_as_a_cluster(self):
         for data, text in FOR_CLUSTERS:
             with self.subTest(text=text):
-                self.assertIn(text, self.text(*self.look(data)))
+                found, _ = self.look(data)
+                finding = found.refusals[0][1]
+                self.assertIn(text, f"{finding.headline} {finding.reason}")
+                self.assertEqual(finding.place and finding.place.line, 1)
 
     def test_clusters(self):
         for text, *changes in IN_CLUSTERS:
@@ -151,7 +154,7 @@ class Slips(Cases):
     def test_the_recording_in_the_place_of_the_cluster(self):
         cluster, recording = self.written("cluster.toml", CLUSTER), str(TOP / "examples/recordings/disturbed.pcap")
         told, status = self.asked("monitor", recording, cluster)
-        self.assertIn("is a capture of a bus, and no cluster file `musmyrtle monitor CLUSTER RECORDING`", told)
+        self.assertIn(f"{recording}:1: refused Toml: the file is a capture of a bus, and no cluster file", told)
         self.assertEqual(status, 1)
 
     def test_the_commands_of_programs(self):

@@ -53,7 +53,9 @@ def of_fault_line(line: str) -> str:
     try:
         fault_line(line)
     except ValueError as error:
-        return f"{error} Names of nodes are for scenarios"
+        kind, node, *_ = line.split()
+        named = kind != "corrupt" and not node.isdecimal()
+        return f"{error} Names of nodes are for scenarios" if named else str(error).removesuffix(".")
     return "a word is out of its range"
 
 
