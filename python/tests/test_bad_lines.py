@@ -29,6 +29,10 @@ LINES = (
     ("mute brake AB 0 s1", "Names of nodes are for scenarios"),
     ("mute 2 AB 0 s9999", "N from 1 to 8000, in `mute NODE CHANNELS CYCLES PLACE`: mute 2"),
     ("corrupt AC 0 s1 3", "no fault line: CHANNELS is `AC`"), ("lost brake 0", "Names of nodes are for scenarios"),
+    ("lost", "the line has 1 words, and `lost` has 3. Expected `lost NODE CYCLES`: lost"),
+    ("lost # 3", "the line has 1 words, and `lost` has 3. Expected `lost NODE CYCLES`: lost"),
+    ("mute 0 A # c", "expected `mute NODE CH` or `mute NODE CHS CYCLES PLACE`"),
+    ("run 1025", "N is `1025`, and has to be a number from 0 to 1024"),
     ("commit 0 0 0 x" + "00" * 700, "a request has at most 1200 bytes"),
 )
 

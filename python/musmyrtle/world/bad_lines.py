@@ -25,7 +25,7 @@ FORMS = {"NODE": ("[0-9]|1[0-5]", "a number from 0 to 15"), "TASK": ("[0-7]", "a
          "BUFFER": ("[0-9]|[1-5][0-9]|6[0-3]", "a number from 0 to 63"), "CH": ("[AB]", "`A` or `B`"),
          "HEX": ("x([0-9a-f]{2})*", "`x` and two lower-case hexadecimal digits for each byte"),
          "BIT": ("0|[1-9][0-9]{0,4}", "a number from 0 to 65535"),
-         "N": ("0|[1-9][0-9]{0,3}", "a number from 0 to 1024"),
+         "N": ("0|[1-9][0-9]{0,2}|10[01][0-9]|102[0-4]", "a number from 0 to 1024"),
          "W": ("0|[1-9][0-9]{0,9}", "a number from 0 to 4294967295")}
 """The forms of the words, as regular expressions and in words."""
 
@@ -53,8 +53,8 @@ def of_fault_line(line: str) -> str:
     try:
         fault_line(line)
     except ValueError as error:
-        kind, node, *_ = line.split()
-        named = kind != "corrupt" and not node.isdecimal()
+        kind, *words = line.partition("#")[0].split()
+        named = kind != "corrupt" and bool(words) and not words[0].isdecimal()
         return f"{error} Names of nodes are for scenarios" if named else str(error).removesuffix(".")
     return "a word is out of its range"
 
@@ -71,7 +71,8 @@ def of_request(line: str, words: list[str]) -> str:
     if line != " ".join(words):
         return "expected one space between two words, and none at the ends"
     for name, word in zip(fitting[0], given):
-        form, what = FORMS[name]
+        # Fault lines in cycles have words of scenarios, too.
+        form, what = FORMS.get(name, (".*", ""))
         if not re.fullmatch(form, word):
             named = "; names are for scenarios, and a session takes numbers" if name in ("NODE", "BUFFER") and \
                 not word.isdecimal() else ""
