@@ -8,7 +8,7 @@ from functools import cached_property
 from typing import Any
 
 from musmyrtle.findings import MOST_REASONS, alike, joined, shown
-from musmyrtle.other_words import value_meant
+from musmyrtle.other_words import FIFOS, value_meant
 from musmyrtle.places import Path
 
 PARAMETERS = {
@@ -177,6 +177,8 @@ class Fault:
 
 def question(value: str, words: tuple[str, ...]) -> str:
     """Returns the question for the words that are meant by a value, or nothing where none is known."""
+    if words == KINDS and value.lower() in FIFOS:
+        return " A receive FIFO is the key `queue` of its node."
     meant = joined([f'"{it}"' for it in value_meant(value, words)], "or")
     return f" Is {meant} meant?" if meant else ""
 

@@ -9,6 +9,7 @@ SPACES = "\u00a0\u2007\u202f\u3000\u200b\ufeff"
 UNITS = "us|\u00b5s|\u03bcs|ms|ns|s|mt|mbit/s|kbit/s|bit/s|bits?|bytes?|words?|k?hz|mhz"
 UNIT = re.compile(rf"([+-]?[0-9][0-9_.]*) *({UNITS})\b", re.IGNORECASE)
 NAME = re.compile(r"[A-Za-z_][A-Za-z0-9_]*")
+FLAGS = ("true", "false")
 MARK = "\ufeff"
 """The byte order mark."""
 LOOKED_AT = 80
@@ -35,8 +36,16 @@ def toml_hint(text: str, at: int) -> str | None:
         if unit.start(1) <= at - begin <= unit.end(2):
             return f"Expected `{unit[1]}` without a unit: each key has its own."
     word = NAME.match(rest)
-    is_value = text[begin:at].rstrip().endswith(("=", "[", ","))
-    return f'Expected quotes around a text: "{word[0]}".' if word and is_value else None
+    if not word or not is_value(text[begin:at]):
+        return None
+    small = word[0].lower()
+    return f"Expected `{small}`, in small letters." if small in FLAGS else f'Expected quotes around a text: "{word[0]}".'
+
+
+def is_value(before: str) -> bool:
+    """Returns whether a value comes after the begin of a line."""
+    end = before.rstrip()
+    return end.endswith(("=", ",")) or end.endswith("[") and bool(end.rstrip("[ \t"))
 
 
 def wide_hint(data: bytes) -> str | None:

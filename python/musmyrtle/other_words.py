@@ -10,7 +10,8 @@ KEYS: dict[str, tuple[str, ...]] = {
     "pLatestTx": ("latest_a", "latest_b"), "pKeySlotId": ("own",), "pKeySlotUsedForSync": ("own", "sync"),
     "pKeySlotUsedForStartup": ("own", "startup"),
     # Words of other tools and texts for keys and tables.
-    "cycle": ("cycle_mt",), "fifo": ("queue",), "depth": ("capacity",), "size": ("capacity",), "baseCycle": ("base",),
+    "cycle": ("cycle_mt", "base", "repetition"), "cycles": ("base", "repetition"), "fifo": ("queue",),
+    "depth": ("capacity",), "size": ("capacity",), "baseCycle": ("base",),
     "cycleOffset": ("base",), "cycleRepetition": ("repetition",), "frameId": ("slot",), "slotId": ("slot",),
     "id": ("slot",), "length": ("words",), "payloadLength": ("words",), "ppi": ("preamble",),
     "payloadPreambleIndicator": ("preamble",), "type": ("kind",), "direction": ("kind",), "slots": ("own",),
@@ -41,6 +42,8 @@ VALUES = {"tx": ("event", "state"), "transmit": ("event", "state"), "send": ("ev
           "receiver": ("receive",), "both": ("AB",), "a+b": ("AB",), "ba": ("AB",), "a,b": ("AB",), "off": ("none",),
           "no": ("none",), "": ("none",)}
 """Words for values in cluster files, in small letters."""
+FIFOS = ("fifo", "queue")
+"""Words, in small letters, for a receive FIFO among the kinds of buffers."""
 OUTPUTS = ("-o", "-O", "--output", "--out", "--outfile", "--file")
 """Options by which other tools name the file of their output."""
 

@@ -57,6 +57,12 @@ IN_CLUSTERS = (
     ("`length` is an unknown key: is `words` meant?", "words = 1}", "length = 1}"),
     ('Is "event" or "state" meant?', 'kind = "event"', 'kind = "tx"'),
     ('Is "receive" meant?', 'kind = "receive"', 'kind = "rx"'),
+    ("Are `base` and `repetition` meant?", 'kind = "event", slot = 1', 'kind = "event", cycle = 0, slot = 1'),
+    ("Are `base` and `repetition` meant?", 'kind = "event", slot = 1', 'kind = "event", cycles = 0, slot = 1'),
+    ("A receive FIFO is the key `queue` of its node.", 'kind = "event"', 'kind = "fifo"'),
+    ("Expected `true`, in small letters.", "sync = true", "sync = True"),
+    ("Expected `false`, in small letters.", "sync = true", "sync = FALSE"),
+    ("^ A header `[node]` opens one table. Expected `[[node]]`", "[[node]]", "[node]"),
     ('Is "AB" meant?', 'guard = "A"', 'guard = "both"'),
     ('Is "A" meant?', 'channels = "A"', 'channels = "a"'),
 )
