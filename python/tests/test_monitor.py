@@ -199,10 +199,14 @@ class Refusals(Monitor):
 
     def test_recordings(self) -> None:
         """The tables begin with the refusal, and state nothing about findings."""
+        begin = self.folder / "begin.pcap"
+        begin.write_bytes(HEADER[:-1])
         cases: list[tuple[str, str, str, list[str]]] = [
             (self.written("broken", "no capture"), "NoCapture", "the recording is no pcap or pcapng file", []),
+            (str(begin), "Truncated 0", "the recording ends within the block that begins at byte 0; "
+             "what came before it was judged", []),
             (self.cut(frames(1)), "Truncated 99", "the recording ends within the block that begins at byte 99; "
-             "the tables have what came before", ["", "Records"])]
+             "what came before it was judged", ["", "Records"])]
         for name, refusal, why, rest in cases:
             status, output, error = self.asked("monitor", self.cluster, name)
             self.assertEqual((status, error), (1, f"musmyrtle: refused {refusal}: {why}\n"))
@@ -320,7 +324,7 @@ class Reasons(unittest.TestCase):
     def test_refusals(self) -> None:
         self.assertEqual(explained("refused BadBlock 24"), (
             "refused BadBlock 24: the block or record that begins at byte 24 is broken; "
-            "the tables have what came before"))
+            "what came before it was judged"))
         self.assertEqual(explained("refused Unknown 1"), "refused Unknown 1")
 
 

@@ -156,8 +156,8 @@ class Tables:
         return Section(kind, "", KINDS[kind][1], [row])
 
     def refuse(self, refusal: str, has_front: bool) -> None:
-        """Adds the refusal of the recording. If nothing of it was judged, there are no other tables."""
-        if not has_front:
+        """Adds the refusal of the recording. If no record of it was judged, there are no other tables."""
+        if not has_front or not any(it.values["records"] for it in self.rows["total"]):
             self.rows = {it: [] for it in KINDS}
         self.rows[REFUSED].append(Row({"refusal": refusal, "why": reason_of(refusal)}, True))
 
@@ -310,8 +310,8 @@ ENDED_EARLY = ("BadBlock", "Truncated")
 OF_RECORDINGS = ("NoCapture", *ENDED_EARLY)
 REASONS = {
     "NoCapture": "the recording is no pcap or pcapng file",
-    "BadBlock": "the block or record that begins at byte {} is broken; the tables have what came before",
-    "Truncated": "the recording ends within the block that begins at byte {}; the tables have what came before",
+    "BadBlock": "the block or record that begins at byte {} is broken; what came before it was judged",
+    "Truncated": "the recording ends within the block that begins at byte {}; what came before it was judged",
     "NoClock": "channel {} has a sender, and no static slot with an owner in cycle {}: without a clock its cycles "
                "aren't known",
 }
