@@ -74,11 +74,11 @@ class UnusableNames(Cases):
 class AmbiguousNumbers(Cases):
     CLUSTER = named('"2"', '"rack"', '"gateway"').replace(RECEIVE, f'{{name = "0", {RECEIVE[1:]}')
 
-    def ambiguous(self, *lines: str, version: int = 3) -> list[tuple[str, str, str]]:
-        """Returns places, headlines and reasons of the warnings about these lines of a scenario."""
+    def ambiguous(self, *lines: str, version: int = 3, refusals: tuple[str, ...] = ()) -> list[tuple[str, str, str]]:
+        """Returns places, headlines and reasons of the warnings about these lines of a scenario, refused so."""
         text = "".join(f"{it}\n" for it in (f"frscenario {version}", *lines, "end"))
         found, _ = self.look(self.CLUSTER, text, 4)
-        self.assertEqual(found.refusals, [])
+        self.assertEqual(tuple(it for it, _ in found.refusals), refusals)
         return [(str(it.place).rpartition("/")[2], it.headline, it.reason) for it in found.warnings
                 if it.name == "ambiguous-number"]
 
@@ -95,6 +95,12 @@ class AmbiguousNumbers(Cases):
         found = self.ambiguous("commit 0 0 0 0 x0a0b", "commit 1 0 0 0 x0a0b")
         self.assertEqual([it[:2] for it in found], [
             ("scenario:2:14", "`0` means buffer 0 of node 0, not the buffer named `0`, which is buffer 1")])
+
+    def test_a_run_that_is_refused(self) -> None:
+        """Buffer 0 of node 0 is for transmission. Its buffer 1, for reception, has the name 0."""
+        found = self.ambiguous("read 0 0 1 0", refusals=("BadScript 0",))
+        self.assertEqual([it[:2] for it in found], [
+            ("scenario:2:12", "`0` means buffer 0 of node 0, not the buffer named `0`, which is buffer 1")])
 
     def test_expectations(self) -> None:
         found = self.ambiguous("expect-none 2 0 1")

@@ -202,8 +202,10 @@ def lint_scenario(task: Task, cluster: Cluster, text: Text, found: Lint, ran: Ra
         return
     scenario = ScenarioReading(name, data, cycles, named_in(text.document)).scenario
     found.refusals += scenario.refusals or Run(cluster, text, scenario, cycles).refusals()
-    if not found.refusals:
+    if not scenario.refusals:
+        # A run may be refused for a number that was meant as a name.
         found.warn("ambiguous-number", naming.ambiguous_numbers(scenario, text))
+    if not found.refusals:
         found.warn("skipped-line", skipped_lines(scenario, cycles))
         found.warn("idle-fault", idle_faults(cluster, scenario, ran.idle))
         found.warn("fifo-overwrites", overwriting_fifos(cluster, text, scenario, ran.overwritten))
