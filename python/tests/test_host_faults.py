@@ -82,6 +82,13 @@ def slow(world):
     time.sleep(300)
 
 number = 1
+
+async def waits(world):
+    calls(world)
+
+async def waits_and_yields(world):
+    calls(world)
+    yield
 """
 
 
@@ -159,6 +166,8 @@ class HostFaults(Shows):
             ("random", "two runs without a fault differ, so none can be compared: is the host program random?", 4),
             ("none", "--host hosts_of_test:none: AttributeError: module 'hosts_of_test' has no attribute 'none'", 2),
             ("number", "--host hosts_of_test:number: number isn't a function", 2),
+            *((it, f"--host hosts_of_test:{it}: {it} is `async`, so that a call of it runs nothing: expected a "
+               "function without `async`", 2) for it in ("waits", "waits_and_yields")),
         ):
             with self.subTest(name):
                 self.assertEqual(self.host(name), (status, "", f"musmyrtle faults: {told}\n"))

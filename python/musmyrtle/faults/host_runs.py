@@ -2,6 +2,7 @@
 from collections.abc import Callable, Collection, Iterator
 from contextlib import ExitStack, suppress
 from dataclasses import dataclass, field
+from inspect import isasyncgenfunction, iscoroutinefunction
 
 from musmyrtle.cluster import Cluster
 from musmyrtle.faults.answers import NO_REFUSALS
@@ -87,6 +88,8 @@ def function_of(host: str) -> HostFunction:
         raise NoHost(str(error) if isinstance(error, Unloadable) else f"AttributeError: {error}") from None
     if not callable(found):
         raise NoHost(f"{name} isn't a function")
+    if iscoroutinefunction(found) or isasyncgenfunction(found):
+        raise NoHost(f"{name} is `async`, so that a call of it runs nothing: expected a function without `async`")
     return found
 
 
