@@ -38,8 +38,9 @@ def toml_hint(text: str, at: int) -> str | None:
     word = NAME.match(rest)
     if not word or not is_value(text[begin:at]):
         return None
-    small = word[0].lower()
-    return f"Expected `{small}`, in small letters." if small in FLAGS else f'Expected quotes around a text: "{word[0]}".'
+    if word[0].lower() in FLAGS:
+        return f"Expected `{word[0].lower()}`, in small letters."
+    return f'Expected quotes around a text: "{word[0]}".'
 
 
 def is_value(before: str) -> bool:

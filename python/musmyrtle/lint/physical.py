@@ -54,7 +54,8 @@ def wrong_times(_: Cluster, text: Text) -> Iterator[Finding]:
     for key, unit in UNITS.items():
         if not is_number(table.get(key)):
             found = f"is {shown(table[key])}" if key in table else "is missing"
-            reason = f"Slots aren't compared with times without it. Expected a number from 1e-6 to 1e12, of {unit}."
+            reason = ("Without it slots are compared with the most bits of a macrotick alone. Expected a number from "
+                      f"1e-6 to 1e12, of {unit}.")
             yield text.finding(f"`{key}` of `[physical]` {found}", reason, ("physical", key))
 
 
