@@ -66,6 +66,7 @@ class Scenario:
 
 NEARLY = re.compile(r"\s*frscenario\s*v?([123])\s*", re.IGNORECASE)
 """A first line that means a version."""
+OTHER_VERSION = re.compile(r"frscenario (0|[1-9][0-9]{0,3})")
 
 
 class Reading:
@@ -193,10 +194,14 @@ def bad_magic(lines: list[str], kind: Kind | None = None) -> tuple[str, str]:
         return "the file begins with a byte order mark", f"Expected a file saved as UTF-8 without that mark. {right}"
     if kind is not None and kind is not SCENARIO:
         return f"the file is {kind.name}, and no scenario", f"{kind.sentence}{right}"
+    if lines[0].lstrip(" \t").startswith("#") or not lines[0].strip():
+        return "the first line doesn't name the format", f"Comments and empty lines come after it. {right}"
     found = NEARLY.fullmatch(lines[0])
     if found:
         return f"the first line isn't `frscenario {found[1]}`", f"Expected small letters and one space. {right}"
-    return "the first line doesn't name the format", right
+    version = OTHER_VERSION.fullmatch(lines[0])
+    hint = f"There is no version {version[1]}. " if version else ""
+    return "the first line doesn't name the format", f"{hint}{right}"
 
 
 def truncated(lines: list[str], is_end: bool) -> tuple[str, str]:

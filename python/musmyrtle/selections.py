@@ -76,13 +76,25 @@ def cycles_of(word: str) -> SelectedCycles:
     for part in word.split(","):
         found = Span.of(part)
         if found is None:
-            raise ArgumentTypeError(f"{part!r} is no cycle, and no range as 8-16 or 0-14/2")
+            raise ArgumentTypeError(why_no_cycles(part))
         parts.append(found)
     named = SelectedCycles(tuple(parts))
     if len(named.numbers) < sum(len(it.numbers) for it in parts):
         # Two fault lines for one cycle would be refused.
         named = SelectedCycles(tuple(filter(None, map(Span.of, spelled(named.numbers)))))
     return named
+
+
+def why_no_cycles(part: str) -> str:
+    """Returns why a part of a word has no cycles."""
+    if part == EVERY:
+        return f"{part!r} isn't taken here: without the option all cycles are selected"
+    found = SPAN.fullmatch(part)
+    if found and found[2] and int(found[1]) > int(found[2]):
+        return f"{part!r} has no cycle, since {found[1]} is above {found[2]}"
+    if found:
+        return f"{part!r} has no cycle, since its step is 0"
+    return f"{part!r} is no cycle, and no range as 8-16 or 0-14/2"
 
 
 def cycles_in(word: str, cycles: int) -> Sequence[int]:

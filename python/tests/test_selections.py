@@ -26,6 +26,13 @@ class TestCycles(unittest.TestCase):
         for word in ("", ",", "1,", "*", "5-3", "0-4/0", "1/2", "-1", "1 2", "s1", "12345", "0x1", "\u0661"):
             with self.assertRaises(ArgumentTypeError, msg=word):
                 cycles_of(word)
+        for word, why in (("*", "'*' isn't taken here: without the option all cycles are selected"),
+                          ("0,5-3", "'5-3' has no cycle, since 5 is above 3"),
+                          ("0-4/0", "'0-4/0' has no cycle, since its step is 0"),
+                          ("0..4", "'0..4' is no cycle, and no range as 8-16 or 0-14/2")):
+            with self.assertRaises(ArgumentTypeError) as refused:
+                cycles_of(word)
+            self.assertEqual(str(refused.exception), why)
 
 
 class TestPlaces(unittest.TestCase):
@@ -164,7 +171,7 @@ class TestFilters(Shows):
                 (("log", *run, "--slot", "m11"), ": the cluster has no minislot 11: its minislots are 1 to 10"),
                 (("log", *run, "--slot", "all"), f" log: argument --slot: 'all' is no place: {places}"),
                 (("log", *run, "--in-cycles", "0-1/0"),
-                 " log: argument --in-cycles: '0-1/0' is no cycle, and no range as 8-16 or 0-14/2"),
+                 " log: argument --in-cycles: '0-1/0' has no cycle, since its step is 0"),
                 (("log", *run, "--node", "0-2"), ": the cluster has 2 nodes, and none is 2; names: pedal, brake"),
                 (("commits", *run, "--buffer", "log"),
                  ": log names no node and no buffer: expected NODE.BUFFER or NODE, each by its number or name; "

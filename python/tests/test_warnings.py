@@ -66,7 +66,7 @@ PHYSICAL = (
      ("too short for the frames of 1 buffer", "frames of 1 word need 108 bits, and have 1 minislot of 50 bits"),
      "[[node]]", "[physical]\nbit_rate = 10_000_000\nmacrotick_us = 1.0\n[[node]]"),
     ("cluster.toml:15:1", ("`macrotick_us` of `[physical]` is missing",
-                          "Without it slots are compared with the most bits of a macrotick alone"), "[[node]]",
+                           "Without it slots are compared with the most bits of a macrotick alone"), "[[node]]",
      "[physical]\nbit_rate = 10_000_000\n[[node]]"),
     ("cluster.toml:16:1", ("`bit_rate` of `[physical]` is \"10 Mbit\"",), "[[node]]",
      '[physical]\nbit_rate = "10 Mbit"\nmacrotick_us = 1\n[[node]]'),
