@@ -199,7 +199,7 @@ explain_input() {
     find_unread
     case $input$slip$unread in
     requests)
-        say 'type a request a line: nodes and buffers are numbers, and no line has a cycle, as commit 0 0 0 x0a0b'
+        say 'type a request a line: nodes and buffers are numbers, and no call has a cycle, as commit 0 0 0 x0a0b'
         say './fr_world --help lists the requests'
         ;;
     TRACE | NUMBERS | RECORDING)
@@ -215,7 +215,7 @@ explain_session() {
         wrong=$(find_wrong_request 2>/dev/null </dev/stdin)
         [ -z "$wrong" ] || say "$wrong"
     elif [ -p /dev/stdin ] && [ -t 1 ]; then
-        say 'a line has the reply refused BadLine if it is no request: it has a name, a cycle, or more than a line feed'
+        say 'a line with a name, a call with a cycle, or a carriage return at the end has the reply refused BadLine'
     fi
 }
 
@@ -225,7 +225,7 @@ find_wrong_request() {
         BEGIN {
             split("commit=NODE TASK BUFFER HEX,withdraw=NODE TASK BUFFER,read=NODE TASK BUFFER,pop=NODE TASK", calls, ",")
             for (i in calls) { split(calls[i], call, "="); form[call[1]] = call[1] " " call[2] }
-            split("receive next look fetch put take observe report status trace origin lost", others, " ")
+            split("receive next look fetch put take observe report status trace origin lost mute babble", others, " ")
             for (i in others) has_node[others[i]]
         }
         function tell(what) { printf "line %d %s\n", NR, what; exit }

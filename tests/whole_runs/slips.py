@@ -245,6 +245,7 @@ class Slips:
                 ("now\ncommit 0 0 0 0 x0a0b\n", "line 2 has a cycle, as in a scenario; a request is commit NODE TASK "
                  "BUFFER HEX"),
                 ("pop 0 0 1\n", "line 1 has a cycle, as in a scenario; a request is pop NODE TASK"),
+                ("now\nmute brake AB 0 s1\n", "line 2 names a node, as in a scenario; a request has its number"),
                 ("look brake\n", "line 1 names a node, as in a scenario; a request has its number"),
                 ("read 1 0 force\n", "line 1 names a buffer, as in a scenario; a request has its number"),
                 ("now\nnow\r\n", "line 2 ends with a carriage return; requests end with a line feed alone"),
@@ -256,10 +257,10 @@ class Slips:
         got = self.shell(f"cat {CLUSTER} | ./fr_bench check")[1]
         self.runs.compare("a cluster file in a pipe", got.splitlines()[1:2], [
             b"fr_bench: missing: FILE; standard input isn't read: /dev/stdin as FILE names the pipe"])
-        typed = ("fr_world: type a request a line: nodes and buffers are numbers, and no line has a cycle, as commit 0 0 0 "
-                 "x0a0b\r\nfr_world: ./fr_world --help lists the requests\r\n")
-        piped = "fr_world: a line has the reply refused BadLine if it is no request: it has a name, a cycle, or more " \
-            "than a line feed\r\n"
+        typed = ("fr_world: type a request a line: nodes and buffers are numbers, and no call has a cycle, as commit 0 "
+                 "0 0 x0a0b\r\nfr_world: ./fr_world --help lists the requests\r\n")
+        piped = "fr_world: a line with a name, a call with a cycle, or a carriage return at the end has the reply " \
+            "refused BadLine\r\n"
         reading = "reading {} from the terminal, to its end (Ctrl-D); < FILE reads a file\r\n"
         for command, told in ((f"./fr_world {CLUSTER} --cycles 4 < /dev/tty > /dev/null", typed),
                               (f"echo now | ./fr_world {CLUSTER} --cycles 4 > /dev/tty", piped),
