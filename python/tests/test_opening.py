@@ -174,7 +174,8 @@ class TestRefusedCluster(Folders):
         self.assertEqual(str(found), "refused Params Missing static_slots")
 
     def test_what_says_nothing_of_the_file_is_no_refusal_of_it(self) -> None:
-        for text in ("refused Memory", "refused Write", "refused Read", "refused Trace 0", "usage", "killed"):
+        for text in ("refused Memory", "refused Write", "refused Read", "refused Trace 0", "refused SameFile Record",
+                     "usage", "killed"):
             program = fakes.fake(self.folder, f"print({text!r}, file=sys.stderr)\nsys.exit(1)\n")
             with self.assertRaisesRegex(SessionOver, f"^{text}$") as raised:
                 World(THREE_NODES, 4, program=program)

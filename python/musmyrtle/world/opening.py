@@ -6,7 +6,7 @@ from musmyrtle.visible import visible
 from musmyrtle.world.refusals import BadCycles, ClusterRefused, NoRoom
 
 REFUSED = "refused "
-OF_OUTPUTS = ("Record", "Capture", "Trace")
+OF_OUTPUTS = ("Record", "Capture", "Trace", "SameFile")
 """Refusals of the files to which a world writes."""
 
 
