@@ -63,6 +63,18 @@ class Moment:
         return self.text
 
 
+class Spelled(float):
+    """A number with a point or an exponent, with its text: the decimals of 0.01 are no float."""
+
+    __slots__ = ("text",)
+
+    def __new__(cls, text: str) -> "Spelled":
+        return super().__new__(cls, text)
+
+    def __init__(self, text: str) -> None:
+        self.text = text
+
+
 def bare_value(word: str, at: int) -> bool | int | float | Moment:
     """Returns the value that a word without quotes has at an offset. Raises `NoToml` for a word that has none."""
     if INTEGER.fullmatch(word):
@@ -71,7 +83,7 @@ def bare_value(word: str, at: int) -> bool | int | float | Moment:
     if word in CONSTANTS:
         return CONSTANTS[word]
     if re.fullmatch(FLOAT, word):
-        number = float(word)
+        number = Spelled(word)
         if math.isinf(number):
             raise NoToml(at, "a number is too great", "At most 308 digits may stand before its point.")
         return number
