@@ -6,7 +6,7 @@ from dataclasses import dataclass, field, replace
 from musmyrtle.cluster import Cluster
 from musmyrtle.cluster import Reading as ClusterReading
 from musmyrtle.findings import Finding, nearest
-from musmyrtle.lint import physical, ranges, receiving, sending, unread
+from musmyrtle.lint import framing, naming, physical, ranges, receiving, sending, unread
 from musmyrtle.lint.allows import NOTES, Allows
 from musmyrtle.lint.clashes import clashes
 from musmyrtle.lint.expecting import Expectations, missed
@@ -18,6 +18,7 @@ from musmyrtle.lint.trace_why import is_trace
 from musmyrtle.missed import Miss
 from musmyrtle.names import named_in
 from musmyrtle.scenario import Reading as ScenarioReading
+from musmyrtle.signals.frames import Definitions, Frames
 from musmyrtle.texts import FILE_LIMIT, NoText, Text, read_text
 
 MOST_NAMES = 500
@@ -64,7 +65,8 @@ class Lint:
     """The transmit buffers that have to be guaranteed, and aren't."""
     allowed: frozenset[str] = frozenset()
     """The names of warnings that are silenced everywhere."""
-    allows: Allows | None = None
+    allows: list[Allows] = field(default_factory=list)
+    """The comments of the cluster file, and of the file that its key `signals` names."""
 
     @property
     def refusal(self) -> str | None:
@@ -80,7 +82,7 @@ class Lint:
             return
         self.further_warnings += further
         named = (replace(it, name=name) for it in findings)
-        kept = [it for it in named if self.allows is None or not self.allows.allow(it)]
+        kept = [it for it in named if not any(allows.allow(it) for allows in self.allows)]
         (self.notes if name in NOTES else self.warnings).extend(kept)
 
     def refuse(self, refusal: str, finding: Finding) -> None:
@@ -178,8 +180,7 @@ def lint(task: Task, ran: Ran = Ran(), guarantees: Guarantees | None = None) -> 
 
 def lint_cluster(text: Text, found: Lint) -> Cluster | None:
     """Returns the cluster, if it is accepted. Unread keys are reported in any case."""
-    found.allows = Allows(text)
-    found.warn("unknown-allow", *found.allows.unknown())
+    add_allows(text, found)
     found.warn("unread-key", *unread.unread_keys(text))
     reading = ClusterReading(text.document)
     cluster = reading.cluster
@@ -191,7 +192,26 @@ def lint_cluster(text: Text, found: Lint) -> Cluster | None:
     found.warn("idle-key", unread.idle_keys(text, cluster.parameters.static_slots))
     for name, warnings in OF_CLUSTER:
         found.warn(name, warnings(cluster, text))
+    lint_frames(cluster, text, found)
     return cluster
+
+
+def add_allows(text: Text, found: Lint) -> None:
+    """Adds the comments of a file that silence warnings."""
+    allows = Allows(text)
+    found.allows.append(allows)
+    found.warn("unknown-allow", *allows.unknown())
+
+
+def lint_frames(cluster: Cluster, text: Text, found: Lint) -> None:
+    """Adds the warnings of frames and signals, also of those in the file that the key `signals` names."""
+    definitions = Definitions.of(text)
+    for second in definitions.texts[1:]:
+        add_allows(second, found)
+        found.warn("unread-key", *unread.unread_keys_of_second(second))
+    frames = Frames(cluster, definitions)
+    for name, findings in framing.warnings_of(frames):
+        found.warn(name, findings[:framing.MOST_OF_NAME], len(findings[framing.MOST_OF_NAME:]))
 
 
 def lint_scenario(task: Task, cluster: Cluster, text: Text, found: Lint, ran: Ran) -> None:

@@ -1,16 +1,20 @@
 """Warnings of keys that no program reads."""
-from collections.abc import Iterator
-from itertools import islice
+from collections.abc import Iterable, Iterator
+from itertools import chain, islice
 from typing import Any
 
 from musmyrtle.cluster import BUFFER_KEYS, NODE_KEYS, OWN_KEYS, PARAMETERS, QUEUE_KEYS
 from musmyrtle.findings import Finding, joined, nearest
 from musmyrtle.other_words import has_no_key, meant_by
 from musmyrtle.places import Path
+from musmyrtle.signals.frames import BUFFER_FRAME, FILE
+from musmyrtle.signals.reading import FRAME_KEYS, SIGNAL_KEYS
 from musmyrtle.texts import Text
 from musmyrtle.visible import cut
 
-TOP_KEYS = ("guard", "params", "node", "physical")
+TOP_KEYS = ("guard", "params", "node", "physical", "frame", FILE)
+SECOND_KEYS = ("frame",)
+"""The keys at the top of the file that `signals` names."""
 NAMED = ("name",)
 """The program doesn't read it, and host programs find nodes and buffers by it."""
 PHYSICAL_KEYS = ("bit_rate", "macrotick_us")
@@ -32,7 +36,17 @@ def tables_of(document: dict[str, Any]) -> Iterator[tuple[str, dict[str, Any], P
         if isinstance(node.get("queue"), dict):
             yield f"the receive FIFO of node {number}", node["queue"], (*path, "queue"), QUEUE_KEYS
         for place, buffer in numbered_tables(node.get("buffer")):
-            yield f"buffer {place} of node {number}", buffer, (*path, "buffer", place), BUFFER_KEYS + NAMED
+            keys = (*BUFFER_KEYS, *NAMED, BUFFER_FRAME)
+            yield f"buffer {place} of node {number}", buffer, (*path, "buffer", place), keys
+    yield from tables_of_frames(document)
+
+
+def tables_of_frames(document: dict[str, Any]) -> Iterator[tuple[str, dict[str, Any], Path, tuple[str, ...]]]:
+    """Yields the same of each frame and each signal."""
+    for number, frame in numbered_tables(document.get("frame")):
+        yield f"frame {number}", frame, ("frame", number), FRAME_KEYS
+        for place, signal in numbered_tables(frame.get("signal")):
+            yield f"signal {place} of frame {number}", signal, ("frame", number, "signal", place), SIGNAL_KEYS
 
 
 def numbered_tables(value: object) -> Iterator[tuple[int, dict[str, Any]]]:
@@ -42,7 +56,19 @@ def numbered_tables(value: object) -> Iterator[tuple[int, dict[str, Any]]]:
 
 def unread_keys(text: Text) -> tuple[list[Finding], int]:
     """Returns warnings of the first unread keys, and how many more there are."""
-    unread = ((key, table) for table in tables_of(text.document) for key in table[1] if key not in table[3])
+    return unread_of(text, tables_of(text.document))
+
+
+def unread_keys_of_second(text: Text) -> tuple[list[Finding], int]:
+    """Returns the same of the file that the key `signals` names."""
+    top = "the top of the file", text.document, (), SECOND_KEYS
+    return unread_of(text, chain([top], tables_of_frames(text.document)))
+
+
+def unread_of(text: Text, tables: Iterable[tuple[str, dict[str, Any], Path, tuple[str, ...]]]
+              ) -> tuple[list[Finding], int]:
+    """Returns warnings of the first unread keys of tables, and how many more there are."""
+    unread = ((key, table) for table in tables for key in table[1] if key not in table[3])
     found = [unread_key(text, key, *table) for key, table in islice(unread, MOST_UNREAD)]
     return found, sum(1 for _ in unread)
 
