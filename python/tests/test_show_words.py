@@ -104,6 +104,7 @@ class Keys(Shows):
             ("monitor", [THREE[0], str(TOP / "examples/recordings/disturbed.pcap")]), ("monitor", [THREE[0], THREE[0]]),
             *((it, run) for it in ("run", "log", "commits", "reads")),
             ("run", [run[0], missing, "--cycles", "2"]),
+            ("decode", [str(TOP / "examples/signals/cluster.toml"), "engine", "data", "x222ef13c"]),
         ):
             with patch.dict(os.environ, judging.variables(self.folder) if words[1:2] == [missing] else {}):
                 output = self.asked(*command.split(), *words, "--json")[1]

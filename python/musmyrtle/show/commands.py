@@ -10,8 +10,8 @@ import musmyrtle.lint.command
 from musmyrtle.breaking import breaking_off
 from musmyrtle.ending import FINE, status_of
 from musmyrtle.lint.command import formed, is_bold_on, printed
-from musmyrtle.missed import MISSED
-from musmyrtle.show import monitor, options, page
+from musmyrtle.selections import single_slot
+from musmyrtle.show import monitor, options, page, signals
 from musmyrtle.show.commits import commits
 from musmyrtle.show.engines import COMMAND, Inputs, opened
 from musmyrtle.show.facts import Facts
@@ -124,6 +124,9 @@ COMMANDS = (
     Command("faults", "Runs a scenario once for each single fault, and prints what each receiver loses.",
             musmyrtle.faults.options.EXAMPLES, musmyrtle.faults.options.arguments, musmyrtle.faults.command.main),
     *TABLES,
+    Command("encode", signals.ENCODE, signals.ENCODE_EXAMPLES, signals.encode_arguments, signals.encode),
+    Command("decode", signals.DECODE, signals.DECODE_EXAMPLES, signals.decode_arguments, signals.decode),
+    Command("annotate", signals.ANNOTATE, signals.ANNOTATE_EXAMPLES, signals.annotate_arguments, signals.annotate),
     Command("monitor", monitor.PURPOSE, monitor.EXAMPLES, monitor.arguments, monitor.main),
     Command("page", page.PURPOSE, page.EXAMPLE, page.arguments, page.main),
 )

@@ -2,6 +2,7 @@
 import csv
 import io
 import json
+import math
 import re
 from collections.abc import Iterable, Iterator, Mapping, Sequence
 from dataclasses import dataclass, field
@@ -96,7 +97,21 @@ class Receivers(NamedTuple):
         return ", ".join(map(str, self.receivers))
 
 
-Value = int | float | str | bool | None | Name | Time | Numbers | Receivers
+class Exact(NamedTuple):
+    """A number with all its decimals, or as a text in JSON if it is infinite or no number."""
+
+    number: int | float
+
+    def __str__(self) -> str:
+        return repr(self.number)
+
+    @property
+    def plain(self) -> int | float | str:
+        """Returns the value in JSON."""
+        return self.number if math.isfinite(self.number) else str(self.number)
+
+
+Value = int | float | str | bool | None | Name | Time | Numbers | Receivers | Exact
 
 
 def ranges(numbers: Iterable[int]) -> str:
@@ -182,13 +197,15 @@ class Column:
             return {self.key: [it.object for it in value.receivers]}
         if isinstance(value, Numbers):
             return {self.key: value.numbers}
+        if isinstance(value, Exact):
+            return {self.key: value.plain}
         return {**dict.fromkeys(self.keys), self.keys[0]: value}
 
     def cells(self, value: Value) -> list[str]:
         """Returns the cells of the value in CSV."""
         if isinstance(value, Receivers):
             return [",".join(it.word for it in value.receivers)]
-        if isinstance(value, Numbers):
+        if isinstance(value, Numbers | Exact):
             return [str(value)]
         return ["" if it is None else cell(it) for it in self.fields(value).values()]
 
