@@ -14,6 +14,7 @@ if sys.version_info < (3, 11):
     raise ImportError("musmyrtle needs Python 3.11, and this is Python {}.{}.{}".format(*sys.version_info[:3]))
 
 from musmyrtle.names import Names, UnknownName
+from musmyrtle.signals.refusals import BadSignals, BadValue, UnknownSignal
 from musmyrtle.world.builder import Scenario, ScenarioText
 from musmyrtle.world.faults import Babble, Corrupt, Fault, Mute
 from musmyrtle.world.node import Buffer, Node
@@ -31,13 +32,12 @@ from musmyrtle.world.waits import at_slot, every, on_frame
 from musmyrtle.world.world import World
 
 __all__ = [
-    "AlreadyPut", "AlreadyTaken", "Babble", "BadCycles", "BadFault", "BadLine", "BadName", "BadWindow", "Buffer",
-    "BusMemory", "BusRefused", "BusUnknownNode", "Channel", "ClusterRefused", "Corrupt", "Counters", "Fault",
-    "Frame", "HostFull", "HostRefused", "Memory", "Moment", "Mute", "Names", "Node", "NoHistory", "NoQueue",
-    "NoRoom", "NotAllPut", "NotAllTaken", "NotCollecting", "NotFetched", "NotKept", "NotObserved", "NotReceive",
-    "NotSealed", "NotStarted", "NotTransmit", "NoWindow", "Queue", "ReceiveBuffer", "Received", "Record", "Refused",
-    "Report", "Scenario",
-    "ScenarioText", "Sent", "SessionOver", "SlotFull", "SlotRefused", "TimedOut", "TooManyFaults", "TransmitBuffer",
-    "UnknownBuffer", "UnknownName", "UnknownNode", "UnknownTask", "Window", "WindowOrder", "World", "WrongLength",
-    "WrongTurn", "WrongWindow", "at_slot", "every", "on_frame",
+    "AlreadyPut", "AlreadyTaken", "Babble", "BadCycles", "BadFault", "BadLine", "BadName", "BadSignals", "BadValue",
+    "BadWindow", "Buffer", "BusMemory", "BusRefused", "BusUnknownNode", "Channel", "ClusterRefused", "Corrupt",
+    "Counters", "Fault", "Frame", "HostFull", "HostRefused", "Memory", "Moment", "Mute", "Names", "Node", "NoHistory",
+    "NoQueue", "NoRoom", "NotAllPut", "NotAllTaken", "NotCollecting", "NotFetched", "NotKept", "NotObserved",
+    "NotReceive", "NotSealed", "NotStarted", "NotTransmit", "NoWindow", "Queue", "ReceiveBuffer", "Received", "Record",
+    "Refused", "Report", "Scenario", "ScenarioText", "Sent", "SessionOver", "SlotFull", "SlotRefused", "TimedOut",
+    "TooManyFaults", "TransmitBuffer", "UnknownBuffer", "UnknownName", "UnknownNode", "UnknownSignal", "UnknownTask",
+    "Window", "WindowOrder", "World", "WrongLength", "WrongTurn", "WrongWindow", "at_slot", "every", "on_frame",
 ]

@@ -11,9 +11,10 @@ import unittest
 from decimal import Decimal
 from fractions import Fraction
 
-from musmyrtle.signals.layout import Layout, UnknownSignal
-from musmyrtle.signals.signal import BadValue, Coding, NamedValues, Order, Signal
-from musmyrtle.signals.values import SignalValue, is_in_range, physical, raw_of, value_of
+from musmyrtle.signals.layout import Layout
+from musmyrtle.signals.refusals import BadValue, SignalValue, UnknownSignal
+from musmyrtle.signals.signal import Coding, NamedValues, Order, Signal
+from musmyrtle.signals.values import is_in_range, physical, raw_of, value_of
 
 ROUNDS = 5000
 BIG, LITTLE = Order.BIG, Order.LITTLE

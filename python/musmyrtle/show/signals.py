@@ -19,9 +19,9 @@ from musmyrtle.show.engines import COMMAND, MOST_REASONS, Inputs, opened
 from musmyrtle.show.options import CLUSTER, SCENARIO, WIDTH
 from musmyrtle.show.tables import Column, Exact, Row, Section, Value, as_text
 from musmyrtle.signals.annotating import annotated
-from musmyrtle.signals.frames import BadSignals, Definitions, Frames
-from musmyrtle.signals.layout import Layout, Read, UnknownSignal
-from musmyrtle.signals.signal import BadValue
+from musmyrtle.signals.frames import Definitions, Frames
+from musmyrtle.signals.layout import Layout, Read
+from musmyrtle.signals.refusals import BadValue, UnknownSignal
 from musmyrtle.signals.texts import bytes_of, given_values, hex_of
 from musmyrtle.texts import FILE_LIMIT, NoText, Text, read_text
 from musmyrtle.visible import cut, visible
@@ -97,10 +97,9 @@ def frames_in(inputs: Inputs) -> tuple[Text, Frames]:
         raise Stop(USAGE, f"{inputs.task.cluster} can't be read again, or was changed meanwhile") from None
     frames = Frames(inputs.network.cluster, Definitions.of(text))
     if frames.faults:
-        told = BadSignals(frames.faults)
         lines = [f"{COMMAND}: the signals of {visible(inputs.task.cluster)} are refused\n"]
-        lines += [block("error", it, is_bold_on(sys.stderr)) for it in told.findings[:MOST_REASONS]]
-        more = len(told.findings) - MOST_REASONS
+        lines += [block("error", it, is_bold_on(sys.stderr)) for it in frames.faults[:MOST_REASONS]]
+        more = len(frames.faults) - MOST_REASONS
         write(sys.stderr, ["\n".join([*lines, *([f"and {counted(more, 'more error')}\n"] if more > 0 else [])])])
         raise Stop(REFUSED)
     return text, frames

@@ -6,7 +6,8 @@ from musmyrtle.cluster import Buffer
 from musmyrtle.scenario import LONGEST_LINE, Scenario
 from musmyrtle.scenario_lines import EXPECTATIONS, Line
 from musmyrtle.signals.frames import Frames
-from musmyrtle.signals.layout import Layout, UnknownSignal
+from musmyrtle.signals.layout import Layout
+from musmyrtle.signals.refusals import UnknownSignal
 from musmyrtle.signals.texts import bytes_of, comment_of
 
 PAYLOADS = ("commit", *EXPECTATIONS)

@@ -7,32 +7,17 @@ from collections.abc import Iterable
 from dataclasses import dataclass, field
 
 from musmyrtle.cluster import Buffer, Cluster, Fault, Reading
-from musmyrtle.findings import Finding, Note, counted, joined, nearest, shown
+from musmyrtle.findings import Finding, Note, joined, nearest, shown
 from musmyrtle.names import tables_of
 from musmyrtle.places import Place
-from musmyrtle.signals.layout import Layout, UnknownSignal
+from musmyrtle.signals.layout import Layout
 from musmyrtle.signals.reading import FrameReading
+from musmyrtle.signals.refusals import BadSignals, UnknownSignal
 from musmyrtle.texts import FILE_LIMIT, NoText, Text, read_text
 from musmyrtle.visible import cut
 
 FILE, BUFFER_FRAME = "signals", "frame"
 """The key at the top for a second file, and that of a buffer for its frame."""
-MOST_FAULTS = 20
-"""The faults that an exception describes."""
-
-
-class BadSignals(ValueError):
-    """The frames or signals of a cluster file have faults. The message has the first ones, with their places."""
-
-    def __init__(self, findings: list[Finding]) -> None:
-        super().__init__(findings)
-        self.findings = findings
-
-    def __str__(self) -> str:
-        lines = [f"{it.place}: {it.headline}: {it.reason}" if it.place else f"{it.headline}: {it.reason}"
-                 for it in self.findings[:MOST_FAULTS]]
-        more = len(self.findings) - len(lines)
-        return "\n".join([*lines, *([f"and {counted(more, 'more fault')}"] if more else [])])
 
 
 @dataclass

@@ -3,19 +3,13 @@ from collections.abc import Iterable, Iterator, Mapping
 from dataclasses import dataclass, field
 
 from musmyrtle.findings import joined, nearest
-from musmyrtle.signals.signal import BadValue, Raw, Signal
-from musmyrtle.signals.values import ReadValue, SignalValue, is_in_range, physical, raw_of, value_of
+from musmyrtle.signals.refusals import BadValue, Given, Raw, ReadValue, UnknownSignal
+from musmyrtle.signals.signal import Signal
+from musmyrtle.signals.values import is_in_range, physical, raw_of, value_of
 from musmyrtle.visible import cut
 
 MOST_NAMES = 12
 """The names of signals that a message has."""
-
-
-class UnknownSignal(KeyError):
-    """A frame has no signal of this name, or its payload hasn't it, or no layout of the frame is known."""
-
-    def __str__(self) -> str:
-        return str(self.args[0])
 
 
 @dataclass(frozen=True)
@@ -99,7 +93,7 @@ class Layout:
 
     # ---- writing
 
-    def encoded(self, given: Mapping[str, SignalValue], before: bytes | None = None,
+    def encoded(self, given: Given, before: bytes | None = None,
                 length: int | None = None) -> bytes:
         """Returns the payload with these values: of all other signals as BEFORE has them, or initial ones.
 

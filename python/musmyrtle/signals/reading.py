@@ -14,7 +14,8 @@ from musmyrtle.findings import joined, shown
 from musmyrtle.places import Path
 from musmyrtle.signals.exact import RIGHT, exact_in_file
 from musmyrtle.signals.layout import Layout
-from musmyrtle.signals.signal import FLOATS, MOST_BITS, MOST_BYTES, Coding, NamedValues, Order, Raw, Signal
+from musmyrtle.signals.refusals import Raw
+from musmyrtle.signals.signal import FLOATS, MOST_BITS, MOST_BYTES, Coding, NamedValues, Order, Signal
 from musmyrtle.visible import cut
 
 FRAME_KEYS = ("name", "bytes", "unused", "signal")

@@ -10,15 +10,14 @@ from enum import Enum
 from fractions import Fraction
 from functools import cached_property
 
+from musmyrtle.signals.refusals import Raw
+
 FLOATS = {16: ">e", 32: ">f", 64: ">d"}
 """The formats of `struct` for IEEE 754, by the number of bits."""
 MOST_BITS = 64
 """The bits of the longest number."""
 MOST_BYTES = 254
 """The bytes of the longest payload."""
-
-Raw = int | float | bytes
-"""A raw value: an integer, a float of a signal with the coding float, or bytes."""
 
 
 class Order(Enum):
@@ -35,10 +34,6 @@ class Coding(Enum):
     SIGNED = "signed"
     FLOAT = "float"
     BYTES = "bytes"
-
-
-class BadValue(ValueError):
-    """A signal can't have this value. The message names the signal, the value and what is allowed."""
 
 
 @dataclass(frozen=True)

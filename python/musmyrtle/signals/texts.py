@@ -1,11 +1,12 @@
 """The texts of signals: `NAME=VALUE` on a command line, and comments such as `# speed=87.5 km/h gear=drive`."""
-from collections.abc import Iterable, Mapping
+from collections.abc import Iterable
 
 from musmyrtle.signals.exact import exact_text
 from musmyrtle.signals.layout import Layout, Read
 from musmyrtle.signals.reading import HEX
-from musmyrtle.signals.signal import BadValue, Coding, Signal
-from musmyrtle.signals.values import SignalValue, right_value
+from musmyrtle.signals.refusals import BadValue, Given, SignalValue
+from musmyrtle.signals.signal import Coding, Signal
+from musmyrtle.signals.values import right_value
 from musmyrtle.visible import cut, visible
 
 NONE = "none"
@@ -22,7 +23,7 @@ def bytes_of(word: str) -> bytes | None:
     return bytes.fromhex(word[1:]) if HEX.fullmatch(word) else None
 
 
-def given_values(layout: Layout, words: Iterable[str]) -> Mapping[str, SignalValue]:
+def given_values(layout: Layout, words: Iterable[str]) -> Given:
     """Returns the values of words `NAME=VALUE`. Raises `UnknownSignal`, and `BadValue` for what is none."""
     found: dict[str, SignalValue] = {}
     for word in words:

@@ -5,13 +5,10 @@ from fractions import Fraction
 
 from musmyrtle.findings import joined, nearest
 from musmyrtle.signals.exact import Number, exact_value, plain
-from musmyrtle.signals.signal import BadValue, Coding, Raw, Signal
+from musmyrtle.signals.refusals import BadValue, Raw, ReadValue, SignalValue
+from musmyrtle.signals.signal import Coding, Signal
 from musmyrtle.visible import cut
 
-SignalValue = Number | str | bytes | None
-"""A value that is given: a physical number, the name of a raw value, bytes, or None for the invalid value."""
-ReadValue = int | float | str | bytes | None
-"""A value that is read."""
 MOST_NAMES = 12
 """The names of values that a message has."""
 

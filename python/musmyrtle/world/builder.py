@@ -9,7 +9,8 @@
     scenario.babble("door", slot=3, data=b"\\0")
     Path("brakes.scenario").write_text(scenario.text())
 """
-from collections.abc import Callable, Iterable, Sequence
+import os
+from collections.abc import Callable, Iterable, Mapping, Sequence
 from dataclasses import dataclass
 from itertools import groupby
 from pathlib import Path
@@ -18,14 +19,19 @@ from typing import Any
 from musmyrtle.cluster_file import document_of, payload_length
 from musmyrtle.named_windows import EVERY, EVERY_STATIC, MOST_PLACE, FaultPlace, spelled
 from musmyrtle.names import Names
+from musmyrtle.scenario import LONGEST_LINE
 from musmyrtle.scenario_words import NEWEST
+from musmyrtle.signals.refusals import Given, SignalValue
 from musmyrtle.world.bounds import (
     babble_hex, bit_number, buffer_number, node_number, payload_hex, run_cycles, task_number, within,
 )
+from musmyrtle.world.layouts import Layouts
 from musmyrtle.world.refusals import BadName
 from musmyrtle.world.session import FileName
 
 Cycles = Iterable[int] | int | None
+LONGEST_COMMENT = LONGEST_LINE - 64
+"""The bytes of a payload and its comment in a line. The words before them need less than 64."""
 
 
 class ScenarioText(str):
@@ -64,18 +70,37 @@ class Task:
         """Returns the same task, in these cycles of the run, or in all for None. Raises as `Scenario.cycles_of`."""
         return Task(self.scenario, self.node, self.number, self.scenario.cycles_of(cycles))
 
-    def commit(self, buffer: str | int, payload: bytes | Iterable[bytes]) -> None:
+    def commit(self, buffer: str | int, payload: bytes | Iterable[bytes] | Given | None = None,
+               **signals: SignalValue) -> None:
         """Commits a payload in each of the cycles: this one, or one after another of these.
 
-        Raises `ValueError` for a payload that isn't 0 to 127 two-byte words, and where there are fewer payloads than
-        cycles.
+        Values of signals, as a mapping by names or as `speed=87.5`, are a payload in which all other signals are
+        initial. The line has the signals in a comment. Raises `ValueError` for a payload that isn't 0 to 127 two-byte
+        words, and where there are fewer payloads than cycles. Of signals it raises what `Node.commit` raises.
         """
         number = self.scenario.buffer(self.node, buffer)
+        if payload is None or isinstance(payload, Mapping):
+            if payload is None and not signals:
+                raise TypeError("a commit needs a payload, or values of signals")
+            word = self._commented(number, {**(payload or {}), **signals})
+            self._lines("commit", self.cycles, number, word)
+            return
+        if signals:
+            raise TypeError(f"a commit has a payload or values of signals, and not both: {', '.join(signals)}")
         for word, cycles in in_cycles(payload, self.cycles, lambda it: self._hex(number, it)):
             self._lines("commit", cycles, number, word)
 
     def _hex(self, buffer: int, payload: bytes) -> str:
         return payload_hex(payload, lambda: payload_length(self.scenario.data, self.node, buffer))
+
+    def _commented(self, buffer: int, given: Given) -> str:
+        """Returns the word for a payload of signals, and a comment with these."""
+        # Scenarios of bytes alone needn't wait for the import.
+        from musmyrtle.signals.texts import comment_of, hex_of
+        layouts = self.scenario.layouts
+        payload = layouts.encoded(self.node, buffer, given, None)
+        word = hex_of(payload)
+        return f"{word} {comment_of(layouts.sent_by(self.node, buffer), payload, LONGEST_COMMENT - len(word))}"
 
     def withdraw(self, buffer: str | int) -> None:
         """Takes the last commit of the buffer back in each of the cycles."""
@@ -129,6 +154,7 @@ class Scenario:
         self.cycle_count = run_cycles(cycles)
         self.data = Path(cluster).read_bytes()
         self.names = Names.of(self.data)
+        self.layouts = Layouts(os.fspath(cluster), self.data)
         if self.names.wrong:
             raise BadName(self.names.wrong)
         self.cluster: dict[str, Any] = document_of(self.data)

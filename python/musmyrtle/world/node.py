@@ -1,6 +1,8 @@
 """The nodes of a world and their message buffers, as host programs and controllers call them."""
+from collections.abc import Mapping
 from typing import TYPE_CHECKING
 
+from musmyrtle.signals.refusals import Given, SignalValue
 from musmyrtle.world.bounds import buffer_number, channel_name, node_number, payload_hex, task_number
 from musmyrtle.world.refusals import UnknownNode, refusal
 from musmyrtle.world.replies import (
@@ -37,13 +39,23 @@ class Node:
             raise UnknownNode(("UnknownNode",), f"a buffer of node {self.number}")
         return Buffer(self, names.buffer(self.number, name))
 
-    def commit(self, buffer: int, payload: bytes) -> int:
+    def commit(self, buffer: int, payload: bytes | Given | None = None, **signals: SignalValue) -> int:
         """Gives a transmit buffer, 0 to 63, its next payload and returns the number of its entry in the journal.
 
-        Raises `ValueError` for a payload that isn't 0 to 127 two-byte words, `WrongLength` for one that isn't as long
-        as the buffer's, `UnknownTask`, `UnknownBuffer`, `NotTransmit` and `HostFull`.
+        The payload is bytes, or values of signals: as a mapping by names, as `speed=87.5`, or both. All other signals
+        are as the last commit of the buffer had them, or initial before the first one. Update bits are 1 for the given
+        signals, and otherwise 0. Raises `ValueError` for a payload that isn't 0 to 127 two-byte words, `WrongLength`
+        for one that isn't as long as the buffer's, `UnknownTask`, `UnknownBuffer`, `NotTransmit` and `HostFull`. Of
+        signals it raises `UnknownSignal`, `BadValue` and `BadSignals`, which are `KeyError` and `ValueError`, and
+        `TypeError` for bytes beside signals, and for neither of them.
         """
         number = buffer_number(buffer)
+        if payload is None or isinstance(payload, Mapping):
+            if payload is None and not signals:
+                raise TypeError("a commit needs a payload, or values of signals")
+            return self.world.commit_signals(self.number, self._task, number, {**(payload or {}), **signals})
+        if signals:
+            raise TypeError(f"a commit has a payload or values of signals, and not both: {', '.join(signals)}")
         payload_word = payload_hex(payload, lambda: self.world.payload_length(self.number, number))
         return int(self._ask(f"commit {self.number} {self._task} {number} {payload_word}"))
 
@@ -65,7 +77,8 @@ class Node:
             # The report has the channel of the frame that a receive buffer holds.
             reply, report = self._answers([line, f"report {self.number}"])
             held = report_of(report.partition("\n")[2]).buffers[buffer]
-            return frame_of(reply.split(" ")[1:], held.channel if isinstance(held, ReceiveBuffer) else None)
+            return frame_of(reply.split(" ")[1:], held.channel if isinstance(held, ReceiveBuffer) else None,
+                            self.world.layouts)
         return self._frame(line)
 
     def pop(self) -> Frame | None:
@@ -74,7 +87,9 @@ class Node:
         Raises `UnknownTask`, `NoQueue` and `HostFull`.
         """
         line = f"pop {self.number} {self._task}"
-        return self._frame(line) if self.world.has_history else frame_of(self.world.ask(line).split(" ")[1:], None)
+        if self.world.has_history:
+            return self._frame(line)
+        return frame_of(self.world.ask(line).split(" ")[1:], None, self.world.layouts)
 
     def receive(self, buffer: int) -> Received | None:
         """Returns the frame that a receive buffer, 0 to 63, holds, with its channel, cycle and age, or None.
@@ -82,14 +97,14 @@ class Node:
         It is a read of the buffer. Raises `UnknownTask`, `UnknownBuffer`, `NotReceive` and `HostFull`.
         """
         line = f"receive {self.number} {self._task} {buffer_number(buffer)}"
-        return received_of(self._ask(line).split(" "))
+        return received_of(self._ask(line).split(" "), self.world.layouts)
 
     def next(self) -> Received | None:
         """Takes the oldest frame out of the receive FIFO and returns it with its channel and cycle, or None.
 
         It is a pop. Raises `UnknownTask`, `NoQueue` and `HostFull`.
         """
-        return received_of(self._ask(f"next {self.number} {self._task}").split(" "))
+        return received_of(self._ask(f"next {self.number} {self._task}").split(" "), self.world.layouts)
 
     def look(self) -> Window:
         """Has the controller ask the bus for the open window, and returns that. Raises `WrongTurn` and `BusRefused`."""
@@ -127,7 +142,7 @@ class Node:
     def _frame(self, line: str) -> Frame | None:
         """Returns the frame of a read or a pop. Its origin is requested with it."""
         reply, origin = self._answers([line, f"origin {self.number}"])
-        return frame_of(reply.split(" ")[1:], origin_channel(origin))
+        return frame_of(reply.split(" ")[1:], origin_channel(origin), self.world.layouts)
 
     def _answers(self, asked: list[str]) -> list[str]:
         """Returns the replies to requests between which no other comes. Raises the first refusal."""
@@ -148,9 +163,9 @@ class Buffer:
         """Names a buffer of the node, 0 to 63. Raises `ValueError` for others."""
         self.node, self.number = node, buffer_number(number)
 
-    def commit(self, payload: bytes) -> int:
-        """Gives the transmit buffer its next payload and returns the number of its entry in the journal."""
-        return self.node.commit(self.number, payload)
+    def commit(self, payload: bytes | Given | None = None, **signals: SignalValue) -> int:
+        """Gives the transmit buffer its next payload, bytes or values of signals, and returns its journal entry."""
+        return self.node.commit(self.number, payload, **signals)
 
     def withdraw(self) -> int | None:
         """Takes the last commit back and returns its entry, or None if none is pending."""

@@ -1,6 +1,12 @@
 """The replies of a world, as values."""
-from dataclasses import dataclass
-from typing import Literal, cast
+from dataclasses import dataclass, field
+from typing import TYPE_CHECKING, Literal, cast
+
+from musmyrtle.signals.refusals import Raw, ReadValue, UnknownSignal
+
+if TYPE_CHECKING:
+    from musmyrtle.signals.layout import Layout
+    from musmyrtle.world.layouts import Layouts
 
 Channel = Literal["A", "B"]
 
@@ -11,6 +17,10 @@ class Frame:
 
     `channel` is the channel on which the node received it. It is None for a frame of a receive FIFO in a world without
     history, which doesn't keep it.
+
+    `frame["speed"]` is a signal, by the layout that its sender has in the cluster file. All that reads signals raises
+    `UnknownSignal` for a name that the payload hasn't, and for a frame without a layout, and `BadSignals` for faults in
+    the frames of the file.
     """
 
     payload: bytes
@@ -21,6 +31,29 @@ class Frame:
     sync: bool = False
     startup: bool = False
     channel: Channel | None = None
+    layouts: "Layouts | None" = field(default=None, repr=False, compare=False)
+
+    def __getitem__(self, name: str) -> ReadValue:
+        """Returns a signal: the name of its raw value if it has one, otherwise the physical value, or None if invalid.
+        """
+        return self._layout().read(name, self.payload).value
+
+    def raw(self, name: str) -> Raw:
+        """Returns the raw value of a signal."""
+        return self._layout().read(name, self.payload).raw
+
+    def is_new(self, name: str) -> bool:
+        """Returns whether all update bits of a signal are 1, as they are if it has none."""
+        return self._layout().read(name, self.payload).is_new
+
+    def signals(self) -> dict[str, ReadValue]:
+        """Returns all signals that the payload has, by their names."""
+        return {it.signal.name: it.value for it in self._layout().reads(self.payload)}
+
+    def _layout(self) -> "Layout":
+        if self.layouts is None:
+            raise UnknownSignal("the frame comes from no world, so that its signals aren't known")
+        return self.layouts.received(self.slot, self.channel, self.cycle)
 
 
 @dataclass(frozen=True, slots=True)
@@ -170,25 +203,25 @@ def bytes_of(word: str) -> bytes:
     return bytes.fromhex(word[1:])
 
 
-def frame_of(words: list[str], channel: Channel | None) -> Frame | None:
+def frame_of(words: list[str], channel: Channel | None, layouts: "Layouts") -> Frame | None:
     """Returns the frame of the words after `frame`, received on this channel, or None for `-`."""
-    return None if words == ["-"] else known_frame(words, channel)
+    return None if words == ["-"] else known_frame(words, channel, layouts)
 
 
-def known_frame(words: list[str], channel: Channel | None) -> Frame:
+def known_frame(words: list[str], channel: Channel | None, layouts: "Layouts") -> Frame:
     """Returns the frame of four words, received on this channel."""
     cycle, slot, flags, payload = words
     preamble, null, sync, startup = (mark != "-" for mark in flags)
-    return Frame(bytes_of(payload), int(slot), int(cycle), preamble, null, sync, startup, channel)
+    return Frame(bytes_of(payload), int(slot), int(cycle), preamble, null, sync, startup, channel, layouts)
 
 
-def received_of(words: list[str]) -> Received | None:
+def received_of(words: list[str], layouts: "Layouts") -> Received | None:
     """Returns the frame of the words after `frame` in the reply to `receive` or `next`, or None for `-`."""
     if words == ["-"]:
         return None
     *frame_words, channel_word, cycle, age = words
     channel = channel_of(channel_word)
-    return Received(known_frame(frame_words, channel), channel, int(cycle), age == "new")
+    return Received(known_frame(frame_words, channel, layouts), channel, int(cycle), age == "new")
 
 
 def origin_channel(reply: str) -> Channel | None:

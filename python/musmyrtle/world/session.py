@@ -99,6 +99,8 @@ class Session:
         self.asked: deque[str] = deque(maxlen=MOST_ASKED if endless else None)
         self.kept: list[str] = []
         self.changes: list[Change] = []
+        self.committed: dict[tuple[str, str], str] = {}
+        """The payload of the last commit to each buffer, by the words of its request."""
         self._is_endless = endless
         self._outputs = outputs
         self._timeout = timeout
@@ -188,10 +190,13 @@ class Session:
         return replies
 
     def _note(self, line: str, reply: str) -> None:
-        """Notes the change of the fault lines and of the bus by a request."""
+        """Notes the change of the fault lines and of the bus by a request, and the last commit to each buffer."""
         if not self._is_endless and is_change(line, reply):
             self.changes.append(Change(line, reply))
         if reply != "done":
+            if reply.startswith("committed "):
+                _, node, _, buffer, payload = line.split(" ")
+                self.committed[node, buffer] = payload
             return
         if line == "forget":
             self.kept.clear()

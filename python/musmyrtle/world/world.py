@@ -11,6 +11,7 @@ from functools import partial
 
 from musmyrtle.cluster_file import Clock, clock_of, payload_length
 from musmyrtle.names import Names, UnknownName
+from musmyrtle.signals.refusals import Given
 from musmyrtle.spared import Output, clash
 from musmyrtle.texts import FILE_LIMIT
 from musmyrtle.world.bounds import (
@@ -18,6 +19,7 @@ from musmyrtle.world.bounds import (
     window_number,
 )
 from musmyrtle.world.faults import Fault, fault_line
+from musmyrtle.world.layouts import Layouts
 from musmyrtle.world.node import Buffer, Node
 from musmyrtle.world.playing import Host, Play
 from musmyrtle.world.refusals import BadCycles, BadName, NoHistory, TooManyFaults, WrongLength, refusal
@@ -91,6 +93,7 @@ class World:
         self._faults: list[tuple[Fault, Callable[[Window], bool]]] = []
         self._unread = ""
         self._read_clock: Clock | None = None
+        self.layouts = Layouts(os.fspath(cluster), self._data)
         self._session = Session(self._program, cluster, cycles, timeout, endless=self._is_endless, outputs=outputs)
         try:
             self._names = self._read_names(self._data)
@@ -140,6 +143,13 @@ class World:
         except WrongLength as error:
             node, _, buffer = map(int, line.split(" ")[1:4])
             raise WrongLength(error.names, line, self.payload_length(node, buffer)) from None
+
+    def commit_signals(self, node: int, task: int, buffer: int, given: Given) -> int:
+        """Commits values of signals to a transmit buffer, as `node(node).task(task).commit(buffer, given)` does."""
+        with self._session.lock:
+            before = self._session.committed.get((str(node), str(buffer)))
+            payload = self.layouts.encoded(node, buffer, given, None if before is None else bytes.fromhex(before[1:]))
+            return int(self.ask(f"commit {node} {task} {buffer} x{payload.hex()}").split(" ")[1])
 
     def block(self, line: str, timeout: float | None = None) -> list[str]:
         """Returns the lines of a query's reply, without the one that counts them.

@@ -1,0 +1,50 @@
+"""The layouts of the frames of a world, by the cluster file as it was when the world was opened."""
+import os
+from typing import TYPE_CHECKING
+
+from musmyrtle.signals.refusals import Given, UnknownSignal
+
+if TYPE_CHECKING:
+    from musmyrtle.signals.frames import Frames
+    from musmyrtle.signals.layout import Layout
+
+
+class Layouts:
+    """The layouts of a cluster file, which are read at their first use.
+
+    Each use raises `BadSignals` for faults in the frames of the file, and `UnknownSignal` where it is no regular file.
+    """
+
+    def __init__(self, file: str, data: bytes | None) -> None:
+        """Keeps the name and the bytes of a cluster file, or None for a file that can't be read twice."""
+        # The file that the key `signals` names is beside it, wherever the program is by then.
+        self._file, self._data = os.path.abspath(file), data
+        self._frames: Frames | None = None
+
+    def __reduce__(self) -> tuple[type["Layouts"], tuple[str, bytes | None]]:
+        """Has a copy in another process read the layouts again."""
+        return Layouts, (self._file, self._data)
+
+    def frames(self) -> "Frames":
+        """Returns the frames of the cluster."""
+        if self._frames is None:
+            # Most host programs have no signals, and each one would wait for the import.
+            from musmyrtle.signals.frames import frames_of
+            if self._data is None:
+                raise UnknownSignal("no signals are known: the cluster file is no regular file")
+            self._frames = frames_of(self._file, self._data)
+        return self._frames
+
+    def received(self, slot: int, channel: str | None, cycle: int) -> "Layout":
+        """Returns the layout of a received frame. Raises `UnknownSignal` if its sender has none."""
+        return self.frames().received(slot, channel, cycle)
+
+    def sent_by(self, node: int, buffer: int) -> "Layout":
+        """Returns the layout of the frames of a transmit buffer. Raises `UnknownSignal` if it has none."""
+        return self.frames().sent_by(node, buffer)
+
+    def encoded(self, node: int, buffer: int, given: Given, before: bytes | None) -> bytes:
+        """Returns the next payload of a transmit buffer. Raises `UnknownSignal` and `BadValue`."""
+        frames = self.frames()
+        layout = frames.sent_by(node, buffer)
+        return layout.encoded(given, before, 2 * frames.cluster.nodes[node].buffers[buffer].words)
