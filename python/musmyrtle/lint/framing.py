@@ -1,14 +1,13 @@
 """Warnings of frames and signals: faults, bits that two signals share, and values that a signal can't have."""
-from collections.abc import Iterator
+from collections.abc import Iterable, Iterator
 from fractions import Fraction
-from itertools import combinations
 
 from musmyrtle.findings import MOST_NOTES, Finding, joined
 from musmyrtle.names import tables_of
 from musmyrtle.places import Path
 from musmyrtle.signals.exact import plain
 from musmyrtle.signals.frames import BUFFER_FRAME, Frames
-from musmyrtle.signals.layout import Layout, sum_of_masks
+from musmyrtle.signals.layout import Layout, mask_of, sum_of_masks
 from musmyrtle.signals.signal import Coding, Signal
 from musmyrtle.texts import Text
 
@@ -54,38 +53,35 @@ class PlacedLayout:
 
     def shared_bits(self) -> Iterator[Finding]:
         """Yields one warning for each signal that shares bits with an earlier one, and of update bits in signals."""
-        told = set[str]()
         for one, other in self.pairs():
-            if other.name not in told:
-                told.add(other.name)
-                yield self.shared(f"signals {one.name} and {other.name}", one.mask & other.mask,
-                                  self.path_of(other, "bit"), [one])
+            yield self.shared(f"signals {one.name} and {other.name}", one.mask & other.mask,
+                              self.path_of(other, "bit"), [one])
         taken = sum_of_masks(self.layout.signals.values())
         for signal in self.layout.signals.values():
-            bits = sum(1 << bit for bit in signal.update) & taken
-            its = [it for it in self.layout.signals.values() if it.mask & bits][:MOST_NOTES]
-            if its:
+            bits = mask_of(signal.update) & taken
+            if bits:
+                its = [it for it in self.layout.signals.values() if it.mask & bits][:MOST_NOTES]
                 yield self.shared(f"`update` of {signal.name} and {joined([it.name for it in its])}", bits,
                                   self.path_of(signal, "update"), its)
 
     def pairs(self) -> Iterator[tuple[Signal, Signal]]:
-        """Yields the pairs of signals that share bits and can be in one payload.
+        """Yields each signal that shares bits with one before it in the same payloads, after that one.
 
-        Most signals of a large frame have selectors, so that only groups with the same ones are compared by pairs.
+        Signals with other codes of the same selectors never meet, so that only groups of other selectors are compared.
         """
-        groups: dict[tuple[tuple[str, int], ...], list[Signal]] = {}
+        groups: dict[tuple[str, ...], dict[tuple[tuple[str, int], ...], list[Signal]]] = {}
         for signal in self.layout.signals.values():
-            groups.setdefault(signal.when, []).append(signal)
-        for signals in groups.values():
-            before = 0
-            for number, signal in enumerate(signals):
-                if signal.mask & before:
-                    yield from ((it, signal) for it in signals[:number] if it.mask & signal.mask)
-                before |= signal.mask
-        masks = {when: sum_of_masks(signals) for when, signals in groups.items()}
-        for first, second in combinations(groups, 2):
-            if masks[first] & masks[second] and can_meet(dict(first), dict(second)):
-                yield from ((one, it) for it in groups[second] for one in groups[first] if one.mask & it.mask)
+            when = tuple(sorted(signal.when))
+            by_codes = groups.setdefault(tuple(name for name, _ in when), {})
+            first = first_sharing(signal, by_codes.setdefault(when, []))
+            for others in groups.values():
+                if first or others is by_codes:
+                    continue
+                meeting = (it for codes, its in others.items() if can_meet(signal, dict(codes)) for it in its)
+                first = first_sharing(signal, meeting)
+            by_codes[when].append(signal)
+            if first:
+                yield first, signal
 
     def shared(self, who: str, bits: int, path: Path, others: list[Signal]) -> Finding:
         """Returns the warning of shared bits, with the other signals that have them."""
@@ -123,9 +119,14 @@ class PlacedLayout:
                                         "which it can't have", reason, self.path_of(signal, key))
 
 
-def can_meet(one: dict[str, int], other: dict[str, int]) -> bool:
-    """Returns whether signals with these selectors can be in one payload."""
-    return all(other.get(name, code) == code for name, code in one.items())
+def first_sharing(signal: Signal, others: Iterable[Signal]) -> Signal | None:
+    """Returns the first signal that has bits of this one, or None."""
+    return next((it for it in others if it.mask & signal.mask), None)
+
+
+def can_meet(signal: Signal, codes: dict[str, int]) -> bool:
+    """Returns whether a signal can be in the payloads in which selectors have these codes."""
+    return all(codes.get(name, code) == code for name, code in signal.when)
 
 
 def other_frames(frames: Frames) -> Iterator[Finding]:

@@ -193,7 +193,7 @@ def right_scenario(file: str, names: Names) -> Scenario:
     data = read_bytes(file)
     if data is None:
         found = unreadable(file, "the scenario")
-        raise Stop(REFUSED, f"{found.headline}; {found.reason}")
+        raise Stop(REFUSED, visible(f"{found.headline}. {found.reason}"))
     scenario = Reading(file, data, None, names).scenario
     if scenario.refusals:
         write(sys.stderr, ["\n".join(block(f"refused {words}", it, is_bold_on(sys.stderr))

@@ -1,6 +1,7 @@
 """The layout of a frame: its signals, read from payloads and written into them."""
 from collections.abc import Iterable, Iterator, Mapping
 from dataclasses import dataclass, field
+from functools import cached_property
 
 from musmyrtle.findings import joined, nearest
 from musmyrtle.signals.refusals import BadValue, Given, Raw, ReadValue, UnknownSignal
@@ -50,11 +51,33 @@ class Layout:
     signals: Mapping[str, Signal] = field(default_factory=dict)
     unused: int = 0
 
+    # These are the same for each payload, and host programs commit thousands of payloads a second.
+
+    @cached_property
+    def multiplexed(self) -> tuple[Signal, ...]:
+        """Returns the signals that aren't in each payload."""
+        return tuple(it for it in self.signals.values() if it.when)
+
+    @cached_property
+    def selectors(self) -> tuple[Signal, ...]:
+        """Returns the signals that select others."""
+        names = dict.fromkeys(name for it in self.multiplexed for name, _ in it.when)
+        return tuple(self.signals[name] for name in names)
+
+    @cached_property
+    def update_mask(self) -> int:
+        """Returns all update bits, each as the bit of its number."""
+        return mask_of(bit for it in self.signals.values() for bit in it.update)
+
     # ---- reading
 
     def is_there(self, signal: Signal, payload: bytes | bytearray) -> bool:
         """Returns whether a payload has a signal: it is long enough, and the selectors have the signal's codes."""
-        return signal.is_in(payload) and all(
+        return signal.is_in(payload) and (not signal.when or self.is_selected(signal, payload))
+
+    def is_selected(self, signal: Signal, payload: bytes | bytearray) -> bool:
+        """Returns whether the selectors of a signal have its codes."""
+        return all(
             self.signals[name].is_in(payload) and self.signals[name].raw_in(payload) == code
             for name, code in signal.when)
 
@@ -114,12 +137,13 @@ class Layout:
 
     def based(self, before: bytes | None, raws: Mapping[str, Raw]) -> bytearray:
         """Returns the payload before values are written, with the selectors that are given or initial."""
-        filled = bytearray([self.unused]) * self.length
-        payload = filled if before is None else bytearray(before[:self.length].ljust(self.length, b"\0"))
-        there = [] if before is None else [it for it in self.signals.values() if self.is_there(it, payload)]
-        for name in dict.fromkeys(selector for it in self.signals.values() for selector, _ in it.when):
-            if before is None or name in raws:
-                self.signals[name].put(payload, raws.get(name, self.signals[name].initial))
+        payload = self.old(before)
+        if not self.selectors:
+            return payload
+        there = [] if before is None else [it for it in self.multiplexed if self.is_there(it, payload)]
+        for selector in self.selectors:
+            if before is None or selector.name in raws:
+                selector.put(payload, raws.get(selector.name, selector.initial))
         gone = sum_of_masks(it for it in there if not self.is_there(it, payload))
         if gone:
             kept = int.from_bytes(payload, "little") & ~gone
@@ -127,18 +151,34 @@ class Layout:
             payload[:] = (kept | fill).to_bytes(self.length, "little")
         return payload
 
+    def old(self, before: bytes | None) -> bytearray:
+        """Returns the bytes of the frame in an earlier payload, or unused ones."""
+        if before is None:
+            return bytearray([self.unused]) * self.length
+        return bytearray(before[:self.length].ljust(self.length, b"\0"))
+
     def written(self, payload: bytearray, before: bytes | None, raws: Mapping[str, Raw]) -> list[Signal]:
         """Returns the signals to write: those that come into the payload, and then those that are given."""
-        old = b"" if before is None else bytes(before[:self.length].ljust(self.length, b"\0"))
-        there = [it for it in self.signals.values() if self.is_there(it, payload)]
-        new = [it for it in there if it.name not in raws and (before is None or not self.is_there(it, old))]
-        return new + [it for it in there if it.name in raws]
+        candidates = self.multiplexed if before is not None else self.signals.values()
+        old = self.old(before)
+        new = [it for it in candidates if it.name not in raws and self.is_there(it, payload)
+               and (before is None or not self.is_there(it, old))]
+        return new + [self.signals[name] for name in raws]
 
     def set_update_bits(self, payload: bytearray, given: Iterable[str]) -> None:
         """Sets the update bits of given signals, and clears all others."""
-        on = {bit for name in given for bit in self.signals[name].update}
-        for bit in {bit for it in self.signals.values() for bit in it.update}:
-            payload[bit // 8] = payload[bit // 8] & ~(1 << bit % 8) | (bit in on) << bit % 8
+        if self.update_mask:
+            on = mask_of(bit for name in given for bit in self.signals[name].update)
+            whole = int.from_bytes(payload, "little") & ~self.update_mask | on
+            payload[:] = whole.to_bytes(self.length, "little")
+
+
+def mask_of(bits: Iterable[int]) -> int:
+    """Returns bits by their numbers as the bits of a number."""
+    found = 0
+    for bit in bits:
+        found |= 1 << bit
+    return found
 
 
 def sum_of_masks(signals: Iterable[Signal]) -> int:
