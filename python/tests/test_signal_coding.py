@@ -184,7 +184,9 @@ NARROW = Signal("narrow", 0, 8, least=Fraction(0), most=Fraction(100), values=(N
 class TestValues(unittest.TestCase):
     def test_read(self) -> None:
         third = Signal("third", 0, 8, factor=Fraction(1, 3), offset=Fraction(-1))
-        for signal, raw, value in ((SPEED, 8750, 87.5), (SPEED, 65535, None), (SPEED, 100, 1), (GEAR, 1, "drive"),
+        named = Signal("named", 0, 4, invalid=15, values=(NamedValues(15, 15, "invalid"),))
+        for signal, raw, value in ((named, 15, None), (SPEED, 8750, 87.5), (SPEED, 65535, None),
+                                   (SPEED, 100, 1), (GEAR, 1, "drive"),
                                    (GEAR, 3, "reserved"), (GEAR, 15, None), (GEAR, 9, 9), (third, 3, 0),
                                    (third, 4, 1 / 3), (Signal("it", 0, 8), 7, 7)):
             self.assertEqual(value_of(signal, raw), value)
@@ -206,6 +208,7 @@ class TestValues(unittest.TestCase):
             (GEAR, "reserved", "gear is 'reserved', the name of several raw values, 2-5: give a number"),
             (GEAR, "drve", "'park', 'drive', 'reserved' or a number from 0 to 15; is 'drive' meant?"),
             (GEAR, 15, "gear is 15, which is the invalid value: give None"), (GEAR, 16, "a number from 0 to 15"),
+            (NARROW, 253.6, "narrow is 253.6, and has to be 'error' or a number, 0 to 100"),
             (NARROW, 101, "narrow is 101, and has to be 'error' or a number, 0 to 100"),
             (NARROW, None, "narrow has no invalid value"),
             (Signal("it", 0, 16, coding=Coding.FLOAT), 65520, "it is 65520, and has to be a number of 16 bits"),
@@ -259,6 +262,10 @@ class TestFrames(unittest.TestCase):
         """The bytes after the frame are 0, and aren't read."""
         self.assertEqual(self.DATA.encoded({}, length=6).hex(), "0000a5150000")
         self.assertEqual(self.DATA.encoded({}, bytes.fromhex("0000a515ffff"), 6).hex(), "0000a5150000")
+        whole = layout(SPEED, length=1)
+        self.assertEqual([it.signal.name for it in whole.reads(bytes(4))], [])
+        with self.assertRaisesRegex(UnknownSignal, "the payload has 1 bytes"):
+            whole.read("speed", bytes(4))
 
     def test_update_bits(self) -> None:
         """Bit 24 is of both, as that of a group, and bit 25 of one alone."""

@@ -6,6 +6,7 @@ float of 32 bits is 0x44480000.
 """
 import json
 
+from musmyrtle import World
 from tests.shows import EXAMPLES, Shows
 
 FOLDER = EXAMPLES / "signals"
@@ -124,6 +125,70 @@ class TestDecode(Shows):
         self.assertEqual(status, 2)
         self.assertIn("the frame of buffer 0 of node 2 may be frame Engine or one of buffer 1 of node 1 without "
                       "signals", error)
+
+
+class TestSenders(Shows):
+    """The sender of a frame is found by its slot, its channel and its cycle: each has another frame here."""
+
+    CLUSTER = '''
+guard = "none"
+[params]
+static_slots = 2
+minislots = 0
+static_words = 1
+static_mt = 20
+minislot_mt = 5
+symbol_mt = 0
+nit_mt = 10
+cycle_mt = 50
+idle = 0
+words_per_minislot = 5
+[[frame]]
+name = "X"
+bytes = 2
+signal = [{name = "x", bit = 0, bits = 8}]
+[[frame]]
+name = "Y"
+bytes = 2
+signal = [{name = "y", bit = 0, bits = 8}]
+[[frame]]
+name = "Z"
+bytes = 2
+signal = [{name = "z", bit = 0, bits = 8}]
+[[node]]
+own = [{slot = 1, channels = "AB"}]
+buffer = [
+  {kind = "state", slot = 1, channels = "A", repetition = 2, frame = "X"},
+  {kind = "state", slot = 1, channels = "A", base = 1, repetition = 2, frame = "Y"},
+  {kind = "state", slot = 1, channels = "B", frame = "Z"},
+  {kind = "receive", slot = 1, channels = "A"},
+]
+[[node]]
+own = [{slot = 2, channels = "AB"}]
+buffer = [
+  {kind = "receive", slot = 1, channels = "A", repetition = 2},
+  {kind = "receive", slot = 1, channels = "B"},
+  {kind = "receive", slot = 1, channels = "A", base = 1, repetition = 4},
+]
+'''
+
+    def test_commands(self) -> None:
+        cluster = self.written("cluster.toml", self.CLUSTER)
+        for buffer, name in (("0", "x"), ("1", "z"), ("2", "y")):
+            self.assertEqual(self.values("signal", "signal", "decode", cluster, "1", buffer, "x0000"), [(name,)])
+        status, _, error = self.asked("decode", cluster, "0", "3", "x0000")
+        self.assertEqual((status, "no transmit buffer of the cluster sends it" in error), (2, True))
+
+    def test_worlds(self) -> None:
+        with World(self.written("cluster.toml", self.CLUSTER), cycles=2) as world:
+            found = []
+            for _ in range(2):
+                for buffer in range(3):
+                    world.node(0).commit(buffer, b"\1\0")
+                world.cycle()
+                frames = [world.node(1).read(buffer) for buffer in range(3)]
+                found.append([list(it.signals()) if it else None for it in frames])
+        self.assertEqual(found, [[["x"], ["z"], None], [["x"], ["z"], ["y"]]])
 
 
 class TestAnnotate(Shows):

@@ -132,6 +132,11 @@ class TestReading(Folders):
             ("cluster.toml:13:1", f"two frames have the name Speed Expected each name once. the first one "
                                   f"{self.folder}/cluster.toml:2:1")])
 
+    def test_digits_with_underscores(self) -> None:
+        """The decimals are those of the file: these are more than a float has."""
+        found = self.read(FRAME.replace("0.01", "0.000_000_000_000_000_000_1").replace("min = 0, max = 655.34, ", ""))
+        self.assertEqual(found.layouts["Speed"].signals["speed"].factor, Fraction(1, 10**19))
+
     def test_no_frames(self) -> None:
         self.assertEqual((self.read("").layouts, self.read("").faults), ({}, []))
 

@@ -21,9 +21,11 @@ def physical(signal: Signal, raw: Raw) -> int | float | bytes | None:
         return raw
     if isinstance(raw, float) and not math.isfinite(raw):
         return raw
+    if isinstance(raw, int):
+        a, b, c = signal.line
+        whole, rest = divmod(raw * a + b, c)
+        return (raw * a + b) / c if rest else whole
     value = Fraction(raw) * signal.factor + signal.offset
-    if not isinstance(raw, float):
-        return plain(value)
     try:
         return float(value)
     except OverflowError:
@@ -103,14 +105,22 @@ def raw_number(signal: Signal, value: Number) -> Raw:
         if signal.coding is Coding.FLOAT and isinstance(value, float) and signal.least is signal.most is None:
             return value
         raise BadValue(f"{signal.name} is {cut(str(value))}, and has to be {right_value(signal)}")
-    quotient = (number - signal.offset) / signal.factor
-    raw = float(quotient) if signal.coding is Coding.FLOAT else (2 * quotient + 1) // 2
-    is_named = signal.name_of(raw) is not None and quotient == raw
+    raw, is_named = nearest_raw(signal, number)
     if not signal.fits(raw) or not is_named and not is_within(signal, number):
         raise BadValue(f"{signal.name} is {cut(str(value))}, and has to be {right_value(signal)}")
     if signal.is_invalid(raw):
         raise BadValue(f"{signal.name} is {cut(str(value))}, which is the invalid value: give None for that one")
     return raw
+
+
+def nearest_raw(signal: Signal, number: Fraction) -> tuple[int | float, bool]:
+    """Returns the raw value that is nearest to a physical one, and whether it has a name and is exactly this value."""
+    if signal.coding is Coding.FLOAT:
+        return float((number - signal.offset) / signal.factor), False
+    a, b, c = signal.line
+    top, bottom = number.numerator * c - number.denominator * b, number.denominator * a
+    raw = (2 * top + bottom) // (2 * bottom)
+    return raw, raw * bottom == top and signal.name_of(raw) is not None
 
 
 def right_value(signal: Signal) -> str:

@@ -20,6 +20,7 @@ class Layouts:
         # The file that the key `signals` names is beside it, wherever the program is by then.
         self._file, self._data = os.path.abspath(file), data
         self._frames: Frames | None = None
+        self._received: dict[tuple[int, str | None, int], Layout] = {}
 
     def __reduce__(self) -> tuple[type["Layouts"], tuple[str, bytes | None]]:
         """Has a copy in another process read the layouts again."""
@@ -37,7 +38,10 @@ class Layouts:
 
     def received(self, slot: int, channel: str | None, cycle: int) -> "Layout":
         """Returns the layout of a received frame. Raises `UnknownSignal` if its sender has none."""
-        return self.frames().received(slot, channel, cycle)
+        place = slot, channel, cycle
+        if place not in self._received:
+            self._received[place] = self.frames().received(slot, channel, cycle)
+        return self._received[place]
 
     def sent_by(self, node: int, buffer: int) -> "Layout":
         """Returns the layout of the frames of a transmit buffer. Raises `UnknownSignal` if it has none."""
