@@ -225,6 +225,8 @@ class TestValues(unittest.TestCase):
         self.assertEqual(raw_of(single, math.inf), math.inf)
         self.assertIsNone(value_of(single, math.nan))
         self.assertEqual(value_of(single, -math.inf), -math.inf)
+        moved = Signal("it", 0, 32, coding=Coding.FLOAT, factor=Fraction(2), offset=Fraction(1), least=Fraction(0))
+        self.assertEqual((raw_of(moved, 5), physical(moved, 2.0)), (2.0, 5.0))
         scaled = Signal("it", 0, 64, coding=Coding.FLOAT, factor=Fraction(10)**100)
         self.assertEqual(physical(scaled, -1e300), -math.inf)
 

@@ -196,6 +196,7 @@ class TestExact(unittest.TestCase):
         self.assertEqual(exact_value(Fraction(1, 3)), Fraction(1, 3))
         self.assertIsNone(exact_value(float("nan")))
         self.assertIsNone(exact_value(1e300))
+        self.assertEqual((exact_value(10**100), exact_value(10**100 + 1)), (Fraction(10**100), None))
 
 
 if __name__ == "__main__":

@@ -9,7 +9,7 @@ from musmyrtle.toml_values import Spelled
 DECIMALS = re.compile(r"[+-]?[0-9]{1,60}(?:\.[0-9]{1,60})?(?:[eE][+-]?[0-9]{1,3})?")
 """Numbers with a bounded exponent: the exact value of 1e-999999999 would fill the memory."""
 RATIO = re.compile(r"([+-]?[0-9]{1,60})/([0-9]{1,60})")
-GREATEST, LEAST = Fraction(10)**100, Fraction(1, 10**100)
+GREATEST = 10**100
 RIGHT = 'a number from 1e-100 to 1e100 or its negative, or 0, or a text such as "1/3"'
 
 Number = int | float | Fraction | Decimal
@@ -17,7 +17,8 @@ Number = int | float | Fraction | Decimal
 
 def in_range(value: Fraction) -> Fraction | None:
     """Returns a number, or None if it is out of the range of exact numbers."""
-    return value if not value or LEAST <= abs(value) <= GREATEST else None
+    above, below = abs(value.numerator), value.denominator
+    return value if not above or above <= below * GREATEST and below <= above * GREATEST else None
 
 
 def exact_text(text: str) -> Fraction | None:
