@@ -18,7 +18,7 @@ use Rattle.fr_bus.specs.declared.error.Phase.TheVariants.{Collect, Sealed as InS
 use Rattle.fr_bus.specs.declared.fault.Fault.{Fault}
 use Rattle.fr_bus.specs.declared.fault.Fault.TheVariants.{Babble, Mute, Corrupt}
 use Rattle.fr_bus.specs.declared.station.Side.{Side}
-use Rattle.fr_bus.specs.Live.{cycles_suit, most_live_cycles}
+use Rattle.fr_bus.specs.Live.{cycles_suit, most_live_cycles, most_live_windows}
 use Rattle.fr_bus.specs.Outcome.{sent_from, sent_of, sent_in, sent_on, longest, transmission, fate_of}
 use Rattle.fr_bus.specs.Record.{Recorded, seen_by}
 use Rattle.fr_bus.specs.Standing.{no_room, roomless, BusStanding, standing_of, with_record, bare, with_cluster}
@@ -392,10 +392,10 @@ pub live_new : (d e : Description) (cycles : ℕ) (bus : BusStanding) → bus �
 live_new d e cycles bus new suits lawful alike =
     let params : e.params ≡ d.params = ap (λ (c : Description). c.params) alike in
     let (front, few) = and_parts (nat_le 1 cycles && nat_le cycles most_live_cycles)
-    (nat_le (cycles * opportunities d.params) 4294967295) suits in
+    (nat_le (cycles * opportunities d.params) most_live_windows) suits in
     let (some, most) = and_parts (nat_le 1 cycles) (nat_le cycles most_live_cycles) front in
-    let within : cycles * opportunities d.params ≤ 4294967295 =
-    leb-true (cycles * opportunities d.params) 4294967295 few in
+    let within : cycles * opportunities d.params ≤ 1610612734 =
+    leb-true (cycles * opportunities d.params) 1610612734 few in
     let fits : cycles * opportunities d.params < 2 ^ 32 = omega (arith, within) in
     record {
       of_bus = record {

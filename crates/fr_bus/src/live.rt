@@ -23,6 +23,10 @@ use std::marker::Model;
 /// The greatest number of cycles of a run without a record (project-defined).
 pub const LIVE_CYCLES: u32 = 4_000_000;
 
+/// The greatest number of windows of a run without a record (project-defined). Each takes two slot entries of an
+/// interface, which has room for 3,221,225,469 of them.
+pub const LIVE_WINDOWS: u32 = 1_610_612_734;
+
 /// The bus of a cluster in a run of so many cycles, which keeps the last sealed window alone (project-defined). It does
 /// the same as a `Bus`.
 #[derive(Drop)]
@@ -51,7 +55,9 @@ fn cycles_suit(params: &Params, cycles: u32) -> bool
     ensures { result ≡ cycles_suit params.now cycles }
 {
     let opportunities = u64::from(params.static_slots) + u64::from(params.minislots);
-    cycles >= 1 && cycles <= LIVE_CYCLES && u64::from(cycles) * opportunities <= u64::from(u32::MAX)
+    cycles >= 1
+        && cycles <= LIVE_CYCLES
+        && u64::from(cycles) * opportunities <= u64::from(LIVE_WINDOWS)
 }
 
 /// Writes what is heard on the channel of a sealed window.
@@ -92,8 +98,8 @@ impl LiveBus {
     /// 0, slot 1.
     ///
     /// Fails with `BadCycles` for 0 cycles or more than 4,000,000, and for so many that the windows could be more than
-    /// 32 bits number. That is the number of cycles, multiplied by the static slots and the minislots of a cycle. Then
-    /// it fails with `Memory` if an allocation fails.
+    /// 1,610,612,734. That is the number of cycles, multiplied by the static slots and the minislots of a cycle. Then it
+    /// fails with `Memory` if an allocation fails.
     pub fn new(alloc: Global, cluster: &Cluster, cycles: u32) -> Result<LiveBus, BusError>
         ensures { OpensLive cluster.now cycles result }
     {
