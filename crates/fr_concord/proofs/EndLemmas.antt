@@ -14,7 +14,8 @@ use Rattle.fr_bus.specs.Outcome.{all_passed, heard_of, overruns, passed_on}
 use Rattle.fr_bus.specs.Record.{Recorded, corrupt_on, heard}
 use Rattle.fr_concord.specs.Ends.{IsHeardWith, AreEndsHeard}
 use Rattle.fr_guarantees.proofs.HeardLemmas.{same_channel}
-use Rattle.fr_showing.specs.Ends.{end_alone, end_by, is_turned}
+use Rattle.fr_runs.specs.Effects.{is_turned}
+use Rattle.fr_showing.specs.Ends.{end_alone, end_by}
 use Rattle.fr_slots.specs.Parameters.{Parameters}
 use Rattle.fr_slots.specs.Windows.{Opportunity}
 use Rattle.fr_status.specs.declared.seen.Seen.TheVariants as seen

@@ -21,7 +21,8 @@ use Rattle.fr_runs.specs.Faulted.{bytes_babbled, loses, babble_by, babble_due, i
 use Rattle.fr_runs.specs.Faulted.{is_babble_of, babble_in, HasFaults}
 use Rattle.fr_runs.specs.Striking.{strikes}
 use Rattle.fr_scenario.specs.Contents.{Contents}
-use Rattle.fr_showing.specs.Origins.{is_sent_by, brings, has_brought}
+use Rattle.fr_runs.specs.Effects.{is_sent_by, brings}
+use Rattle.fr_showing.specs.Origins.{has_brought}
 use Rattle.fr_slots.specs.Admission.{is_channel}
 use Rattle.fr_slots.specs.declared.channel.Channel.{Channel}
 use Rattle.fr_slots.specs.declared.channel.Channel.TheVariants.{A, B}

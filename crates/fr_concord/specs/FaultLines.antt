@@ -6,7 +6,8 @@ use Rattle.fr_runs.specs.declared.fault_line.FaultLine.{FaultLine}
 use Rattle.fr_runs.specs.Faulted.{is_muted, HasFaults}
 use Rattle.fr_runs.specs.Striking.{strikes}
 use Rattle.fr_scenario.specs.Contents.{Contents}
-use Rattle.fr_showing.specs.Origins.{brings, origin_of_sent}
+use Rattle.fr_runs.specs.Effects.{brings}
+use Rattle.fr_showing.specs.Origins.{origin_of_sent}
 use Rattle.fr_slots.specs.Windows.{Opportunity}
 
 -- a babble, or an offer that was muted

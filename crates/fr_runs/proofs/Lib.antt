@@ -6,3 +6,4 @@ pub mod WorkedLemmas
 pub mod EachLemmas
 pub mod FaultedLemmas
 pub mod SteppingLemmas
+pub mod EffectLemmas

@@ -3,10 +3,10 @@ use Rattle.std.proofs.Common.{◌≡◌, ℕ, zero, suc, ◌+◌, ◌-◌, ◌<�
 use Rattle.std.proofs.Common.{refl, sym, ap, subst, ◌∙◌, arith, inl, inr}
 use Rattle.std.specs.Prelude.{◌%◌, ◌==◌, nat_le, min, max, not}
 use Rattle.std.specs.List.{list_any, range_with_len}
-use Rattle.std.proofs.lemmas.Bool.{eqb-true, leb-true}
+use Rattle.std.proofs.lemmas.Bool.{cases_Bool, eqb-true, le-leb, leb-false, leb-true, lt-leb}
 use Rattle.std.proofs.lemmas.Bool.Decides.{eqb_tells}
 use Rattle.fr_core.proofs.CaseLemmas.{both, both_first, both_rest}
-use Rattle.fr_runs.specs.Cycles.{names_cycle}
+use Rattle.fr_runs.specs.Cycles.{cycles_within, names_cycle}
 use Rattle.fr_runs.specs.declared.cycles.RunCycles.{RunCycles}
 use Rattle.fr_runs.specs.declared.cycles.RunCycles.TheVariants.{Every, Only, Span}
 use Rattle.fr_runs.specs.Suiting.{names_both, cycles_meet}
@@ -75,3 +75,20 @@ cycles_both (Span first last step) (Span from to by) n p q =
     any_from (names_both (Span first last step) (Span from to by)) (min last to + 1 - max first from) (max first from) n
     (omega arith) (omega arith)
     (both (names_cycle (Span first last step) n) (names_cycle (Span from to by) n) p q)
+
+-- ---- the cycles that a run has
+
+-- of the cycles that the run has, the same are up to the earlier last one
+same_up_to : (cycle last n : ℕ) → cycle < n → nat_le cycle (min last (n - 1)) ≡ nat_le cycle last
+same_up_to cycle last n below = elim (cases_Bool (nat_le cycle last)) [
+  | inl named ↦ le-leb cycle (min last (n - 1)) (omega (arith, below, leb-true cycle last named)) ∙ sym named
+  | inr past ↦ lt-leb cycle (min last (n - 1)) (omega (arith, below, leb-false cycle last past)) ∙ sym past
+]
+
+pub within_same : (n : ℕ) (named : RunCycles) (cycle : ℕ) → cycle < n
+    → names_cycle (cycles_within n named) cycle ≡ names_cycle named cycle
+within_same n Every cycle below = refl
+within_same n (Only only) cycle below = refl
+within_same n (Span first last step) cycle below =
+    ap (λ (b : Bool). not (step == 0) && nat_le first cycle && b && (cycle - first) % step == 0)
+    (same_up_to cycle last n below)

@@ -1,5 +1,5 @@
 -- The cycles of a run that a line names (project-defined).
-use Rattle.std.specs.Prelude.{ℕ, ◌-◌, ◌%◌, ◌==◌, nat_le, not, Bool, true, ◌&&◌}
+use Rattle.std.specs.Prelude.{ℕ, ◌-◌, ◌%◌, ◌==◌, nat_le, min, not, Bool, true, ◌&&◌}
 use Rattle.fr_runs.specs.declared.cycles.RunCycles.{RunCycles}
 use Rattle.fr_runs.specs.declared.cycles.RunCycles.TheVariants.{Every, Only, Span}
 
@@ -10,3 +10,9 @@ names_cycle Every cycle = true
 names_cycle (Only only) cycle = only == cycle
 names_cycle (Span first last step) cycle =
     not (step == 0) && nat_le first cycle && nat_le cycle last && (cycle - first) % step == 0
+
+-- the same cycles, without those that a run of so many cycles lacks; a single cycle stays as it is
+abbrev pub cycles_within : ℕ → RunCycles → RunCycles
+cycles_within cycles Every = Every
+cycles_within cycles (Only only) = Only only
+cycles_within cycles (Span first last step) = Span first (min last (cycles - 1)) step

@@ -4,5 +4,6 @@ pub mod Suiting
 pub mod Refusing
 pub mod Apart
 pub mod Faulted
+pub mod Effects
 pub mod Stepping
 pub mod Steps

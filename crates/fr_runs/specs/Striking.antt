@@ -2,7 +2,7 @@
 use Rattle.std.specs.Prelude.{ℕ, ◌==◌, nat_le, not, Bool, true, false, ◌&&◌, Option, Some, None}
 use Rattle.fr_bus.specs.declared.fault.Fault.{Fault}
 use Rattle.fr_bus.specs.declared.fault.Fault.TheVariants.{Babble, Mute, Corrupt}
-use Rattle.fr_runs.specs.Cycles.{names_cycle}
+use Rattle.fr_runs.specs.Cycles.{cycles_within, names_cycle}
 use Rattle.fr_runs.specs.declared.fault_line.FaultLine.{FaultLine}
 use Rattle.fr_runs.specs.declared.fault_line.FaultPlace.{FaultPlace}
 use Rattle.fr_runs.specs.declared.fault_line.FaultPlace.TheVariants.{EveryWindow, EverySlot, Slot, Slots}
@@ -41,3 +41,7 @@ channel_of (Corrupt channel bit) = channel
 abbrev pub strikes : FaultLine → ℕ → Opportunity → Bool
 strikes line cycle window =
     names_cycle line.cycles cycle && names_window line.place (channel_of line.fault) window
+
+-- the line without the cycles that a run of so many cycles lacks
+abbrev pub line_within : ℕ → FaultLine → FaultLine
+line_within cycles line = record line { cycles = cycles_within cycles line.cycles }

@@ -13,8 +13,8 @@ pub enum RunCycles {
 }
 
 impl RunCycles {
-    ghost use Rattle.std.specs.Prelude.{◌≡◌};
-    ghost use Rattle.fr_runs.specs.Cycles.{names_cycle};
+    ghost use Rattle.std.specs.Prelude.{◌≡◌, ◌<◌, ℕ};
+    ghost use Rattle.fr_runs.specs.Cycles.{cycles_within, names_cycle};
 
     /// Returns whether this cycle of the run is named (project-defined).
     pub fn names(self, cycle: usize) -> bool
@@ -31,5 +31,29 @@ impl RunCycles {
                     && (cycle - first) % usize::from(step) == 0
             }
         }
+    }
+
+    /// Returns these cycles up to the last one of a run of so many cycles.
+    fn cut(self, cycles: u16) -> RunCycles
+        ensures { result ≡ cycles_within cycles self }
+    {
+        match self {
+            RunCycles::Every => RunCycles::Every,
+            RunCycles::Only(only) => RunCycles::Only(only),
+            RunCycles::Span { first, last, step } => RunCycles::Span {
+                first,
+                last: last.min(cycles.saturating_sub(1)),
+                step,
+            },
+        }
+    }
+
+    /// Returns these cycles, without those that a run of so many cycles lacks (project-defined). A single cycle stays as
+    /// it is.
+    pub fn within(self, cycles: u16) -> RunCycles
+        ensures within { result ≡ cycles_within cycles self }
+        ensures same { (cycle : ℕ) → cycle < cycles → names_cycle result cycle ≡ names_cycle self cycle }
+    {
+        self.cut(cycles)
     }
 }

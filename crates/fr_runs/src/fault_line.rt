@@ -118,7 +118,7 @@ impl FaultPlace {
 
 impl FaultLine {
     ghost use Rattle.std.specs.Prelude.{◌≡◌};
-    ghost use Rattle.fr_runs.specs.Striking.{strikes};
+    ghost use Rattle.fr_runs.specs.Striking.{line_within, strikes};
 
     /// Returns a copy of the line.
     pub fn duplicate(&self) -> FaultLine
@@ -127,6 +127,18 @@ impl FaultLine {
         FaultLine {
             fault: self.fault.duplicate(),
             cycles: self.cycles,
+            place: self.place,
+        }
+    }
+
+    /// Returns a copy of the line, without the cycles that a run of so many cycles lacks (project-defined). A line of a
+    /// single cycle stays as it is.
+    pub fn within(&self, cycles: u16) -> FaultLine
+        ensures { result ≡ line_within cycles self.now }
+    {
+        FaultLine {
+            fault: self.fault.duplicate(),
+            cycles: self.cycles.within(cycles),
             place: self.place,
         }
     }

@@ -6,6 +6,7 @@
 //! if fault_line.strikes(run_cycle, &window) {} // the fault occurs in this window
 //! have_faults(&faults, bus.record()); // a run had exactly these faults
 //! are_stepped(&interfaces, bus.record(), &scripts); // each call was in the cycle of its line
+//! idle_lines(alloc, bus.record(), &faults, &numbers)?; // the lines of a text whose faults had no effect
 //! suits_after(&cluster, cycles, &faults, &fault_line); // the run can have one more fault line
 //! ```
 //!
@@ -18,6 +19,7 @@
 //! - `Striking`, `Suiting`, `Refusing`, `Apart`: the windows of a fault line; scripts and faults that fit a cluster;
 //!   refusals of a run; at most one fault of a kind, node and channel in a window.
 //! - `Faulted`, `Stepping`: the faults of a record; execution of each line in its cycle.
+//! - `Effects`: the effects of fault lines on the bus, and the lines that had none.
 //!
 //! Modules that follow the steps of the code, for private functions, with the module that has the meaning:
 //!
@@ -30,6 +32,7 @@
 
 pub mod check;
 pub mod cycles;
+pub mod effects;
 pub mod fault_line;
 pub mod faulted;
 pub mod faults;

@@ -9,6 +9,7 @@ use Rattle.fr_interface.specs.declared.call.Call.{Call}
 use Rattle.fr_runs.specs.Cycles.{names_cycle}
 use Rattle.fr_runs.specs.declared.cycles.RunCycles.{RunCycles}
 use Rattle.fr_runs.specs.declared.fault_line.FaultLine.{FaultLine}
+use Rattle.fr_runs.specs.Striking.{line_within}
 use Rattle.fr_runs.specs.Suiting.{has_cycle}
 use Rattle.fr_scenario.specs.Contents.{Contents, script_of, node_at, task_at, task_count}
 use Rattle.fr_scenario.specs.declared.error.ScenarioError.{ScenarioError}
@@ -87,8 +88,10 @@ is_skipped cycles (Fault f) = not (has_cycle cycles f.cycles)
 is_skipped cycles (Faults a b) = not (has_cycle cycles a.cycles)
 is_skipped cycles (Expected node named buffer payload) = not (has_cycle cycles named)
 
+-- without the cycles that the run lacks
 abbrev pub faults_left : ℕ → Statement → List FaultLine
-faults_left cycles statement = if is_skipped cycles statement then [] else faults_of statement
+faults_left cycles statement =
+    if is_skipped cycles statement then [] else map (line_within cycles) (faults_of statement)
 
 abbrev pub faults_in_run : ℕ → List Statement → List FaultLine
 faults_in_run cycles statements = flat_map (faults_left cycles) statements

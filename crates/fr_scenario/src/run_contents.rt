@@ -102,7 +102,8 @@ pub(crate) fn skipped_in_run(
     Ok(skipped)
 }
 
-/// Adds the fault lines of the statement that the run has, with the number of its line.
+/// Adds the fault lines of the statement that the run has, without the cycles that it lacks, and the number of the
+/// statement's line.
 fn add_faults(
     cycles: u16,
     statement: &Statement,
@@ -120,12 +121,12 @@ fn add_faults(
     match statement {
         Statement::Nothing | Statement::Calls { .. } | Statement::Expected { .. } => {}
         Statement::Fault(fault) => {
-            faults.push(fault.duplicate())?;
+            faults.push(fault.within(cycles))?;
             numbers.push(number)?;
         }
         Statement::Faults { a, b } => {
-            faults.push(a.duplicate())?;
-            faults.push(b.duplicate())?;
+            faults.push(a.within(cycles))?;
+            faults.push(b.within(cycles))?;
             numbers.push(number)?;
             numbers.push(number)?;
         }

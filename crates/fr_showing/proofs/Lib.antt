@@ -2,7 +2,6 @@ pub mod CommitLemmas
 pub mod DecidedLemmas
 pub mod FateLemmas
 pub mod GoingLemmas
-pub mod IdleLemmas
 pub mod PartLemmas
 pub mod RecordLemmas
 pub mod ShowLemmas

@@ -1,6 +1,5 @@
 -- The end of a transmission (project-defined).
-use Rattle.std.specs.Prelude.{ℕ, ◌/◌, nat_lt, Bool, false, List, codes, length, count_by, Option, Some, None}
-use Rattle.std.specs.Prelude.{option_map, if◌then◌else◌}
+use Rattle.std.specs.Prelude.{ℕ, nat_lt, List, codes, length, count_by, Option, Some, None, option_map, if◌then◌else◌}
 use Rattle.std.specs.List.{find}
 use Rattle.fr_bus.specs.declared.outcome.SentFate.{SentFate}
 use Rattle.fr_bus.specs.declared.outcome.SentFate.TheVariants as fate
@@ -8,15 +7,11 @@ use Rattle.fr_bus.specs.declared.outcome.Sent.{Sent}
 use Rattle.fr_bus.specs.Outcome.{overruns, passed_on}
 use Rattle.fr_bus.specs.Record.{Recorded, corrupt_on, is_offer_of}
 use Rattle.fr_lines.specs.Parts.{absent}
+use Rattle.fr_runs.specs.Effects.{is_turned}
 use Rattle.fr_showing.specs.declared.ends.End.{End}
 use Rattle.fr_showing.specs.declared.ends.End.TheVariants.{Alone, Turned, Overrun, Collided, Muted, Blocked}
 use Rattle.fr_slots.specs.declared.channel.Channel.{Channel}
 use Rattle.fr_slots.specs.Parameters.{Parameters}
-
--- the bit that is to be flipped is in one of these bytes
-abbrev pub is_turned : Option ℕ → List ℕ → Bool
-is_turned None bytes = false
-is_turned (Some bit) bytes = nat_lt (bit / 8) (length bytes)
 
 -- it was too long, or one of its bits was flipped, or neither
 abbrev pub end_alone : Parameters → Recorded → Sent → End

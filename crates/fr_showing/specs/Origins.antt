@@ -1,36 +1,14 @@
 -- The line of a scenario from which each fault of a record comes (project-defined).
-use Rattle.std.specs.Prelude.{ℕ, Bool, false, ◌&&◌, Option, option_and_then, position, slice_get}
-use Rattle.fr_bus.specs.declared.fault.Fault.{Fault}
-use Rattle.fr_bus.specs.declared.fault.Fault.TheVariants.{Babble, Mute, Corrupt}
+use Rattle.std.specs.Prelude.{ℕ, Bool, ◌&&◌, Option, option_and_then, position, slice_get}
 use Rattle.fr_bus.specs.declared.outcome.Sent.{Sent}
-use Rattle.fr_bus.specs.Outcome.{is_of}
 use Rattle.fr_runs.specs.declared.fault_line.FaultLine.{FaultLine}
-use Rattle.fr_runs.specs.Faulted.{is_muted}
+use Rattle.fr_runs.specs.Effects.{brings, turns}
 use Rattle.fr_runs.specs.Striking.{strikes}
 use Rattle.fr_scenario.specs.Contents.{Contents}
-use Rattle.fr_slots.specs.Admission.{is_channel}
 use Rattle.fr_slots.specs.declared.channel.Channel.{Channel}
 use Rattle.fr_slots.specs.Windows.{Opportunity}
 
--- ---- the effect of a fault
-
--- the node sent it on the channel
-abbrev pub is_sent_by : ℕ → Channel → Sent → Bool
-is_sent_by node channel t = is_of node t && is_channel t.channel channel
-
--- the transmission is a babble of the fault, or an offer that the fault muted
-abbrev pub brings : Sent → Fault → Bool
-brings t (Babble node channel bytes) = t.babble && is_sent_by node channel t
-brings t (Mute node channel) = is_muted t.fate && is_sent_by node channel t
-brings t (Corrupt channel bit) = false
-
--- the fault flips a bit on the channel
-abbrev pub turns : Channel → Fault → Bool
-turns channel (Babble node on bytes) = false
-turns channel (Mute node on) = false
-turns channel (Corrupt on bit) = is_channel on channel
-
--- ---- a line with such an effect in a window, which lies in the cycle of this number of the run
+-- ---- a line with an effect in a window, which lies in the cycle of this number of the run
 
 abbrev pub has_brought : ℕ → Opportunity → Sent → FaultLine → Bool
 has_brought cycle w t line = strikes line cycle w && brings t line.fault

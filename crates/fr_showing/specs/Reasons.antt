@@ -13,13 +13,13 @@ use Rattle.fr_lines.specs.Spelling.{line_text}
 use Rattle.fr_minislot.specs.DynamicRows.{row_length}
 use Rattle.fr_openings.specs.declared.openings.LastSlots.{LastSlots}
 use Rattle.fr_openings.specs.Openings.{openings_text}
+use Rattle.fr_runs.specs.Effects.{is_flipped}
 use Rattle.fr_scenario.specs.Contents.{Contents}
 use Rattle.fr_schedule.specs.Descriptions.{Description}
 use Rattle.fr_showing.specs.declared.ends.End.{End}
 use Rattle.fr_showing.specs.declared.ends.End.TheVariants.{Alone, Turned, Overrun, Collided, Muted, Blocked}
 use Rattle.fr_showing.specs.EachWindow.{each_window}
 use Rattle.fr_showing.specs.Ends.{end_of, end_word}
-use Rattle.fr_showing.specs.Idle.{is_turned_end}
 use Rattle.fr_showing.specs.Origins.{origin_of_bit, origin_of_sent}
 use Rattle.fr_slots.specs.Admission.{letter_of}
 use Rattle.fr_slots.specs.declared.channel.Channel.{Channel}
@@ -38,10 +38,9 @@ effect_word Collided = codes "effect"
 effect_word Muted = codes "effect"
 effect_word Blocked = codes "stopped"
 
--- the line that flips a bit of the transmission, which passed alone
-abbrev pub flipped_by : Contents → Parameters → ℕ → Recorded → Sent → Option ℕ
-flipped_by s p cycle r t =
-    if is_turned_end (end_of p r t) then origin_of_bit s cycle r.window t.channel else None
+-- the line that flips a bit of the transmission
+abbrev pub flipped_by : Contents → ℕ → Recorded → Sent → Option ℕ
+flipped_by s cycle r t = if is_flipped r t then origin_of_bit s cycle r.window t.channel else None
 
 -- ---- lines
 
@@ -60,7 +59,7 @@ effect_if p cycle r t (Some number) = effect_line p cycle r t number
 -- one that flips one of its bits.
 abbrev pub effects_of : Contents → Parameters → ℕ → Recorded → Sent → List ℕ
 effects_of s p cycle r t =
-    effect_if p cycle r t (origin_of_sent s cycle r.window t) ++ effect_if p cycle r t (flipped_by s p cycle r t)
+    effect_if p cycle r t (origin_of_sent s cycle r.window t) ++ effect_if p cycle r t (flipped_by s cycle r t)
 
 -- ---- a window, and all of them
 

@@ -1,12 +1,12 @@
 //! The ends of transmissions.
-ghost use Rattle.std.specs.Prelude.{◌≡◌, ◌≤◌, count_by, option_map, slice_get, Some};
+ghost use Rattle.std.specs.Prelude.{◌≡◌, option_map, slice_get, Some};
 ghost use Rattle.std.specs.List.{find};
-ghost use Rattle.fr_bus.specs.Outcome.{passed_on};
 ghost use Rattle.fr_bus.specs.Record.{is_offer_of};
-ghost use Rattle.fr_showing.specs.Ends.{end_alone, end_of, end_passed, end_word, ended_word, is_turned, offer_end};
+ghost use Rattle.fr_showing.specs.Ends.{end_alone, end_of, end_passed, end_word, ended_word, offer_end};
 
 use fr_bus::outcome::{Sealed, Sent, SentFate};
 use fr_core::walk::sealed_at;
+use fr_runs::effects::{count_passed, is_turned};
 use fr_slots::channel::Channel;
 use fr_slots::params::Params;
 use fr_slots::window::Window;
@@ -26,23 +26,6 @@ pub enum End {
     Muted,
     /// The guardian of its node stopped it.
     Blocked,
-}
-
-/// Returns the number of transmissions that passed on the channel.
-fn count_passed(channel: Channel, sent: &[Sent]) -> usize
-    ensures { result ≡ count_by (passed_on channel) sent.now }
-{
-    sent.iter().filter(|t| t.passed_on(channel)).count()
-}
-
-/// Returns whether the bit that is to be flipped is in one of these bytes.
-fn is_turned(corrupt: Option<u16>, bytes: &[u8]) -> bool
-    ensures { result ≡ is_turned corrupt bytes.now }
-{
-    match corrupt {
-        Some(bit) => usize::from(bit / 8) < bytes.len(),
-        None => false,
-    }
 }
 
 /// Returns the end of the only transmission that passed on its channel.

@@ -1,45 +1,13 @@
 //! The line of a scenario from which each fault of a record comes.
 ghost use Rattle.std.specs.Prelude.{◌≡◌, option_and_then, position, slice_get};
-ghost use Rattle.fr_showing.specs.Origins.{brings, has_brought, has_turned, is_sent_by, origin_of_bit, origin_of_sent};
-ghost use Rattle.fr_showing.specs.Origins.{turns};
+ghost use Rattle.fr_showing.specs.Origins.{has_brought, has_turned, origin_of_bit, origin_of_sent};
 
-use fr_bus::fault::Fault;
-use fr_bus::outcome::{Sent, SentFate};
+use fr_bus::outcome::Sent;
+use fr_runs::effects::{brings, turns};
 use fr_runs::fault_line::FaultLine;
 use fr_scenario::scenario::Scenario;
 use fr_slots::channel::Channel;
-use fr_slots::numbers::NodeId;
 use fr_slots::window::Window;
-
-/// Returns whether the node sent it on the channel.
-fn is_sent_by(node: NodeId, channel: Channel, sent: &Sent) -> bool
-    ensures { result ≡ is_sent_by node channel sent.now }
-{
-    sent.node == node && sent.channel == channel
-}
-
-/// Returns whether the transmission is a babble of the fault, or an offer that the fault muted.
-pub(crate) fn brings(sent: &Sent, fault: &Fault) -> bool
-    ensures { result ≡ brings sent.now fault.now }
-{
-    match fault {
-        Fault::Babble { node, channel, .. } => sent.babble && is_sent_by(*node, *channel, sent),
-        Fault::Mute { node, channel } => {
-            sent.fate == SentFate::Muted && is_sent_by(*node, *channel, sent)
-        }
-        Fault::Corrupt { .. } => false,
-    }
-}
-
-/// Returns whether the fault flips a bit on the channel.
-pub(crate) fn turns(channel: Channel, fault: &Fault) -> bool
-    ensures { result ≡ turns channel fault.now }
-{
-    match fault {
-        Fault::Corrupt { channel: on, .. } => *on == channel,
-        Fault::Babble { .. } | Fault::Mute { .. } => false,
-    }
-}
 
 /// Returns whether the line takes effect in the window, and the transmission comes from it.
 fn has_brought(cycle: usize, window: &Window, sent: &Sent, line: &FaultLine) -> bool

@@ -7,12 +7,12 @@ ghost use Rattle.fr_showing.specs.Origins.{origin_of_sent};
 ghost use Rattle.fr_text.specs.Writing.{Writes};
 
 use crate::ends::{End, end_of, end_word, sent_in, window_of};
-use crate::idle::is_turned_end;
 use crate::origins::{origin_of_bit, origin_of_sent};
 use fr_bus::outcome::{Sealed, Sent};
 use fr_lines::writing::write_slot;
 use fr_minislot::lane::row_length;
 use fr_openings::openings::{LastSlots, write_openings};
+use fr_runs::effects::is_flipped;
 use fr_scenario::scenario::Scenario;
 use fr_schedule::cluster::Cluster;
 use fr_slots::channel::Channel;
@@ -38,16 +38,10 @@ fn made_by(scenario: &Scenario, cycle: usize, sealed: &Sealed, sent: &Sent) -> O
 }
 
 /// Returns the number of the scenario's line that flips a bit of the transmission, if one does.
-fn flipped_by(
-    scenario: &Scenario,
-    params: &Params,
-    cycle: usize,
-    sealed: &Sealed,
-    sent: &Sent,
-) -> Option<u32>
-    ensures { result ≡ flipped_by scenario.now params.now cycle sealed.now sent.now }
+fn flipped_by(scenario: &Scenario, cycle: usize, sealed: &Sealed, sent: &Sent) -> Option<u32>
+    ensures { result ≡ flipped_by scenario.now cycle sealed.now sent.now }
 {
-    if is_turned_end(end_of(params, sealed, sent)) {
+    if is_flipped(sealed, sent) {
         origin_of_bit(scenario, cycle, window_of(sealed), sent.channel)
     } else {
         None
@@ -105,7 +99,7 @@ fn write_effects<W: Write>(
         (effects_of scenario.now params.now cycle sealed.now sent.now) }
 {
     let made = made_by(scenario, cycle, sealed, sent);
-    let flipped = flipped_by(scenario, params, cycle, sealed, sent);
+    let flipped = flipped_by(scenario, cycle, sealed, sent);
     write_effect(writer, params, cycle, sealed, sent, made)?;
     write_effect(writer, params, cycle, sealed, sent, flipped)
 }

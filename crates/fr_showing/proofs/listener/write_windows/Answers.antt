@@ -4,7 +4,8 @@ use Rattle.fr_bus.specs.Record.{Recorded}
 use Rattle.fr_bus.specs.Windows.{begins_cycle, cycles_begun}
 use Rattle.fr_slots.specs.History.{each_after}
 use Rattle.std.specs.Io.KnownBytes.{Appends}
-use Rattle.fr_showing.proofs.RecordLemmas.{begun_more, fewer, window_more}
+use Rattle.fr_runs.proofs.EffectLemmas.{begun_more}
+use Rattle.fr_showing.proofs.RecordLemmas.{fewer, window_more}
 use Rattle.fr_showing.specs.Listening.{window_records}
 use Rattle.fr_showing.proofs.listener.write_windows.Goals as goal
 

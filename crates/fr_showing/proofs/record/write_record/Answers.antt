@@ -3,7 +3,8 @@ use Rattle.std.proofs.KnownBytes.{Appends-nil}
 use Rattle.fr_bus.specs.Windows.{begins_cycle, cycles_begun}
 use Rattle.fr_slots.specs.History.{each_after}
 use Rattle.std.specs.Io.KnownBytes.{Appends}
-use Rattle.fr_showing.proofs.RecordLemmas.{begun_more, window_more}
+use Rattle.fr_runs.proofs.EffectLemmas.{begun_more}
+use Rattle.fr_showing.proofs.RecordLemmas.{window_more}
 use Rattle.fr_showing.specs.RecordText.{window_text}
 use Rattle.fr_showing.proofs.record.write_record.Goals as goal
 

@@ -1,10 +1,9 @@
 use Rattle.std.proofs.Common.{◌≡◌, ℕ, Bool, true, false, ◌+◌, ◌-◌, ◌≤◌, ◌||◌, cond, take, drop, length, refl, sym, ap}
 use Rattle.std.proofs.Common.{◌∙◌, arith, rules}
 use Rattle.fr_bus.specs.Windows.{begins_cycle, cycles_begun}
-use Rattle.fr_showing.proofs.IdleLemmas.{struck_by_next, struck_in_none}
-use Rattle.fr_showing.proofs.RecordLemmas.{begun_more}
-use Rattle.fr_showing.specs.Idle.{has_struck_after, has_struck_in}
-use Rattle.fr_showing.proofs.idle.has_struck.Goals as goal
+use Rattle.fr_runs.proofs.EffectLemmas.{begun_more, effect_by_next, effect_in_none}
+use Rattle.fr_runs.specs.Effects.{has_effect_after, has_effect_in}
+use Rattle.fr_runs.proofs.effects.has_effect.Goals as goal
 
 pub loop-sealed-init : goal.loop-sealed-init
 loop-sealed-init c = record { begun = refl; few = omega arith; left = refl }
@@ -18,39 +17,37 @@ loop-sealed-preserved c =
     let rs = c.args.windows.now in
     let n : ℕ = c.loop-sealed.sealed-index in
     let r = c.sealed-item.result in
-    let p = c.args.params.now in
     let line = c.args.line.now in
     let more = begun_more rs n r c.loop-sealed-test.true c.sealed-item.is in
     let begun : c.begun_with-begun.result ≡ cycles_begun (take (n + 1) rs) =
     c.begun_with-begun.ensures ∙ ap (λ (b : ℕ). b + cond (begins_cycle r) 1 0) c.loop-sealed.invariant.begun
     ∙ sym more in
-    let next = struck_by_next rs n r c.loop-sealed-test.true c.sealed-item.is p line c.begun_with-begun.result begun in
-    let missed : c.has_struck_in.result ≡ false = search rules in
-    let here : has_struck_in p line (c.begun_with-begun.result - 1) r ≡ false =
-    ap (λ (k : ℕ). has_struck_in p line k r) (sym c.saturating_sub.ensures) ∙ sym c.has_struck_in.ensures ∙ missed in
+    let next = effect_by_next rs n r c.loop-sealed-test.true c.sealed-item.is line c.begun_with-begun.result begun in
+    let missed : c.has_effect_in.result ≡ false = search rules in
+    let here : has_effect_in line (c.begun_with-begun.result - 1) r ≡ false =
+    ap (λ (k : ℕ). has_effect_in line k r) (sym c.saturating_sub.ensures) ∙ sym c.has_effect_in.ensures ∙ missed in
     record {
       begun = begun;
       few = omega (arith, c.begun_with-begun.ensures, c.loop-sealed.invariant.few, digit (begins_cycle r));
-      left = sym (ap (λ (b : Bool). b || has_struck_after p line (take (n + 1) rs) (drop (n + 1) rs)) here) ∙ sym next
+      left = sym (ap (λ (b : Bool). b || has_effect_after line (take (n + 1) rs) (drop (n + 1) rs)) here) ∙ sym next
           ∙ c.loop-sealed.invariant.left;
     }
 
-pub returns-then-has_struck_in : goal.returns-then-has_struck_in
-returns-then-has_struck_in c =
+pub returns-then-has_effect_in : goal.returns-then-has_effect_in
+returns-then-has_effect_in c =
     let rs = c.args.windows.now in
     let n : ℕ = c.loop-sealed.sealed-index in
     let r = c.sealed-item.result in
-    let p = c.args.params.now in
     let line = c.args.line.now in
     let more = begun_more rs n r c.loop-sealed-test.true c.sealed-item.is in
     let begun : c.begun_with-begun.result ≡ cycles_begun (take (n + 1) rs) =
     c.begun_with-begun.ensures ∙ ap (λ (b : ℕ). b + cond (begins_cycle r) 1 0) c.loop-sealed.invariant.begun
     ∙ sym more in
-    let next = struck_by_next rs n r c.loop-sealed-test.true c.sealed-item.is p line c.begun_with-begun.result begun in
-    let struck : c.has_struck_in.result ≡ true = search rules in
-    let here : has_struck_in p line (c.begun_with-begun.result - 1) r ≡ true =
-    ap (λ (k : ℕ). has_struck_in p line k r) (sym c.saturating_sub.ensures) ∙ sym c.has_struck_in.ensures ∙ struck in
-    sym (ap (λ (b : Bool). b || has_struck_after p line (take (n + 1) rs) (drop (n + 1) rs)) here) ∙ sym next
+    let next = effect_by_next rs n r c.loop-sealed-test.true c.sealed-item.is line c.begun_with-begun.result begun in
+    let struck : c.has_effect_in.result ≡ true = search rules in
+    let here : has_effect_in line (c.begun_with-begun.result - 1) r ≡ true =
+    ap (λ (k : ℕ). has_effect_in line k r) (sym c.saturating_sub.ensures) ∙ sym c.has_effect_in.ensures ∙ struck in
+    sym (ap (λ (b : Bool). b || has_effect_after line (take (n + 1) rs) (drop (n + 1) rs)) here) ∙ sym next
     ∙ c.loop-sealed.invariant.left
 
 pub returns : goal.returns
@@ -58,4 +55,4 @@ returns c =
     let rs = c.args.windows.now in
     let n : ℕ = c.loop-sealed.sealed-index in
     let all : length rs ≤ n = omega (arith, c.loop-sealed-test.false) in
-    sym (struck_in_none c.args.params.now c.args.line.now rs n all) ∙ c.loop-sealed.invariant.left
+    sym (effect_in_none c.args.line.now rs n all) ∙ c.loop-sealed.invariant.left

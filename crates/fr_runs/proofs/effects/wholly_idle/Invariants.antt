@@ -1,7 +1,7 @@
 use Rattle.std.proofs.Common.{◌≡◌, ◌++◌, drop}
 use Rattle.std.specs.List.{filter}
-use Rattle.fr_showing.specs.Idle.{each_once, is_wholly_idle, wholly_idle}
-use Rattle.fr_showing.proofs.idle.wholly_idle.Given as goal
+use Rattle.fr_runs.specs.Effects.{each_once, is_wholly_idle, wholly_idle}
+use Rattle.fr_runs.proofs.effects.wholly_idle.Given as goal
 
 -- the numbers so far, and those among the idle ones that are left
 abbrev pub invariant-loop-number : goal.invariant-loop-number
