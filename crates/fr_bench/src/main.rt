@@ -3,7 +3,8 @@
 //! expectation of its scenario.
 //!
 //! Standard output has the output of one command, and only once that command has accepted all its input. A refusal is
-//! one line on standard error. After a run, each expectation that it missed has a line there.
+//! one line on standard error. After a run, each line of faults without effect has a line there, and so has each
+//! expectation that the run missed.
 //!
 //! ```text
 //! fr_bench audit < node.trace      the report of a trace, or the first line at fault
@@ -33,6 +34,7 @@ use arrayvec::ArrayVec;
 use command::{Source, Task, TextCommand, print_text, task_of};
 use failure::BenchFailure;
 use fr_cli::bench::order;
+use fr_cli::standard::hold_standard;
 use fr_cli::waiting::{WaitingReader, WaitingWriter};
 use fr_cli::words::{texts_of, words_given};
 use fr_expecting::missed::{Missed, write_missed};
@@ -70,11 +72,14 @@ fn tell_missed<R: Eprint>(rt: &R, missed: &Missed) {
     }
 }
 
-/// Writes a line on standard error for each line of the scenario that names cycles, but none of the run, and for each
-/// expectation that the run missed. Returns the exit status.
+/// Writes a line on standard error for each line of the scenario that names cycles, but none of the run, for each line
+/// of faults without effect, and for each expectation that the run missed. Returns the exit status.
 fn tell_notes<R: Eprint>(rt: &R, notes: &RunNotes) -> ExitCode {
     for number in &notes.skipped {
         let _ = eprintln!(rt; "line {number} names no cycle of the run");
+    }
+    for number in &notes.idle {
+        let _ = eprintln!(rt; "line {number} struck nothing");
     }
     for missed in &notes.missed {
         tell_missed(rt, missed);
@@ -164,6 +169,7 @@ fn run<R: Env + Files + Input + Print + Eprint + AllocGlobal + Threads + Wait + 
 }
 
 fn main(rt: HostRuntime) -> ExitCode {
+    let _held = hold_standard(&rt);
     match run(&rt) {
         Ok(status) => status,
         Err(failure) => {

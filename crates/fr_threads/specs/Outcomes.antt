@@ -13,6 +13,7 @@ use Rattle.fr_outcome.specs.declared.file_error.FileError.{FileError}
 use Rattle.fr_outcome.specs.declared.file_error.FileError.TheVariants as file
 use Rattle.fr_outcome.specs.OutcomeText.{outcome_text}
 use Rattle.fr_outcome.specs.ScenarioFiles.{IsShort, IsRefused, RunIsRefused}
+use Rattle.fr_runs.specs.Effects.{idle_lines}
 use Rattle.fr_threads.specs.declared.outcome.RunNotes.{RunNotes}
 use Rattle.fr_threads.specs.declared.outcome_error.OutcomeError.{OutcomeError}
 use Rattle.fr_threads.specs.declared.outcome_error.OutcomeError.TheVariants as refusal
@@ -41,10 +42,11 @@ pub record IsOutcome (d : Description) (names : List NamesOfNode) (cycles : ℕ)
   pub is_run : IsRunOf d contents.scripts contents.faults cycles (not free) run
   pub outcome_is : outcome ≡ outcome_text run.interfaces.items run.settled.windows
 
--- After a run of so many cycles with the scenario these are the lines that name cycles, but none of the run, and the
--- expectations that the run missed.
+-- After a run of so many cycles with the scenario these are the lines that name cycles, but none of the run, the lines
+-- of faults without effect, and the expectations that the run missed.
 pub record AreNotes (cycles : ℕ) (contents : Contents) (run : Run) (notes : RunNotes) : Type 0 where
   pub skipped : notes.skipped.items ≡ contents.skipped
+  pub idle : notes.idle.items ≡ idle_lines run.bus.sealed contents.faults contents.numbers
   pub missed : notes.missed.items ≡ missed_by cycles run.interfaces.items contents.expected
 
 -- such an outcome was written, and nothing else, and these are the notes on the scenario

@@ -15,6 +15,7 @@ use fr_names::cluster_file::named_cluster_of;
 use fr_names::names::Names;
 use fr_outcome::outcome_text::write_outcome;
 use fr_outcome::scenario_file::scenario_of;
+use fr_runs::effects::idle_lines;
 use fr_scenario::scenario::Scenario;
 use fr_schedule::cluster::Cluster;
 use std::alloc::{AllocError, Global};
@@ -37,6 +38,8 @@ pub struct RunOptions {
 pub struct RunNotes {
     /// The lines that name cycles, but none that the run has.
     pub skipped: Vec<u32>,
+    /// The lines of faults that had no effect in the run.
+    pub idle: Vec<u32>,
     /// The expectations that the run missed, in the order of their lines.
     pub missed: Vec<Missed>,
 }
@@ -52,6 +55,12 @@ fn notes_of(
 {
     Ok(RunNotes {
         skipped: Vec::from_slice(alloc, scenario.skipped())?,
+        idle: idle_lines(
+            alloc,
+            run.bus.record(),
+            scenario.faults(),
+            scenario.fault_numbers(),
+        )?,
         missed: missed_in(
             alloc,
             cycles,
@@ -68,8 +77,8 @@ fn notes_of(
 /// The outcome is each node's report, the number of windows and `settled`. In a free-running run a task's lines are
 /// executed at any moment, in a lockstep run each in its cycle.
 ///
-/// It returns the numbers of the scenario's lines that name cycles, but none of the run, and the expectations that the
-/// run missed.
+/// It returns the numbers of the scenario's lines that name cycles, but none of the run, those of the lines of faults
+/// that had no effect in the run, and the expectations that the run missed.
 ///
 /// Returns the error of the scenario's file, then that of the run. Nothing is written on an error other than `Write`,
 /// after which a front of the outcome may have been written.
