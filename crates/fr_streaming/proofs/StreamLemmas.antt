@@ -104,7 +104,7 @@ pub named_fit : (p : Parameters) (cycles : ℕ) → cycles_suit p cycles ≡ tru
 named_fit p cycles suits =
     named_some cycles (min cycles 1024)
     (leb-true 1 cycles (both_first (nat_le 1 cycles) (nat_le cycles most_live_cycles)
-    (both_first (nat_le 1 cycles && nat_le cycles most_live_cycles) (nat_le (cycles * opportunities p) 4294967295)
+    (both_first (nat_le 1 cycles && nat_le cycles most_live_cycles) (nat_le (cycles * opportunities p) 1610612734)
     suits))) refl
 
 -- ---- why there is no run

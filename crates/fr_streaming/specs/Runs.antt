@@ -1,12 +1,15 @@
 -- The run of a scenario in a world without history, and the reasons why there is none (project-defined).
-use Rattle.std.specs.Prelude.{⊤, ◌≡◌, ◌⊎◌, ℕ, ◌<◌, ◌++◌, true, false, List, length, min, Option, Some, None, Result}
+use Rattle.std.specs.Prelude.{⊤, ◌≡◌, ◌⊎◌, ℕ, ◌<◌, ◌==◌, ◌++◌, Bool, true, false, List, length, min, Option, Some, None, Result}
 use Rattle.std.specs.Prelude.{Ok, Err, map}
 use Rattle.std.specs.Io.KnownBytes.{Appends, Keeps}
+use Rattle.std.specs.List.{list_any}
 use Rattle.fr_bus.specs.declared.error.BusError.TheVariants as bus
 use Rattle.fr_bus.specs.Live.{cycles_suit}
 use Rattle.fr_core.specs.declared.error.StepError.{StepError}
 use Rattle.fr_core.specs.declared.error.StepError.TheVariants as step
+use Rattle.fr_core.specs.declared.script.Line.{Line}
 use Rattle.fr_core.specs.Headline.{Headline}
+use Rattle.fr_core.specs.Scripts.{Scripted}
 use Rattle.fr_core.specs.Settling.{IsFirst}
 use Rattle.fr_core.specs.Worlds.{WorldState, opening_world}
 use Rattle.fr_files.specs.declared.error.BenchError.TheVariants as bench
@@ -122,10 +125,23 @@ AddsStream d cycles streamed s before after =
     (w : WorldState) × (calls : List ExecutedCall) × IsStreamed d s cycles w calls
     × ((text : List ℕ) × IsTold streamed s d w calls text × Appends before after text)
 
--- the lines of the scenario that name cycles, but none that it is read for, and those of the expectations that are left
+-- the last cycle that a scenario names
+abbrev pub last_named : ℕ
+last_named = 1023
+
+abbrev pub is_last : Line → Bool
+is_last line = line.cycle == last_named
+
+-- the script has a call in that cycle
+abbrev pub calls_last : Scripted → Bool
+calls_last script = list_any is_last script.lines
+
+-- the lines of the scenario that name cycles, but none that it is read for, those of the expectations that are left, and
+-- whether a call is in the last cycle that a scenario names
 pub record AreNotes (s : Contents) (notes : StreamNotes) : Type 0 where
   pub skipped : notes.skipped.items ≡ s.skipped
   pub unjudged : notes.unjudged.items ≡ map (λ x. x.line) s.expected
+  pub calls_last : notes.calls_last ≡ list_any calls_last s.scripts
 
 -- the same with the scenario that the text spells, and with the notes on it
 abbrev pub Streams : Description → List NamesOfNode → ℕ → Streamed → Option (List ℕ) → Option (List ℕ) → StreamNotes

@@ -1,14 +1,16 @@
 //! The run of a scenario file, shown as it goes.
+ghost use Rattle.std.specs.List.{list_any};
 ghost use Rattle.std.specs.Prelude.{◌≡◌, IfErr, IfOk, OnOk};
 ghost use Rattle.fr_files.specs.Inputs.{ForText};
 ghost use Rattle.fr_streaming.specs.Runs.{kept_refusal, AddsStream, AreNotes, ChecksStream, OpensStream, Streams};
-ghost use Rattle.fr_streaming.specs.Runs.{CutsRun, CutsStream, TellsRun, TellsStream};
+ghost use Rattle.fr_streaming.specs.Runs.{CutsRun, CutsStream, TellsRun, TellsStream, calls_last, is_last};
 
 use crate::hindrance::error_of;
 pub use crate::telling::Streamed;
 use crate::telling::{Run, close, opening_in};
 use crate::windows::show_cycles;
 use fr_bus::error::BusError;
+use fr_core::script::{Line, Script};
 use fr_endless::world::EndlessWorld;
 use fr_files::error::BenchError;
 use fr_files::output::write_whole;
@@ -30,10 +32,15 @@ pub struct StreamNotes {
     pub skipped: Vec<u32>,
     /// The lines of the expectations that name a cycle of the run. None is judged.
     pub unjudged: Vec<u32>,
+    /// True if a task has a call in cycle 1023, the last one that a scenario names.
+    pub calls_last: bool,
 }
 
-/// The cycles that a scenario can name are 0 to 1023.
-const NAMED_CYCLES: u32 = 1_024;
+/// The cycles that a scenario can name are 0 to 1023 (project-defined).
+pub const NAMED_CYCLES: u32 = 1_024;
+
+/// The last of these cycles.
+const LAST_NAMED: u16 = 1_023;
 
 /// Opens the world of a run of so many cycles.
 fn open_world(alloc: Global, cluster: &Cluster, cycles: u32) -> Result<EndlessWorld, PlayError>
@@ -108,6 +115,27 @@ fn stream_scenario<W: Write>(
     }
 }
 
+/// Returns whether the line is in the last cycle that a scenario names.
+fn is_last(line: &Line) -> bool
+    ensures { result ≡ is_last line.now }
+{
+    line.cycle == LAST_NAMED
+}
+
+/// Returns whether the script has a call in the last cycle that a scenario names.
+fn calls_last(script: &Script) -> bool
+    ensures { result ≡ calls_last script.now }
+{
+    script.lines.iter().any(|line| is_last(line))
+}
+
+/// Returns whether one of the scripts has a call in the last cycle that a scenario names.
+fn call_last(scripts: &[Script]) -> bool
+    ensures { result ≡ list_any calls_last scripts.now }
+{
+    scripts.iter().any(|script| calls_last(script))
+}
+
 /// Returns the notes on the scenario.
 fn notes_of(alloc: Global, scenario: &Scenario) -> Result<StreamNotes, AllocError>
     ensures { IfOk result (AreNotes scenario.now) }
@@ -115,19 +143,20 @@ fn notes_of(alloc: Global, scenario: &Scenario) -> Result<StreamNotes, AllocErro
     Ok(StreamNotes {
         skipped: Vec::from_slice(alloc, scenario.skipped())?,
         unjudged: scenario.expected().iter().map(|it| it.line).collect(alloc)?,
+        calls_last: call_last(scenario.scripts()),
     })
 }
 
 /// Runs the cluster with the scenario of a file, and writes a view of the run as it goes (project-defined).
 ///
 /// A run has 1 to 4,000,000 cycles, and the number of cycles, multiplied by the static slots and minislots of a cycle,
-/// fits in 32 bits. It needs the memory of one cycle. The events are those of `fr_playing::play::play`, and the text is
-/// that of `fr_showing::show::show_run`, except for commits: a line for each thing that happens to one, as the run
-/// goes. The file is read to its end first. It names cycles 0 to 1023 at most: calls of `*` are made in these alone,
-/// and faults of `*` in every cycle.
+/// is at most 1,610,612,734. It needs the memory of one cycle. The events are those of `fr_playing::play::play`, and the
+/// text is that of `fr_showing::show::show_run`, except for commits: a line for each thing that happens to one, as the
+/// run goes. The file is read to its end first. It names cycles 0 to 1023 at most: calls of `*` are made in these
+/// alone, and faults of `*` in every cycle.
 ///
 /// It returns the numbers of the scenario's lines that name cycles, but none of the run. It also returns those of the
-/// expectations that name a cycle of the run, none of which is judged.
+/// expectations that name a cycle of the run, none of which is judged. It notes whether a call is in cycle 1023.
 ///
 /// Returns the error of `scenario_of`. Then comes `Run` with `BadCycles`, or with the `BadScript` or `BadFault` of a
 /// run of at most 1,024 cycles; journals keep nothing, so there is no `NoRoom`. Returns `Write` if the writer fails,

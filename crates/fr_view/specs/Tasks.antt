@@ -1,5 +1,5 @@
 -- What each command of the program does, with its numbers as those of the cluster (project-defined).
-use Rattle.std.specs.Prelude.{ℕ, Option, Some, None, option_map}
+use Rattle.std.specs.Prelude.{ℕ, ◌==◌, Option, Some, None, option_map, if◌then◌else◌}
 use Rattle.fr_capture.specs.declared.form.Form.TheVariants.{Capture, Table}
 use Rattle.fr_cli.specs.declared.view.Asked.{Asked}
 use Rattle.fr_cli.specs.declared.view.Asked.TheVariants as asked
@@ -78,7 +78,13 @@ task_of (order.Stream asked cluster scenario cycles) =
     Some (task.Stream (streamed_of asked) cluster scenario cycles)
 task_of order.Help = Some task.Help
 
--- ---- the exit status of `why`
+-- ---- the exit statuses
+
+-- After a run: 3 if it missed an expectation, otherwise 5 if one wasn't judged, and otherwise 0.
+abbrev pub run_status : ℕ → ℕ → ℕ
+run_status missed unjudged = if missed == 0 then (if unjudged == 0 then 0 else 5) else 3
+
+-- that of `why`
 
 abbrev pub status_told : Verdict → ℕ
 status_told Accepted = 0

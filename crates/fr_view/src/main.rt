@@ -1,5 +1,6 @@
 //! The program of the bench for views. It executes the command of the words after its name. Its exit status is 0 after
-//! success, 1 if an input is rejected, 2 if the words are no command, and 3 if a run missed an expectation.
+//! success, 1 if an input is rejected, 2 if the words are no command, 3 if a run missed an expectation, and 5 if it
+//! judged none of the scenario's expectations.
 //!
 //! Output comes only once the command has accepted all its input, except with `--until-fault`, and for `why`, whose
 //! answer is its output. A refusal is one line on standard error. After a run, each fault line without effect has a
@@ -43,6 +44,7 @@ use failure::ViewFailure;
 use fr_capture::form::Form;
 use fr_capture::show::show_trace;
 use fr_cli::error::OrderError;
+use fr_cli::standard::hold_standard;
 use fr_cli::view::order;
 use fr_cli::waiting::{WaitingReader, WaitingWriter};
 use fr_cli::words::{texts_of, words_given};
@@ -58,14 +60,14 @@ use fr_showing::show::{Notes, show_run};
 use fr_showing::shown::Shown;
 use fr_slots::channel::Channel;
 use fr_slots::numbers::{Cycle, SlotId};
-use fr_streaming::stream::{Streamed, stream_run};
+use fr_streaming::stream::{NAMED_CYCLES, Streamed, stream_run};
 use fr_why::explain::explain_trace;
 use fr_why::until_fault::show_until_fault;
 use std::process::ExitCode;
 use std::rt::{Env, Files};
 use std::time::Clock;
 use std::{io, str};
-use task::{Task, status_told, task_of};
+use task::{Task, run_status, status_told, task_of};
 
 /// The help of the program.
 const HELP: &str = "fr_view schedule FILE [--cycle N] > SVG
@@ -111,9 +113,6 @@ fr_view --help
     these lines
 ";
 
-/// The exit status if a run missed an expectation.
-const MISSED: u8 = 3;
-
 /// Writes a line on standard error for each line of the scenario that names cycles, but none of the run.
 fn tell_skipped<R: Eprint>(rt: &R, skipped: &[u32]) {
     for number in skipped {
@@ -145,11 +144,7 @@ fn tell_notes<R: Eprint>(rt: &R, notes: &Notes) -> ExitCode {
     for missed in &notes.missed {
         tell_missed(rt, missed);
     }
-    if notes.missed.is_empty() {
-        ExitCode::SUCCESS
-    } else {
-        ExitCode::from(MISSED)
-    }
+    ExitCode::from(run_status(notes.missed.len(), 0))
 }
 
 /// Runs the cluster of one file with the scenario of the other, writes the view of the run, and returns the exit
@@ -179,14 +174,15 @@ fn show_files<R: Files + Print + Eprint + AllocGlobal + Clock>(
     Ok(tell_notes(rt, &notes))
 }
 
-/// Runs the cluster of one file with the scenario of the other without history, and writes the view as the run goes.
+/// Runs the cluster of one file with the scenario of the other without history, writes the view as the run goes, and
+/// returns the exit status.
 fn stream_files<R: Files + Print + Eprint + AllocGlobal + Clock>(
     rt: &R,
     streamed: Streamed,
     cluster: &str,
     scenario: &str,
     cycles: u32,
-) -> Result<(), ViewFailure> {
+) -> Result<ExitCode, ViewFailure> {
     let alloc = rt.alloc();
     let (cluster, names) = named_cluster_of(alloc, &mut file_named(rt, cluster)?)?;
     let mut file = file_named(rt, scenario)?;
@@ -201,10 +197,13 @@ fn stream_files<R: Files + Print + Eprint + AllocGlobal + Clock>(
         &mut output,
     )?;
     tell_skipped(rt, notes.skipped.as_slice());
+    if cycles > NAMED_CYCLES && notes.calls_last {
+        let _ = eprintln!(rt; "no call comes after cycle 1023, the last that a scenario names");
+    }
     for number in &notes.unjudged {
         let _ = eprintln!(rt; "line {number} is not judged in a run without history");
     }
-    Ok(())
+    Ok(ExitCode::from(run_status(0, notes.unjudged.len())))
 }
 
 /// Writes the observations of a controller, from its trace on standard input.
@@ -329,7 +328,7 @@ fn carry_out<R: Files + Input + Print + Eprint + AllocGlobal + Clock>(
             cluster,
             scenario,
             cycles,
-        } => stream_files(rt, *streamed, cluster, scenario, *cycles)?,
+        } => return stream_files(rt, *streamed, cluster, scenario, *cycles),
         Task::Help => show_help(rt)?,
     }
     Ok(ExitCode::SUCCESS)
@@ -348,6 +347,7 @@ fn run<R: Env + Files + Input + Print + Eprint + AllocGlobal + Clock>(
 }
 
 fn main(rt: HostRuntime) -> ExitCode {
+    let _held = hold_standard(&rt);
     match run(&rt) {
         Ok(status) => status,
         Err(failure) => {

@@ -1,7 +1,7 @@
 //! What each command does. All choices of the program are made here.
 
 ghost use Rattle.std.specs.Prelude.{◌≡◌};
-ghost use Rattle.fr_view.specs.Tasks.{shown_of, status_told, streamed_of, task_of};
+ghost use Rattle.fr_view.specs.Tasks.{run_status, shown_of, status_told, streamed_of, task_of};
 
 use fr_capture::form::Form;
 use fr_cli::view::{Asked, StreamAsked, ViewOrder};
@@ -219,6 +219,20 @@ pub fn task_of(order: ViewOrder<'_>) -> Option<Task<'_>>
             cycles,
         }),
         ViewOrder::Help => Some(Task::Help),
+    }
+}
+
+/// Returns the exit status after a run that missed so many expectations, and in which so many weren't judged: 3 if one
+/// was missed, otherwise 5 if one wasn't judged, and otherwise 0.
+pub fn run_status(missed: usize, unjudged: usize) -> u8
+    ensures { result ≡ run_status missed unjudged }
+{
+    if missed != 0 {
+        3
+    } else if unjudged != 0 {
+        5
+    } else {
+        0
     }
 }
 
