@@ -1,5 +1,5 @@
 //! The command lines of the four programs: the words after a program's name, read by the rules of `clap`, the refusal
-//! of words, and streams that wait where they would block (project-defined).
+//! of words, streams that wait where they would block, and closed standard streams (project-defined).
 //!
 //! ```text
 //! let words = words_given(&rt)?;
@@ -10,6 +10,7 @@
 //! world::command_of(alloc, &["cluster.toml", "--cycles", "4"])?; // WorldCommand
 //! monitor::command_of(alloc, &["cluster.toml", "--whole"])?; // MonitorCommand
 //! let mut output = WaitingWriter::new(&rt, io::writer(&rt));
+//! let _held = hold_standard(&rt); // closed standard streams get no file
 //! ```
 //!
 //! *(project-defined)* marks a rule of this project, and makes no claim about the standard.
@@ -32,6 +33,7 @@ mod commands;
 pub mod error;
 pub mod monitor;
 mod nodes;
+pub mod standard;
 pub mod view;
 pub mod waiting;
 pub mod words;

@@ -22,6 +22,7 @@ mod failure;
 
 use failure::MonitorFailure;
 use fr_cli::monitor::{MonitorCommand, command_of};
+use fr_cli::standard::hold_standard;
 use fr_cli::waiting::{WaitingReader, WaitingWriter};
 use fr_cli::words::{texts_of, words_given};
 use fr_files::cluster_file::cluster_of;
@@ -77,6 +78,7 @@ fn run<R: Env + Files + Input + Print + AllocGlobal + Clock>(
 }
 
 fn main(rt: HostRuntime) -> ExitCode {
+    let _held = hold_standard(&rt);
     match run(&rt) {
         Ok(false) => ExitCode::SUCCESS,
         Ok(true) => ExitCode::from(3),
