@@ -190,6 +190,23 @@ added_then old mid new one two first second = record {
       second.stays;
 }
 
+-- a text was written to the capture, and then all files were flushed
+pub header_flushed : (old mid new : TapsState) (text : List ℕ) → AddsBoth old mid [] text → AddsBoth mid new [] []
+    → AddsBoth old new [] text
+header_flushed old mid new text first second = record {
+  params_are = second.params_are ∙ first.params_are;
+  kept_is = second.kept_is ∙ first.kept_is;
+  stays = λ none. first.stays (second.stays none);
+  to_record = more_then old.failed mid.failed new.failed [] [] old.recorded mid.recorded new.recorded first.to_record
+      second.to_record first.stays second.stays;
+  to_capture = subst (AddsMore old.failed new.failed old.captured new.captured) (append-nil text)
+      (more_then old.failed mid.failed new.failed text [] old.captured mid.captured new.captured first.to_capture
+      second.to_capture first.stays second.stays);
+  to_traces = λ n. more_then old.failed mid.failed new.failed [] [] (traced_in old.traced n)
+      (traced_in mid.traced n) (traced_in new.traced n) (first.to_traces n) (second.to_traces n) first.stays
+      second.stays;
+}
+
 -- the same texts
 pub added_as : (old new : TapsState) (one two : ℕ → List ℕ) → ((n : ℕ) → one n ≡ two n) → AddsEach old new one
     → AddsEach old new two
@@ -349,25 +366,29 @@ module _ {F : Type 0} (contents : F → Option (List ℕ)) where
           (subst (λ (x : Option (List ℕ)). AddsFront failed (traced_in before n) x []) (sym kept)
           (front_none failed (traced_in before n)))
 
-  -- there is no trace at this place
-  pub handed_past : (traces : List F) (place : ℕ) (failed : Option Tap) (text : List ℕ) → length traces ≤ place
-      → AddsAt failed (map contents traces) (map contents traces) place text
-  handed_past traces place failed text past n = by (eqb_tells n place)
+  -- the trace at this place has no known bytes
+  pub handed_unknown : (traces : List F) (place : ℕ) (failed : Option Tap) (text : List ℕ)
+      → traced_in (map contents traces) place ≡ None → AddsAt failed (map contents traces) (map contents traces) place text
+  handed_unknown traces place failed text none n = by (eqb_tells n place)
     where
       before : List (Option (List ℕ))
       before = map contents traces
-
-      none : get_or before place None ≡ None
-      none = get_or_past before place None (omega (arith, past, length-map traces contents))
 
       by : ((eqb n place ≡ true) × (n ≡ place)) ⊎ ((eqb n place ≡ false) × (n ≢ place))
           → AddsFront failed (traced_in before n) (traced_in before n) (at_node place text n)
       by (inl (test, same)) =
           subst (λ (x : Option (List ℕ)). AddsFront failed x x (at_node place text n))
-          (sym (ap (λ (m : ℕ). get_or before m None) same ∙ none)) (front_unknown failed None (at_node place text n))
+          (sym (ap (traced_in before) same ∙ none)) (front_unknown failed None (at_node place text n))
       by (inr (test, other)) =
           subst (λ (b : Bool). AddsFront failed (traced_in before n) (traced_in before n) (cond b text [])) (sym test)
           (front_none failed (traced_in before n))
+
+  -- there is no trace at this place
+  pub handed_past : (traces : List F) (place : ℕ) (failed : Option Tap) (text : List ℕ) → length traces ≤ place
+      → AddsAt failed (map contents traces) (map contents traces) place text
+  handed_past traces place failed text past =
+      handed_unknown traces place failed text
+      (get_or_past (map contents traces) place None (omega (arith, past, length-map traces contents)))
 
   -- nothing came
   pub handed_none : (traces : List F) (place : ℕ) (tap : Tap) (text : List ℕ)

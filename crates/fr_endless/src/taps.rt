@@ -1,8 +1,8 @@
 //! The files to which a session writes the windows that it seals, and the traces of its nodes.
-ghost use Rattle.std.specs.Prelude.{◌≡◌, ◌<◌, ◌^◌, ℕ, [], List, OnOk, map, option_and_then, option_map};
+ghost use Rattle.std.specs.Prelude.{◌≡◌, ◌<◌, ◌^◌, ℕ, [], List, None, OnOk, false, map, option_and_then, option_map};
 ghost use Rattle.fr_capture.specs.Pcap.{file_header};
 ghost use Rattle.fr_bus.specs.Courses.{opportunities};
-ghost use Rattle.fr_endless.specs.Taps.{AddsAt, AddsFront, first_failed, head_of};
+ghost use Rattle.fr_endless.specs.Taps.{AddsAt, AddsFront, first_failed, head_of, traced_in};
 ghost use Rattle.fr_showing.specs.Listening.{window_records};
 ghost use Rattle.fr_showing.specs.RecordText.{window_text};
 ghost use Rattle.fr_endless.specs.Taps.{IsLine};
@@ -274,6 +274,13 @@ fn gather_head(text: &mut Vec<u8>, params: &Params, plan: &NodePlan, room: &Room
     head::write_head(text, params, plan, room.host(), room.slot())
 }
 
+/// Returns whether there is a trace at this place.
+fn has_trace<F: Write>(traces: &Vec<Option<F>>, place: usize) -> bool
+    ensures { result ≡ false → traced_in (map (option_and_then F.contents) traces.now.items) place ≡ None }
+{
+    place < traces.len() && traces[place].is_some()
+}
+
 /// Writes the lines before the entries to the trace at this place, if there is one. Returns the trace if that fails.
 fn hand_head<F: Write>(
     traces: &mut Vec<Option<F>>,
@@ -287,6 +294,9 @@ fn hand_head<F: Write>(
         (map (option_and_then F.contents) traces.new.items) place
         (head_of params.now room.now plan.now) }
 {
+    if !has_trace(traces, place) {
+        return None;
+    }
     match gather_head(text, params, plan, room) {
         Ok(()) => hand_trace(traces, place, text.as_slice()),
         Err(_) => Some(trace_at(place)),
@@ -352,8 +362,7 @@ impl<F: Write + Drop> Taps<F> {
     pub(crate) fn is_traced(&self, node: NodeId) -> bool
         ensures { result ≡ false → traced_in self.now.traced node ≡ None }
     {
-        let place = usize::from(node.number());
-        place < self.traces.len() && self.traces[place].is_some()
+        has_trace(&self.traces, usize::from(node.number()))
     }
 
     /// Returns the handle for the lines of traces.
@@ -380,7 +389,7 @@ impl<F: Write + Drop> Taps<F> {
     }
 
     /// Writes the lines that the traces of a new world have before the entries: those of the cluster, with this room
-    /// (project-defined). Flushes the traces.
+    /// (project-defined). They are flushed once the session begins.
     ///
     /// If a trace can't be written, `failed` returns one.
     pub fn begin_traces(&mut self, cluster: &Cluster, room: &Room)
@@ -390,7 +399,6 @@ impl<F: Write + Drop> Taps<F> {
         for place in 0..plans.len() {
             self.add_head(place, cluster.params(), &plans[place], room);
         }
-        self.flush_traces();
     }
 
     /// Writes the line of the node's entry to its trace. Without a line the trace fails.
@@ -457,13 +465,22 @@ impl<F: Write + Drop> Taps<F> {
         forget_all(&mut self.kept);
     }
 
-    /// Writes what the files have before the first window: the header of the capture.
-    pub(crate) fn begin(&mut self)
+    /// Writes the header of the capture.
+    fn add_header(&mut self)
         ensures { AddsBoth self.old self.new [] file_header }
     {
         if self.failed.is_none() {
             self.failed = write_header(&mut self.captured, &mut self.text);
         }
+    }
+
+    /// Writes what the files have before the first window: the header of the capture. Flushes all files, so that a file
+    /// that can't be written fails before the session's first line.
+    pub(crate) fn begin(&mut self)
+        ensures { AddsBoth self.old self.new [] file_header }
+    {
+        self.add_header();
+        self.flush();
     }
 
     /// Keeps the lines of the window that was sealed last.

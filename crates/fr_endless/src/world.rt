@@ -4,7 +4,7 @@ ghost use Rattle.fr_bus.specs.Live.{cycles_suit};
 ghost use Rattle.fr_endless.specs.Alike.{buffers_in};
 
 use fr_bus::error::BusError;
-use fr_bus::live::{LIVE_CYCLES, LiveBus};
+use fr_bus::live::{LIVE_CYCLES, LIVE_WINDOWS, LiveBus};
 use fr_core::controller::Controller;
 use fr_core::error::StepError;
 use fr_core::event::{Event, Reply};
@@ -48,7 +48,7 @@ pub fn greatest_cycles(cluster: &Cluster) -> u32
 {
     let params = cluster.params();
     let opportunities = u32::from(params.static_slots) + u32::from(params.minislots);
-    LIVE_CYCLES.min(u32::MAX / opportunities.max(1))
+    LIVE_CYCLES.min(LIVE_WINDOWS / opportunities.max(1))
 }
 
 /// Returns the number of buffers of each plan.

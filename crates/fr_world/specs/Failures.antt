@@ -24,3 +24,6 @@ failure_text (failure.Session e) = codes "refused " ++ session_error_name e
 failure_text (failure.Tap Record) = codes "refused Record"
 failure_text (failure.Tap Capture) = codes "refused Capture"
 failure_text (failure.Tap (Trace n)) = codes "refused Trace " ++ decimal n
+failure_text (failure.SameFile Record) = codes "refused SameFile Record"
+failure_text (failure.SameFile Capture) = codes "refused SameFile Capture"
+failure_text (failure.SameFile (Trace n)) = codes "refused SameFile Trace " ++ decimal n

@@ -60,6 +60,7 @@ ServesKept d cycles text left before after (Err (failure.Words error)) = ⊥
 ServesKept d cycles text left before after (Err failure.Memory) = ⊥
 ServesKept d cycles text left before after (Err (failure.Text error)) = ⊥
 ServesKept d cycles text left before after (Err (failure.Tap tap)) = ⊥
+ServesKept d cycles text left before after (Err (failure.SameFile tap)) = ⊥
 
 -- ---- without history
 
@@ -126,6 +127,7 @@ ServesLive d cycles text left before after old new (Err (failure.Words error)) =
 ServesLive d cycles text left before after old new (Err failure.Memory) = ⊥
 ServesLive d cycles text left before after old new (Err (failure.Room n)) = ⊥
 ServesLive d cycles text left before after old new (Err (failure.Text error)) = ⊥
+ServesLive d cycles text left before after old new (Err (failure.SameFile tap)) = ⊥
 
 -- ---- the run of a command
 

@@ -30,6 +30,8 @@ pub enum WorldFailure {
     Session(SessionError),
     /// The file couldn't be opened or written.
     Tap(Tap),
+    /// The file is an input of the session, or another of its outputs.
+    SameFile(Tap),
 }
 
 impl fmt::Display for WorldFailure {
@@ -50,6 +52,9 @@ impl fmt::Display for WorldFailure {
             WorldFailure::Tap(Tap::Record) => write!(f, "refused Record"),
             WorldFailure::Tap(Tap::Capture) => write!(f, "refused Capture"),
             WorldFailure::Tap(Tap::Trace(node)) => write!(f, "refused Trace {node}"),
+            WorldFailure::SameFile(Tap::Record) => write!(f, "refused SameFile Record"),
+            WorldFailure::SameFile(Tap::Capture) => write!(f, "refused SameFile Capture"),
+            WorldFailure::SameFile(Tap::Trace(node)) => write!(f, "refused SameFile Trace {node}"),
         }
     }
 }
@@ -68,7 +73,8 @@ impl WorldFailure {
             | WorldFailure::Room(_)
             | WorldFailure::World(_)
             | WorldFailure::Session(_)
-            | WorldFailure::Tap(_) => 1,
+            | WorldFailure::Tap(_)
+            | WorldFailure::SameFile(_) => 1,
         }
     }
 }

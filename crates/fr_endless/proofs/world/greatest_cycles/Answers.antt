@@ -21,8 +21,8 @@ opportunities_are c =
     )
 
 result_is : (c : goal.After-min)
-    → c.min.result ≡ min 4000000 (4294967295 / opportunities c.args.cluster.now.params)
-result_is c = c.min.ensures ∙ ap (λ (n : ℕ). min 4000000 (4294967295 / n)) (opportunities_are c).0
+    → c.min.result ≡ min 4000000 (1610612734 / opportunities c.args.cluster.now.params)
+result_is c = c.min.ensures ∙ ap (λ (n : ℕ). min 4000000 (1610612734 / n)) (opportunities_are c).0
 
 pub returns-clause-suits : goal.returns-clause-suits
 returns-clause-suits c =

@@ -1,5 +1,5 @@
 use Rattle.std.proofs.Common.{◌≡◌, ap, arith, length}
-use Rattle.fr_endless.proofs.EachLemmas.{each_head, each_more, each_none, head_got, then_flushed}
+use Rattle.fr_endless.proofs.EachLemmas.{each_head, each_more, each_none, head_got}
 use Rattle.fr_endless.specs.Taps.{head_at}
 use Rattle.fr_endless.proofs.taps.Taps.begin_traces.Goals as goal
 
@@ -19,7 +19,5 @@ pub returns : goal.returns
 returns g c =
     let many : length c.plans-plans.result.now
     ≡ length c.args.cluster.now.plans = ap length c.plans-plans.ensures.value in
-    then_flushed c.args.self.now c.loop-place.self c.flush_traces.new.self
-    (head_at c.args.cluster.now c.args.room.now)
-    (each_head c.args.self.now c.loop-place.self c.args.cluster.now c.args.room.now c.loop-place.place
-    (omega (arith, c.loop-place-test.false, many)) c.loop-place.invariant) c.flush_traces.ensures
+    each_head c.args.self.now c.loop-place.self c.args.cluster.now c.args.room.now c.loop-place.place
+    (omega (arith, c.loop-place-test.false, many)) c.loop-place.invariant
