@@ -5,6 +5,10 @@ from dataclasses import dataclass
 
 MISSED = 3
 """The status of a run that was done and printed, and missed expectations of its scenario."""
+UNJUDGED = 5
+"""The status of a run that was done and printed without history, and judged none of its scenario's expectations."""
+NOT_JUDGED = " is not judged in a run without history"
+"""The end of the message on such an expectation."""
 NOTHING, NO_BUFFER = "nothing", "no receive buffer"
 """The words for an empty receive buffer, and for one that the cluster doesn't have."""
 NUMBER = "([0-9]{1,9})"
@@ -49,3 +53,8 @@ def miss_of(text: str) -> Miss | None:
 def misses_of(status: int, lines: Iterable[str]) -> tuple[Miss, ...]:
     """Returns the missed expectations of a program that ended so. Only with status 3 has it any."""
     return tuple(it for it in map(miss_of, lines) if it) if status == MISSED else ()
+
+
+def is_unjudged(status: int, lines: Iterable[str]) -> bool:
+    """Returns whether a program that ended so was done, and judged none of the expectations."""
+    return status == UNJUDGED and any(it.endswith(NOT_JUDGED) for it in lines)

@@ -33,6 +33,11 @@ class RunCycles:
         """Returns those of a run of so many cycles."""
         return range(self.first, cycles if self.last is None else min(cycles, self.last + 1), self.step)
 
+    def cut(self, cycles: int) -> "RunCycles":
+        """Returns these cycles, without those that a run of so many lacks. FIRST stays."""
+        last = max(self.first, cycles - 1)
+        return self if self.last is None or self.last <= last else RunCycles(self.first, last, self.step)
+
     @property
     def is_one(self) -> bool:
         """Returns whether this is a single cycle."""

@@ -13,6 +13,7 @@ from threading import Thread
 from typing import IO, Any
 
 from musmyrtle.floods import condensed, is_of_many
+from musmyrtle.idle_lines import idle_line_of
 from musmyrtle.missed import MISSED, Miss, misses_of
 from musmyrtle.output import pass_on
 from musmyrtle.streams import RESTORED
@@ -166,7 +167,7 @@ def ask(program: str, words: list[str], started: Started = subprocess.Popen,
     of the form KNOWN. Lines that are alike are passed on at the end, and SPELLED returns the text of a missed
     expectation. LISTEN reads what the program prints, in a thread of its own, until its end.
     """
-    refusal, misses, alike = None, list[Miss](), list[str]()
+    refusal, misses, idle, alike = None, list[Miss](), list[int](), list[str]()
     told: deque[str] = deque(maxlen=MOST_TOLD)
     streams: dict[str, Any] = {"stdin": subprocess.DEVNULL, "stdout": subprocess.PIPE if listen else subprocess.DEVNULL,
                                "stderr": subprocess.PIPE, "restore_signals": RESTORED}
@@ -180,6 +181,7 @@ def ask(program: str, words: list[str], started: Started = subprocess.Popen,
             elif refusal is None or not line.startswith(f"{Path(program).name}: "):
                 told.append(line)
                 misses += misses_of(MISSED, [line])
+                idle += [it for it in (idle_line_of(line),) if it is not None]
                 if known is not None and known.fullmatch(line):
                     continue
                 if is_of_many(line):

@@ -49,7 +49,8 @@ def world_of(marker: Any) -> World:
         return World(*marker.args, **marker.kwargs)
     except (SessionOver, ValueError) as error:
         why = str(error)
-    pytest.fail(f"the fixture `world` can't open its world: {why}", pytrace=False)
+    # `mypy` knows that `pytest.fail` returns nothing only where pytest is installed.
+    raise pytest.fail.Exception(f"the fixture `world` can't open its world: {why}", pytrace=False)
 
 
 def shorten(error: BaseException) -> None:

@@ -3,7 +3,7 @@ from collections.abc import Iterable
 from dataclasses import dataclass, field
 from functools import cached_property
 
-from musmyrtle.named_windows import FaultPlace, RunCycles
+from musmyrtle.named_windows import MOST_CYCLE, FaultPlace, RunCycles
 
 FORMS = {
     "commit": ("NODE", "TASK", "CYCLE", "BUFFER", "HEX"),
@@ -96,18 +96,19 @@ Sort = tuple[str, str, str]
 
 
 class FaultLines:
-    """The fault lines so far, found by the windows that they name."""
+    """The fault lines so far, found by the windows of a run of CYCLES cycles that they name."""
 
-    def __init__(self) -> None:
+    def __init__(self, cycles: int = MOST_CYCLE + 1) -> None:
+        self.cycles = cycles
         self.sorts: dict[Sort, LinesOfSort] = {}
 
     def add(self, line: FaultLine) -> None:
-        self.sorts.setdefault(line.sort, LinesOfSort()).add(line)
+        self.sorts.setdefault(line.sort, LinesOfSort()).add(line, line.cycles.cut(self.cycles))
 
     def meeting(self, line: FaultLine) -> FaultLine | None:
         """Returns the first line so far that is the same sort of fault for a common window."""
         found = self.sorts.get(line.sort)
-        return found.meeting(line) if found else None
+        return found.meeting(line, line.cycles.cut(self.cycles)) if found else None
 
 
 @dataclass
@@ -136,8 +137,8 @@ class LinesOfSort:
         self.of_several: dict[RunCycles, LinesOfCycles] = {}
         self.claims = self.cycles = self.count = 0
 
-    def add(self, line: FaultLine) -> None:
-        cycles = line.cycles
+    def add(self, line: FaultLine, cycles: RunCycles) -> None:
+        """Adds a line for these cycles."""
         its = self.of_one.get(cycles.first) if cycles.is_one else self.of_several.get(cycles)
         if its is None:
             its = LinesOfCycles(cycles.bits)
@@ -151,9 +152,9 @@ class LinesOfSort:
         self.cycles |= cycles.bits
         self.count += 1
 
-    def meeting(self, line: FaultLine) -> FaultLine | None:
-        """Returns the first line that is for a common window."""
-        cycles, asks = line.cycles, line.place.asks
+    def meeting(self, line: FaultLine, cycles: RunCycles) -> FaultLine | None:
+        """Returns the first line that is for a window in common with one for these cycles."""
+        asks = line.place.asks
         if not asks & self.claims or not cycles.bits & self.cycles:
             return None
         of_one: Iterable[LinesOfCycles] = self.of_one.values()

@@ -8,7 +8,7 @@ import unittest
 from pathlib import Path
 
 from musmyrtle.lint import command
-from musmyrtle.lint.command import KNOWN, idle_lines, told, words_for
+from musmyrtle.lint.command import KNOWN, told, words_for
 from musmyrtle.lint.lint import Lint, Ran, Task, lint
 from musmyrtle.program import Answer, ask
 
@@ -55,7 +55,7 @@ class Cases(unittest.TestCase):
         script = None if scenario is None else self.written("scenario", scenario)
         task = Task(self.written("cluster.toml", cluster), script, cycles)
         answer = None if PROGRAM is None else ask(PROGRAM, words_for(task), known=KNOWN)
-        found = lint(task, Ran(idle=() if answer is None or answer.status else idle_lines(task, answer)))
+        found = lint(task, Ran(idle=() if answer is None else answer.idle))
         expected = found.refusals[0][0] if found.refusals else None
         if answer is None:
             return found, Answer(1 if expected else 0, expected)

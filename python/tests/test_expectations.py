@@ -91,16 +91,15 @@ class Programs(Expecting):
             with self.subTest(name=name, command=command):
                 output, told, status = self.ran(name, command, *missing)
                 self.assertEqual((output, status), (self.ran(name, command, *without)[0], 3))
-                idle = IDLE if name == "fr_view" else ""
-                self.assertEqual(told, numbered(f"{LEFT_OUT}{idle}{TOLD}"))
+                self.assertEqual(told, numbered(f"{LEFT_OUT}{IDLE}{TOLD}"))
         self.assertEqual(self.ran("fr_view", "trace", "1", *missing)[2], 3)
 
     def test_met(self) -> None:
-        self.assertEqual(self.ran("fr_bench", "run", *self.run_of(scene=scene(MET)))[1:], ("", 0))
+        self.assertEqual(self.ran("fr_bench", "run", *self.run_of(scene=scene(MET)))[1:], (IDLE, 0))
 
     def test_none_of_the_run(self) -> None:
         run = self.run_of(scene=scene("expect-none 9 2-3 9\n", "expect 1 5 1 x\n"))
-        told = "line 11 names no cycle of the run\nline 12 names no cycle of the run\n"
+        told = f"line 11 names no cycle of the run\nline 12 names no cycle of the run\n{IDLE}"
         self.assertEqual(self.ran("fr_bench", "run", *run)[1:], (told, 0))
 
     def test_frames_come_and_are_replaced(self) -> None:
@@ -108,7 +107,7 @@ class Programs(Expecting):
         cluster = NETWORK.replace('slot = 5, channels = "B"', 'slot = 3, channels = "AB"')
         run = self.run_of(cluster, scene(f"expect brake 0 unused {FIRST}\nexpect brake 1 unused {SECOND}\n"
                                          f"expect brake 0-1 unused {SECOND}\n"))
-        told = f"line 13: node 1 buffer 3 at the end of cycle 0: expected {SECOND}, found {FIRST}\n"
+        told = f"{IDLE}line 13: node 1 buffer 3 at the end of cycle 0: expected {SECOND}, found {FIRST}\n"
         self.assertEqual(self.ran("fr_bench", "run", *run)[1:], (told, 3))
 
 

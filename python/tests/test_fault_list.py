@@ -57,6 +57,16 @@ class TestList(unittest.TestCase):
             *(f"header {it}" for it in flipped), *(f"payload {it}" for it in flipped),
             *(f"trailer {it}" for it in flipped)])
 
+    def test_more_lines_than_a_scenario_can_have(self):
+        """A frame forged in 33 slots in 64 cycles is 2,112 lines, and 4,224 on both channels. A scenario has 4,096
+        lines, two of which are the first one and `end`."""
+        long = TWO_NODES.replace("static_slots = 2", "static_slots = 33").replace("cycle_mt = 50", "cycle_mt = 670")
+        selection = only("forged", nodes=frozenset([0]), places=frozenset(["s*"]))
+        of_one_channel = ["forged 0 A * s*", "forged 0 B * s*"]
+        for others, names, left_out in ((0, of_one_channel, 1), (1982, of_one_channel, 1), (1983, [], 3)):
+            found, left = faults_of(long, 64, selection, "mute 1 A 0 s1\n" * others)
+            self.assertEqual(([str(it) for it in found], left), (names, LeftOut(long=left_out)))
+
     def test_both_channels(self):
         """A fault of both channels has the lines of each, and a forged frame the CRC of its channel."""
         lines = {str(it): list(it.lines) for it in faults_of(TWO_NODES, 1)[0]}

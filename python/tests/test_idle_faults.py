@@ -70,21 +70,3 @@ class IdleFaults(Cases):
         self.assertIn("scenario:11:14: warning: the line `babble` has no effect [idle-fault]", output)
         self.assertNotIn("scenario:12:", output)
         self.assertTrue(KNOWN.fullmatch("line 11 struck nothing"))
-
-    def test_no_program_for_the_lines(self) -> None:
-        """A run whose program names no line is asked of `fr_view`. If there is none, lint reports that and goes on."""
-        files = self.written("cluster.toml", CLUSTER), self.written("scenario", SCENARIO)
-        before = os.environ.get("MUSMYRTLE_VIEW")
-        os.environ["MUSMYRTLE_VIEW"] = str(self.folder / "missing")
-        try:
-            status, _, told = self.run_with(*files, "--cycles", "4")
-        finally:
-            os.environ.pop("MUSMYRTLE_VIEW")
-            if before is not None:
-                os.environ["MUSMYRTLE_VIEW"] = before
-        self.assertEqual(status, 0)
-        self.assertIn("musmyrtle lint: faults without effect aren't known: ", told)
-
-    def test_no_fault_needs_no_second_program(self) -> None:
-        files = self.written("cluster.toml", CLUSTER), self.written("scenario", "frscenario 3\n# lost 0 0\nend\n")
-        self.assertEqual(self.run_with(*files, "--cycles", "4")[::2], (0, ""))

@@ -165,7 +165,7 @@ class Endless(Pages):
     def test_expectations_are_not_judged(self) -> None:
         scene = "frscenario 3\nexpect brake * position x0102\nend\n"
         status, text, told = self.asked("page", *self.run_of(scene=scene), "--endless")
-        self.assertEqual(status, 0)
+        self.assertEqual(status, 5)
         self.assertIn("judge", told)
         first = self.walked(self.written("run.html", text))[0]
         self.assertIn("The expectations of the scenario aren't judged in an endless run.", first["missing"])

@@ -41,9 +41,16 @@ def test_without_a_cluster(world):
 class Failed(Exception):
     """Stands for the exception of pytest."""
 
+    def __init__(self, reason: str, pytrace: bool) -> None:
+        super().__init__(reason, pytrace)
 
-def fail(reason: str, pytrace: bool) -> None:
-    raise Failed(reason, pytrace)
+
+class Fail:
+    """Stands for `pytest.fail`."""
+    Exception = Failed
+
+    def __call__(self, reason: str, pytrace: bool) -> None:
+        raise Failed(reason, pytrace)
 
 
 class StashKey:
@@ -56,7 +63,7 @@ class StashKey:
 def stand_in() -> types.ModuleType:
     """Returns a module with what the plugin uses of pytest."""
     module = types.ModuleType("pytest")
-    names: dict[str, Any] = {"StashKey": StashKey, "fail": fail, "fixture": lambda function: function,
+    names: dict[str, Any] = {"StashKey": StashKey, "fail": Fail(), "fixture": lambda function: function,
                              "hookimpl": lambda **_: lambda function: function, "FixtureRequest": object}
     vars(module).update(names)
     return module

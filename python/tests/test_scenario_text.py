@@ -18,6 +18,8 @@ from musmyrtle.program import usual_program
 TOP = Path(__file__).resolve().parents[2]
 THREE_NODES = TOP / "examples/three-nodes/cluster.toml"
 PROGRAM = os.environ.get("FR_BENCH") or usual_program() or "fr_bench"
+IDLE = "line 3 struck nothing\n"
+"""Node 2 of the three owns no slot, so a mute of its static slots stops nothing."""
 WANTED = "frscenario 3\ncommit 0 0 * 0 x0007\nmute 2 AB * s*\nend\n"
 
 
@@ -64,7 +66,7 @@ class TestText(unittest.TestCase):
                 file.unlink(missing_ok=True)
                 write()
                 self.assertEqual(file.read_text(), WANTED)
-                self.assertEqual(self.run_of(THREE_NODES, 2), (0, ""))
+                self.assertEqual(self.run_of(THREE_NODES, 2), (0, IDLE))
 
     def test_the_text_is_the_file(self) -> None:
         text = self.scenario.text()

@@ -71,6 +71,7 @@ class TestWorlds(Folder):
         self.refused("the trace traces/0 is the file of capture", capture=one, traces=traces)
         (traces / "1").symlink_to("0")
         self.refused("the trace traces/1 is the trace of node 0", traces=traces)
+        (traces / "1").unlink()
         with World(self.cluster, traces=traces, trace_nodes=[1], capture=self.folder / "pcap") as world:
             world.cycle()
 

@@ -7,7 +7,7 @@ import time
 from pathlib import Path
 
 from musmyrtle.breaking import BrokenOff, breaking_off, temporary_folder
-from musmyrtle.cluster import Cluster
+from musmyrtle.cluster_file import document_of
 from musmyrtle.ending import FINE, status_of
 from musmyrtle.faults.campaign import Campaign, Means, NoReference
 from musmyrtle.faults.children import Children
@@ -24,8 +24,8 @@ from musmyrtle.faults.options import COMMAND, arguments, parsed
 from musmyrtle.faults.page import Subject, page
 from musmyrtle.faults.runs import CLUSTER_FILE, Folder
 from musmyrtle.faults.table import (
-    HEADINGS, LONGEST_HEADING, BadTable, Ranks, Results, has_effect, list_rows, listed, not_compared, read_ranks,
-    summary, table, table_rows,
+    HEADINGS, LONGEST_HEADING, BadTable, Ranks, Results, is_failed, list_rows, listed, not_compared, read_ranks,
+    summary, table, table_rows, total_rows,
 )
 from musmyrtle.faults.table import told as told_difference
 from musmyrtle.faults.table import worse

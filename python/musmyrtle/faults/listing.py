@@ -12,7 +12,7 @@ from musmyrtle.cluster import CYCLES, LAST_SLOT, Buffer, Cluster, Node
 from musmyrtle.faults.frames import data_frame
 from musmyrtle.faults.played import FORGED_WORD, Begun, Occasion, forged_babble
 from musmyrtle.named_windows import EVERY, EVERY_DYNAMIC, EVERY_STATIC, spelled
-from musmyrtle.scenario import Scenario
+from musmyrtle.scenario import MOST_LINES, Scenario
 from musmyrtle.scenario_lines import LOST, FaultLine, FaultLines
 from musmyrtle.scenario_words import fault_lines_of
 from musmyrtle.selections import ALL, SelectedCycles, cycles_in
@@ -168,6 +168,8 @@ class LeftOut:
     """Faults of whose kind the scenario has one in each of their windows."""
     unopened: int = 0
     """Faults at whose minislot no slot opens."""
+    long: int = 0
+    """Faults of more lines than a scenario can have beside its own ones."""
 
 
 class Listing:
@@ -181,6 +183,8 @@ class Listing:
         self.has_calls = {(line.value("NODE"), line.value("BUFFER")) for lines in scenario.scripts.values()
                           for line in lines if line.kind == "commit"}
         self.left_out = LeftOut()
+        # A host program has no scenario, and a session keeps any number of lines.
+        self.room = MOST_LINES + 1 - len(scenario.text) if scenario.text else None
         self.lost: dict[tuple[int, str], list[Begun]] = {}
         self.opened: dict[tuple[int, frozenset[Occasion]], dict[Occasion, int]] = {}
         self.frames: dict[tuple[str, int, str], bytes] = {}
@@ -270,11 +274,13 @@ class Listing:
                 and any(it.cycles.admit(cycle % len(CYCLES)) for cycle in self.each_cycle())]
 
     def listed(self, place: str, lines: list[str]) -> Iterator[tuple[str, list[str]]]:
-        """Yields the fault, or nothing where the scenario has left no window to it."""
-        if lines:
-            yield place, lines
-        else:
+        """Yields the fault, or nothing where the scenario has left no window to it, or no room for its lines."""
+        if not lines:
             self.left_out.taken += 1
+        elif self.room is not None and len(lines) > self.room:
+            self.left_out.long += 1
+        else:
+            yield place, lines
 
     # ---- babbles
 

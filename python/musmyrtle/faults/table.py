@@ -9,6 +9,7 @@ from musmyrtle.faults.costs import (
 from musmyrtle.faults.labels import ONE_CHANNEL, Labels
 from musmyrtle.faults.listing import KINDS, PROMISE, LeftOut, SingleFault, is_stopped
 from musmyrtle.findings import counted
+from musmyrtle.scenario import MOST_LINES
 from musmyrtle.show.tables import Column, Row, Section, Value
 from musmyrtle.world.replies import TransmitBuffer
 
@@ -276,6 +277,9 @@ def notes(results: Results) -> Iterator[str]:
         yield f"{taken} left out: the scenario has one of the kind in each of their windows"
     if results.left_out.unopened:
         yield f"{counted(results.left_out.unopened, 'fault')} left out: no slot opens at their minislot"
+    if results.left_out.long:
+        yield (f"{counted(results.left_out.long, 'fault')} left out: a scenario has {MOST_LINES} lines at most; "
+               "select fewer cycles by --in-cycle")
 
 
 def stopped(results: Results) -> Iterator[str]:

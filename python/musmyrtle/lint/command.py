@@ -13,6 +13,7 @@ from typing import Any, NoReturn, TextIO
 from musmyrtle.ending import FINE, reason_of, status_of
 from musmyrtle.findings import MOST_REASONS, Finding, block, counted, joined, nearest
 from musmyrtle.floods import MOST_ALIKE, SHOWN
+from musmyrtle.idle_lines import FORM as IDLE
 from musmyrtle.lint.allows import NAMES, expected_name
 from musmyrtle.lint.guarantees import Guarantees
 from musmyrtle.lint.lint import Lint, Ran, Task, lint, read_bytes
@@ -185,24 +186,6 @@ def words_for(task: Task) -> list[str]:
     return ["run", "--cycles", str(task.cycles), "--", task.file(task.cluster), task.file(task.scenario)]
 
 
-def idle_lines(task: Task, answer: Answer) -> tuple[int, ...]:
-    """Returns the lines of faults without effect: those of the answer, or otherwise those of `fr_view outcome`."""
-    if answer.idle or task.scenario is None or not FAULT.search(read_bytes(task.file(task.scenario)) or b""):
-        return answer.idle
-    program, words = usual_program("fr_view"), ["outcome", *words_for(task)[1:]]
-    if program is None:
-        pass_on(f"{NOT_KNOWN}there is no fr_view: name one by the variable {VARIABLES['fr_view']}, or put it on PATH")
-        return ()
-    try:
-        found = ask(program, words, known=KNOWN)
-    except OSError as error:
-        pass_on(f"{NOT_KNOWN}{program} can't be run: {error.strerror}")
-        return ()
-    if found.status:
-        pass_on(f"{NOT_KNOWN}{no_answer(program, words, found)}")
-    return found.idle
-
-
 @contextmanager
 def lasting(task: Task) -> Iterator[Task]:
     """Yields the task with files that can be read again, also by another process."""
@@ -342,7 +325,8 @@ def linted(given: argparse.Namespace) -> int:
             raise Stop(USAGE, no_answer(given.program, words_for(task), answer))
         wanted = [(node, buffer) for node, buffer in given.guaranteed]
         guarantees = Guarantees(task.file(task.cluster), wanted, given.load)
-        found = lint(task, Ran(overwritten, answer.misses), None if answer.status else guarantees)
+        ran = Ran(overwritten, answer.misses, answer.idle)
+        found = lint(task, ran, None if answer.status else guarantees)
         if not answer.is_one(found.refusal):
             raise Stop(USAGE, no_answer(given.program, words_for(task), answer))
     if guarantees.is_wanted and not guarantees.is_done and not answer.status:

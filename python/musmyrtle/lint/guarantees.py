@@ -6,10 +6,11 @@ from musmyrtle.cluster import Buffer, Cluster
 from musmyrtle.findings import Finding, counted, joined
 from musmyrtle.latencies import (BLOCKED, GUARANTEED, IDLE, POSSIBLE, Latency, Load, Way, read_latencies, read_way,
                                  words_for_way)
+from musmyrtle.lint.loads import load_section
 from musmyrtle.names import name_in, tables_of
 from musmyrtle.output import CANNOT_BE_USED, Stop, pass_on
 from musmyrtle.program import VARIABLES, ask, itself, no_answer, usual_program
-from musmyrtle.show.tables import Column, Row, Section
+from musmyrtle.show.tables import Section
 from musmyrtle.texts import Text
 from musmyrtle.visible import cut
 

@@ -95,7 +95,7 @@ class Run:
         return None
 
     def bad_faults(self) -> Refusals:
-        found, before = [], FaultLines()
+        found, before = [], FaultLines(self.cycles)
         for number, line in enumerate(self.scenario.faults):
             finding = self.bad_fault(line) or self.met_fault(line, before.meeting(line))
             if finding:

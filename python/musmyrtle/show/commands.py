@@ -8,7 +8,7 @@ import musmyrtle.faults.command
 import musmyrtle.faults.options
 import musmyrtle.lint.command
 from musmyrtle.breaking import breaking_off
-from musmyrtle.ending import FINE, status_of
+from musmyrtle.ending import status_of
 from musmyrtle.lint.command import formed, is_bold_on, printed
 from musmyrtle.selections import single_slot
 from musmyrtle.show import monitor, options, page, signals
@@ -68,7 +68,7 @@ def table(name: str, purpose: str, words: Words, examples: tuple[str, ...],
                 with opened(given.cluster, *scenario) as inputs:
                     found = sections(inputs, given)
                     printed(formed(given, found, as_text(found, is_bold_on(sys.stdout))))
-            return MISSED if inputs.misses else FINE
+            return inputs.status
         return status_of(COMMAND, work)
     return Command(name, purpose, examples, parser, main)
 

@@ -8,13 +8,14 @@ from functools import cached_property
 from tempfile import TemporaryFile
 from typing import IO, NoReturn
 
-from musmyrtle.ending import reason_of
+from musmyrtle.ending import FINE, reason_of
 from musmyrtle.faults.children import Children
 from musmyrtle.findings import block, counted
 from musmyrtle.floods import condensed
+from musmyrtle.idle_lines import idle_line_of
 from musmyrtle.lint.command import MOST_REPEATED, REFUSED, USAGE, is_bold_on, lasting
 from musmyrtle.lint.lint import Lint, Task, lint, read_bytes
-from musmyrtle.missed import Miss, miss_of, misses_of
+from musmyrtle.missed import MISSED, NOT_JUDGED, UNJUDGED, Miss, is_unjudged, miss_of, misses_of
 from musmyrtle.output import Stop, pass_on, write
 from musmyrtle.program import REFUSED_LINE, Answer, is_launcher, itself, no_answer, places, usual_program
 from musmyrtle.show.network import Network, missed_text
@@ -22,11 +23,8 @@ from musmyrtle.texts import NoText, read_text
 from musmyrtle.visible import cut, visible
 
 COMMAND = "musmyrtle"
-IDLE_FRONT, IDLE_BACK = "line ", " struck nothing"
 ENDLESS = "--endless"
 """The word for a run without history."""
-NOT_JUDGED = " is not judged in a run without history"
-"""The end of the message on an expectation in a view that is written as the run goes."""
 MOST_REASONS = 20
 
 
@@ -63,8 +61,9 @@ class Inputs:
         """The expectations of the scenario that the run missed."""
         self.passes_misses_on = True
         """False for a command that has a table of them, in which they aren't messages."""
-        self.is_endless = False
-        """True for a command whose run keeps no history. Otherwise its expectations are judged by another view."""
+        self.is_endless = self.is_unjudged = False
+        """True for a command whose run keeps no history; and for a view that judged none of the expectations. In a run
+        with history these are judged by another view."""
         self.has_lines = True
         """False for the scenario of a session, which the package makes, so that its line numbers say nothing."""
         self.awaited: frozenset[str] = frozenset()
@@ -81,6 +80,13 @@ class Inputs:
         if network is None:
             raise Stop(USAGE, f"{self.task.cluster} can't be read again, or was changed meanwhile")
         return network
+
+    @property
+    def status(self) -> int:
+        """Returns the status of a command that is done, by the expectations of the scenario."""
+        if self.misses:
+            return MISSED
+        return UNJUDGED if self.is_endless and self.is_unjudged else FINE
 
     @property
     def cycles(self) -> int:
@@ -160,21 +166,20 @@ class Inputs:
         program refused or failed."""
         lines = told.decode(errors="replace").splitlines()
         misses = misses_of(status, lines)
-        if status and not misses:
+        self.is_unjudged = self.is_unjudged or is_unjudged(status, lines)
+        if status and not misses and not is_unjudged(status, lines):
             self.stop(program, words, status, lines)
         self.misses = misses or self.misses
-        idle = [it for it in lines if it.startswith(IDLE_FRONT) and it.endswith(IDLE_BACK)]
-        told_on = [it for it in lines if not self.is_told_otherwise(it, idle)]
+        told_on = [it for it in lines if not self.is_told_otherwise(it)]
         for line in condensed(told_on, self.spelled):
             if line not in self.passed_on:
                 self.passed_on.add(line)
                 pass_on(line)
-        numbers = (it.removeprefix(IDLE_FRONT).removesuffix(IDLE_BACK) for it in idle)
-        return [int(it) for it in numbers if it.isdecimal()]
+        return [it for it in map(idle_line_of, lines) if it is not None]
 
-    def is_told_otherwise(self, line: str, idle: list[str]) -> bool:
+    def is_told_otherwise(self, line: str) -> bool:
         """Returns whether the command itself prints what a line says, or asks another view for it."""
-        if line in idle or not self.is_endless and line.endswith(NOT_JUDGED):
+        if idle_line_of(line) is not None or not self.is_endless and line.endswith(NOT_JUDGED):
             return True
         return not self.passes_misses_on and miss_of(line) is not None
 

@@ -2,7 +2,7 @@
 from musmyrtle.cluster import Cluster, Reading
 from musmyrtle.lint.physical import bit_and_macrotick
 from musmyrtle.missed import Miss
-from musmyrtle.names import tables_of
+from musmyrtle.selections import Directory
 from musmyrtle.show.tables import Column, Name, Receiver, Receivers, Time
 from musmyrtle.texts import Text
 
@@ -59,15 +59,9 @@ class Network:
 
     def column(self, key: str, heading: str, meaning: str = "") -> Column:
         """Returns a column of times, with the unit in its heading."""
-        return Column(key, f"{heading} [{'MT' if self.macrotick is None else 'us'}]", "time")
+        return Column(key, f"{heading} [{'MT' if self.macrotick is None else 'us'}]", "time", meaning=meaning)
 
 
 def missed_text(network: Network, miss: Miss) -> str:
     """Returns the report of a missed expectation, with the names that node and buffer have."""
     return miss.text(str(network.node_if_any(miss.node)), str(network.buffer_if_any(miss.node, miss.buffer)))
-
-
-def name_in(table: dict[str, object]) -> str | None:
-    """Returns the key `name` of a table, if it is a string."""
-    name = table.get("name")
-    return name if isinstance(name, str) else None

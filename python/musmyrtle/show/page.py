@@ -10,9 +10,8 @@ from pathlib import Path
 from typing import IO
 
 from musmyrtle.breaking import breaking_off
-from musmyrtle.ending import FINE, status_of
+from musmyrtle.ending import status_of
 from musmyrtle.lint.command import Parser, shown_examples
-from musmyrtle.missed import MISSED
 from musmyrtle.output import pass_on, write
 from musmyrtle.show.engines import COMMAND, Awaited, Inputs, opened
 from musmyrtle.show.facts import Facts
@@ -32,7 +31,8 @@ PURPOSE = ("Writes a page in which a run is explored in a browser: what was sent
            "what came of each commit. With --recording it is the page of a recording of a real bus, with its findings.")
 EXAMPLE = ("page examples/three-nodes/cluster.toml examples/three-nodes/scenario --cycles 4 > run.html",
            "page examples/three-nodes/cluster.toml --recording examples/recordings/disturbed.pcap > run.html")
-OF_RECORDING = "With --recording the statuses are those of `musmyrtle monitor`: 3 if there is a finding."
+OF_RECORDING = ("The page of an endless run has status 5 if the scenario has expectations, since none is judged.\n"
+                "With --recording the statuses are those of `musmyrtle monitor`: 3 if there is a finding.")
 LONGEST_TITLE = 100
 NO_ROOM = "NoRoom"
 """The refusal of a run whose history has no room."""
@@ -159,7 +159,7 @@ def done_run(given: argparse.Namespace) -> int:
         text = page_of_run(inputs, given.endless)
     with suppress(BrokenPipeError):
         write(sys.stdout, [text])
-    return MISSED if inputs.misses else FINE
+    return inputs.status
 
 
 def done_recording(given: argparse.Namespace) -> int:
