@@ -102,7 +102,10 @@ class Expectations:
         usual, _, _ = self.ran(options=("--endless",))
         wanted = b"line 6 names no cycle of the run\nline 4 is not judged in a run without history\n"
         got = self.ran("expect 1 * 1 x1111", "", "expect-none 0 4 1", options=("--endless",))
-        self.runs.compare(f"{self.command} without history", got, (usual, wanted, 0))
+        self.runs.compare(f"{self.command} without history", got, (usual, wanted, 5))
+        got = self.ran("expect 1 4 1 x1111", options=("--endless",))
+        self.runs.compare(f"{self.command} without history and expectations of its cycles", got,
+                          (usual, b"line 4 names no cycle of the run\n", 0))
 
     def examples(self):
         """Checks that the run of the example meets its expectations."""

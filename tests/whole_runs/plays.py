@@ -369,10 +369,22 @@ class Plays:
         for command in COMMANDS:
             _, errors, status = run([self.runs.program, *command, *words])
             self.runs.compare(f"{command}: lines that struck nothing", (errors, status), (IDLE, 0))
+        for options in ((), ("--free",)):
+            _, errors, status = run([self.bench, "run", *words, *options])
+            self.runs.compare(f"run {options}: lines that struck nothing", (errors, status), (IDLE, 0))
         told = run([self.runs.program, "record", *words])[0].decode()
         lines = [[*line.split(" ")[:7], line.rpartition(" ")[2]] for line in told.splitlines()
                  if not line.endswith(" -")]
         self.runs.compare("lines of a record that come from a fault", [" ".join(line) for line in lines], ORIGINS)
+        # A static slot has room for 10 bytes. No node receives these 80, and one of their bits is flipped.
+        cut = f"frscenario 1\nbabble 0 B 0 s3 x{'00' * 80}\ncorrupt B 0 s3 639\ncorrupt B 1 s3 0\nend\n"
+        words = self.given((EXAMPLES / "three-nodes/cluster.toml").read_text(), cut)
+        told = b"line 4 struck nothing\n", 0
+        for program, command in ((self.runs.program, "outcome"), (self.bench, "run")):
+            self.runs.compare(f"{command}: a bit within an overrun", run([program, command, *words])[1:], told)
+        reasons = run([self.runs.program, "reasons", *words])[0].decode().splitlines()
+        self.runs.compare("reasons of a bit within an overrun", [it for it in reasons if it.endswith(" 3")],
+                          ["effect 0 3 B overrun 0 3"])
 
     @staticmethod
     def counted(told):

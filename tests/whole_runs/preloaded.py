@@ -68,7 +68,7 @@ class Preloaded:
 
 FOLDER = EXAMPLES / "three-nodes"
 WITH_FILES = "session with files"
-FILE_REFUSALS = b"refused Record\n", b"refused Capture\n", b"refused Trace 0\n"
+FILE_REFUSALS = b"refused Record\n", b"refused Capture\n"
 CLUSTER = str(FOLDER / "cluster.toml")
 
 

@@ -3,6 +3,7 @@ import os
 import subprocess
 import threading
 
+from .cycles import PARAMETERS
 from .runner import EXAMPLES, SECONDS, USAGE, refused, run
 from .sessions import GREETING, THREE_NODES, Talk, is_old, text_of
 
@@ -49,6 +50,8 @@ class Written:
         self.by_events()
         self.as_they_come()
         self.emptied()
+        self.used()
+        self.long_runs()
         self.failures()
         self.pipes()
         self.traces()
@@ -128,6 +131,74 @@ class Written:
         self.runs.compare("no requests and files", run([self.runs.program, THREE_NODES, "--endless", *self.both]),
                           (GREETING.encode(), b"", 0))
         self.runs.compare("emptied files", (self.lines.read_bytes(), self.frames.read_bytes()), (b"", HEADER))
+
+    def used(self):
+        """Checks that no file is an input and an output, or two outputs, and that a refused start changes no file."""
+        cluster, link, folder = (self.folder / name for name in ("used.toml", "used", "used-traces"))
+        cluster.write_bytes((EXAMPLES / THREE_NODES).read_bytes())
+        link.symlink_to(self.lines)
+        folder.mkdir()
+        self.lines.write_bytes(b"before\n")
+        (folder / "1").hardlink_to(self.lines)
+        (folder / "2").hardlink_to(cluster)
+        words = [self.runs.program, cluster, "--endless"]
+        for options, name in (((self.lines, self.lines), "Capture"), ((self.lines, link), "Capture"),
+                              ((cluster, self.frames), "Record"), ((self.frames, cluster), "Capture"),
+                              ((self.lines, self.folder / "no/file"), None)):
+            both = ["--record", options[0], "--capture", options[1]]
+            self.unchanged(f"{name} that is used", [*words, *both], f"SameFile {name}" if name else "Capture", cluster)
+        self.unchanged("a trace that is the record", [*words, "--record", self.lines, "--trace", folder],
+                       "SameFile Trace 1", cluster)
+        self.unchanged("a trace that is the cluster", [*words, "--trace", folder], "SameFile Trace 2", cluster)
+        (folder / "1").unlink()
+        (folder / "1").symlink_to(self.lines)
+        self.unchanged("a trace that is a link", [*words, "--trace", folder], "Trace 1", cluster)
+        self.unchanged("too many cycles beside files", [*words, "--cycles", "0", *self.both], None, cluster)
+        self.streams(words)
+
+    def long_runs(self):
+        """Checks that a run is refused before it starts if an interface lacks room for its windows.
+
+        It has room for 3,221,225,469 slot entries, two a window. With 1,023 static slots these are 1,574,401 cycles.
+        """
+        cluster, empty = self.folder / "long.toml", self.folder / "empty"
+        parameters = PARAMETERS.format(slots=1023, minislots=0, symbol=0, idle_time=10, cycle=15355, idle=0, words=5)
+        cluster.write_text(parameters.replace("static_mt = 20", "static_mt = 15") + "[[node]]\ntasks = 1\n")
+        empty.write_text("frscenario 3\nend\n")
+        for cycles, wanted in (("1574401", (GREETING.encode(), b"", 0)), ("1574402", refused("BadCycles"))):
+            self.runs.compare(f"a session of {cycles} cycles",
+                              run([self.runs.program, cluster, "--endless", "--cycles", cycles]), wanted)
+        at_most = run([self.runs.program, cluster, "--endless"], b"run 1024\n" * 2 + b"now\n")
+        self.runs.compare("a session of the most cycles", at_most[0].splitlines()[-1], b"open 2095104 0 0 1 1")
+        if os.access(self.view, os.X_OK):
+            for command in ("outcome", "windows"):
+                got = run([self.view, command, cluster, empty, "--endless", "--cycles", "1574402"])
+                self.runs.compare(f"{command} of 1574402 cycles", got, refused("BadCycles"))
+
+    def unchanged(self, name, words, refusal, cluster):
+        """Checks the refusal of a start, and that the files keep what they have."""
+        for file in (self.lines, self.frames):
+            file.write_bytes(b"before\n")
+        before = cluster.read_bytes()
+        self.runs.compare(name, run(words), refused(refusal) if refusal else USAGE)
+        kept = self.lines.read_bytes(), self.frames.read_bytes(), cluster.read_bytes()
+        self.runs.compare(f"files after {name}", kept, (b"before\n", b"before\n", before))
+
+    def streams(self, words):
+        """Checks files that are standard streams, and standard streams that are closed."""
+        asked = self.folder / "asked"
+        asked.write_bytes(b"now\n")
+        with asked.open("rb") as given:
+            got = run([*words, "--record", asked], given)
+        self.runs.compare("a record that is the input", (got, asked.read_bytes()), (refused("SameFile Record"), b"now\n"))
+        with self.lines.open("wb") as output:
+            got = run([*words, "--record", self.lines], b"now\n", output=output)
+        self.runs.compare("a record that is the output", got, refused("SameFile Record"))
+        self.runs.compare("devices that serve twice", run([*words, "--record=/dev/null", "--capture=/dev/null"]),
+                          (GREETING.encode(), b"", 0))
+        for closed, wanted in (((1,), (b"", b"refused Write\n", 1)), ((2,), (GREETING.encode(), b"", 0))):
+            got = run([*words, "--record", self.lines], b"", closed=closed)
+            self.runs.compare(f"a record and closed {closed}", (got, self.lines.read_bytes()), (wanted, b""))
 
     def failures(self):
         """Checks what a file that can't be opened or written leaves."""
