@@ -56,12 +56,15 @@ def slots_of(cluster: Tables, window: list[str], last: dict[tuple[str, str], tup
 
 def effects_of(sent: list[list[str]]) -> Iterator[str]:
     """Yields the effects of faults in a window, from the lines of its record."""
-    bits = {words[4]: words[8] for words in sent if words[6] == "corrupt"}
-    for _, cycle, _, slot, channel, node, kind, fate, end, *_, line in (it for it in sent if it[6] != "corrupt"):
+    bits = {words[4]: (int(words[7]), words[8]) for words in sent if words[6] == "corrupt"}
+    offered = [words for words in sent if words[6] != "corrupt"]
+    passed = [words[4] for words in offered if words[7] == "passed"]
+    for _, cycle, _, slot, channel, node, kind, fate, end, _, _, payload, line in offered:
         if kind == "babble" or fate == "muted":
             yield f"{'stopped' if fate == 'blocked' else 'effect'} {cycle} {slot} {channel} {end} {node} {line}"
-        if end == "turned":
-            yield f"effect {cycle} {slot} {channel} {end} {node} {bits[channel]}"
+        bit, flipped_by = bits.get(channel, (0, None))
+        if flipped_by and fate == "passed" and passed.count(channel) == 1 and bit < 4 * len(payload):
+            yield f"effect {cycle} {slot} {channel} {end} {node} {flipped_by}"
 
 
 def origins_of(answers: str, traces: list[str]) -> str:
