@@ -103,7 +103,9 @@ explain_words() {
 # Adds to `slip` how a program reads a file of the words from a pipe.
 explain_pipe() {
     case $input$slip in
-    'missing: FILE'*) [ ! -p /dev/stdin ] || slip="$slip; standard input isn't read: /dev/stdin as FILE names the pipe" ;;
+    'missing: FILE'*)
+        [ ! -p /dev/stdin ] || slip="$slip; standard input isn't read: /dev/stdin as FILE names the pipe"
+        ;;
     esac
 }
 
@@ -223,7 +225,8 @@ find_wrong_request() {
     # The file is opened anew, since the program has read this one to its end.
     LC_ALL=C awk '
         BEGIN {
-            split("commit=NODE TASK BUFFER HEX,withdraw=NODE TASK BUFFER,read=NODE TASK BUFFER,pop=NODE TASK", calls, ",")
+            split("commit=NODE TASK BUFFER HEX,withdraw=NODE TASK BUFFER,read=NODE TASK BUFFER," \
+                "pop=NODE TASK", calls, ",")
             for (i in calls) { split(calls[i], call, "="); form[call[1]] = call[1] " " call[2] }
             split("receive next look fetch put take observe report status trace origin lost mute babble", others, " ")
             for (i in others) has_node[others[i]]

@@ -8,13 +8,23 @@ import json
 
 from musmyrtle import World
 from tests.shows import EXAMPLES, Shows
+from tests.two_nodes import PARAMETERS
 
 FOLDER = EXAMPLES / "signals"
 CLUSTER = str(FOLDER / "cluster.toml")
 SPEED = "x222ef13c00000000"
 
 
-class TestEncode(Shows):
+class Refusing(Shows):
+    def check_refusal(self, command: str, words: str, told: str) -> None:
+        """Checks that the words are refused with a text that has `told`."""
+        with self.subTest(words=words):
+            status, output, error = self.asked(command, CLUSTER, *words.split())
+            self.assertEqual((status, output), (2, ""))
+            self.assertIn(told, error)
+
+
+class TestEncode(Refusing):
     def test_payloads(self) -> None:
         for words, payload in (
                 ("engine data speed=87.5 gear=drive", SPEED), ("0 0 speed=87.5 gear=1", SPEED),
@@ -39,10 +49,7 @@ class TestEncode(Shows):
                 ("engine dat", "none is dat; names: data and brake"),
                 ("brake data serial=1", "serial is 1, and has to be 6 bytes, as x0a0b"),
                 ("brake data page=forces serial=x000000000000", "serial of frame Brake is there while page is 1")):
-            with self.subTest(words=words):
-                status, output, error = self.asked("encode", CLUSTER, *words.split())
-                self.assertEqual((status, output), (2, ""))
-                self.assertIn(told, error)
+            self.check_refusal("encode", words, told)
 
     def test_a_refused_cluster(self) -> None:
         cluster = self.written("cluster.toml", (FOLDER / "cluster.toml").read_text().replace("idle = 0", "idle = 9"))
@@ -58,7 +65,7 @@ class TestEncode(Shows):
         self.assertIn("error: signal speed of frame Engine ends in byte 5, and the frame has 4 bytes", error)
 
 
-class TestDecode(Shows):
+class TestDecode(Refusing):
     def test_a_transmit_buffer(self) -> None:
         self.assertEqual(self.printed("decode", CLUSTER, "engine", "data", SPEED), (
             "Signals of frame Engine\n"
@@ -105,10 +112,7 @@ class TestDecode(Shows):
     def test_refusals(self) -> None:
         for words, told in (("engine data 222e", "HEX is 222e: expected `x`"), ("engine data xAB", "lower-case"),
                             ("engine dat x00", "none is dat")):
-            with self.subTest(words=words):
-                status, output, error = self.asked("decode", CLUSTER, *words.split())
-                self.assertEqual((status, output), (2, ""))
-                self.assertIn(told, error)
+            self.check_refusal("decode", words, told)
 
     def test_several_frames(self) -> None:
         """A receive buffer may store frames of two senders, in even and in odd cycles."""
@@ -130,45 +134,34 @@ class TestDecode(Shows):
 class TestSenders(Shows):
     """The sender of a frame is found by its slot, its channel and its cycle: each has another frame here."""
 
-    CLUSTER = '''
+    CLUSTER = f'''
 guard = "none"
-[params]
-static_slots = 2
-minislots = 0
-static_words = 1
-static_mt = 20
-minislot_mt = 5
-symbol_mt = 0
-nit_mt = 10
-cycle_mt = 50
-idle = 0
-words_per_minislot = 5
-[[frame]]
+{PARAMETERS}[[frame]]
 name = "X"
 bytes = 2
-signal = [{name = "x", bit = 0, bits = 8}]
+signal = [{{name = "x", bit = 0, bits = 8}}]
 [[frame]]
 name = "Y"
 bytes = 2
-signal = [{name = "y", bit = 0, bits = 8}]
+signal = [{{name = "y", bit = 0, bits = 8}}]
 [[frame]]
 name = "Z"
 bytes = 2
-signal = [{name = "z", bit = 0, bits = 8}]
+signal = [{{name = "z", bit = 0, bits = 8}}]
 [[node]]
-own = [{slot = 1, channels = "AB"}]
+own = [{{slot = 1, channels = "AB"}}]
 buffer = [
-  {kind = "state", slot = 1, channels = "A", repetition = 2, frame = "X"},
-  {kind = "state", slot = 1, channels = "A", base = 1, repetition = 2, frame = "Y"},
-  {kind = "state", slot = 1, channels = "B", frame = "Z"},
-  {kind = "receive", slot = 1, channels = "A"},
+  {{kind = "state", slot = 1, channels = "A", repetition = 2, frame = "X"}},
+  {{kind = "state", slot = 1, channels = "A", base = 1, repetition = 2, frame = "Y"}},
+  {{kind = "state", slot = 1, channels = "B", frame = "Z"}},
+  {{kind = "receive", slot = 1, channels = "A"}},
 ]
 [[node]]
-own = [{slot = 2, channels = "AB"}]
+own = [{{slot = 2, channels = "AB"}}]
 buffer = [
-  {kind = "receive", slot = 1, channels = "A", repetition = 2},
-  {kind = "receive", slot = 1, channels = "B"},
-  {kind = "receive", slot = 1, channels = "A", base = 1, repetition = 4},
+  {{kind = "receive", slot = 1, channels = "A", repetition = 2}},
+  {{kind = "receive", slot = 1, channels = "B"}},
+  {{kind = "receive", slot = 1, channels = "A", base = 1, repetition = 4}},
 ]
 '''
 

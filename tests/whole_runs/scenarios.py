@@ -190,7 +190,7 @@ def faulty_nodes(scenes, both, quiet):
     babble = [f"babble 2 {place} x{sent}" for place, sent in places.items()]
     losses = ["mute 2 A * s*", "mute 2 B 0 s1", "mute 2 B 3 s2"]
     kinds = {"has no fault": [], "babbles": babble, "loses": losses, "babbles and loses": [*babble, *losses]}
-    # The faults begin in line 11. A babble without bytes has no effect, nor has a loss, since node 2 owns no static slot.
+    # The faults begin in line 11. A babble without bytes has no effect. Nor has a loss: node 2 owns no static slot.
     idle = {"babbles": (13,), "loses": (11, 12, 13), "babbles and loses": (13, 16, 17, 18)}
     for name, faults in kinds.items():
         scenario = others

@@ -190,7 +190,8 @@ class Written:
         asked.write_bytes(b"now\n")
         with asked.open("rb") as given:
             got = run([*words, "--record", asked], given)
-        self.runs.compare("a record that is the input", (got, asked.read_bytes()), (refused("SameFile Record"), b"now\n"))
+        wanted = refused("SameFile Record"), b"now\n"
+        self.runs.compare("a record that is the input", (got, asked.read_bytes()), wanted)
         with self.lines.open("wb") as output:
             got = run([*words, "--record", self.lines], b"now\n", output=output)
         self.runs.compare("a record that is the output", got, refused("SameFile Record"))
