@@ -12,6 +12,10 @@
 //!
 //! - `Openings`: the buffers that are due, the slots that open, and the lines.
 //!
+//! A module that follows the steps of the code, for private functions, with the module that has the meaning:
+//!
+//! - `Aside`: the windows that have nothing of a buffer. Meaning: `Openings`.
+//!
 //! # Inner workings
 //!
 //! A slot that doesn't open in a cycle has no window there. So its buffer has a line `closed` in the window in which

@@ -1,6 +1,7 @@
 //! The transmit buffers of the dynamic segment in a window.
 ghost use Rattle.std.specs.Prelude.{◌≡◌};
 ghost use Rattle.fr_files.specs.NodeTexts.{of_nodes};
+ghost use Rattle.fr_openings.specs.Aside.{is_aside, opens};
 ghost use Rattle.fr_openings.specs.Openings.{both_text, channel_text, due_line, due_text, is_due, is_open, is_silent};
 ghost use Rattle.fr_openings.specs.Openings.{node_text, opening_line, opening_text, opening_word, openings_text};
 ghost use Rattle.fr_openings.specs.Openings.{closed_line, closed_text, is_above, is_closed, place_text, unopened_text};
@@ -247,7 +248,25 @@ fn write_channel<W: Write>(
     }
 }
 
-/// Writes what the window has of the buffer.
+/// Returns whether the channel opens the slot.
+fn opens(opened: Option<SlotId>, slot: SlotId) -> bool
+    ensures { result ≡ opens opened slot }
+{
+    match opened {
+        Some(opened) => slot.number() == opened.number(),
+        None => false,
+    }
+}
+
+/// Returns whether the window isn't the first of its cycle, and no channel opens the slot or its last one in it.
+fn is_aside(window: &Window, last: LastSlots, slot: SlotId) -> bool
+    ensures { result ≡ is_aside window.now last slot }
+{
+    let is_told = opens_cycle(window) || last.a || last.b;
+    !(is_told || opens(window.a, slot) || opens(window.b, slot))
+}
+
+/// Writes what the window has of the buffer. Most windows have nothing of it, which their slots tell.
 fn write_buffer<W: Write>(
     writer: &mut W,
     params: &Params,
@@ -260,6 +279,9 @@ fn write_buffer<W: Write>(
     ensures { Writes W.contents writer.old writer.new result
         (both_text params.now window.now last place plan.now buffer.now) }
 {
+    if is_aside(window, last, buffer.filter.slot) {
+        return Ok(());
+    }
     let LastSlots { a, b } = last;
     write_channel(writer, params, window, a, place, plan, buffer, Channel::A)?;
     write_channel(writer, params, window, b, place, plan, buffer, Channel::B)
