@@ -40,7 +40,9 @@ class Names:
                 self.hold(self.is_test(name), file, f"there is no test {name}")
 
     def promise(self, place: str, crate: str, promise: Promise) -> None:
-        """Looks up the names of a row."""
+        """Looks up the names of a row. A clause, an invariant or a printed form has to carry it."""
+        carried = any((promise.clauses, promise.list_of("invariants"), promise.list_of("display")))
+        self.hold(carried, place, "no clause carries the row")
         for clause in promise.clauses:
             self.clause(place, clause)
         for key, kind in (("invariants", "type"), ("definitions", "module of definitions"), ("display", "type")):

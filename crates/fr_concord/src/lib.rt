@@ -1,4 +1,5 @@
-//! Laws between definitions of several crates, where a definition follows the code. The crate has no code.
+//! Laws between definitions of several crates, where a definition follows the code. The crate has no code: each law is
+//! a clause of a function in `laws`, whose body is empty.
 //!
 //! *(project-defined)* marks a rule of this project, and makes no claim about the standard.
 //!
@@ -51,3 +52,5 @@
 //! - `FaultLineLemmas`: `faults_numbered`, `offers_unnumbered`. Each babble and each muted offer has a line number, and
 //!   no other transmission has one.
 #![tactic(auto)]
+
+pub mod laws;

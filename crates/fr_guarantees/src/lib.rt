@@ -1,5 +1,5 @@
 //! What `fr_latency` computes, as laws on worlds and on lists of events: its guarantees hold in every world, and runs
-//! reach its worst cases. The crate has no code.
+//! reach its worst cases. The crate has no code: each law is a clause of a function in `laws`, whose body is empty.
 //!
 //! *(project-defined)* marks a rule of this project, and makes no claim about the standard.
 //!
@@ -33,3 +33,5 @@
 //! - `WindowLemmas`, `PassingLemmas`, `SentLemmas`, `WalkLemmas`: the events of a window without frames, of one with a
 //!   frame that a host commits right before it, and of a cycle that follows a chosen way.
 #![tactic(auto)]
+
+pub mod laws;

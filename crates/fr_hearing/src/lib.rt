@@ -1,5 +1,5 @@
 //! Recordings of a bus, as laws on every run: `fr_judging` finds nothing in those of runs without faults, and accepts
-//! nothing else. The crate has no code.
+//! nothing else. The crate has no code: each law is a clause of a function in `laws`, whose body is empty.
 //!
 //! *(project-defined)* marks a rule of this project, and makes no claim about the standard.
 //!
@@ -71,3 +71,5 @@
 //!   the buffer, so that a state buffer is silent again.
 //! - `SenderLemmas`, `OfferLemmas`: the node and the buffer of what is due in a slot, and the bytes that nodes offer.
 #![tactic(auto)]
+
+pub mod laws;

@@ -38,6 +38,7 @@ pub mod explain;
 pub mod finding;
 pub mod head;
 mod kept;
+pub mod laws;
 mod misfits;
 pub mod reason;
 mod reasons;

@@ -1,0 +1,5 @@
+use Rattle.fr_hearing.proofs.punctual.FileLaws.{no_alarm_in_timely_file}
+use Rattle.fr_hearing.proofs.laws.no_alarm_in_timely_file.Goals as goal
+
+pub returns : goal.returns
+returns c = no_alarm_in_timely_file
