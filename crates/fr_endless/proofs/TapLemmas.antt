@@ -368,7 +368,8 @@ module _ {F : Type 0} (contents : F → Option (List ℕ)) where
 
   -- the trace at this place has no known bytes
   pub handed_unknown : (traces : List F) (place : ℕ) (failed : Option Tap) (text : List ℕ)
-      → traced_in (map contents traces) place ≡ None → AddsAt failed (map contents traces) (map contents traces) place text
+      → traced_in (map contents traces) place ≡ None
+      → AddsAt failed (map contents traces) (map contents traces) place text
   handed_unknown traces place failed text none n = by (eqb_tells n place)
     where
       before : List (Option (List ℕ))

@@ -1,5 +1,6 @@
 -- The run of a scenario in a world without history, and the reasons why there is none (project-defined).
-use Rattle.std.specs.Prelude.{⊤, ◌≡◌, ◌⊎◌, ℕ, ◌<◌, ◌==◌, ◌++◌, Bool, true, false, List, length, min, Option, Some, None, Result}
+use Rattle.std.specs.Prelude.{⊤, ◌≡◌, ◌⊎◌, ℕ, ◌<◌, ◌==◌, ◌++◌, Bool, true, false, List, length, min, Option, Some}
+use Rattle.std.specs.Prelude.{None, Result}
 use Rattle.std.specs.Prelude.{Ok, Err, map}
 use Rattle.std.specs.Io.KnownBytes.{Appends, Keeps}
 use Rattle.std.specs.List.{list_any}
@@ -136,8 +137,8 @@ is_last line = line.cycle == last_named
 abbrev pub calls_last : Scripted → Bool
 calls_last script = list_any is_last script.lines
 
--- the lines of the scenario that name cycles, but none that it is read for, those of the expectations that are left, and
--- whether a call is in the last cycle that a scenario names
+-- the lines of the scenario that name cycles, but none that it is read for, those of the expectations that are left,
+-- and whether a call is in the last cycle that a scenario names
 pub record AreNotes (s : Contents) (notes : StreamNotes) : Type 0 where
   pub skipped : notes.skipped.items ≡ s.skipped
   pub unjudged : notes.unjudged.items ≡ map (λ x. x.line) s.expected

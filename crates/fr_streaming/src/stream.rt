@@ -150,9 +150,9 @@ fn notes_of(alloc: Global, scenario: &Scenario) -> Result<StreamNotes, AllocErro
 /// Runs the cluster with the scenario of a file, and writes a view of the run as it goes (project-defined).
 ///
 /// A run has 1 to 4,000,000 cycles, and the number of cycles, multiplied by the static slots and minislots of a cycle,
-/// is at most 1,610,612,734. It needs the memory of one cycle. The events are those of `fr_playing::play::play`, and the
-/// text is that of `fr_showing::show::show_run`, except for commits: a line for each thing that happens to one, as the
-/// run goes. The file is read to its end first. It names cycles 0 to 1023 at most: calls of `*` are made in these
+/// is at most 1,610,612,734. It needs the memory of one cycle. The events are those of `fr_playing::play::play`, and
+/// the text is that of `fr_showing::show::show_run`, except for commits: a line for each thing that happens to one, as
+/// the run goes. The file is read to its end first. It names cycles 0 to 1023 at most: calls of `*` are made in these
 /// alone, and faults of `*` in every cycle.
 ///
 /// It returns the numbers of the scenario's lines that name cycles, but none of the run. It also returns those of the

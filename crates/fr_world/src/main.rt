@@ -88,8 +88,8 @@ fn file_of<R: Files + AllocGlobal>(
     }
 }
 
-/// Returns whether a symbolic link of this name leads to a regular file, or to none, so that a file would be made there.
-/// A link to a terminal, a pipe or a device changes no file.
+/// Returns whether a symbolic link of this name leads to a regular file, or to none, so that a file would be made
+/// there. A link to a terminal, a pipe or a device changes no file.
 fn leads_to_file<R: Files>(rt: &R, name: &str) -> bool {
     let is_link = match fs::symlink_metadata(rt, name) {
         Ok(metadata) => metadata.is_symlink(),
@@ -102,8 +102,8 @@ fn leads_to_file<R: Files>(rt: &R, name: &str) -> bool {
     is_link && !is_other
 }
 
-/// Opens the file of the node's trace in this folder. A symbolic link to a file is refused, since it may lead out of the
-/// folder.
+/// Opens the file of the node's trace in this folder. A symbolic link to a file is refused, since it may lead out of
+/// the folder.
 ///
 /// Fails as `file_of` does.
 fn trace_of<R: Files + AllocGlobal>(
