@@ -4,6 +4,7 @@ Nothing here is shared with the package `musmyrtle`: the two readings of version
 """
 import re
 import tomllib
+from itertools import product
 
 NAMES = ("brake", "pedal", "gear-box", "a", "_", "x.1", "007", "lost", "end", "AB", "0x", "-", "n" * 32, "n" * 33, "7",
          "", "two words", "brake")
@@ -84,8 +85,8 @@ class Expanded:
             words = line.partition("#")[0].split()
             if words == ["end"]:
                 break
-            if words:
-                self.read(*words)
+            for choice in product(*(word.split(",") for word in words[1:])) if words else ():
+                self.read(words[0], *choice)
 
     def read(self, kind, *words):
         if kind in CALLS:
@@ -140,6 +141,10 @@ class Lines:
             words += [f"d{slots + self.random.randint(1, min(5, minislots))}"] * (3 * has_dynamic)
         return self.random.choice(words)
 
+    def listed(self, word):
+        """Returns one word that WORD makes, or a list of some."""
+        return ",".join(word() for _ in range(self.random.choice((1, 1, 1, 1, 2, 3))))
+
     def node_word(self, node):
         names = [name for name, number in self.names.nodes.items() if number == node]
         return self.random.choice([str(node), *names])
@@ -156,13 +161,13 @@ class Lines:
             return None
         kind, _, _, _, *rest = line.split(" ")
         buffer = [self.buffer_word(node, rest[0])] if rest else []
-        return [kind, self.node_word(node), str(task), self.cycles_word(), *buffer, *rest[1:]]
+        return [kind, self.node_word(node), str(task), self.listed(self.cycles_word), *buffer, *rest[1:]]
 
     def fault(self, has_dynamic):
         """Returns the words of a fault line, or None for one whose windows earlier lines have."""
         kind = self.random.choice(("babble", "mute", "corrupt", "lost"))
         node, channels = self.random.randrange(len(self.made.nodes)), self.random.choice(("A", "B", "AB"))
-        cycles, place = self.cycles_word(), self.place_word(has_dynamic)
+        cycles, place = self.listed(self.cycles_word), self.listed(lambda: self.place_word(has_dynamic))
         if kind == "lost":
             windows = ("mute", node, "AB", cycles, "*")
             words = [kind, self.node_word(node), cycles]
@@ -173,7 +178,9 @@ class Lines:
             words.append(str(self.random.choice((0, 3, 8, 16, 40, 79, 999))))
         if kind == "babble":
             words.append(f"x{self.random.randbytes(self.random.choice((0, 1, 10, 40))).hex()}")
-        return words if self.is_free(*windows) else None
+        *front, cycles, place = windows
+        choices = product(cycles.split(","), place.split(","))
+        return words if all(self.is_free(*front, *choice) for choice in choices) else None
 
     def is_free(self, kind, node, channels, cycles, place):
         """Notes the windows of a line, unless one is taken: in any of 1,024 cycles, a dynamic slot in each minislot.

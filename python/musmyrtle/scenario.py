@@ -78,6 +78,8 @@ class Reading:
     def __init__(self, file: str, data: bytes, cycles: int | None = None, names: Names | None = None):
         self.scenario, self.version = Scenario(file), 1
         self.cycles, self.names = cycles, LineNames(names)
+        self.meant = 2
+        """The lines for which the lines with words stand, and the first and the last one."""
         self.read(data)
 
     def refuse(self, refusal: str, headline: str, reason: str, number: int | None = None,
@@ -106,6 +108,7 @@ class Reading:
             return
         self.version = self.scenario.version = MAGICS[lines[0]]
         self.read_lines(lines)
+        self.count_lines()
         self.count_calls()
 
     def read_lines(self, lines: list[str]) -> None:
@@ -147,21 +150,30 @@ class Reading:
         elif line.kind == "end":
             return True
         else:
+            self.meant += len(line.meant())
             self.add(line.lines(number))
         return False
 
     def add(self, lines: list[Line]) -> None:
-        """Keeps a line, unless it is of version 3 and names only cycles that the run doesn't have."""
-        if self.version == NEWEST and self.cycles is not None and lines[0].cycles.first >= self.cycles:
+        """Keeps the lines for which one stands, but those of version 3 that name only cycles that the run lacks."""
+        kept = lines
+        if self.version == NEWEST and self.cycles is not None:
+            kept = [it for it in lines if it.cycles.first < self.cycles]
+        if not kept:
             self.scenario.skipped.append(lines[0].number)
-            return
-        for line in lines:
+        for line in kept:
             if isinstance(line, FaultLine):
                 self.scenario.faults.append(line)
             elif line.kind in EXPECTATIONS:
                 self.scenario.expectations.append(line)
             else:
                 self.scenario.scripts.setdefault((int(line.words[1]), int(line.words[2])), []).append(line)
+
+    def count_lines(self) -> None:
+        """Refuses more lines in place of those with lists than a scenario may have. Only the calls come later."""
+        if self.meant > MOST_LINES:
+            headline = f"the scenario stands for {self.meant} lines, with the lines of lists counted one by one"
+            self.refuse("TooManyLines", headline, f"A scenario has at most {MOST_LINES}. Expected shorter lists.", 1)
 
     def count_calls(self) -> None:
         """Refuses more calls in the run than there may be. This comes after all other faults."""

@@ -2,6 +2,8 @@
 import re
 from collections.abc import Iterable
 from dataclasses import dataclass
+from itertools import product
+from math import prod
 
 from musmyrtle.findings import nearest
 from musmyrtle.mending import comment_in
@@ -24,6 +26,8 @@ MOST_BYTES = {"commit": 254, "expect": 254, "babble": 262}
 NUMBER = re.compile(r"0|[1-9][0-9]*")
 HEX = re.compile(r"x(?:[0-9a-f]{2})*")
 WORD = re.compile(r"[^ \t]+")
+MOST_MEANT = 64
+"""The largest number of lines for which a line with lists stands."""
 OLD_PLACE = re.compile(r"s\*|[sm][1-9][0-9]*")
 
 Wrong = tuple[str, str, int]
@@ -61,7 +65,7 @@ class Words:
     def wrong(self) -> Wrong | None:
         """Returns the fault of the line, what is expected, and the column; or nothing if it is right."""
         odd = odd_return(self.text) if self.version == NEWEST else self.odd_spaces()
-        return odd or self.wrong_kind() or self.wrong_count() or self.wrong_word()
+        return odd or self.wrong_kind() or self.wrong_count() or self.wrong_lists() or self.wrong_element()
 
     def odd_spaces(self) -> Wrong | None:
         """Returns the fault of a line of an earlier version that isn't words with single spaces between them."""
@@ -94,6 +98,24 @@ class Words:
         newest = "" if self.version == NEWEST else f" Only `frscenario {NEWEST}` has comments."
         return f"{hint}{newest} " if hint else ""
 
+    def wrong_lists(self) -> Wrong | None:
+        """Returns the fault of a line of version 3 whose lists have an empty element or too many choices."""
+        for word, column, its in zip(self.words[1:], self.columns[1:], self.elements):
+            empty = next((it for it in its if not it[0]), None) if len(its) > 1 else None
+            if empty:
+                headline = f"the list `{cut(word)}` has an empty element"
+                return headline, "Expected one comma between two elements, and none at the ends.", max(column, empty[1])
+        count = prod(map(len, self.elements))
+        if count <= MOST_MEANT:
+            return None
+        headline = f"the line stands for {count} lines, one for each choice of an element of each list"
+        return headline, f"It stands for at most {MOST_MEANT}. Expected shorter lists, or several lines.", 1
+
+    def wrong_element(self) -> Wrong | None:
+        """Returns the fault of the first word at fault in the lines for which this one stands."""
+        found = [it for it in (line.wrong_word() for line in self.meant()) if it]
+        return min(found, key=lambda it: it[2]) if found else None
+
     def wrong_word(self) -> Wrong | None:
         for at, name in enumerate(self.form, 1):
             right = self.right_for(name, self.words[at])
@@ -109,7 +131,8 @@ class Words:
         if self.version == NEWEST:
             return ""
         later = Words(NEWEST, self.text, self.words, self.columns, self.names)
-        return "" if later.right_for(RANGED.get(name, name), word) else f" `frscenario {NEWEST}` has this form."
+        wrong = any(later.right_for(RANGED.get(name, name), element) for element in word.split(","))
+        return "" if wrong else f" `frscenario {NEWEST}` has this form."
 
     def right_for(self, name: str, word: str) -> str | None:
         """Returns what is expected instead of a word, or nothing where it is right."""
@@ -150,11 +173,33 @@ class Words:
 
     @property
     def numbers(self) -> list[str]:
-        """Returns the words of a right line, with numbers in the place of names."""
+        """Returns the words of a right line without lists, with numbers in the place of names."""
         return [self.kind, *map(self.numbered, self.form, self.words[1:])]
 
+    @property
+    def elements(self) -> list[list[tuple[str, int]]]:
+        """Returns the elements of each word after the kind, each with its column. Only version 3 has lists."""
+        its = zip(self.words[1:], self.columns[1:])
+        if self.version < NEWEST or "," not in self.text:
+            return [[it] for it in its]
+        return [elements_of(word, column) for word, column in its]
+
+    def meant(self) -> list["Words"]:
+        """Returns the lines for which this one stands: one for each choice of an element of each list."""
+        if self.version < NEWEST or "," not in self.text:
+            return [self]
+        return [Words(self.version, self.text, (self.kind, *(it[0] for it in choice)),
+                      (self.columns[0], *(it[1] for it in choice)), self.names) for choice in product(*self.elements)]
+
     def lines(self, number: int) -> list[Line]:
-        """Returns the lines that a right line of this number stands for: two of them for a fault on two channels."""
+        """Returns the lines that a right line of this number stands for.
+
+        These are one for each choice of an element of each list, and two of each for a fault on two channels.
+        """
+        return [line for it in self.meant() for line in it.single_lines(number)]
+
+    def single_lines(self, number: int) -> list[Line]:
+        """Returns the lines of a right line without lists."""
         words = self.numbers
         if self.kind == LOST:
             one, node, cycles = self.columns
@@ -171,6 +216,15 @@ class Words:
             return str(self.node())
         node = self.node() if name == "BUFFER" and not is_number(name, word) else None
         return word if node is None else str(self.names.buffer(node, word))
+
+
+def elements_of(word: str, column: int) -> list[tuple[str, int]]:
+    """Returns the elements of a list that begins in a column, each with its column."""
+    elements: list[tuple[str, int]] = []
+    for element in word.split(","):
+        elements.append((element, column))
+        column += len(element) + 1
+    return elements
 
 
 def fault_lines_of(lines: Iterable[str]) -> list[FaultLine]:

@@ -210,6 +210,16 @@ class TestAnnotate(Shows):
         self.assertIn("# speed=none gear=reserved temperature=211 C (out of range)\n",
                       self.annotated("frscenario 3\ncommit 0 0 0 0 xffffe3fb00000000\nend\n")[0])
 
+    def test_lists(self) -> None:
+        """A line with lists has a comment if all its lines have one payload for one buffer."""
+        several = f"commit 0 0 4 0 {SPEED},x2328f13c00000000\nexpect 2 2-3 0,1 {SPEED}\n"
+        output, error = self.annotated(f"frscenario 3\ncommit 0 0 0,2 0 {SPEED}\n{several}end\n")
+        comment = "# speed=87.5 km/h gear=drive temperature=20 C"
+        self.assertEqual(output, f"frscenario 3\ncommit 0 0 0,2 0 {SPEED} {comment}\n{several}end\n")
+        self.assertEqual(error, "".join(
+            f"musmyrtle: line {number} has no comment: its lists have several payloads or buffers\n"
+            for number in (3, 4)))
+
     def test_a_buffer_without_signals(self) -> None:
         text = "frscenario 3\ncommit dashboard 0 0 engine x00\nexpect radio 0 0 x00\nend\n"
         self.assertEqual(self.asked("annotate", CLUSTER, self.written("scenario", text))[0], 1)

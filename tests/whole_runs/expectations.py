@@ -42,10 +42,11 @@ FAULTS = {
 }
 """Lines of faults, and expectations that a run with them meets. Buffer 2 of node 1 receives static slot 1 on B. Node 1
 owns static slot 2, which buffer 1 of node 0 receives on A, and buffer 1 of node 2 on both channels."""
-REFUSED = ("expect 1 0 1", "expect 1 0 1 x0a", "expect 1 0 1 x0A0B", f"expect 1 0 1 x{'00' * 256}", "expect 16 0 1 x",
-           "expect 1 1024 1 x", "expect 1 1-0 1 x", "expect 1 0-3/0 1 x", "expect 1 0 64 x", "expect nobody 0 1 x",
-           "expect brake 0 nothing x", "expect 9 0 state x", "expect 1 0 0 1 x0a0b", "expect-none 1 0 1 x",
-           "expect-none 1 0", "expect_none 1 0 1", "Expect 1 0 1 x", "expect-none 1 0 1 x0a0b", "expect 1 0 1 nothing")
+REFUSED = ("expect 1 0 1", "expect 1 0, 1 x", "expect 1 0 1 x0a0b,x0", "expect 1 0 1 x0a", "expect 1 0 1 x0A0B",
+           f"expect 1 0 1 x{'00' * 256}", "expect 16 0 1 x", "expect 1 1024 1 x", "expect 1 1-0 1 x",
+           "expect 1 0-3/0 1 x", "expect 1 0 64 x", "expect nobody 0 1 x", "expect brake 0 nothing x",
+           "expect 9 0 state x", "expect 1 0 0 1 x0a0b", "expect-none 1 0 1 x", "expect-none 1 0",
+           "expect_none 1 0 1", "Expect 1 0 1 x", "expect-none 1 0 1 x0a0b", "expect 1 0 1 nothing")
 """Lines that have no form of version 3, or a name that can't be used."""
 
 
@@ -83,6 +84,9 @@ class Expectations:
         lines = [line for pair in zip(MISSED, MET * 2) for line in pair]
         told = [f"line {number}: {MISSED[line]}\n" for number, line in enumerate(lines, 4) if line in MISSED]
         self.runs.compare(f"{self.command} with many lines", self.ran(*lines), (usual, "".join(told).encode(), 3))
+        told = "".join(f"line 4: node 1 buffer 1 at the end of cycle {cycle}: expected x0a0b, found x0c0d\n"
+                       for cycle in (2, 3))
+        self.runs.compare(f"{self.command} with lists", self.ran("expect 1 0,1-2,3 1 x0a0b"), (usual, told.encode(), 3))
 
     def faults(self):
         """Checks runs with faults, each of which has the output of the run without the expectations."""
@@ -103,6 +107,9 @@ class Expectations:
         wanted = b"line 6 names no cycle of the run\nline 4 is not judged in a run without history\n"
         got = self.ran("expect 1 * 1 x1111", "", "expect-none 0 4 1", options=("--endless",))
         self.runs.compare(f"{self.command} without history", got, (usual, wanted, 5))
+        got = self.ran("expect 1,2 0,2 1 x1111", options=("--endless",))
+        self.runs.compare(f"{self.command} without history and a list", got,
+                          (usual, b"line 4 is not judged in a run without history\n", 5))
         got = self.ran("expect 1 4 1 x1111", options=("--endless",))
         self.runs.compare(f"{self.command} without history and expectations of its cycles", got,
                           (usual, b"line 4 names no cycle of the run\n", 0))

@@ -47,9 +47,22 @@ SAME = {
     "lines that are left out": (
         "commit 0 0 0 0 x0a0b\ncommit 0 0 4 0 x0c0d\npop 9 7 4-1023\nlost 9 4\nmute 9 A 5-7 s900\nread 1 0 3-5 1\n",
         "commit 0 0 0 0 x0a0b\nread 1 0 3 1\n"),
+    "lists": (
+        "commit 0 0 3,0-1 0 x0a0b\nread brake,1 1 0,2 first\nbabble 2 A,B 0,2 s1,s2 x00\nlost pedal,1 1,9\n",
+        "commit 0 0 0 0 x0a0b\ncommit 0 0 1 0 x0a0b\ncommit 0 0 3 0 x0a0b\n" + "read 1 1 0 1\n" * 2
+        + "read 1 1 2 1\n" * 2
+        + "".join(f"babble 2 {on} {when} {place} x00\n" for on in "AB" for when in (0, 2) for place in ("s1", "s2"))
+        + "".join(f"mute {node} {on} 1 s*\n" for node in "01" for on in "AB")),
+    "the order of a list's lines": (
+        "commit 0 0 1 0 x0001,x0002\ncommit 0 0 0-1,1 0 x0003,x0004\n",
+        "commit 0 0 0 0 x0003\ncommit 0 0 0 0 x0004\n"
+        + "".join(f"commit 0 0 1 0 x000{last}\n" for last in (1, 2, 3, 4, 3, 4))),
     "nothing": ("", ""),
 }
 """Lines of version 3, and those of version 2 that say the same in a run of four cycles."""
+
+MANY = ",".join(map(str, range(64)))
+"""The longest list."""
 
 LINES = (
     "commit 0 0 1024 0 x0a0b", "commit 0 0 2-1 0 x0a0b", "commit 0 0 0-3/0 0 x0a0b", "commit 0 0 0-3/1024 0 x0a0b",
@@ -62,7 +75,10 @@ LINES = (
     "mute 0 A * d1-2", "mute 0 A * s3-2", "mute 0 A * s0-2", "mute 0 A * s1-8001", "mute 0 A * d0", "mute 0 A * **",
     "mute 0 A * s1-", "mute 0 A * S1", "corrupt * * s1 0", "corrupt AB * s1 65536", "corrupt AB * s1 -",
     f"babble 0 AB * * x{'00' * 263}", "babble 0 AB * *", "end end", "End", "frscenario 3", "withdraw 0 0 0",
-    "commit 0 0 0 0 x0a 0b", "\u00fc",
+    "commit 0 0 0 0 x0a 0b", "\u00fc", "commit 0 0 0,,1 0 x0a0b", "commit 0 0 0, 0 x0a0b", "commit 0 0 ,0 0 x0a0b",
+    "commit,read 0 0 0 0 x0a0b", "commit 0 0 0, 1 0 x0a0b", "commit 0 0 0;1 0 x0a0b", "mute 0 A 0,1 s1,s0",
+    "mute 0 A 0 s1,2", "commit 0,twin 0 0 0 x0a0b", "commit 0 0 0 0 x0a0b,x0a", "lost 0,16 0", ",", "end,",
+    f"read 1 0 {MANY},0 1", "babble 0,1,2 A,B 0,1,2,3 s1,s2,s3 x",
 )
 """Lines that have no form of version 3, or a name that can't be used."""
 
@@ -79,6 +95,9 @@ ADDED = {
     "mute 1 AB 0-2/2 s1\nmute 1 AB 1-3/2 s1": "settled", "mute 1 AB 0-2/2 s1\nmute 1 A 1-2 s1": "BadFault 4",
     "mute 1 B 0 d5\nmute 1 A 0 m2": "settled", "mute 1 B 0 d5\nmute 1 B 0 m2": "BadFault 3",
     "mute 1 B 0 d5\nmute 1 B 0 d6": "settled", "mute 1 B 0 m2\nlost 1 0-3/2": "BadFault 4",
+    f"read 1 0 {MANY} 1": "settled", "mute 1 A 0,0 s1": "BadFault 3", "mute 1 A 0-2,1 s1": "BadFault 3",
+    "mute 1 A,B 0,1 s1,s2": "settled", "lost 2,2 0": "BadFault 4", "commit 0,1 2 0 0 x0a0b": "BadScript 2",
+    "babble 2 A,B 1 s3 x00,xff": "BadFault 2", "commit 0 0 0,4 0 x0a0b": "settled",
     "mute 1 A 1-1000/2 s1\nmute 1 A 999-1023/3 s1": "settled",
     "mute 1 A 1-1023/2 s1\nmute 1 A 2-1023/3 s1": "settled", "mute 1 A 1-1023/2 s1\nmute 1 A 0-1023/3 s1": "BadFault 3",
 }
@@ -174,6 +193,13 @@ class Version3:
         self.runs.compare("a comment has 1200 bytes", (output.endswith(b"settled\n"), status), (True, 0))
         self.refused("a comment has 1201 bytes", f"{BEGIN}{'#' * 1201}\n{END}", "BadLine 2")
         self.refused("a line has 1201 spaces", f"{BEGIN}{' ' * 1201}\n{END}", "BadLine 2")
+        lists = f"{BEGIN}# x\n\n" + f"read 1 0 {MANY} 1\n" * 63
+        output, _, status = self.ran(lists + "pop 0 0 9\n" * 62 + END)
+        self.runs.compare("lists that stand for 4096 lines", (output.endswith(b"settled\n"), status), (True, 0))
+        lists += "pop 0 0 9\n" * 63
+        self.refused("lists that stand for 4097 lines", f"{lists}{END}", "TooManyLines")
+        self.refused("lists that stand for 4097 lines and a bad line", f"{lists}pop\n{END}", "BadLine 130")
+        self.refused("lists that stand for 4097 lines without an end", lists, "Truncated")
         calls = BEGIN + "pop 0 0 *\n" * 256
         self.refused("262144 calls", f"{calls}{END}", "NoRoom 0", 1024)
         self.refused("262145 calls", f"{calls}pop 0 0 1023\n{END}", "TooManyCalls", 1024)
@@ -187,8 +213,8 @@ class Version3:
 
         Node 2 has no commit, so it offers nothing, and node 1 offers null frames.
         """
-        lines = "pop 0 0 0\n\npop 0 0 4\nlost 2 5-9\nmute 1 AB 3-9 s*\n"
-        for cycles, numbers, idle in ((4, (4, 5), ""), (5, (5,), ""), (6, (), "line 5 struck nothing\n")):
+        lines = "pop 0 0 0\n\npop 0 0 4\nlost 2 5-9\nmute 1 AB 3-9 s*\npop 0 0 1,4\nlost 0 5,7\nmute 1,2 A 2,9 s*\n"
+        for cycles, numbers, idle in ((4, (4, 5, 8), ""), (5, (5, 8), ""), (6, (), "line 5 struck nothing\n")):
             _, errors, status = self.ran(f"{BEGIN}{lines}{END}", cycles)
             wanted = "".join(f"line {number} names no cycle of the run\n" for number in numbers) + idle
             self.runs.compare(f"notes of a run of {cycles} cycles", (errors.decode(), status), (wanted, 0))

@@ -10,6 +10,7 @@ pub mod StatementLemmas
 pub mod RunLemmas
 pub mod RunCallLemmas
 pub mod PartedLemmas
+pub mod ListLemmas
 pub mod StatementLaws
 pub mod SaidLaws
 pub mod FaultLineLemmas

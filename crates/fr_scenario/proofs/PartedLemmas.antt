@@ -6,6 +6,7 @@ use Rattle.std.proofs.lemmas.List.Elements.{All-nil, All-cons}
 use Rattle.std.proofs.lemmas.List.Splits.{slice_split_at, slice_split_none}
 use Rattle.std.specs.List.{All, filter, position, position_or_len, slice_split}
 use Rattle.fr_scenario.specs.BlankWords.{is_blank, is_mark, has_bytes, before_comment, pieces_of, blank_words}
+use Rattle.fr_scenario.specs.Lists.{elements_of, is_comma}
 use Rattle.fr_scenario.specs.StatementParts.{parted}
 use Rattle.fr_text.specs.Spaces.{line_of}
 
@@ -70,9 +71,9 @@ parted_here mark xs ys h same =
 
 -- ---- words with one space between two
 
--- a word without blanks and marks of comments, of at least one byte
+-- a word without blanks, marks of comments and commas, of at least one byte
 abbrev pub is_bare_not : ℕ → Bool
-is_bare_not b = is_blank b || is_mark b
+is_bare_not b = (is_blank b || is_mark b) || is_comma b
 
 pub record IsBare (word : List ℕ) : Type 0 where
   pub some : has_bytes word ≡ true
@@ -84,15 +85,27 @@ AreBare (word ∷ words) = IsBare word × AreBare words
 
 lacks_mark : (word : List ℕ) → lacks is_bare_not word → lacks is_mark word
 lacks_mark [] h = tt
-lacks_mark (x ∷ xs) h = ((or_parts (is_blank x) (is_mark x) h.0).1, lacks_mark xs h.1)
+lacks_mark (x ∷ xs) h =
+    let parts = or_parts (is_blank x || is_mark x) (is_comma x) h.0 in
+    ((or_parts (is_blank x) (is_mark x) parts.0).1, lacks_mark xs h.1)
 
 lacks_blank : (word : List ℕ) → lacks is_bare_not word → lacks is_blank word
 lacks_blank [] h = tt
-lacks_blank (x ∷ xs) h = ((or_parts (is_blank x) (is_mark x) h.0).0, lacks_blank xs h.1)
+lacks_blank (x ∷ xs) h =
+    let parts = or_parts (is_blank x || is_mark x) (is_comma x) h.0 in
+    ((or_parts (is_blank x) (is_mark x) parts.0).0, lacks_blank xs h.1)
+
+lacks_comma : (word : List ℕ) → lacks is_bare_not word → lacks is_comma word
+lacks_comma [] h = tt
+lacks_comma (x ∷ xs) h = ((or_parts (is_blank x || is_mark x) (is_comma x) h.0).1, lacks_comma xs h.1)
 
 all_of : (p : ℕ → Bool) (word : List ℕ) → lacks p word → All (λ b. p b ≡ false) word
 all_of p [] h = All-nil (λ b. p b ≡ false)
 all_of p (x ∷ xs) h = All-cons (λ b. p b ≡ false) x xs h.0 (all_of p xs h.1)
+
+-- a word without commas is its only element
+pub only_element : (word : List ℕ) → IsBare word → elements_of word ≡ word ∷ []
+only_element word h = slice_split_none is_comma word (all_of is_comma word (lacks_comma word h.bare))
 
 no_mark : (words : List (List ℕ)) → AreBare words → lacks is_mark (line_of words)
 no_mark [] h = tt

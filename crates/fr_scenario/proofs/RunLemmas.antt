@@ -6,9 +6,11 @@ use Rattle.std.proofs.Common.{◌++◌, refl, sym, ap, ◌∙◌, arith, append_
 use Rattle.std.proofs.lemmas.Bool.{cases_Bool, cases_eq, eq-eqb, ltb-true, ltb-false}
 use Rattle.std.proofs.lemmas.Bool.Decides.{nat_tests}
 use Rattle.std.proofs.lemmas.List.{append-nil}
-use Rattle.std.proofs.lemmas.List.Sums.{length-filter}
-use Rattle.std.specs.List.{flat_map, range_with_len}
-use Rattle.std.specs.Prelude.{count_by}
+use Rattle.std.proofs.lemmas.List.Sums.{length-filter, sum_by-cons}
+use Rattle.std.specs.List.{flat_map, range_with_len, sum_by}
+use Rattle.std.specs.Prelude.{count_by, drop, length, map, slice_get, Some}
+use Rattle.fr_expecting.proofs.PlaceLemmas.{here}
+use Rattle.fr_runs.specs.declared.fault_line.FaultLine.{FaultLine}
 use Rattle.fr_core.specs.Answers.{IsUnanswered, AreUnanswered}
 use Rattle.fr_runs.specs.Cycles.{names_cycle}
 use Rattle.fr_runs.specs.declared.cycles.RunCycles.{RunCycles}
@@ -16,6 +18,7 @@ use Rattle.fr_runs.specs.declared.cycles.RunCycles.TheVariants.{Every, Only}
 use Rattle.fr_scenario.proofs.TextLemmas.{Each-append, script_unanswered}
 use Rattle.fr_scenario.specs.Contents.{node_at, task_at}
 use Rattle.fr_scenario.specs.declared.statement.Statement.{Statement}
+use Rattle.fr_scenario.specs.RunContents.{faults_in_run, faults_on_line, numbers_in_run}
 use Rattle.fr_scenario.specs.RunContents.{Planned, planned, lines_at, lines_in_run, script_in_run, scripts_in_run}
 use Rattle.fr_slots.specs.Plans.{Each}
 
@@ -132,6 +135,45 @@ module _ (only : ℕ) where
         rw less (sym (count_in cycles 0 (omega arith) (omega (arith, low))))
     | inr more ↦ let high = ltb-false only cycles more in rw more (sym (count_after cycles 0 (omega (arith, high))))
   ]
+
+-- ---- the statements of all lines, counted
+
+pub lines_counted : {X : Type 0} (f : X → List Statement) (xs : List X)
+    → sum_by (λ line. length line) (map f xs) ≡ sum_by (λ x. length (f x)) xs
+lines_counted f [] = refl
+lines_counted f (x ∷ xs) =
+    sum_by-cons (λ line. length line) (f x) (map f xs)
+    ∙ ap (λ (n : ℕ). length (f x) + n) (lines_counted f xs)
+    ∙ sym (sum_by-cons (λ y. length (f y)) x xs)
+
+-- ---- one line more
+
+-- the line of this place, of which the statements are these
+pub line_here : {X : Type 0} (f : X → List Statement) (xs : List X) (n : ℕ) (x : X) (line : List Statement)
+    → slice_get xs n ≡ Some x → line ≡ f x → map f (drop n xs) ≡ line ∷ map f (drop (n + 1) xs)
+line_here f xs n x line is same =
+    ap (map f) (here xs n x is).left ∙ ap (λ (l : List Statement). l ∷ map f (drop (n + 1) xs)) (sym same)
+
+pub faults_more : (cycles : ℕ) (line : List Statement) (left lines : List (List Statement))
+    (old new all : List FaultLine)
+    → lines ≡ line ∷ left → new ≡ old ++ faults_on_line cycles line → old ++ faults_in_run cycles lines ≡ all
+    → new ++ faults_in_run cycles left ≡ all
+faults_more cycles line left lines old new all here more so_far =
+    ap (λ (fs : List FaultLine). fs ++ faults_in_run cycles left) more
+    ∙ append_assoc old (faults_on_line cycles line) (faults_in_run cycles left)
+    ∙ ap (λ (ls : List (List Statement)). old ++ faults_in_run cycles ls) (sym here)
+    ∙ so_far
+
+pub numbers_more : (cycles n next : ℕ) (line : List Statement) (left lines : List (List Statement))
+    (old new all : List ℕ) → next ≡ n + 1 → lines ≡ line ∷ left
+    → new ≡ old ++ map (λ f. n) (faults_on_line cycles line) → old ++ numbers_in_run cycles n lines ≡ all
+    → new ++ numbers_in_run cycles next left ≡ all
+numbers_more cycles n next line left lines old new all is here more so_far =
+    ap (λ (k : ℕ). new ++ numbers_in_run cycles k left) is
+    ∙ ap (λ (ns : List ℕ). ns ++ numbers_in_run cycles (n + 1) left) more
+    ∙ append_assoc old (map (λ f. n) (faults_on_line cycles line)) (numbers_in_run cycles (n + 1) left)
+    ∙ ap (λ (ls : List (List Statement)). old ++ numbers_in_run cycles n ls) (sym here)
+    ∙ so_far
 
 -- ---- no line has an answer
 

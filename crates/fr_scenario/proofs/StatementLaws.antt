@@ -4,6 +4,7 @@ use Rattle.std.proofs.Common.{[], ◌∷◌, ◌++◌, codes, length, get_or, Op
 use Rattle.std.proofs.Common.{append_assoc, length-append, subst}
 use Rattle.std.proofs.lemmas.Bool.{cases_Bool, le-leb, or_parts}
 use Rattle.std.proofs.lemmas.Bool.Decides.{nat_tests}
+use Rattle.std.proofs.lemmas.List.{append-nil}
 use Rattle.std.proofs.lemmas.Fmt.{decimal_by_steps, digits_decimal}
 use Rattle.std.proofs.lemmas.Str.Parse.{digit_from_value}
 use Rattle.std.specs.Fmt.{decimal}
@@ -26,13 +27,16 @@ use Rattle.fr_runs.specs.declared.fault_line.FaultLine.{FaultLine}
 use Rattle.fr_runs.specs.declared.fault_line.FaultPlace.{FaultPlace}
 use Rattle.fr_runs.specs.declared.fault_line.FaultPlace.TheVariants.{EveryWindow, EverySlot, Slot, Slots}
 use Rattle.fr_runs.specs.declared.fault_line.FaultPlace.TheVariants.{EveryMinislot, Minislot, Dynamic}
+use Rattle.fr_scenario.proofs.ListLemmas.{line_chosen}
 use Rattle.fr_scenario.proofs.PartedLemmas.{lacks, lacks-append, parted_none, parted_here, words_again, IsBare, AreBare}
-use Rattle.fr_scenario.proofs.PartedLemmas.{is_bare_not}
+use Rattle.fr_scenario.proofs.PartedLemmas.{is_bare_not, only_element}
 use Rattle.fr_scenario.proofs.PartLemmas.{counted_again, run_cycle_again}
 use Rattle.fr_scenario.specs.BlankWords.{has_bytes}
+use Rattle.fr_scenario.specs.Choosing.{alone, chosen_said, each_chosen, joined, onto}
 use Rattle.fr_scenario.specs.declared.statement.Statement.{Statement}
 use Rattle.fr_scenario.specs.declared.statement.Statement.TheVariants as statement
 use Rattle.fr_scenario.specs.declared.version.Version.TheVariants.{Two}
+use Rattle.fr_scenario.specs.Lists.{few, line_said, line_statements}
 use Rattle.fr_scenario.specs.Parts.{star, channel_word, cycles_word, place_word}
 use Rattle.fr_scenario.specs.Spelled.{AreSaidCycles, IsCounted, IsRunCycle, IsSaidPlace, IsSpelledCall, IsSpelledFault}
 use Rattle.fr_scenario.specs.Spelling.{kind_word, call_words}
@@ -45,7 +49,7 @@ use Rattle.fr_scenario.specs.Statements.{expect_said, expect_none_said, fault_at
 use Rattle.fr_scenario.specs.StatementText.{AreSaidCalls, AreSaidFaultLines, IsSaidExpectation, IsSaid, on_channel}
 use Rattle.fr_scenario.specs.StatementText.{channel_of}
 use Rattle.fr_scenario.specs.StatementText.{fault_words_on, fault_words_of, expected_words, statement_words}
-use Rattle.fr_scenario.specs.StatementText.{statement_text}
+use Rattle.fr_scenario.specs.StatementText.{said_alone, statement_text}
 use Rattle.fr_slots.specs.declared.channel.Channel.{Channel}
 use Rattle.fr_slots.specs.declared.channel.Channel.TheVariants.{A, B}
 use Rattle.fr_slots.specs.declared.channel.Channels.{Channels}
@@ -530,3 +534,62 @@ fault_line_again names channels fault y p fits cycles place =
     (words_again (fault_words_on (channels_word channels) (cycles_word y) (place_word p) fault)
     (bare_fault (channels_word channels) y p (bare_channels channels) cycles place fault fits))
     ∙ fault_again_of names channels fault y p fits cycles place
+
+-- ---- the lines for which a line stands
+
+joined_end : (o : Option (List Statement)) → joined o (Some []) ≡ o
+joined_end None = refl
+joined_end (Some statements) = ap Some (append-nil statements)
+
+-- words without commas are one line
+alone_chosen : (names : List NamesOfNode) (words chosen : List (List ℕ)) → AreBare words
+    → chosen_said names chosen words ≡ alone (statement_said names (chosen ++ words))
+alone_chosen names [] chosen bare =
+    ap (λ (ws : List (List ℕ)). alone (statement_said names ws)) (sym (append-nil chosen))
+alone_chosen names (word ∷ words) chosen bare =
+    let said : List ℕ → Option (List Statement) = λ element. chosen_said names (chosen ++ element ∷ []) words in
+    ap (each_chosen said) (only_element word bare.0)
+    ∙ joined_end (said word)
+    ∙ alone_chosen names words (chosen ++ word ∷ []) bare.1
+    ∙ ap (λ (ws : List (List ℕ)). alone (statement_said names ws)) (append_assoc chosen (word ∷ []) words)
+
+one_line : (names : List NamesOfNode) (words : List (List ℕ)) (s : Statement) → AreBare words → 0 < length words
+    → statement_said names words ≡ Some s → line_said names words ≡ Some (s ∷ [])
+one_line names [] s bare some said = absurd (omega arith)
+one_line names (kind ∷ words) s bare some said =
+    sym (line_chosen names kind words)
+    ∙ ap (λ (o : Option (List Statement)). few (onto [] o))
+    (alone_chosen names words (kind ∷ []) bare.1 ∙ ap alone said)
+
+some_fault : (channels cycles place : List ℕ) (fault : Fault) → 0 < length (fault_words_on channels cycles place fault)
+some_fault channels cycles place (Babble n c bytes) = omega arith
+some_fault channels cycles place (Mute n c) = omega arith
+some_fault channels cycles place (Corrupt c bit) = omega arith
+
+some_expected : (n : ℕ) (y : RunCycles) (b : ℕ) (p : Option (List ℕ)) → 0 < length (expected_words n y b p)
+some_expected n y b (Some p) = omega arith
+some_expected n y b None = omega arith
+
+line_alone : (names : List NamesOfNode) (s : Statement) → IsSaid s
+    → line_said names (statement_words s) ≡ Some (said_alone s)
+line_alone names statement.Nothing fits = refl
+line_alone names (statement.Calls n t y call) fits =
+    let s = statement.Calls n t y call in
+    one_line names (statement_words s) s (bare_words s fits) (omega arith) (said_again names s fits)
+line_alone names (statement.Fault f) fits =
+    let s = statement.Fault f in
+    let some = some_fault (channel_word (channel_of f.fault)) (cycles_word f.cycles) (place_word f.place) f.fault in
+    one_line names (statement_words s) s (bare_words s fits) some (said_again names s fits)
+line_alone names (statement.Faults a b) fits =
+    let s = statement.Faults a b in
+    let some = some_fault (codes "AB") (cycles_word a.cycles) (place_word a.place) a.fault in
+    one_line names (statement_words s) s (bare_words s fits) some (said_again names s fits)
+line_alone names (statement.Expected n y b p) fits =
+    let s = statement.Expected n y b p in
+    one_line names (statement_words s) s (bare_words s fits) (some_expected n y b p) (said_again names s fits)
+
+-- The spelling of a value stands for its statement alone.
+pub line_again : (names : List NamesOfNode) (s : Statement) → IsSaid s
+    → line_statements names (statement_text s) ≡ Some (said_alone s)
+line_again names s fits =
+    ap (line_said names) (words_again (statement_words s) (bare_words s fits)) ∙ line_alone names s fits

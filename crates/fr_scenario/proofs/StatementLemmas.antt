@@ -1,19 +1,15 @@
 -- The lines of a text of version 3, as they are read one after another.
-use Rattle.std.proofs.Common.{◌≡◌, ℕ, ◌+◌, ◌≤◌, ◌<◌, true, false, inl, inr, List, [], ◌∷◌, ◌++◌, length, drop}
-use Rattle.std.proofs.Common.{Option, Some, None, Ok, Err, refl, sym, ap, ◌∙◌, arith, append_assoc, codes}
+use Rattle.std.proofs.Common.{◌≡◌, ℕ, ◌<◌, false, inl, inr, List, [], ◌∷◌, ◌++◌, length}
+use Rattle.std.proofs.Common.{Option, Some, None, Ok, Err, refl, ap, arith, append_assoc, codes}
 use Rattle.std.proofs.lemmas.Bool.{cases_Bool}
-use Rattle.std.proofs.lemmas.List.{append-nil}
 use Rattle.std.specs.Str.{bytes_eq}
 use Rattle.fr_names.specs.Names.{NamesOfNode}
-use Rattle.fr_scenario.proofs.CutLemmas.{read_next}
-use Rattle.fr_scenario.specs.BlankWords.{blank_words}
-use Rattle.fr_scenario.specs.declared.error.ScenarioError.TheVariants.{BadLine}
 use Rattle.fr_interface.specs.declared.call.Call.{Call}
 use Rattle.fr_scenario.specs.declared.statement.Statement.{Statement}
 use Rattle.fr_scenario.specs.declared.statement.Statement.TheVariants.{Calls}
 use Rattle.fr_scenario.specs.StatementParts.{node_said, cycles_said}
-use Rattle.fr_scenario.specs.Reading.{ReadOf, next_line, is_at_end, put_before, read_from, whole_line}
-use Rattle.fr_scenario.specs.Statements.{are_end, is_last, statement_said, statement_in, calls_said, call_said}
+use Rattle.fr_scenario.specs.Reading.{ReadOf, put_before}
+use Rattle.fr_scenario.specs.Statements.{are_end, statement_said, calls_said, call_said}
 use Rattle.fr_scenario.specs.Statements.{babble_said, mute_said, corrupt_said, lost_said, expect_said}
 use Rattle.fr_scenario.specs.Statements.{expect_none_said, other_said, commit_said, withdraw_said}
 use Rattle.fr_scenario.specs.Statements.{read_said, pop_said}
@@ -21,15 +17,15 @@ use Rattle.fr_text.specs.Reading.{◌>>=◌, number_in}
 
 -- ---- statements that are kept, with those that follow
 
-abbrev pub put_all : List Statement → ReadOf Statement → ReadOf Statement
+abbrev pub put_all : {V : Type 0} → List V → ReadOf V → ReadOf V
 put_all before (Ok after) = Ok (before ++ after)
 put_all before (Err e) = Err e
 
-pub put_none : (r : ReadOf Statement) → put_all [] r ≡ r
+pub put_none : {V : Type 0} (r : ReadOf V) → put_all [] r ≡ r
 put_none (Ok after) = refl
 put_none (Err e) = refl
 
-put_one : (before : List Statement) (one : Statement) (r : ReadOf Statement)
+pub put_one : {V : Type 0} (before : List V) (one : V) (r : ReadOf V)
     → put_all (before ++ one ∷ []) r ≡ put_all before (put_before one r)
 put_one before one (Ok after) = ap Ok (append_assoc before (one ∷ []) after)
 put_one before one (Err e) = refl
@@ -122,44 +118,3 @@ pub many_not_end : (words : List (List ℕ)) → 6 < length words → are_end wo
 many_not_end [] many = refl
 many_not_end (k ∷ []) many = absurd (omega arith)
 many_not_end (k ∷ a ∷ more) many = refl
-
--- ---- one line
-
-module _ (names : List NamesOfNode) (before : List Statement) (n : ℕ) (lines : List (List ℕ)) (line : List ℕ)
-    (few : n ≤ 4096) (next : next_line n lines ≡ Ok line) where
-  abbrev after : ReadOf Statement
-  after = read_from is_last (statement_in names) (n + 1) (drop 1 lines)
-
-  here : read_from is_last (statement_in names) n lines
-      ≡ whole_line is_last (statement_in names) n line (drop 1 lines) after
-  here = read_next is_last (statement_in names) n lines line few next
-
-  -- the last line, at the end of the text
-  pub ended : are_end (blank_words line) ≡ true → is_at_end (drop 1 lines) ≡ true
-      → put_all before (read_from is_last (statement_in names) n lines) ≡ Ok before
-  ended last empty =
-      let is : read_from is_last (statement_in names) n lines ≡ Ok [] = here ∙ rw (last, empty) refl in
-      ap (put_all before) is ∙ ap Ok (append-nil before)
-
-  -- the last line, and bytes after it
-  pub more_follows : are_end (blank_words line) ≡ true → is_at_end (drop 1 lines) ≡ false
-      → put_all before (read_from is_last (statement_in names) n lines) ≡ Err (BadLine (n + 1))
-  more_follows last more =
-      let is : read_from is_last (statement_in names) n lines ≡ Err (BadLine (n + 1)) = here ∙ rw (last, more) refl in
-      ap (put_all before) is
-
-  -- another line without a statement
-  pub nothing_said : are_end (blank_words line) ≡ false → statement_said names (blank_words line) ≡ None
-      → put_all before (read_from is_last (statement_in names) n lines) ≡ Err (BadLine n)
-  nothing_said other none =
-      let is : read_from is_last (statement_in names) n lines ≡ Err (BadLine n) = here ∙ rw (other, none) refl in
-      ap (put_all before) is
-
-  -- another line with a statement
-  pub one_said : (one : Statement) → are_end (blank_words line) ≡ false
-      → statement_said names (blank_words line) ≡ Some one
-      → put_all (before ++ one ∷ []) after ≡ put_all before (read_from is_last (statement_in names) n lines)
-  one_said one other some =
-      let is : read_from is_last (statement_in names) n lines ≡ put_before one after =
-      here ∙ rw (other, some) refl in
-      put_one before one after ∙ sym (ap (put_all before) is)

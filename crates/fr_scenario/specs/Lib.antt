@@ -10,6 +10,8 @@ pub mod BlankWords
 pub mod StatementParts
 pub mod Statements
 pub mod StatementText
+pub mod Lists
+pub mod Choosing
 pub mod FaultLines
 pub mod RunContents
 pub mod RunCalls

@@ -14,9 +14,10 @@ use Rattle.fr_scenario.specs.declared.statement.Statement.{Statement}
 use Rattle.fr_scenario.specs.declared.version.Version.{Version}
 use Rattle.fr_scenario.specs.declared.version.Version.TheVariants.{One, Two}
 use Rattle.fr_scenario.specs.LineReading.{line_in}
+use Rattle.fr_scenario.specs.Lists.{line_statements}
 use Rattle.fr_scenario.specs.RunContents.{with_run_contents}
 use Rattle.fr_scenario.specs.ScenarioText.{first_line, most_lines}
-use Rattle.fr_scenario.specs.Statements.{statement_in, is_last}
+use Rattle.fr_scenario.specs.Statements.{is_last}
 use Rattle.fr_text.specs.Plain.{is_feed}
 use Rattle.fr_text.specs.Spaces.{words_of}
 
@@ -132,9 +133,9 @@ first_of_new = codes "frscenario 3" ++ line_feed
 abbrev pub is_new : List ℕ → Bool
 is_new text = bytes_eq (take 13 text) first_of_new
 
--- the statements after the first line
-abbrev pub statements_in : List NamesOfNode → List ℕ → ReadOf Statement
-statements_in names text = read_from is_last (statement_in names) 2 (lines_in text)
+-- the statements of each line after the first one
+abbrev pub statements_in : List NamesOfNode → List ℕ → ReadOf (List Statement)
+statements_in names text = read_from is_last (line_statements names) 2 (lines_in text)
 
 -- the first line is that of version 3
 abbrev pub new_scenario_in : List NamesOfNode → ℕ → List ℕ → Result Contents ScenarioError

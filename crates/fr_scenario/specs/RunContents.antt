@@ -1,7 +1,8 @@
--- The contents of a scenario of version 3 in a run of so many cycles.
-use Rattle.std.specs.Prelude.{ℕ, ◌+◌, ◌==◌, ◌&&◌, not, Bool, false, nat_lt, List, [], ◌∷◌, ◌++◌, map, count_by}
-use Rattle.std.specs.Prelude.{None, Result, Ok, Err, if◌then◌else◌}
-use Rattle.std.specs.List.{flat_map, range_with_len, sum_by}
+-- The contents of a scenario of version 3 in a run of so many cycles. A line has the statements of the lines for which
+-- it stands.
+use Rattle.std.specs.Prelude.{ℕ, ◌+◌, ◌==◌, ◌&&◌, not, Bool, false, nat_lt, List, [], ◌∷◌, ◌++◌, length, map}
+use Rattle.std.specs.Prelude.{count_by, None, Result, Ok, Err, if◌then◌else◌}
+use Rattle.std.specs.List.{flat_map, list_all, range_with_len, sum_by}
 use Rattle.fr_core.specs.declared.script.Line.{Line}
 use Rattle.fr_core.specs.Scripts.{Scripted}
 use Rattle.fr_expecting.specs.declared.expectation.Expectation.{Expectation}
@@ -13,9 +14,10 @@ use Rattle.fr_runs.specs.Striking.{line_within}
 use Rattle.fr_runs.specs.Suiting.{has_cycle}
 use Rattle.fr_scenario.specs.Contents.{Contents, script_of, node_at, task_at, task_count}
 use Rattle.fr_scenario.specs.declared.error.ScenarioError.{ScenarioError}
-use Rattle.fr_scenario.specs.declared.error.ScenarioError.TheVariants.{TooManyCalls}
+use Rattle.fr_scenario.specs.declared.error.ScenarioError.TheVariants.{TooManyLines, TooManyCalls}
 use Rattle.fr_scenario.specs.declared.statement.Statement.{Statement}
 use Rattle.fr_scenario.specs.declared.statement.Statement.TheVariants.{Nothing, Calls, Fault, Faults, Expected}
+use Rattle.fr_scenario.specs.ScenarioText.{most_lines}
 
 -- ---- the calls of a task
 
@@ -93,21 +95,30 @@ abbrev pub faults_left : ℕ → Statement → List FaultLine
 faults_left cycles statement =
     if is_skipped cycles statement then [] else map (line_within cycles) (faults_of statement)
 
-abbrev pub faults_in_run : ℕ → List Statement → List FaultLine
-faults_in_run cycles statements = flat_map (faults_left cycles) statements
+-- those of a line
+abbrev pub faults_on_line : ℕ → List Statement → List FaultLine
+faults_on_line cycles line = flat_map (faults_left cycles) line
 
--- the number of each fault line, if the first of these lines has number n
-abbrev pub numbers_in_run : ℕ → ℕ → List Statement → List ℕ
+abbrev pub faults_in_run : ℕ → List (List Statement) → List FaultLine
+faults_in_run cycles lines = flat_map (faults_on_line cycles) lines
+
+-- the number of the line of each fault line, if the first of these lines has number n
+abbrev pub numbers_in_run : ℕ → ℕ → List (List Statement) → List ℕ
 numbers_in_run cycles n [] = []
-numbers_in_run cycles n (statement ∷ statements) =
-    map (λ f. n) (faults_left cycles statement) ++ numbers_in_run cycles (n + 1) statements
+numbers_in_run cycles n (line ∷ lines) =
+    map (λ f. n) (faults_on_line cycles line) ++ numbers_in_run cycles (n + 1) lines
+
+-- the line has statements, and each is skipped
+abbrev pub is_line_skipped : ℕ → List Statement → Bool
+is_line_skipped cycles [] = false
+is_line_skipped cycles (statement ∷ statements) = list_all (is_skipped cycles) (statement ∷ statements)
 
 -- the numbers of the lines that are skipped, if the first of these lines has number n
-abbrev pub skipped_in_run : ℕ → ℕ → List Statement → List ℕ
+abbrev pub skipped_in_run : ℕ → ℕ → List (List Statement) → List ℕ
 skipped_in_run cycles n [] = []
-skipped_in_run cycles n (statement ∷ statements) =
-    if is_skipped cycles statement then n ∷ skipped_in_run cycles (n + 1) statements
-    else skipped_in_run cycles (n + 1) statements
+skipped_in_run cycles n (line ∷ lines) =
+    if is_line_skipped cycles line then n ∷ skipped_in_run cycles (n + 1) lines
+    else skipped_in_run cycles (n + 1) lines
 
 -- ---- expectations
 
@@ -123,25 +134,41 @@ expected_of n (Expected node cycles buffer payload) =
 abbrev pub expected_left : ℕ → ℕ → Statement → List Expectation
 expected_left cycles n statement = if is_skipped cycles statement then [] else expected_of n statement
 
+-- those of a line
+abbrev pub expected_on_line : ℕ → ℕ → List Statement → List Expectation
+expected_on_line cycles n line = flat_map (expected_left cycles n) line
+
 -- those of all lines, if the first of these lines has number n
-abbrev pub expected_in_run : ℕ → ℕ → List Statement → List Expectation
+abbrev pub expected_in_run : ℕ → ℕ → List (List Statement) → List Expectation
 expected_in_run cycles n [] = []
-expected_in_run cycles n (statement ∷ statements) =
-    expected_left cycles n statement ++ expected_in_run cycles (n + 1) statements
+expected_in_run cycles n (line ∷ lines) = expected_on_line cycles n line ++ expected_in_run cycles (n + 1) lines
 
 -- ---- the contents
 
-abbrev pub run_contents : ℕ → List Statement → Contents
-run_contents cycles statements = record {
-  scripts = scripts_in_run cycles statements;
-  faults = faults_in_run cycles statements;
-  numbers = numbers_in_run cycles 2 statements;
-  skipped = skipped_in_run cycles 2 statements;
-  expected = expected_in_run cycles 2 statements;
+-- the statements of all lines
+abbrev pub statements_of : List (List Statement) → List Statement
+statements_of lines = flat_map (λ line. line) lines
+
+abbrev pub run_contents : ℕ → List (List Statement) → Contents
+run_contents cycles lines = record {
+  scripts = scripts_in_run cycles (statements_of lines);
+  faults = faults_in_run cycles lines;
+  numbers = numbers_in_run cycles 2 lines;
+  skipped = skipped_in_run cycles 2 lines;
+  expected = expected_in_run cycles 2 lines;
 }
 
--- too many calls are refused once all lines are read
-abbrev pub with_run_contents : ℕ → Result (List Statement) ScenarioError → Result Contents ScenarioError
+-- each statement counts as a line, and so do the first and the last line
+abbrev pub has_too_many_lines : List (List Statement) → Bool
+has_too_many_lines lines = nat_lt most_lines (sum_by (λ line. length line) lines + 2)
+
+abbrev pub has_too_many_calls : ℕ → List (List Statement) → Bool
+has_too_many_calls cycles lines = nat_lt most_calls (calls_in_run cycles (statements_of lines))
+
+-- too many lines and too many calls are refused once all lines are read
+abbrev pub with_run_contents : ℕ → Result (List (List Statement)) ScenarioError → Result Contents ScenarioError
 with_run_contents cycles (Err e) = Err e
-with_run_contents cycles (Ok statements) =
-    if nat_lt most_calls (calls_in_run cycles statements) then Err TooManyCalls else Ok (run_contents cycles statements)
+with_run_contents cycles (Ok lines) =
+    if has_too_many_lines lines then Err TooManyLines
+    else if has_too_many_calls cycles lines then Err TooManyCalls
+    else Ok (run_contents cycles lines)

@@ -92,3 +92,11 @@ statement_words (statement.Expected node cycles buffer payload) = expected_words
 -- the line, without its line feed
 abbrev pub statement_text : Statement → List ℕ
 statement_text s = line_of (statement_words s)
+
+-- a line stands for this statement alone, or for none
+abbrev pub said_alone : Statement → List Statement
+said_alone statement.Nothing = []
+said_alone (statement.Calls node task cycles call) = statement.Calls node task cycles call ∷ []
+said_alone (statement.Fault f) = statement.Fault f ∷ []
+said_alone (statement.Faults a b) = statement.Faults a b ∷ []
+said_alone (statement.Expected node cycles buffer payload) = statement.Expected node cycles buffer payload ∷ []

@@ -14,9 +14,11 @@ pub enum ScenarioError {
     BadMagic,
     /// The line has no form of the version, a number out of its range, a name that can't be used, or too many bytes.
     ///
-    /// It may have 1200 bytes before its line feed. Any byte after the last line also gives this error.
+    /// It may have 1200 bytes before its line feed. Any byte after the last line also gives this error, and so does a
+    /// line with lists that stands for more than 64 lines.
     BadLine(u32),
-    /// Line 4097 begins, and no line before it is the last one.
+    /// Line 4097 begins, and no line before it is the last one. Or the lines of a text of version 3 stand for more than
+    /// 4,096 lines.
     TooManyLines,
     /// The text ends before the line feed of its last line.
     Truncated,

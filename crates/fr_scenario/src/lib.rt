@@ -20,15 +20,16 @@
 //! - `AnyText`, `Reading`: the texts of a scenario, of any version; the first fault of a text.
 //! - `Contents`, `ScenarioText`, `Spelling`, `Parts`, `Spelled`, `LineReading`, `CallReading`, `PartReading`: in
 //!   versions 1 and 2, the contents of a scenario, with the number of each fault line; its text and lines.
-//! - `BlankWords`, `Statements`, `StatementParts`, `FaultLines`, `RunContents`: in version 3, the words of a line, and
-//!   what they say; the fault lines of one line; the contents in a run of so many cycles. `Parts` and `Spelled` also
-//!   have the cycles and places of version 3.
+//! - `BlankWords`, `Statements`, `StatementParts`, `Lists`, `FaultLines`, `RunContents`: in version 3, the words of a
+//!   line, and what they say; the lines for which a line with lists stands; the fault lines of one line; the contents
+//!   in a run of so many cycles. `Parts` and `Spelled` also have the cycles and places of version 3.
 //! - `StatementText`: the values in the ranges of version 3, and one spelling of each.
 //! - `ErrorNames`: the printed text of an error.
 //!
 //! Modules that follow the steps of the code, for private functions, with the module that has the meaning:
 //!
 //! - `Gathering`: the contents of the lines so far. Meaning: `Contents`, `ScenarioText`.
+//! - `Choosing`: the statements of a line with lists, element by element. Meaning: `Lists`.
 //! - `RunCalls`: the statements that make the calls of each cycle, and the lines of each task. Meaning: `RunContents`.
 //!
 //! # Inner workings
@@ -41,8 +42,10 @@ pub mod calls;
 pub mod error;
 pub mod fault_lines;
 mod gathered;
+pub mod laws;
 mod left;
 mod lines;
+mod lists;
 mod parts;
 mod run_calls;
 mod run_contents;

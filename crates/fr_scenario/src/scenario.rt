@@ -1,5 +1,5 @@
 //! A scenario, and the text that spells it.
-ghost use Rattle.std.specs.Prelude.{◌≡◌, ◌++◌, ◌≤◌, None, Ok, Err, IfOk, IfErr, IfSome, length};
+ghost use Rattle.std.specs.Prelude.{◌≡◌, ◌++◌, ◌≤◌, None, Ok, Err, IfOk, IfErr, IfSome, length, map};
 ghost use Rattle.fr_scenario.specs.declared.error.ScenarioError.TheVariants as error;
 ghost use Rattle.fr_scenario.specs.Gathering.{none_yet, kept_from};
 ghost use Rattle.fr_scenario.specs.Reading.{lines_in, read_text, statements_in, told_from};
@@ -11,10 +11,14 @@ use crate::error::ScenarioError;
 use crate::gathered::Gathered;
 use crate::left::{LAST_LINE, Left};
 use crate::lines::line_of;
+use crate::lists::statements_of_line;
 use crate::run_calls::scripts_in_run;
-use crate::run_contents::{expected_in_run, faults_in_run, has_too_many_calls, skipped_in_run};
+use crate::run_contents::{
+    expected_in_run, faults_in_run, has_too_many_calls, has_too_many_lines, skipped_in_run,
+    statements_of,
+};
 use crate::statement::Statement;
-use crate::statements::{are_end, statement_of};
+use crate::statements::are_end;
 use crate::version::Version;
 use fr_core::script::Script;
 use fr_expecting::expectation::Expectation;
@@ -87,13 +91,18 @@ fn body_of(alloc: Global, version: Version, text: &[u8]) -> Result<Gathered, Sce
     }
 }
 
-/// Returns the statements of version 3 after the first line.
-fn statements_of(alloc: Global, names: &Names, text: &[u8]) -> Result<Vec<Statement>, ScenarioError>
-    ensures found { IfOk result (λ statements. statements_in names.now text.now ≡ Ok statements.items) }
-    ensures few { IfOk result (λ statements. length statements.items ≤ most_lines) }
+/// Returns the statements of each line of version 3 after the first one.
+fn statements_in(
+    alloc: Global,
+    names: &Names,
+    text: &[u8],
+) -> Result<Vec<Vec<Statement>>, ScenarioError>
+    ensures found { IfOk result
+        (λ lines. statements_in names.now text.now ≡ Ok (map (λ line. line.items) lines.items)) }
+    ensures few { IfOk result (λ lines. length lines.items ≤ most_lines) }
     ensures refused { IfErr result (λ e. ¬ (e ≡ error.Memory) → statements_in names.now text.now ≡ Err e) }
 {
-    let mut statements = Vec::new(alloc);
+    let mut lines = Vec::new(alloc);
     let mut left = Left::new(text);
     for number in 2..LAST_LINE + 1 {
         let line = left.next_line(number)?;
@@ -102,15 +111,15 @@ fn statements_of(alloc: Global, names: &Names, text: &[u8]) -> Result<Vec<Statem
         };
         if are_end(words.as_slice()) {
             return if left.is_empty() {
-                Ok(statements)
+                Ok(lines)
             } else {
                 Err(ScenarioError::BadLine(number + 1))
             };
         }
-        let Some(statement) = statement_of(names, words.as_slice()) else {
+        let Some(said) = statements_of_line(alloc, names, words.as_slice())? else {
             return Err(ScenarioError::BadLine(number));
         };
-        if statements.push(statement).is_err() {
+        if lines.push(said).is_err() {
             return Err(ScenarioError::Memory);
         }
     }
@@ -123,14 +132,14 @@ fn statements_of(alloc: Global, names: &Names, text: &[u8]) -> Result<Vec<Statem
 }
 
 impl Scenario {
-    ghost use Rattle.std.specs.Prelude.{◌≡◌, ◌≤◌, [], Ok, Err, Some, IfOk, IfErr, ◌⊎◌, length};
+    ghost use Rattle.std.specs.Prelude.{◌≡◌, ◌≤◌, [], Ok, Err, Some, IfOk, IfErr, ◌⊎◌, length, map};
     ghost use Rattle.fr_core.specs.Answers.{AreUnanswered};
     ghost use Rattle.fr_names.specs.Names.{NamesOfNode};
     ghost use Rattle.fr_scenario.specs.AnyText.{IsScenarioText};
     ghost use Rattle.fr_scenario.specs.Contents.{Contents};
     ghost use Rattle.fr_scenario.specs.declared.error.ScenarioError.TheVariants as error;
     ghost use Rattle.fr_scenario.specs.Reading.{scenario_in, old_scenario_in, statements_in, first_fault};
-    ghost use Rattle.fr_scenario.specs.RunContents.{with_run_contents, run_contents};
+    ghost use Rattle.fr_scenario.specs.RunContents.{with_run_contents};
     ghost use Rattle.fr_scenario.specs.ScenarioText.{most_lines};
 
     /// Returns the scenario that a text of version 1 or 2 spells.
@@ -151,23 +160,33 @@ impl Scenario {
         })
     }
 
-    /// Returns the scenario of these statements in a run of so many cycles.
-    fn of_statements(
+    /// Returns the scenario of the lines with these statements in a run of so many cycles.
+    fn of_lines(
         alloc: Global,
         cycles: u16,
-        statements: &[Statement],
-    ) -> Result<Scenario, AllocError>
-        requires { length statements.now ≤ most_lines }
-        ensures { IfOk result (λ scenario. scenario ≡ run_contents cycles statements.now) }
+        lines: Vec<Vec<Statement>>,
+    ) -> Result<Scenario, ScenarioError>
+        requires { length lines.items ≤ most_lines }
+        ensures { ¬ (result ≡ Err error.Memory)
+            → result ≡ with_run_contents cycles (Ok (map (λ line. line.items) lines.items)) }
     {
-        let scripts = scripts_in_run(alloc, cycles, statements)?;
-        let (faults, numbers) = faults_in_run(alloc, cycles, statements)?;
+        if has_too_many_lines(lines.as_slice()) {
+            return Err(ScenarioError::TooManyLines);
+        }
+        let skipped = skipped_in_run(alloc, cycles, lines.as_slice())?;
+        let (faults, numbers) = faults_in_run(alloc, cycles, lines.as_slice())?;
+        let expected = expected_in_run(alloc, cycles, lines.as_slice())?;
+        let statements = statements_of(alloc, lines)?;
+        if has_too_many_calls(cycles, statements.as_slice()) {
+            return Err(ScenarioError::TooManyCalls);
+        }
+        let scripts = scripts_in_run(alloc, cycles, statements.as_slice())?;
         Ok(Scenario {
             scripts,
             faults,
             numbers,
-            skipped: skipped_in_run(alloc, cycles, statements)?,
-            expected: expected_in_run(alloc, cycles, statements)?,
+            skipped,
+            expected,
         })
     }
 
@@ -180,12 +199,8 @@ impl Scenario {
     ) -> Result<Scenario, ScenarioError>
         ensures { ¬ (result ≡ Err error.Memory) → result ≡ with_run_contents cycles (statements_in names.now text.now) }
     {
-        let statements = statements_of(alloc, names, text)?;
-        if has_too_many_calls(cycles, statements.as_slice()) {
-            return Err(ScenarioError::TooManyCalls);
-        }
-        let scenario = Scenario::of_statements(alloc, cycles, statements.as_slice())?;
-        Ok(scenario)
+        let lines = statements_in(alloc, names, text)?;
+        Scenario::of_lines(alloc, cycles, lines)
     }
 
     /// Returns the scenario that a text spells.
@@ -237,6 +252,10 @@ impl Scenario {
     /// `m*` for every window of the dynamic segment, and `dN` for the window in which the channel opens the dynamic
     /// slot N; all numbers are 1 to 8000. NODE and BUFFER are numbers, or otherwise names of the cluster.
     ///
+    /// Each word of a line of version 3 after the first may be a list of elements, with commas between them. The line
+    /// then stands for one line for each choice of one element of each list, in the order in which the last list
+    /// varies fastest, and for at most 64 lines. All of them have its number.
+    ///
     /// The calls of a task in version 3 are ordered by cycle, and within a cycle by line. For a call `*` names each of
     /// the given number of cycles. Calls in other cycles are left out, and so are faults that begin in another cycle,
     /// and expectations that name none of these cycles.
@@ -244,10 +263,12 @@ impl Scenario {
     /// Returns the error of the first line at fault:
     /// - `BadMagic` if the first line is another or isn't whole;
     /// - `BadLine` for a line of no form, for a number out of its range, for a name that no node or buffer has alone,
-    ///   for a line that is too long, and for any byte after the last line;
-    /// - `TooManyLines` at the first byte of line 4097, whatever follows;
+    ///   for a line that is too long or stands for too many lines, and for any byte after the last line;
+    /// - `TooManyLines` at the first byte of line 4097, whatever follows; and after all others so far, if a text of
+    ///   version 3 has more than 4,096 lines, each with lists counted as those for which it stands, and those without
+    ///   words left out;
     /// - `Truncated` if the text ends before the line feed of its last line;
-    /// - `TooManyCalls`, after all others, if a text of version 3 has more than 262,144 calls in the run;
+    /// - `TooManyCalls`, after all these, if a text of version 3 has more than 262,144 calls in the run;
     /// - `Memory` if an allocation fails.
     pub fn for_run(
         alloc: Global,

@@ -147,6 +147,18 @@ fn tell_notes<R: Eprint>(rt: &R, notes: &Notes) -> ExitCode {
     ExitCode::from(run_status(notes.missed.len(), 0))
 }
 
+/// Writes a line on standard error for each line of expectations that isn't judged. Those of a line with lists have
+/// one number, and follow one another.
+fn tell_unjudged<R: Eprint>(rt: &R, numbers: &[u32]) {
+    let mut told = None;
+    for number in numbers {
+        if told != Some(*number) {
+            let _ = eprintln!(rt; "line {number} is not judged in a run without history");
+            told = Some(*number);
+        }
+    }
+}
+
 /// Runs the cluster of one file with the scenario of the other, writes the view of the run, and returns the exit
 /// status.
 ///
@@ -200,9 +212,7 @@ fn stream_files<R: Files + Print + Eprint + AllocGlobal + Clock>(
     if cycles > NAMED_CYCLES && notes.calls_last {
         let _ = eprintln!(rt; "no call comes after cycle 1023, the last that a scenario names");
     }
-    for number in &notes.unjudged {
-        let _ = eprintln!(rt; "line {number} is not judged in a run without history");
-    }
+    tell_unjudged(rt, notes.unjudged.as_slice());
     Ok(ExitCode::from(run_status(0, notes.unjudged.len())))
 }
 

@@ -1,6 +1,7 @@
 """Scenarios with comments that say the signals of each payload."""
 from collections.abc import Iterator
 from dataclasses import dataclass, field
+from itertools import groupby
 
 from musmyrtle.cluster import Buffer
 from musmyrtle.scenario import LONGEST_LINE, Scenario
@@ -28,7 +29,11 @@ def annotated(scenario: Scenario, frames: Frames) -> Annotated:
     Nothing else changes. A comment of signals that is there already is replaced, and other comments stay before it.
     """
     found = Annotated(list(scenario.text))
-    for line in with_payloads(scenario):
+    for number, lines in groupby(with_payloads(scenario), key=lambda it: it.number):
+        line, *others = lines
+        if any(content_of(it) != content_of(line) for it in others):
+            found.without.append((number, "its lists have several payloads or buffers"))
+            continue
         try:
             layout = frames.layout_of(buffer_of(frames, line))
         except UnknownSignal as error:
@@ -45,6 +50,11 @@ def with_payloads(scenario: Scenario) -> Iterator[Line]:
     for line in sorted(lines, key=lambda it: it.number):
         if line.kind in PAYLOADS and bytes_of(line.words[-1]) is not None:
             yield line
+
+
+def content_of(line: Line) -> tuple[str, str, str]:
+    """Returns the node, the buffer and the payload of a line."""
+    return line.word("NODE"), line.word("BUFFER"), line.words[-1]
 
 
 def buffer_of(frames: Frames, line: Line) -> Buffer:

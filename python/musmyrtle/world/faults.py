@@ -85,6 +85,9 @@ def fault_line(text: str, names: Names | None = None) -> str:
     if found:
         headline, right, _ = found
         raise ValueError(f"no fault line: {headline}. {right}")
+    if len(words.meant()) > 1:
+        raise ValueError(f"no fault line: `{line[:60]}` has lists. A session takes a fault line for each of the "
+                         f"{len(words.meant())} lines for which it stands")
     if not is_fault_line(line):
         kinds = "`babble`, `mute`, `corrupt` or `lost`"
         raise ValueError(f"no fault line: `{line[:60]}`. It begins with {kinds}")
