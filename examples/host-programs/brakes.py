@@ -16,7 +16,7 @@ from pathlib import Path
 HERE = Path(__file__).resolve().parent
 sys.path.insert(0, str(HERE.parents[1] / "python"))
 
-from musmyrtle import Babble, Channel, Node, Window, World  # noqa: E402
+from musmyrtle import Babble, Channel, Frame, Node, Window, World  # noqa: E402
 
 CYCLE_SECONDS = 0.005
 FULL_DECELERATION = 8.0
@@ -26,13 +26,12 @@ PEDAL_SLOT = 1
 CHANNELS: tuple[Channel, Channel] = ("A", "B")
 
 
-def word_of(value: float, step: float) -> bytes:
-    """Returns a value of so many steps, as a frame's first word; its second is spare."""
-    return round(value / step).to_bytes(2, "big") + bytes(2)
-
-
-def value_of(payload: bytes, step: float) -> float:
-    return int.from_bytes(payload[:2], "big") * step
+def number_of(frame: Frame, name: str) -> float:
+    """Returns a signal of a frame that is a number."""
+    value = frame[name]
+    if not isinstance(value, int | float):
+        raise TypeError(f"{name} is {value!r}, and no number")
+    return value
 
 
 @dataclass
@@ -48,9 +47,9 @@ class Car:
 
 
 def pedal(node: Node, position: float) -> Iterator[None]:
-    """Runs the pedal's host program, which sends its position in each cycle."""
+    """Runs the pedal's host program, which sends its position in percent in each cycle."""
     while True:
-        node["position"].commit(word_of(position, 0.001))
+        node["position"].commit(position=position)
         yield
 
 
@@ -58,14 +57,14 @@ def brake(node: Node, car: Car) -> Iterator[None]:
     """Runs the brake's host program, which brakes by the pedal's last position and sends the speed."""
     while True:
         frame = node["position"].read()
-        car.brake(value_of(frame.payload, 0.001) if frame else 0.0)
-        node["speed"].commit(word_of(car.speed, 0.01))
+        car.brake(number_of(frame, "position") / 100 if frame else 0.0)
+        node["speed"].commit(speed=car.speed)
         yield
 
 
 def drive(world: World) -> Iterator[None]:
     """Runs both host programs, for `musmyrtle faults --host brakes:drive`."""
-    hosts = pedal(world["pedal"], 1.0), brake(world["brake"], Car())
+    hosts = pedal(world["pedal"], 100), brake(world["brake"], Car())
     while True:
         for host in hosts:
             next(host)
@@ -80,7 +79,7 @@ def stopped(cluster: Path, babble: bool, cycles: int = CYCLES) -> Car:
     """Returns the car after so many cycles with the pedal down."""
     car = Car()
     with World(cluster, cycles) as world:
-        hosts = pedal(world["pedal"], 1.0), brake(world["brake"], car)
+        hosts = pedal(world["pedal"], 100), brake(world["brake"], car)
         radio = world["radio"].number
         noise = [Babble(radio, channel, b"\xff") for channel in CHANNELS] if babble else []
         if noise:

@@ -21,8 +21,6 @@ Host = Iterator[object]
 
 CYCLE_SECONDS = 0.005
 CYCLES = 2_000
-SPEED_OFFSET = 100.0
-"""Closing speeds are sent as positive numbers, in metres per second above this."""
 
 
 @dataclass
@@ -46,27 +44,26 @@ class Road:
         self.closest = min(self.closest, self.distance)
 
 
-def measured(road: Road) -> bytes:
-    """Returns a distance in centimetres and a closing speed in centimetres per second, a word each."""
-    closing = road.speed - road.ahead + SPEED_OFFSET
-    return round(road.distance * 100).to_bytes(2, "big") + round(closing * 100).to_bytes(2, "big")
+def number_of(frame: Frame, name: str) -> float:
+    """Returns a signal of a frame that is a number."""
+    value = frame[name]
+    if not isinstance(value, int | float):
+        raise TypeError(f"{name} is {value!r}, and no number")
+    return value
 
 
 def radar(node: Node, road: Road) -> Host:
     """Sends each measurement on both channels. The car ahead brakes from second 4 to second 7."""
     for cycle in range(CYCLES):
-        payload = measured(road)
-        node["distance_a"].commit(payload)
-        node["distance_b"].commit(payload)
+        for name in ("distance_a", "distance_b"):
+            node[name].commit(distance=road.distance, closing_speed=road.speed - road.ahead)
         road.drive(3.0 if 800 <= cycle < 1_400 else 0.0)
         yield every(1)
 
 
 def voted(frames: list[Frame]) -> tuple[float, float] | None:
     """Returns the distance and the closing speed of the frame with the least distance, or None without a frame."""
-    pairs = [(int.from_bytes(frame.payload[:2], "big") / 100, int.from_bytes(frame.payload[2:], "big") / 100)
-             for frame in frames]
-    return min(pairs, default=None)
+    return min(((number_of(it, "distance"), number_of(it, "closing_speed")) for it in frames), default=None)
 
 
 def engine(node: Node, road: Road) -> Host:
@@ -82,10 +79,10 @@ def engine(node: Node, road: Road) -> Host:
         if seen is None:
             road.acceleration = -1.0
         else:
-            distance, closing = seen[0], seen[1] - SPEED_OFFSET
+            distance, closing = seen
             wanted = 5.0 + 1.5 * road.speed
             road.acceleration = max(-4.0, min(1.5, 0.15 * (distance - wanted) - 0.9 * closing))
-        node["speed"].commit(round(road.speed * 100).to_bytes(2, "big") + bytes(2))
+        node["speed"].commit(speed=road.speed)
 
 
 def logger(node: Node, speeds: list[float]) -> Host:
@@ -94,7 +91,7 @@ def logger(node: Node, speeds: list[float]) -> Host:
         yield on_frame(node.number, 0)
         frame = node["speed"].read()
         if frame:
-            speeds.append(int.from_bytes(frame.payload[:2], "big") / 100)
+            speeds.append(number_of(frame, "speed"))
 
 
 def display(road: Road) -> Host:

@@ -1,4 +1,5 @@
-/* The pedal of brakes.toml, in C over two pipes: it tells its position in each cycle, and what the brake told last.
+/* The pedal of brakes.toml, in C over two pipes: it tells its position in each cycle, and what the brake received last.
+   Payloads are bytes here: a position of 10 % is 100 tenths, x0064.
 
        cc -o host host.c && ./host ../../fr_world brakes.toml
 */
