@@ -19,7 +19,9 @@ RECORDING = ["--recording", str(EXAMPLES / "recordings/disturbed.pcap")]
 NO_FOLDER = "no folder for temporary files can be used (/tmp, /var/tmp, /usr/tmp, "
 COMMANDS = (["check", THREE[0]], ["plan", THREE[0]], ["latency", THREE[0]], ["run", *THREE], ["log", *THREE],
             ["commits", *THREE], ["reads", *THREE], ["page", *THREE], ["page", *THREE, "--endless"],
-            ["page", THREE[0], *RECORDING], ["monitor", THREE[0], RECORDING[1]], ["lint", *THREE],
+            ["page", THREE[0], *RECORDING], ["diff", THREE[0], THREE[0]], ["diff", THREE[0], THREE[1], *THREE[1:]],
+            ["diff", "--recordings", THREE[0], RECORDING[1], RECORDING[1]],
+            ["monitor", THREE[0], RECORDING[1]], ["lint", *THREE],
             ["faults", *THREE, "--kinds", "mute"])
 
 

@@ -23,6 +23,8 @@ from musmyrtle.show.tables import Column, Name, Receiver, Receivers, Row, Sectio
 from musmyrtle.version import version
 from tests import judging
 from tests.shows import NETWORK, POP, SCENE, THREE, Shows
+from tests.test_diff_clusters import WHOLE
+from tests.test_diff_runs import SPEEDS, without_records
 from tests.test_visible_output import IN_TOML, SPELLED
 
 TOP = Path(__file__).resolve().parents[2]
@@ -105,6 +107,7 @@ class Keys(Shows):
             *((it, run) for it in ("run", "log", "commits", "reads")),
             ("run", [run[0], missing, "--cycles", "2"]),
             ("decode", [str(TOP / "examples/signals/cluster.toml"), "engine", "data", "x222ef13c"]),
+            *(("diff", it) for it in self.different()),
         ):
             with patch.dict(os.environ, judging.variables(self.folder) if words[1:2] == [missing] else {}):
                 output = self.asked(*command.split(), *words, "--json")[1]
@@ -113,6 +116,21 @@ class Keys(Shows):
                 kind = row.pop("kind")
                 found[command, kind] = list(row)
         self.assertEqual(found, expected)
+
+    def different(self) -> list[list[str]]:
+        """Returns words by which `diff` prints rows of all kinds."""
+        other = WHOLE
+        for old, new in (('"none"', '"A"'), ("first = 3, last = 3", "first = 4, last = 4"), ("words = 16", "words = 11"),
+                         ("latest_a = 7", "latest_a = 6"), ("sync = true", "sync = false"), ("0.01", "0.02"),
+                         ('name = "Force"\nbytes = 2', 'name = "Force"\nbytes = 1')):
+            other = other.replace(old, new)
+        clusters = [self.written("one.toml", WHOLE), self.written("other.toml", other)]
+        expecting = SPEEDS.replace("end\n", "expect dashboard 3 engine x2328f13c00000000\nend\n")
+        scenes = [self.written("a", expecting), self.written("b", expecting.replace("data x2328", "data x2329"))]
+        capture = TOP / "examples/recordings/disturbed.pcap"
+        (self.folder / "short.pcap").write_bytes(without_records(capture.read_bytes(), 2))
+        return [clusters, [str(TOP / "examples/signals/cluster.toml"), *scenes, "--cycles", "4"],
+                ["--recordings", THREE[0], str(capture), str(self.folder / "short.pcap")]]
 
     def test_findings(self) -> None:
         """The place and the reason of the README: `scenario:7:10: refused BadScript 2: the run has no cycle 3`."""
@@ -388,8 +406,8 @@ class Help(Shows):
                 with self.subTest(example):
                     words = example.partition(" > ")[0].replace("examples/", f"{TOP}/examples/").split()
                     words = [str(self.folder / it) if it.endswith(".html") else it for it in words]
-                    # The recording of the examples has a finding.
-                    has_finding = it.name == "monitor" or "--recording" in words
+                    # The recording of the examples has a finding, and its files differ.
+                    has_finding = it.name in ("monitor", "diff") or "--recording" in words
                     self.assertEqual(self.asked(*words)[0], 3 if has_finding else 0)
 
     def test_version(self) -> None:

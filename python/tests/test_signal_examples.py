@@ -1,7 +1,7 @@
 """Tests of the frames that the examples describe: no faults, and payloads of their scenarios that make sense.
 
-The values of the car are worked out by hand: 0x02ee turns a minute are 750, 0xff of the pedal's 255 steps are 100 %,
-0x00fa tenths of a degree are 25, and the letter D, 0x44, is the lever's position for driving.
+The values of the car are worked out by hand: 0x02ee turns a minute are 750. Of the pedal's 255 steps 0xff are 100 %.
+The temperature 0x00fa is 25 degrees in tenths. The letter D, 0x44, is the lever's position for driving.
 """
 import unittest
 from pathlib import Path

@@ -4,6 +4,7 @@ import sys
 from collections.abc import Callable
 from dataclasses import dataclass
 
+import musmyrtle.diff.command
 import musmyrtle.faults.command
 import musmyrtle.faults.options
 import musmyrtle.lint.command
@@ -127,6 +128,8 @@ COMMANDS = (
     Command("encode", signals.ENCODE, signals.ENCODE_EXAMPLES, signals.encode_arguments, signals.encode),
     Command("decode", signals.DECODE, signals.DECODE_EXAMPLES, signals.decode_arguments, signals.decode),
     Command("annotate", signals.ANNOTATE, signals.ANNOTATE_EXAMPLES, signals.annotate_arguments, signals.annotate),
+    Command("diff", musmyrtle.diff.command.PURPOSE, musmyrtle.diff.command.EXAMPLES, musmyrtle.diff.command.arguments,
+            musmyrtle.diff.command.main),
     Command("monitor", monitor.PURPOSE, monitor.EXAMPLES, monitor.arguments, monitor.main),
     Command("page", page.PURPOSE, page.EXAMPLE, page.arguments, page.main),
 )
