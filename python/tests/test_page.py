@@ -14,7 +14,7 @@ from pathlib import Path
 from random import Random
 
 from musmyrtle.program import usual_program
-from musmyrtle.show.page import FILES, SCRIPTS
+from musmyrtle.show.page import FILES, SCRIPTS, SIGNAL_SCRIPTS
 from tests.pages import HERE, SCRIPT, Pages, needs_node, unpacked, view
 from tests.shows import EXAMPLES, FIRST, NETWORK, SCENE, THREE
 from tests.test_visible_output import IN_TOML, SPELLED
@@ -304,8 +304,8 @@ class Page(Pages):
 
     def test_scripts(self) -> None:
         """Lines, functions and files keep the limits, each function has a comment, and nothing ends the script."""
-        self.assertEqual({it.stem for it in FILES.glob("*.js")}, set(SCRIPTS))
-        for name in SCRIPTS:
+        self.assertEqual({it.stem for it in FILES.glob("*.js")}, {*SCRIPTS, *SIGNAL_SCRIPTS})
+        for name in SCRIPTS + SIGNAL_SCRIPTS:
             lines = (FILES / f"{name}.js").read_text(encoding="utf-8").split("\n")
             self.assertLess(len(lines), 800)
             begun = 0
@@ -320,7 +320,7 @@ class Page(Pages):
                         self.assertLess(number - begun, 40)
 
     def test_lines_of_the_other_files(self) -> None:
-        for file in (FILES / "page.html", FILES / "page.css", *sorted(HERE.glob("*.js"))):
+        for file in (*sorted(FILES.glob("*.html")), *sorted(FILES.glob("*.css")), *sorted(HERE.glob("*.js"))):
             for number, line in enumerate(file.read_text(encoding="utf-8").split("\n"), 1):
                 self.assertLessEqual(len(line), 120, f"{file.name}:{number}")
 

@@ -120,8 +120,9 @@ class Keys(Shows):
     def different(self) -> list[list[str]]:
         """Returns words by which `diff` prints rows of all kinds."""
         other = WHOLE
-        for old, new in (('"none"', '"A"'), ("first = 3, last = 3", "first = 4, last = 4"), ("words = 16", "words = 11"),
-                         ("latest_a = 7", "latest_a = 6"), ("sync = true", "sync = false"), ("0.01", "0.02"),
+        for old, new in (('"none"', '"A"'), ("first = 3, last = 3", "first = 4, last = 4"), ("0.01", "0.02"),
+                         ("words = 16", "words = 11"), ("latest_a = 7", "latest_a = 6"),
+                         ("sync = true", "sync = false"),
                          ('name = "Force"\nbytes = 2', 'name = "Force"\nbytes = 1')):
             other = other.replace(old, new)
         clusters = [self.written("one.toml", WHOLE), self.written("other.toml", other)]

@@ -17,6 +17,7 @@ from musmyrtle.show.engines import COMMAND, Awaited, Inputs, opened
 from musmyrtle.show.facts import Facts
 from musmyrtle.show.monitor import MOST_NUMBER, add_judging, explained, has_front, source_of, tell
 from musmyrtle.show.options import CLUSTER, SCENARIO, statuses
+from musmyrtle.show.page_columns import header_in
 from musmyrtle.show.page_data import packed_run
 from musmyrtle.show.page_endless import packed_endless
 from musmyrtle.show.page_recording import packed_recording, range_of, recorded
@@ -27,6 +28,8 @@ FILES = Path(__file__).with_name("page_files")
 SCRIPTS = ("decode", "run", "lines", "cells", "view", "layout", "find", "buffers", "details", "slots", "recording",
            "paint", "panel", "explore")
 """The scripts of the page, each after those that it uses."""
+SIGNAL_SCRIPTS = ("layouts", "series", "plots")
+"""The scripts of a page with signals, after the others."""
 PURPOSE = ("Writes a page in which a run is explored in a browser: what was sent when, what each node received, and\n"
            "what came of each commit. With --recording it is the page of a recording of a real bus, with its findings.")
 EXAMPLE = ("page examples/three-nodes/cluster.toml examples/three-nodes/scenario --cycles 4 > run.html",
@@ -72,9 +75,11 @@ def assembled(data: bytes, title: str) -> str:
 
     Whatever the names in the data hold, the page has of them only the signs of base 64, and the title.
     """
+    has_signals = "signals" in header_in(data)
     parts = {
-        "TITLE": escape(visible(title[:LONGEST_TITLE])), "STYLE": file("page.css"), "SCRIPT": script(SCRIPTS),
-        "DATA": base64.b64encode(zlib.compress(data, 9)).decode("ascii"),
+        "TITLE": escape(visible(title[:LONGEST_TITLE])), "STYLE": file("page.css") + file("plots.css") * has_signals,
+        "SCRIPT": script(SCRIPTS + SIGNAL_SCRIPTS * has_signals), "SIGNALS": file("plots.html") * has_signals,
+        "THEN": ".then(showSignals)" * has_signals, "DATA": base64.b64encode(zlib.compress(data, 9)).decode("ascii"),
     }
     before, *pieces = file("page.html").split("{{")
     made = [before]

@@ -45,6 +45,13 @@ class Contents:
         self.held += held
 
 
+def header_in(data: bytes) -> dict[str, Any]:
+    """Returns the header of a packed text."""
+    size: int = struct.unpack_from("<I", data)[0]
+    header: dict[str, Any] = json.loads(data[4:4 + size])
+    return header
+
+
 class Columns:
     """Columns by name, with their types, in the order in which they were added."""
 

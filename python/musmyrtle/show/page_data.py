@@ -10,6 +10,7 @@ from musmyrtle.show.network import Network
 from musmyrtle.show.page_calls import Answers, add_commits
 from musmyrtle.show.page_columns import Columns
 from musmyrtle.show.page_received import Received
+from musmyrtle.show.page_signals import signals_of
 from musmyrtle.show.page_record import Record
 from musmyrtle.show.page_windows import add_windows
 from musmyrtle.show.received import ERRORS
@@ -66,7 +67,7 @@ def header_of(facts: Facts, outcomes: list[list[str]], idle: list[int], missing:
         "is_endless": bool(missing), "missing": missing,
         "expectations": len(facts.scenario.expectations), "missed": [vars(it) for it in inputs.misses],
         "ends": {**ENDS, "collided": "collided", ARRIVED: "arrived"}, "errors": ERRORS,
-        "marks": OF_ENDS, "seen_marks": OF_SEEN, "counted_marks": OF_COUNTED,
+        "marks": OF_ENDS, "seen_marks": OF_SEEN, "counted_marks": OF_COUNTED, **signals_of(inputs),
     }
 
 

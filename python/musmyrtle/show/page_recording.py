@@ -24,6 +24,7 @@ from musmyrtle.show.network import Network
 from musmyrtle.show.page_columns import NOTHING, Columns, Words
 from musmyrtle.show.page_data import node_of, shown
 from musmyrtle.show.page_received import add_counted, add_nothing_seen
+from musmyrtle.show.page_signals import signals_of
 from musmyrtle.show.page_record import Record
 from musmyrtle.show.page_windows import add_windows
 from musmyrtle.show.recorded import Frame, Note, Recorded
@@ -271,6 +272,7 @@ def header_of(inputs: Inputs, given: argparse.Namespace, bus: Bus, missing: list
         "ends": {ARRIVED: "as due"}, "errors": (), "marks": OF_RECORDS,
         "is_recording": True, "first_cycle": part.cycles.start,
         "findings": [list(it) for it in findings_of(bus)], "unplaced": [unplaced_row(it) for it in part.unplaced],
+        **signals_of(inputs),
     }
 
 

@@ -6,8 +6,8 @@ const path = require("node:path");
 const vm = require("node:vm");
 
 const FILES = path.resolve(__dirname, "../../musmyrtle/show/page_files");
-const LISTED = fs.readFileSync(path.join(FILES, "../page.py"), "utf8").match(/^SCRIPTS = \(([^)]*)\)/m)[1];
-const SCRIPTS = LISTED.match(/[a-z]+/g);
+const LISTED = fs.readFileSync(path.join(FILES, "../page.py"), "utf8").matchAll(/^(?:SIGNAL_)?SCRIPTS = \(([^)]*)\)/gm);
+const SCRIPTS = [...LISTED].flatMap(([, names]) => names.match(/[a-z]+/g));
 
 for (const name of SCRIPTS) {
   const file = path.join(FILES, `${name}.js`);

@@ -37,7 +37,25 @@ function turn(x, delta, shift) {
                              clientX: box.left + Number(x), clientY: box.top});
 }
 
-/** Does one step, as `click nodes pedal`, `find slot 4`, `press n`, `drag 200 300 50` or `turn 200 -100`. */
+/** Does something with the plot of a number: presses a key, points at a time, shows a signal, or sets an age. */
+function plot(number, verb, value) {
+  const {plots} = globalThis;
+  const acts = {
+    press: () => plots.shown[number].press({key: value, preventDefault() {}}),
+    point: () => plots.shown[number].point(Number(value)), show: () => plots.show(Number(value)),
+    hide: () => plots.hide(plots.shown[number]),
+    age: () => {
+      plots.age.value = value;
+      plots.setAge();
+    },
+  };
+  acts[verb]();
+}
+
+/**
+ * Does one step, as `click nodes pedal`, `find slot 4`, `press n`, `drag 200 300 50`, `turn 200 -100` or
+ * `plot 0 press ArrowRight`.
+ */
 function doStep(step) {
   const [verb, where, ...rest] = step.split(" ");
   const text = rest.join(" ");
@@ -50,7 +68,7 @@ function doStep(step) {
   } else if (verb === "press") {
     globalThis.explorer.press({key: where, preventDefault() {}});
   } else {
-    ({drag, turn})[verb](where, ...rest);
+    ({drag, turn, plot})[verb](where, ...rest);
   }
 }
 
@@ -64,6 +82,7 @@ function shownNow() {
     subject: textOf("subject"), nodes: textOf("nodes"), details: textOf("details"), results: textOf("results"),
     status: textOf("status"), inView: textOf("in-view"), errors: textOf("errors"), faults: textOf("faults"),
     missing: textOf("missing"), missed: textOf("missed"),
+    plots: document.getElementById("signals") ? textOf("signals") : "",
     label: document.getElementById("picture").getAttribute("aria-label"),
   };
 }
