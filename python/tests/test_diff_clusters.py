@@ -59,6 +59,12 @@ class TestClusters(Diffs):
             with self.subTest(changes=changes):
                 self.assertEqual(self.found(self.changed(*changes)), [])
 
+    def test_spellings_of_unread_values(self) -> None:
+        old = 'level = [0.5, 1979-05-27T07:32:00Z, -25.0, "a", 1000, {x = inf}]\n'
+        new = "level = [5e-1, 1979-05-27 07:32:00z, -0.250e2, 'a', 0x3e8, {\"x\" = +inf}]\n"
+        self.assertEqual(self.found(f"{new}{WHOLE}", f"{old}{WHOLE}"), [])
+        self.assertTrue(self.found(f"{new}{WHOLE}", f"{old}{WHOLE}".replace("-25.0", "-25.01")))
+
     def test_parameters(self) -> None:
         other = self.changed(('guard = "none"\n', 'level = [1, "a"]\n'), ("nit_mt = 10", "nit_mt = 12"),
                              ("cycle_mt = 100", "cycle_mt = 102"), ("macrotick_us = 2", "macrotick_us = 1"))
@@ -139,6 +145,25 @@ class TestClusters(Diffs):
             {"kind": "node", "node": 1, "node_name": "brake", "change": "order", "key": "numbers of buffers",
              "old": "0,3", "new": "3,0"}])
 
+    def test_pairs_of_buffers_without_names(self) -> None:
+        """Content comes before slot and cycles, and these before numbers."""
+        def rows(new: str, old: str) -> list[tuple[Any, ...]]:
+            return [(it["change"], it.get("buffer"), it.get("key"), it.get("old"), it.get("new"))
+                    for it in self.found(new, old, "node buffer")]
+        bare = WHOLE.replace('{name = "force", kind', "{kind").replace('{name = "unused", kind', "{kind")
+        force, unused = (it for it in bare.splitlines(True) if it.startswith("  {kind"))
+        self.assertEqual(rows(bare.replace("slot = 5", "slot = 6"), bare), [("changed", 3, "slot", 5, 6)])
+        more = '  {kind = "receive", slot = 3, channels = "A"},\n'
+        self.assertEqual(rows(bare.replace(force, more + force.replace("state", "event")), bare), [
+            ("order", None, "numbers of buffers", "0-3", "1-4"), ("changed", 0, "kind", "state", "event"),
+            ("added", 0, None, None, more.strip(" ,\n"))])
+        named = unused.replace("{kind", '{name = "spare", kind')
+        self.assertEqual(rows(bare.replace(unused, named.replace('"B"', '"A"')), bare),
+                         [("changed", 3, "channels", "B", "A"), ("changed", 3, "name", None, "spare")])
+        self.assertEqual(rows(bare.replace(unused, "").replace(force, named + force), bare.replace(
+            "{kind = \"receive\", slot = 5", "{name = \"unused\", kind = \"receive\", slot = 5")), [
+            ("order", None, "numbers of buffers", "0-2,3", "1-3,0"), ("renamed", 3, "name", "unused", "spare")])
+
     def test_frames_and_signals(self) -> None:
         page, more = '  {name = "page", bit = 8, bits = 4},\n', '  {name = "x", bit = 15, bits = 1},\n'
         self.assertEqual(self.found(self.changed(
@@ -177,6 +202,7 @@ class TestClusters(Diffs):
 
     def test_values_that_look_alike(self) -> None:
         for old, new, wanted in (("level = 1", 'level = "1"', ("1", '"1"')), ("level = 1", "level = 1.0", (1, 1.0)),
+                                 ("level = 1", "level = true", (1, True)),
                                  ("level = true", 'level = "true"', (True, "true")),
                                  ("level = 0.1", "level = 0.10000000000000000001", (0.1, "0.10000000000000000001")),
                                  ("level = inf", "level = -inf", ("inf", "-inf"))):
