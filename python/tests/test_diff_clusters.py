@@ -53,7 +53,14 @@ class TestClusters(Diffs):
                 [('guard = "none"', "guard = 'n\\u006fne'".replace("'", '"'))], [("factor = 0.01", 'factor = "1/100"')],
                 [("factor = 0.01", "factor = 1e-2")], [("latest_a = 7", "tasks = 1\nlatest_b = 0x0\nlatest_a = 7")],
                 [('slot = 5, channels = "B"', 'slot = 5, channels = "B", base = 0, repetition = 1')],
-                [('bits = 8, order', 'bits = 8, signed = false, initial = 0, unit = "", order')],
+                [("words = 16", "words = 16, preamble = false")],
+                [('own = [{slot = 2, channels = "AB"}]',
+                  'own = [{slot = 2, channels = "AB", sync = false, startup = false, base = 0, repetition = 1}]')],
+                [('last = 3, channels = "A"', 'last = 3, channels = "A", base = 0, repetition = 1')],
+                [("latest_a = 3", "latest_a = 3\nhost_entries = 256\nslot_entries = 4096")],
+                [('bits = 8, order', 'bits = 8, signed = false, float = false, bytes = false, initial = 0, order')],
+                [('bits = 8, order', 'bits = 8, offset = 0.0, unit = "", update = [], when = {}, order')],
+                [("bit = 8, bits = 4", 'bit = 8, bits = 4, values = {}, order = "little"')],
                 [("macrotick_us = 2", "macrotick_us = 2.0")], [("bytes = 2\nsignal", "unused = 0\nbytes = 2\nsignal")],
                 [("{page = 1}", '{"page" = 0x1}')]):
             with self.subTest(changes=changes):
