@@ -32,10 +32,12 @@ class FrameTables:
     @classmethod
     def of(cls, text: Text) -> "FrameTables":
         """Returns the tables of a cluster file. Raises `BadSignals` if its second file can't be read."""
-        definitions = Definitions.of(text)
-        documents: list[Table] = [it.document for it in definitions.texts]
-        if FILE in text.document and len(documents) == 1:
+        # The signals of a refused frame are compared, too, so that they aren't read here.
+        definitions = Definitions([text])
+        second = definitions.second_text(text) if FILE in text.document else None
+        if FILE in text.document and second is None:
             raise BadSignals(definitions.faults)
+        documents: list[Table] = [it.document for it in (text, second) if it]
         lists = [it.get(FRAME, []) for it in documents]
         beside: Table = documents[1] if len(documents) > 1 else {}
         if not all(map(is_list_of_frames, lists)):
