@@ -141,8 +141,9 @@ class TestClusters(Diffs):
     def test_a_name_that_is_new_is_no_other_thing(self) -> None:
         """They are the same by their slots and cycles, or by their numbers, if one of both has no name."""
         bare = WHOLE.replace('{name = "force", kind', "{kind").replace('name = "pedal"\n', "")
-        self.assertEqual([(it["kind"], it["key"], it.get("old"), it["new"]) for it in self.found(WHOLE, bare)],
-                         [("node", "name", None, "pedal"), ("buffer", "name", None, "force")])
+        self.assertEqual(
+            [(it["kind"], it["change"], it["key"], it.get("old"), it["new"]) for it in self.found(WHOLE, bare)],
+            [("node", "changed", "name", None, "pedal"), ("buffer", "changed", "name", None, "force")])
 
     def test_buffers_without_names_are_known_by_what_they_are(self) -> None:
         bare = WHOLE.replace('{name = "force", kind', "{kind").replace('{name = "unused", kind', "{kind")
@@ -240,6 +241,14 @@ class TestSchedules(Diffs):
              "receiver_buffer_name": "position", "channel": "B", "change": "changed", "old": "0-63", "new": "1-63/2"},
             {"kind": "receiver", **brake, "buffer": 1, "buffer_name": "log", "channel": "A", "change": "removed",
              "old": "0-63"}])
+
+    def test_what_a_buffer_takes_from_the_fifo(self) -> None:
+        """The FIFO stores slot 3 in the cycles in which no receive buffer of its node does."""
+        line = '  {name = "unused", kind = "receive", slot = 5, channels = "B"},\n'
+        other = line.replace('slot = 5, channels = "B"', 'slot = 3, channels = "A", base = 0, repetition = 2')
+        self.assertEqual([(it.get("receiver_buffer"), it["change"], it.get("old"), it["new"])
+                          for it in self.found(self.changed((line, other)), kinds="receiver")],
+                         [(None, "changed", "0-63", "1-63/2"), (3, "added", None, "0-62/2")])
 
     def test_guardians(self) -> None:
         """Of the 100 macroticks the dynamic segment has 40 to 90, and each node 20 of the static one."""
