@@ -99,9 +99,9 @@ class TestRuns(Diffs):
         self.assertEqual(found["missed"], [
             {"node": 2, "node_name": "dashboard", "buffer": 0, "buffer_name": "engine", "cycle": 2, "change": "added",
              "new": "expected x2328f13c00000000, found x2332f13c00000000, and in 1 other cycle"}])
-        both = [expecting.replace("2 data x2328f1", f"2 data {it}f1") for it in ("x2332", "x2333")]
-        found = self.of_runs(*both, SIGNALS)["missed"]
-        self.assertEqual([(it["change"], "found x2332" in it["old"], "found x2333" in it["new"]) for it in found],
+        one, other = (expecting.replace("2 data x2328f1", f"2 data {it}f1") for it in ("x2332", "x2333"))
+        rows = self.of_runs(one, other, SIGNALS)["missed"]
+        self.assertEqual([(it["change"], "found x2332" in it["old"], "found x2333" in it["new"]) for it in rows],
                          [("changed", True, True)])
 
     def test_signals_with_faults(self) -> None:
