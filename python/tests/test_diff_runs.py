@@ -92,6 +92,14 @@ class TestRuns(Diffs):
                          [(0, "changed", "fate", "sent", "withdrawn"), (0, "changed", "ended", None, 0)])
         self.assertEqual([(it["change"], it["key"]) for it in found[2:]], [("lost", "receivers")])
 
+    def test_two_commits_of_one_cycle(self) -> None:
+        """The first one is overwritten, and only its payload differs."""
+        twice = SPEEDS.replace("commit engine 0 2", "commit engine 0 0 data x0000f03c00000000\ncommit engine 0 2")
+        found = self.of_runs(twice, twice.replace("x222ef1", "x2230f1"), SIGNALS)
+        self.assertEqual([(it["cycle"], it["key"], it["old"], it["new"]) for it in found["commit"]], [
+            (0, "data", "x222ef13c00000000", "x2230f13c00000000"), (0, "signal", 87.5, 87.52)])
+        self.assertEqual(set(found), {"commit"})
+
     def test_missed_expectations(self) -> None:
         """The first run meets both lines; in the second one buffer 1 of node 1 has another payload."""
         expecting = SPEEDS.replace("end\n", "expect dashboard 2-3 engine x2328f13c00000000\nend\n")
@@ -99,6 +107,8 @@ class TestRuns(Diffs):
         self.assertEqual(found["missed"], [
             {"node": 2, "node_name": "dashboard", "buffer": 0, "buffer_name": "engine", "cycle": 2, "change": "added",
              "new": "expected x2328f13c00000000, found x2332f13c00000000, and in 1 other cycle"}])
+        words = str(SIGNALS / "cluster.toml"), str(self.folder / "old"), str(self.folder / "new"), "--cycles", "4"
+        self.assertEqual(self.asked("diff", *words)[2], "")
         one, other = (expecting.replace("2 data x2328f1", f"2 data {it}f1") for it in ("x2332", "x2333"))
         rows = self.of_runs(one, other, SIGNALS)["missed"]
         self.assertEqual([(it["change"], "found x2332" in it["old"], "found x2333" in it["new"]) for it in rows],
@@ -175,6 +185,11 @@ class TestRecordings(Diffs):
         self.assertEqual([(it["cycle"], it["slot"], it["channel"], it["change"]) for it in rows
                           if it["kind"] == "recorded"],
                          [(0, slot, channel, "removed") for slot in (1, 2, 3) for channel in "AB"])
+        status, output, told = self.asked("diff", "--recordings", str(SIGNALS / "cluster.toml"), late, whole, "--json")
+        self.assertEqual((status, told), (
+            3, "musmyrtle: by its cycle counts the second recording begins 1 cycle before the first one\n"))
+        rows = [json.loads(line) for line in output.splitlines()]
+        self.assertEqual({(it["cycle"], it["change"]) for it in rows if it["kind"] == "recorded"}, {(-1, "added")})
 
     def test_refused_recordings(self) -> None:
         good = self.recorded("a", SPEEDS)
