@@ -12,10 +12,12 @@ from tests.firefox import FIREFOX, firefox
 from tests.pages import HERE, STEPS, Pages, needs_node
 from tests.shows import NETWORK
 from tests.test_page import Structure
+from tests.test_page_signals import SCENE as SPEEDS
+from tests.test_page_signals import SIGNALS
 
 BROWSER = next(filter(None, map(shutil.which, ("chromium", "chromium-browser", "google-chrome"))), None)
 COMPARED = ("subject", "nodes", "details", "results", "status", "errors", "faults", "missing", "missed", "inView",
-            "view", "label")
+            "view", "label", "plots")
 SECONDS = 120
 ENDING = """<script>
 {walk}
@@ -50,6 +52,9 @@ SPELLED = ("<img src=x onerror=document.body.setAttr.. (0)", r'"]]>\u202e\x01 (1
 STRANGE_STEPS = ("click nodes <img", "click details cycle 0", "find node <img", "click results <img", "find buffer nnn",
                  "click results", 'click nodes "]]>', "find slot 3", "click results slot 3", "click faults line 9",
                  "click next-error", "press C", "press .")
+SIGNAL_STEPS = ("plot 0 point 250", "plot 0 press ArrowRight", "plot 0 press Enter", "plot 1 show 3", "press 1",
+                "plot 0 age 1", "plot 0 press +", "plot 0 hide")
+"""A walk through the plots of the page of test_page_signals.py."""
 WAITING = """
 const done = arguments[arguments.length - 1];
 const look = () => {
@@ -107,6 +112,10 @@ class Walks(Pages):
             text = text.replace(f'name = "{name}"', f'name = "{strange}"')
         return self.page(*self.run_of(text))
 
+    def of_signals(self) -> str:
+        """Returns a page with signals."""
+        return self.page(str(SIGNALS), self.written("scene", SPEEDS), "--cycles", "5")
+
     def whole(self, document: str) -> None:
         """Checks that names became texts of the document, and neither elements nor attributes nor scripts."""
         elements = Structure(document)
@@ -139,6 +148,9 @@ class InChromium(Walks):
     def test_strange_names(self) -> None:
         self.whole(self.held(self.strange(), STRANGE_STEPS))
 
+    def test_signals(self) -> None:
+        self.held(self.of_signals(), SIGNAL_STEPS)
+
 
 @unittest.skipUnless(FIREFOX, "there is no Firefox, in which the page is opened")
 @needs_node
@@ -153,6 +165,9 @@ class InFirefox(Walks):
 
     def test_strange_names(self) -> None:
         self.whole(self.held(self.strange(), STRANGE_STEPS))
+
+    def test_signals(self) -> None:
+        self.held(self.of_signals(), SIGNAL_STEPS)
 
 
 if __name__ == "__main__":

@@ -212,14 +212,13 @@ class Layout {
     this.byName = new Map(this.signals.map((it) => [it.name, it]));
   }
 
-  /** Returns a signal of a payload, or null if the payload hasn't it. */
+  /** Returns a signal of a payload, or null if the payload hasn't it. All its bits are within the frame. */
   read(signal, payload) {
-    const held = payload.subarray(0, this.bytes);
-    const isThere = signal.isIn(held) && signal.when.every(({name, code}) => {
+    const isThere = signal.isIn(payload) && signal.when.every(({name, code}) => {
       const selector = this.byName.get(name);
-      return selector.isIn(held) && selector.rawIn(held).raw === code;
+      return selector.isIn(payload) && selector.rawIn(payload).raw === code;
     });
-    return isThere ? signal.readIn(held) : null;
+    return isThere ? signal.readIn(payload) : null;
   }
 }
 
