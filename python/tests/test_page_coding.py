@@ -11,6 +11,7 @@ from fractions import Fraction
 from typing import Any
 
 from musmyrtle.show.page_signals import layout_object
+from musmyrtle.signals.exact import exact_in_file
 from musmyrtle.signals.layout import Layout, Read
 from musmyrtle.signals.reading import FrameReading
 from musmyrtle.signals.values import physical
@@ -77,6 +78,8 @@ class Maker:
         if self.chance(0.4):
             ends = sorted(self.dice.randint(-10**6, 10**6) for _ in range(2))
             found |= {key: end for key, end in zip(("min", "max"), ends) if self.chance(0.7)}
+        else:
+            found |= self.limit(found, self.dice.choice([0, 1, -1, (1 << bits) - 1]))
         if kind == "float":
             special = (float("nan"), float("inf"), float("-inf"), 1.5, 0.0, -2)
             return found | ({"invalid": self.dice.choice(special)} if self.chance(0.4) else {})
@@ -88,6 +91,13 @@ class Maker:
             ends = [it if self.chance(0.5) else after - 1 for it, after in zip(places, [*places[1:], places[-1] + 1])]
             found["values"] = {f"{it}-{end}": f"n{at}" for at, (it, end) in enumerate(zip(places, ends))}
         return found
+
+    def limit(self, found: dict[str, Any], raw: int) -> dict[str, str]:
+        """Returns a limit that is exactly the value of a raw one, which the payloads often have."""
+        factor, offset = exact_in_file(found["factor"]), exact_in_file(found["offset"])
+        value = raw * (factor or Fraction(1)) + (offset or Fraction(0))
+        text = f"{value.numerator}/{value.denominator}"
+        return {self.dice.choice(["min", "max"]): text} if exact_in_file(text) is not None else {}
 
     def payload(self, size: int) -> bytes:
         """Returns a payload that may be shorter or longer than the frame, and often has few different bytes."""

@@ -14,7 +14,7 @@ STATUSES = (
     ("1", "the cluster file, the scenario, the trace or the run is refused"),
     ("2", "the words are no command, a program can't be run or fails, or the output can't be written"),
     ("3", "the run missed expectations of the scenario; faults: a fault costs one of --fail-on; monitor: there is a "
-          "finding"),
+          "finding; diff: something differs"),
     ("4", "lint: there are warnings, with --strict; faults: a run was refused or has no answer"),
     ("129, 130, 143", "SIGHUP, SIGINT or SIGTERM broke it off"),
 )
