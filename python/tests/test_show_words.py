@@ -106,6 +106,8 @@ class Keys(Shows):
             ("monitor", [THREE[0], str(TOP / "examples/recordings/disturbed.pcap")]), ("monitor", [THREE[0], THREE[0]]),
             *((it, run) for it in ("run", "log", "commits", "reads")),
             ("run", [run[0], missing, "--cycles", "2"]),
+            ("signals", [str(TOP / "examples/signals/cluster.toml"), str(TOP / "examples/signals/scenario"), "--cycles",
+                         "4"]),
             ("decode", [str(TOP / "examples/signals/cluster.toml"), "engine", "data", "x222ef13c"]),
             *(("diff", it) for it in self.different()),
         ):

@@ -2,7 +2,6 @@
 import argparse
 import os
 import sys
-import tempfile
 import time
 from pathlib import Path
 
@@ -29,7 +28,7 @@ from musmyrtle.faults.table import (
 )
 from musmyrtle.faults.table import told as told_difference
 from musmyrtle.faults.table import worse
-from musmyrtle.faults.whole_files import Unusable, replace_file, spare_inputs
+from musmyrtle.faults.whole_files import Unusable, replace_file, spare_inputs, try_file
 from musmyrtle.findings import counted
 from musmyrtle.lint.command import USAGE, formed
 from musmyrtle.output import Stop, write
@@ -85,14 +84,9 @@ def outputs_of(given: argparse.Namespace) -> dict[str, str]:
 
 
 def try_page(file: str) -> None:
-    """Stops if the page can't be written. The trial leaves no file."""
-    path = Path(file)
+    """Stops if the page can't be written."""
     try:
-        if not path.exists():
-            tempfile.TemporaryFile(dir=path.parent).close()
-        elif path.is_file() or path.is_dir():
-            # A pipe isn't opened here, since its reader would take that for the whole page.
-            open(path, "ab").close()
+        try_file(file)
     except OSError as error:
         raise Stop(USAGE, f"--html {file}: {error.strerror}") from None
 

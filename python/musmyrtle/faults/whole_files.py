@@ -2,6 +2,7 @@
 import os
 import shutil
 import stat
+import tempfile
 from contextlib import suppress
 from pathlib import Path
 
@@ -46,6 +47,16 @@ def write_file(file: Path, data: bytes) -> None:
         file.write_bytes(data)
     except OSError as error:
         raise unusable(f"the temporary folder {file.parent} can't be written", error) from None
+
+
+def try_file(name: str) -> None:
+    """Raises `OSError` if a file can't be written, before the work whose result it gets. The trial leaves no file."""
+    path = Path(name)
+    if not path.exists():
+        tempfile.TemporaryFile(dir=path.parent).close()
+    elif path.is_file() or path.is_dir():
+        # A pipe isn't opened here, since its reader would take that for the whole file.
+        open(path, "ab").close()
 
 
 def replace_file(name: str, data: bytes) -> None:

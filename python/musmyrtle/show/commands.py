@@ -12,7 +12,7 @@ from musmyrtle.breaking import breaking_off
 from musmyrtle.ending import status_of
 from musmyrtle.lint.command import formed, is_bold_on, printed
 from musmyrtle.selections import single_slot
-from musmyrtle.show import monitor, options, page, signals
+from musmyrtle.show import monitor, options, over_time, page, signals
 from musmyrtle.show.commits import commits
 from musmyrtle.show.engines import COMMAND, Inputs, opened
 from musmyrtle.show.facts import Facts
@@ -125,6 +125,7 @@ COMMANDS = (
     Command("faults", "Runs a scenario once for each single fault, and prints what each receiver loses.",
             musmyrtle.faults.options.EXAMPLES, musmyrtle.faults.options.arguments, musmyrtle.faults.command.main),
     *TABLES,
+    Command("signals", over_time.PURPOSE, over_time.EXAMPLES, over_time.arguments, over_time.main),
     Command("encode", signals.ENCODE, signals.ENCODE_EXAMPLES, signals.encode_arguments, signals.encode),
     Command("decode", signals.DECODE, signals.DECODE_EXAMPLES, signals.decode_arguments, signals.decode),
     Command("annotate", signals.ANNOTATE, signals.ANNOTATE_EXAMPLES, signals.annotate_arguments, signals.annotate),

@@ -258,13 +258,14 @@ class Section:
     """A table, whose KIND is the first key of each row in JSON and CSV.
 
     A text has the title above the table and the meanings of columns below it, and leaves out columns without a value.
-    Without rows it has the line NOTHING, if that isn't empty.
+    Without rows it has the line NOTHING, if that isn't empty. JSON and CSV need each row once, so that rows may be made
+    as they are printed.
     """
 
     kind: str
     title: str
     columns: tuple[Column, ...]
-    rows: Sequence[Row]
+    rows: Iterable[Row]
     nothing: str = ""
 
 
@@ -281,16 +282,20 @@ def as_json(sections: Iterable[Section]) -> Iterator[str]:
 def as_csv(sections: Sequence[Section]) -> Iterator[str]:
     """Yields one table for all sections: a heading with the keys of all columns, each once, and a line for each row."""
     keys = list(dict.fromkeys(key for section in sections for column in section.columns for key in column.keys))
-    lines = io.StringIO()
-    writer = csv.writer(lines, lineterminator="\n")
-    writer.writerow(["kind", *keys])
+    yield csv_line(["kind", *keys])
     for section in sections:
         for row in section.rows:
             cells = dict.fromkeys(keys, "")
             for column in section.columns:
                 cells.update(zip(column.keys, column.cells(row.values.get(column.key))))
-            writer.writerow([section.kind, *cells.values()])
-    yield lines.getvalue()
+            yield csv_line([section.kind, *cells.values()])
+
+
+def csv_line(cells: Iterable[str]) -> str:
+    """Returns a line of CSV."""
+    line = io.StringIO()
+    csv.writer(line, lineterminator="\n").writerow(cells)
+    return line.getvalue()
 
 
 def as_text(sections: Iterable[Section], is_coloured: bool = False) -> Iterator[str]:
@@ -305,11 +310,12 @@ def as_text(sections: Iterable[Section], is_coloured: bool = False) -> Iterator[
 
 def text_lines(section: Section, is_coloured: bool) -> Iterator[str]:
     """Yields the lines of one table for people."""
-    if not section.rows:
+    rows = list(section.rows)
+    if not rows:
         if section.nothing:
             yield section.nothing
         return
-    shown = {it: [it.text(row.values.get(it.key)) for row in section.rows] for it in section.columns if it.heading}
+    shown = {it: [it.text(row.values.get(it.key)) for row in rows] for it in section.columns if it.heading}
     columns = [it for it, texts in shown.items() if set(texts) != {ABSENT}]
     cells = list(zip(*(shown[it] for it in columns)))
     widths = [max(len(column.heading), *(len(row[place]) for row in cells)) for place, column in enumerate(columns)]
@@ -325,7 +331,7 @@ def text_lines(section: Section, is_coloured: bool) -> Iterator[str]:
     if section.title:
         yield coloured(section.title, BOLD)
     yield coloured(line(it.heading for it in columns), BOLD)
-    for row, words in zip(section.rows, cells):
+    for row, words in zip(rows, cells):
         yield coloured(line(words), RED) if row.is_error else line(words)
     for it in columns:
         if it.meaning:

@@ -81,10 +81,10 @@ class Layout:
             self.signals[name].is_in(payload) and self.signals[name].raw_in(payload) == code
             for name, code in signal.when)
 
-    def reads(self, payload: bytes) -> Iterator[Read]:
-        """Yields the signals that a payload has, in the order of the file."""
+    def reads(self, payload: bytes, signals: Iterable[Signal] | None = None) -> Iterator[Read]:
+        """Yields the signals that a payload has, in the order of the file, or of some signals those."""
         payload = payload[:self.length]
-        for signal in self.signals.values():
+        for signal in self.signals.values() if signals is None else signals:
             if self.is_there(signal, payload):
                 yield Read(signal, signal.raw_in(payload), signal.is_new_in(payload))
 

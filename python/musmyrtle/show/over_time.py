@@ -1,0 +1,247 @@
+"""The command `signals`: signals over time, as each receiver of a run has them, as a table and as a picture."""
+import argparse
+import sys
+from collections.abc import Generator, Iterable, Iterator
+from contextlib import closing
+
+from musmyrtle.breaking import breaking_off
+from musmyrtle.ending import status_of
+from musmyrtle.faults.whole_files import Unusable, replace_file, spare_inputs, try_file
+from musmyrtle.findings import counted
+from musmyrtle.lint.command import USAGE, Parser, add_forms, formed, is_bold_on, printed, shown_examples
+from musmyrtle.output import Stop, pass_on
+from musmyrtle.selections import cycles_of
+from musmyrtle.show.ages import age_of
+from musmyrtle.show.arrivals import Arrivals
+from musmyrtle.show.choice import Chosen, Words, known_names
+from musmyrtle.show.engines import COMMAND, ENDLESS, Awaited, Inputs, opened
+from musmyrtle.show.facts import Facts
+from musmyrtle.show.options import CLUSTER, SCENARIO, add_places, statuses
+from musmyrtle.show.page import NO_ROOM, int_of_cycles
+from musmyrtle.show.plot import MOST_LINES, Axis, picture
+from musmyrtle.show.samples import Holdings, Sample
+from musmyrtle.show.selection import Selection, known_buffers, known_places, numbers_of_nodes
+from musmyrtle.show.series import Series
+from musmyrtle.show.signal_runs import Faults, Run, add_faults, check_faults, runs_of
+from musmyrtle.show.signal_table import Rows, section
+from musmyrtle.show.signals import frames_in
+from musmyrtle.show.tables import Row, as_text
+from musmyrtle.signals.frames import Frames
+from musmyrtle.signals.receiving import Destinations, Layouts, routes_of
+from musmyrtle.signals.texts import bytes_of
+from musmyrtle.world.bounds import MOST_CYCLES
+
+PURPOSE = ("Prints signals over time, as each receiver has them: a row for each window in which a receive buffer or a\n"
+           "receive FIFO is due to get a frame with signals, with value and age, and whether the frame came.")
+OF_SIGNALS = "examples/signals/cluster.toml examples/signals/scenario --cycles 4"
+EXAMPLES = (f"signals {OF_SIGNALS} brake.speed", f"signals {OF_SIGNALS} --node dashboard --signal speed,gear --csv",
+            f"signals {OF_SIGNALS} brake.speed --svg speed.svg --each-fault-of engine > table")
+GOES_ON = f"{COMMAND}: the history of this run has no room, so the run is an endless one, as with --endless"
+MOST_PANELS = 100
+"""The plots of a picture."""
+
+
+def arguments() -> argparse.ArgumentParser:
+    """Returns the parser of the command's words."""
+    parser = Parser(prog=f"{COMMAND} signals", description=PURPOSE, allow_abbrev=False,
+                    epilog=f"{shown_examples(EXAMPLES)}\n{statuses(has_run=True)}",
+                    formatter_class=argparse.RawDescriptionHelpFormatter)
+    add = parser.add_argument
+    add("cluster", metavar=CLUSTER, help="a cluster file with frames and signals")
+    add("scenario", metavar=SCENARIO, help="a scenario of this cluster")
+    add("signals", metavar="NODE.SIGNAL", nargs="*",
+        help="only these signals at these receivers, as brake.speed, brake.engine.speed for one buffer, or brake.* for "
+             "all of a receiver")
+    add("--cycles", metavar="N", type=int_of_cycles, required=True,
+        help=f"the cycles of the run, 1 to {MOST_CYCLES}, or more with --endless")
+    add("--endless", action="store_true",
+        help="a run without history, of up to 4,000,000 cycles; a run whose history has no room is one in any case")
+    add_choice(parser)
+    add("--svg", metavar="FILE",
+        help="write a picture, too, with a plot of each signal and a line for each receiver")
+    add("--stale", metavar="AGE", type=age_of,
+        help="the age above which a line is grey, as 10ms or 3cycles; otherwise two periods of a state frame")
+    add_faults(parser)
+    add_forms(parser)
+    return parser
+
+
+def add_choice(parser: argparse.ArgumentParser) -> None:
+    """Adds the options that select signals and rows."""
+    add_places(parser)
+    add = parser.add_argument
+    add("--buffer", metavar="[NODE.]BUFFER,..", action="append", default=[],
+        help="only rows of these receive buffers, as brake.engine or 2.0-1, or of one of each --node, as engine")
+    add("--signal", metavar="SIGNAL,..", action="append", default=[],
+        help="only rows of these signals, at each of the receivers")
+    add("--in-cycles", metavar="CYCLE,..", type=cycles_of,
+        help="only rows of these cycles of the run, as 0-10/2,13")
+    add("--errors", action="store_true", help="only rows of lost frames, and of values out of their limits")
+
+
+def parsed(words: list[str]) -> argparse.Namespace:
+    """Returns the words of the command. Ends with status 2 for wrong ones."""
+    parser = arguments()
+    given = parser.parse_intermixed_args(words)
+    if given.cycles > MOST_CYCLES and not given.endless:
+        parser.error(f"a run of {given.cycles} cycles needs --endless: without it there are 1 to {MOST_CYCLES}")
+    missing = given.in_cycles and given.in_cycles.missing(given.cycles)
+    if missing is not None:
+        parser.error(f"the run has no cycle {missing}: it has {counted(given.cycles, 'cycle')}")
+    if given.stale is not None and given.svg is None:
+        parser.error("--stale wants --svg FILE")
+    check_faults(parser, given)
+    return given
+
+
+class Asked:
+    """The signals and receivers that the words of the command select, of a cluster file that is accepted."""
+
+    def __init__(self, given: argparse.Namespace, inputs: Inputs, frames: Frames) -> None:
+        network = inputs.network
+        self.inputs, self.frames, self.network = inputs, frames, network
+        self.selection = selection_of(given, inputs)
+        self.routes = routes_of(frames)
+        words = Words(network, self.routes)
+        places = [place for word in given.signals for place in words.places(word)] if given.signals else None
+        names = known_names(given.signal, self.routes)
+        self.chosen = Chosen(self.routes, places, self.selection, names)
+        self.destinations, self.layouts = Destinations(frames.cluster), Layouts(frames)
+
+    def samples(self, run: Run, is_endless: bool) -> Iterator[Sample]:
+        """Yields the samples of a run. Raises `Stop` where it is refused."""
+        run.inputs.is_endless = is_endless
+        arrivals = Arrivals(run.inputs, self.destinations, self.layouts, self.chosen.wants, is_endless)
+        return Holdings(self.chosen).samples(arrivals)
+
+    def slots(self) -> set[int]:
+        """Returns the slots of the frames that have the chosen signals."""
+        return {it.sender.slot for it in self.routes if self.chosen.of(it.destination, it.layout)}
+
+
+def selection_of(given: argparse.Namespace, inputs: Inputs) -> Selection:
+    """Returns the rows that the words select, by the node and the buffer of the receiver."""
+    network = inputs.network
+    nodes = numbers_of_nodes(given.node, network)
+    return Selection(nodes, known_places(given.slot, inputs, False),
+                     None if given.channel is None else frozenset(given.channel),
+                     frozenset(given.in_cycles.numbers) if given.in_cycles else None, given.errors,
+                     known_buffers(given.buffer, nodes, network), network.cluster.parameters.static_slots)
+
+
+class Shown:
+    """A table of runs, and their picture if one is wanted."""
+
+    def __init__(self, given: argparse.Namespace, asked: Asked, is_endless: bool) -> None:
+        self.given, self.asked, self.is_endless = given, asked, is_endless
+        self.has_faults = bool(given.fault or given.each_fault_of)
+        limit = given.stale and int(given.stale.macroticks(asked.network))
+        self.series = None if given.svg is None else Series(asked.network, asked.routes, limit)
+
+    def rows(self, runs: Iterable[Run]) -> Generator[Row, None, None]:
+        """Yields the rows of all runs. On the way the lines of the picture are collected."""
+        rows = Rows(self.asked.network, self.asked.selection)
+        for run in runs:
+            samples = self.asked.samples(run, self.is_endless)
+            yield from rows.of(self.noted(samples, run.fault), run.fault)
+
+    def noted(self, samples: Iterable[Sample], fault: str | None) -> Iterator[Sample]:
+        """Yields samples, and adds them to the lines of the picture."""
+        for it in samples:
+            if self.series:
+                self.series.add(it, fault, self.has_faults)
+            yield it
+
+    def show(self, runs: Iterable[Run]) -> None:
+        """Prints the table, and writes the picture."""
+        with closing(self.rows(runs)) as made:
+            # The first row says whether the run is refused, before anything is printed.
+            first = next(made, None)
+            rows = () if first is None else chained(first, made)
+            table = section(self.asked.network, rows, self.has_faults)
+            printed(formed(self.given, [table], as_text([table], is_bold_on(sys.stdout))))
+            for _ in made if self.series else ():
+                # The reader of the table may have gone, but the picture is whole.
+                pass
+        if self.series:
+            write_picture(self.given, self.asked, self.series)
+
+
+def chained(first: Row, rows: Iterator[Row]) -> Iterator[Row]:
+    """Yields a row, and then all others."""
+    yield first
+    yield from rows
+
+
+def write_picture(given: argparse.Namespace, asked: Asked, series: Series) -> None:
+    """Writes the picture. Raises `Stop` where it can't be written, or has too much to show."""
+    cycle = asked.network.cluster.parameters.cycle_mt
+    chosen = given.in_cycles.numbers if given.in_cycles else range(given.cycles)
+    series.end(given.cycles * cycle)
+    add_commits(asked, series, cycle)
+    panels = list(series.panels.values())
+    if len(panels) > MOST_PANELS:
+        raise Stop(USAGE, f"--svg draws at most {MOST_PANELS} signals, and {len(panels)} are selected: name some, as "
+                          "brake.speed")
+    crowded = next((it for it in panels if len(it.merged()) > MOST_LINES), None)
+    if crowded:
+        raise Stop(USAGE, f"--svg draws at most {MOST_LINES} different lines of a signal, and {crowded.signal.name} "
+                          f"has {len(crowded.merged())}: select receivers or faults")
+    for frame, name in series.without_plot:
+        pass_on(f"{COMMAND}: {name} of frame {frame} isn't drawn, since it is whole bytes and no number")
+    axis = Axis.of(chosen[0] * cycle, (chosen[-1] + 1) * cycle, asked.network.macrotick)
+    title = f"Signals of {given.cluster} with {given.scenario}, {counted(given.cycles, 'cycle')}"
+    try:
+        replace_file(given.svg, picture(title, panels, axis).encode())
+    except OSError as error:
+        raise Stop(USAGE, f"--svg {given.svg}: {error.strerror}") from None
+
+
+def add_commits(asked: Asked, series: Series, cycle: int) -> None:
+    """Adds the committed values of the signals that are drawn, each at the begin of the commit's cycle."""
+    layouts = {(it.sender.node, it.sender.number): it.layout for it in asked.routes
+               if asked.chosen.of(it.destination, it.layout)}
+    for line in asked.inputs.lines_of_run("commits", ENDLESS):
+        word, node, buffer, *rest = line.split(" ")
+        layout = layouts.get((int(node), int(buffer))) if word == "commit" else None
+        if layout:
+            series.commit(int(node), int(buffer), layout, int(rest[1]) * cycle, bytes_of(rest[3]) or b"")
+
+
+def spare(given: argparse.Namespace) -> None:
+    """Raises `Stop` where the picture would overwrite an input, or can't be written."""
+    try:
+        spare_inputs({} if given.svg is None else {"--svg": given.svg},
+                     [("the cluster file", given.cluster), ("the scenario", given.scenario)])
+        if given.svg is not None:
+            try_file(given.svg)
+    except Unusable as error:
+        raise Stop(USAGE, str(error)) from None
+    except OSError as error:
+        raise Stop(USAGE, f"--svg {given.svg}: {error.strerror}") from None
+
+
+def done(given: argparse.Namespace, inputs: Inputs) -> int:
+    """Does the command about inputs, and returns the status."""
+    asked = Asked(given, inputs, frames_in(inputs)[1])
+    faults = Faults(given, inputs, Facts(inputs), asked.slots())
+    inputs.awaited = frozenset() if given.endless else frozenset((NO_ROOM,))
+    with runs_of(faults) as runs:
+        try:
+            Shown(given, asked, given.endless).show(runs())
+        except Awaited:
+            inputs.awaited = frozenset()
+            pass_on(GOES_ON)
+            Shown(given, asked, True).show(runs())
+    return inputs.status
+
+
+def main(words: list[str]) -> int:
+    """Does the command, and returns the status."""
+    def work() -> int:
+        with breaking_off():
+            given = parsed(words)
+            spare(given)
+            with opened(given.cluster, given.scenario, given.cycles) as inputs:
+                return done(given, inputs)
+    return status_of(COMMAND, work)
