@@ -82,8 +82,8 @@ class TestRun(OverTime):
         self.assertEqual(found, [{
             "fault": None, "begin_mt": 0, "begin_us": 0.0, "cycle": 0, "slot": 1, "channel": "A", "sender": 0,
             "sender_name": "engine", "receiver": 2, "receiver_name": "dashboard", "buffer": 0,
-            "buffer_name": "engine", "frame": "Engine", "signal": "gear", "value": 1, "unit": None, "name": "drive", "raw": 1, "in_range": True, "age_mt": 0,
-            "age_us": 0.0, "what": "new"}])
+            "buffer_name": "engine", "frame": "Engine", "signal": "gear", "value": 1, "unit": None, "name": "drive",
+            "raw": 1, "in_range": True, "age_mt": 0, "age_us": 0.0, "what": "new"}])
 
     def test_an_endless_run_has_the_same(self) -> None:
         words = [*self.scene(), "brake.speed", "dashboard.pedal"]
