@@ -140,10 +140,9 @@ class Shown:
 
     def rows(self, runs: Iterable[Run]) -> Generator[Row, None, None]:
         """Yields the rows of all runs. On the way the lines of the picture are collected."""
-        rows = Rows(self.asked.network, self.asked.selection)
         for run in runs:
             samples = self.asked.samples(run, self.is_endless)
-            yield from rows.of(self.noted(samples, run.fault), run.fault)
+            yield from Rows(self.asked.network, self.asked.selection, run.fault).of(self.noted(samples, run.fault))
 
     def noted(self, samples: Iterable[Sample], fault: str | None) -> Iterator[Sample]:
         """Yields samples, and adds them to the lines of the picture."""

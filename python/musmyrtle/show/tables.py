@@ -4,8 +4,9 @@ import io
 import json
 import math
 import re
-from collections.abc import Iterable, Iterator, Mapping, Sequence
+from collections.abc import Callable, Iterable, Iterator, Mapping, Sequence
 from dataclasses import dataclass, field
+from functools import partial
 from typing import NamedTuple
 
 from musmyrtle.visible import cut, visible
@@ -23,6 +24,8 @@ LEAST_STEPS = 4
 """The fewest numbers at equal distances above 1 that a text has as `0-6/2`."""
 MOST_BYTES, FIRST_BYTES = 16, 8
 """The bytes that a text shows whole. Of more it shows the first ones and the last one."""
+MOST_SPELLED = 4096
+"""The values of a column whose texts are kept."""
 BYTES = re.compile("x(?:[0-9a-f]{2})*")
 NUMERIC = re.compile(r"[0-9.]+|-")
 
@@ -245,7 +248,36 @@ def spelled(value: object) -> str:
     return decimal(value) if isinstance(value, float) else str(value)
 
 
-@dataclass(frozen=True)
+@dataclass(slots=True)
+class Part:
+    """The values of some columns that follow one another, which several rows share. They are spelled once."""
+
+    values: Mapping[str, Value]
+    texts: list[str] | None = None
+
+
+class Parts(Mapping[str, Value]):
+    """The values of a row, as parts in the order of the columns. Each column is in one of them."""
+
+    __slots__ = ("parts",)
+
+    def __init__(self, *parts: Part) -> None:
+        self.parts = parts
+
+    def __getitem__(self, key: str) -> Value:
+        for it in self.parts:
+            if key in it.values:
+                return it.values[key]
+        raise KeyError(key)
+
+    def __iter__(self) -> Iterator[str]:
+        return (key for it in self.parts for key in it.values)
+
+    def __len__(self) -> int:
+        return sum(len(it.values) for it in self.parts)
+
+
+@dataclass(frozen=True, slots=True)
 class Row:
     """A row: the values by the keys of their columns, and whether it shows an error, which is red on a terminal."""
 
@@ -269,14 +301,64 @@ class Section:
     nothing: str = ""
 
 
+class Spelled(dict[tuple[type, Value], str]):
+    """The texts of a column's values. Most values come in many rows, and each is spelled once.
+
+    A key has the type, since 1, 1.0 and true are equal. An exact number isn't kept, since its own number has a type.
+    """
+
+    def __init__(self, spell: Callable[[Value], str]) -> None:
+        super().__init__()
+        self.spell = spell
+
+    def __missing__(self, key: tuple[type, Value]) -> str:
+        text = self.spell(key[1])
+        if key[0] is not Exact:
+            if len(self) >= MOST_SPELLED:
+                self.clear()
+            self[key] = text
+        return text
+
+
+class Spelling:
+    """The texts of rows: of each column, or joined by a separator."""
+
+    def __init__(self, columns: Iterable[tuple[str, Spelled]], separator: str | None = None) -> None:
+        self.columns, self.separator = tuple(columns), separator
+
+    def row(self, row: Row) -> list[str]:
+        """Returns the texts of a row, which are to be joined by the separator."""
+        values = row.values
+        if type(values) is not Parts:
+            get = values.get
+            return [texts[type(value := get(key)), value] for key, texts in self.columns]
+        found: list[str] = []
+        for part in values.parts:
+            if part.texts is None:
+                part.texts = self.part(part.values)
+            found += part.texts
+        return found
+
+    def part(self, values: Mapping[str, Value]) -> list[str]:
+        """Returns the texts of a part of a row."""
+        texts = [texts[type(value := values[key]), value] for key, texts in self.columns if key in values]
+        return texts if self.separator is None else [self.separator.join(texts)]
+
+
 def as_json(sections: Iterable[Section]) -> Iterator[str]:
     """Yields an object a line. All characters are ASCII, so that no terminal obeys one."""
+    known: dict[Column, Spelled] = {}
     for section in sections:
+        spelling = Spelling(((it.key, known.setdefault(it, Spelled(partial(json_fields, it))))
+                             for it in section.columns), ", ")
+        front = json.dumps({"kind": section.kind})[:-1]
         for row in section.rows:
-            fields: dict[str, Plain] = {"kind": section.kind}
-            for column in section.columns:
-                fields.update(column.fields(row.values.get(column.key)))
-            yield json.dumps(fields).replace("\x7f", "\\u007f") + "\n"
+            yield f"{', '.join([front, *spelling.row(row)])}}}\n"
+
+
+def json_fields(column: Column, value: Value) -> str:
+    """Returns the keys of a column with their values, as an object has them."""
+    return json.dumps(column.fields(value)).replace("\x7f", "\\u007f")[1:-1]
 
 
 def as_csv(sections: Sequence[Section]) -> Iterator[str]:
@@ -284,11 +366,23 @@ def as_csv(sections: Sequence[Section]) -> Iterator[str]:
     keys = list(dict.fromkeys(key for section in sections for column in section.columns for key in column.keys))
     yield csv_line(["kind", *keys])
     for section in sections:
+        spelling = csv_spelling(section, keys)
         for row in section.rows:
-            cells = dict.fromkeys(keys, "")
-            for column in section.columns:
-                cells.update(zip(column.keys, column.cells(row.values.get(column.key))))
-            yield csv_line([section.kind, *cells.values()])
+            yield f"{','.join([section.kind, *spelling.row(row)])}\n"
+
+
+def csv_spelling(section: Section, keys: Sequence[str]) -> Spelling:
+    """Returns the texts of the cells of a section in the places of all keys. Those of other sections stay empty."""
+    own = {key: (column, place) for column in section.columns for place, key in enumerate(column.keys)}
+    empty = Spelled(lambda _: "")
+    return Spelling(((own[it][0].key, Spelled(partial(csv_cell, *own[it]))) if it in own else ("", empty)
+                     for it in keys), ",")
+
+
+def csv_cell(column: Column, place: int, value: Value) -> str:
+    """Returns a cell of a value, as a line has it."""
+    # Alone, an empty cell would have quotes.
+    return csv_line(["", column.cells(value)[place]])[1:-1]
 
 
 def csv_line(cells: Iterable[str]) -> str:
@@ -310,14 +404,17 @@ def as_text(sections: Iterable[Section], is_coloured: bool = False) -> Iterator[
 
 def text_lines(section: Section, is_coloured: bool) -> Iterator[str]:
     """Yields the lines of one table for people."""
-    rows = list(section.rows)
+    shown = [it for it in section.columns if it.heading]
+    spelling = Spelling((it.key, Spelled(it.text)) for it in shown)
+    rows = [(row.is_error, tuple(spelling.row(row))) for row in section.rows]
     if not rows:
         if section.nothing:
             yield section.nothing
         return
-    shown = {it: [it.text(row.values.get(it.key)) for row in rows] for it in section.columns if it.heading}
-    columns = [it for it, texts in shown.items() if set(texts) != {ABSENT}]
-    cells = list(zip(*(shown[it] for it in columns)))
+    kept = [place for place in range(len(shown)) if any(words[place] != ABSENT for _, words in rows)]
+    columns = [shown[it] for it in kept]
+    cells = [tuple(words[it] for it in kept) for _, words in rows] if len(kept) < len(shown) else \
+        [words for _, words in rows]
     widths = [max(len(column.heading), *(len(row[place]) for row in cells)) for place, column in enumerate(columns)]
     is_right = [all(NUMERIC.fullmatch(row[place]) for row in cells) for place in range(len(columns))]
 
@@ -331,8 +428,8 @@ def text_lines(section: Section, is_coloured: bool) -> Iterator[str]:
     if section.title:
         yield coloured(section.title, BOLD)
     yield coloured(line(it.heading for it in columns), BOLD)
-    for row, words in zip(rows, cells):
-        yield coloured(line(words), RED) if row.is_error else line(words)
+    for (is_error, _), words in zip(rows, cells):
+        yield coloured(line(words), RED) if is_error else line(words)
     for it in columns:
         if it.meaning:
             yield f"{it.heading.partition(' [')[0]}: {it.meaning}"

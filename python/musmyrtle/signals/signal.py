@@ -117,6 +117,16 @@ class Signal:
         b = self.offset.numerator * self.factor.denominator
         return a, b, self.factor.denominator * self.offset.denominator
 
+    @cached_property
+    def allowed(self) -> tuple[float, float]:
+        """Returns the least and the greatest integer that the limits allow as raw values, infinite without a limit.
+
+        A negative factor turns them round.
+        """
+        ends = [None if it is None else (it - self.offset) / self.factor for it in (self.least, self.most)]
+        least, most = ends if self.factor > 0 else ends[::-1]
+        return -math.inf if least is None else math.ceil(least), math.inf if most is None else math.floor(most)
+
     # ---- raw values in payloads
 
     def raw_in(self, payload: bytes | bytearray) -> Raw:

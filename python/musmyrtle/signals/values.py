@@ -40,8 +40,11 @@ def value_of(signal: Signal, raw: Raw) -> ReadValue:
 
 def is_in_range(signal: Signal, raw: Raw) -> bool:
     """Returns whether a raw value is one that the limits allow, or has a name, or is the invalid one."""
-    if isinstance(raw, bytes) or signal.is_invalid(raw) or signal.name_of(raw) is not None:
+    if signal.least is signal.most is None or isinstance(raw, bytes) or signal.is_invalid(raw):
         return True
+    if isinstance(raw, int):
+        least, most = signal.allowed
+        return least <= raw <= most or signal.name_of(raw) is not None
     if isinstance(raw, float) and not math.isfinite(raw):
         return signal.least is None and signal.most is None
     return is_within(signal, Fraction(raw) * signal.factor + signal.offset)
