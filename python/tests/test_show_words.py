@@ -28,6 +28,7 @@ from tests.test_diff_runs import SPEEDS, without_records
 from tests.test_visible_output import IN_TOML, SPELLED
 
 TOP = Path(__file__).resolve().parents[2]
+OF_SIGNALS = str(TOP / "examples/signals/cluster.toml"), str(TOP / "examples/signals/scenario")
 PEDAL, BRAKE = Name(0, "pedal", "node"), Name(1, None, "node")
 TWO_STARTUP_NODES = NETWORK.replace("sync = true", "sync = true, startup = true").replace(
     'own = [{slot = 2, channels = "AB"}]', 'own = [{slot = 2, channels = "AB", sync = true, startup = true}]')
@@ -110,6 +111,9 @@ class Keys(Shows):
                          "4"]),
             ("decode", [str(TOP / "examples/signals/cluster.toml"), "engine", "data", "x222ef13c"]),
             *(("diff", it) for it in self.different()),
+            ("signals", [*OF_SIGNALS, "--cycles", "4"]),
+            ("signals", [*OF_SIGNALS, "--cycles", "4", "--expect", self.written("expected", "1.speed * > 0")]),
+            ("decode", [OF_SIGNALS[0], "engine", "data", "x222ef13c"]),
         ):
             with patch.dict(os.environ, judging.variables(self.folder) if words[1:2] == [missing] else {}):
                 output = self.asked(*command.split(), *words, "--json")[1]

@@ -6,7 +6,7 @@ from dataclasses import dataclass
 from musmyrtle.findings import joined, nearest
 from musmyrtle.lint.command import USAGE
 from musmyrtle.output import Stop
-from musmyrtle.selections import Directory
+from musmyrtle.selections import Directory, UnknownWord
 from musmyrtle.show.network import Network
 from musmyrtle.show.selection import Selection, directory_of
 from musmyrtle.signals.layout import Layout
@@ -51,6 +51,11 @@ class Chosen:
                 self.signals[to, layout.name] = shared.setdefault(key, found)
         self.destinations = {to for to, _ in self.signals}
 
+    def with_places(self, places: Iterable[Place], routes: Iterable[Route]) -> "Chosen":
+        """Returns the signals that are chosen, and those of further places."""
+        its = [Place(to, frame, it.name) for (to, frame), signals in self.signals.items() for it in signals]
+        return Chosen(routes, [*its, *places], Selection(), None)
+
     def of(self, destination: Destination, layout: Layout) -> tuple[Signal, ...]:
         """Returns the chosen signals of a frame at a receiver."""
         return self.signals.get((destination, layout.name), ())
@@ -73,11 +78,27 @@ class Words:
         self.directory: Directory = directory_of(network)
 
     def places(self, word: str) -> list[Place]:
-        """Returns the signals that a word names. Raises `Stop` if there is none, with what may be meant."""
+        """Returns the signals that a word names. Raises `UnknownWord` if there is none, with what may be meant."""
         found = list(dict.fromkeys(self.candidates(word)))
         if not found:
-            raise Stop(USAGE, self.why_none(word))
+            raise UnknownWord(self.why_none(word))
         return found
+
+    def chosen(self, words: Iterable[str]) -> list[Place] | None:
+        """Returns the signals that the words of a command name, or None without words. Raises `Stop`."""
+        try:
+            return [place for word in words for place in self.places(word)] or None
+        except UnknownWord as error:
+            raise Stop(USAGE, str(error)) from None
+
+    def signal(self, place: Place) -> Signal:
+        """Returns the signal of a place."""
+        return next(it.layout.signals[place.signal] for it in self.routes if it.layout.name == place.frame)
+
+    def slots(self, place: Place) -> list[int]:
+        """Returns the slots of the frames that bring a signal to its receiver."""
+        return list(dict.fromkeys(it.sender.slot for it in self.routes if it.destination == place.destination
+                                  and it.layout.name == place.frame))
 
     def candidates(self, word: str) -> Iterator[Place]:
         """Yields what a word may name: names can have dots, so that it may be taken apart at any of these."""

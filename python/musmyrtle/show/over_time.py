@@ -5,14 +5,15 @@ from collections.abc import Generator, Iterable, Iterator
 from contextlib import closing
 
 from musmyrtle.breaking import breaking_off
-from musmyrtle.ending import status_of
+from musmyrtle.ending import FINE, status_of
 from musmyrtle.faults.whole_files import Unusable, replace_file, spare_inputs, try_file
 from musmyrtle.findings import counted
-from musmyrtle.lint.command import USAGE, Parser, add_forms, formed, is_bold_on, printed, shown_examples
+from musmyrtle.lint.command import REFUSED, USAGE, Parser, add_forms, formed, is_bold_on, printed, shown_examples
+from musmyrtle.missed import MISSED, UNJUDGED
 from musmyrtle.output import Stop, pass_on
 from musmyrtle.selections import cycles_of
 from musmyrtle.show.ages import age_of
-from musmyrtle.show.arrivals import Arrivals
+from musmyrtle.show.arrivals import Arrivals, Due
 from musmyrtle.show.choice import Chosen, Words, known_names
 from musmyrtle.show.engines import COMMAND, ENDLESS, Awaited, Inputs, opened
 from musmyrtle.show.facts import Facts
@@ -22,10 +23,15 @@ from musmyrtle.show.plot import MOST_LINES, Axis, picture
 from musmyrtle.show.samples import Holdings, Sample
 from musmyrtle.show.selection import Selection, known_buffers, known_places, numbers_of_nodes
 from musmyrtle.show.series import Series
+from musmyrtle.show.signal_expectations import BadExpectations, Expectation, expectations_in
+from musmyrtle.show.signal_judging import MISSED as UNMET
+from musmyrtle.show.signal_judging import UNJUDGED as NEVER
+from musmyrtle.show.signal_judging import Judge
+from musmyrtle.show.signal_judging import section as expectations_section
 from musmyrtle.show.signal_runs import Faults, Run, add_faults, check_faults, runs_of
 from musmyrtle.show.signal_table import Rows, section
-from musmyrtle.show.signals import frames_in
-from musmyrtle.show.tables import Row, as_text
+from musmyrtle.show.signals import frames_in, tell_faults
+from musmyrtle.show.tables import Row, Section, as_text
 from musmyrtle.signals.frames import Frames
 from musmyrtle.signals.receiving import Destinations, Layouts, routes_of
 from musmyrtle.signals.texts import bytes_of
@@ -57,6 +63,9 @@ def arguments() -> argparse.ArgumentParser:
     add("--endless", action="store_true",
         help="a run without history, of up to 4,000,000 cycles; a run whose history has no room is one in any case")
     add_choice(parser)
+    add("--expect", metavar="FILE",
+        help="judge the expectations of this file, as `brake.speed 0-9 >= 80`, `brake.speed * age <= 10ms` or "
+             "`brake.speed * lost 0`, each in a line; samples are printed only if words or options choose some")
     add("--svg", metavar="FILE",
         help="write a picture, too, with a plot of each signal and a line for each receiver")
     add("--stale", metavar="AGE", type=age_of,
@@ -103,16 +112,26 @@ class Asked:
         self.selection = selection_of(given, inputs)
         self.routes = routes_of(frames)
         words = Words(network, self.routes)
-        places = [place for word in given.signals for place in words.places(word)] if given.signals else None
+        self.words = words
         names = known_names(given.signal, self.routes)
-        self.chosen = Chosen(self.routes, places, self.selection, names)
+        self.chosen = Chosen(self.routes, words.chosen(given.signals), self.selection, names)
+        self.expectations = expected(given, self)
+        more = [place for it in self.expectations or () for place in it.places]
+        self.needed = self.chosen.with_places(more, self.routes) if more else self.chosen
         self.destinations, self.layouts = Destinations(frames.cluster), Layouts(frames)
 
-    def samples(self, run: Run, is_endless: bool) -> Iterator[Sample]:
-        """Yields the samples of a run. Raises `Stop` where it is refused."""
+    def samples(self, run: Run, is_endless: bool, judge: Judge | None) -> Iterator[Sample]:
+        """Yields the samples of a run, which is judged on the way. Raises `Stop` where it is refused."""
         run.inputs.is_endless = is_endless
-        arrivals = Arrivals(run.inputs, self.destinations, self.layouts, self.chosen.wants, is_endless)
-        return Holdings(self.chosen).samples(arrivals)
+        arrivals = Arrivals(run.inputs, self.destinations, self.layouts, self.needed.wants, is_endless)
+        holdings = Holdings(self.needed)
+        dues: Iterable[Due] = arrivals
+        if judge is not None:
+            dues = judge.watch(arrivals, holdings)
+        found = holdings.samples(dues)
+        if self.needed is self.chosen:
+            return found
+        return (it for it in found if it.signal in self.chosen.of(it.due.destination, it.layout))
 
     def slots(self) -> set[int]:
         """Returns the slots of the frames that have the chosen signals."""
@@ -129,6 +148,17 @@ def selection_of(given: argparse.Namespace, inputs: Inputs) -> Selection:
                      known_buffers(given.buffer, nodes, network), network.cluster.parameters.static_slots)
 
 
+def expected(given: argparse.Namespace, asked: Asked) -> list[Expectation] | None:
+    """Returns the expectations of the file that is given, or None. Raises `Stop` after the reasons of its faults."""
+    if given.expect is None:
+        return None
+    try:
+        return expectations_in(given.expect, asked.network, asked.words)
+    except BadExpectations as error:
+        tell_faults(f"the expectations of {given.expect} are refused", error.findings)
+        raise Stop(REFUSED) from None
+
+
 class Shown:
     """A table of runs, and their picture if one is wanted."""
 
@@ -136,13 +166,21 @@ class Shown:
         self.given, self.asked, self.is_endless = given, asked, is_endless
         self.has_faults = bool(given.fault or given.each_fault_of)
         limit = given.stale and int(given.stale.macroticks(asked.network))
+        self.judgements: list[Row] = []
+        self.outcomes: set[str] = set()
         self.series = None if given.svg is None else Series(asked.network, asked.routes, limit)
 
     def rows(self, runs: Iterable[Run]) -> Generator[Row, None, None]:
         """Yields the rows of all runs. On the way the lines of the picture are collected."""
+        asked = self.asked
         for run in runs:
-            samples = self.asked.samples(run, self.is_endless)
-            yield from Rows(self.asked.network, self.asked.selection, run.fault).of(self.noted(samples, run.fault))
+            judge = None if asked.expectations is None else Judge(asked.expectations, asked.network, asked.words,
+                                                                  self.given.cycles)
+            samples = self.noted(asked.samples(run, self.is_endless, judge), run.fault)
+            yield from Rows(asked.network, asked.selection, run.fault).of(samples)
+            if judge:
+                self.judgements += judge.rows(run.fault)
+                self.outcomes |= judge.outcomes
 
     def noted(self, samples: Iterable[Sample], fault: str | None) -> Iterator[Sample]:
         """Yields samples, and adds them to the lines of the picture."""
@@ -152,18 +190,45 @@ class Shown:
             yield it
 
     def show(self, runs: Iterable[Run]) -> None:
-        """Prints the table, and writes the picture."""
+        """Prints the tables, and writes the picture."""
         with closing(self.rows(runs)) as made:
             # The first row says whether the run is refused, before anything is printed.
             first = next(made, None)
             rows = () if first is None else chained(first, made)
-            table = section(self.asked.network, rows, self.has_faults)
-            printed(formed(self.given, [table], as_text([table], is_bold_on(sys.stdout))))
-            for _ in made if self.series else ():
-                # The reader of the table may have gone, but the picture is whole.
+            tables = self.tables(rows)
+            printed(formed(self.given, tables, as_text(tables, is_bold_on(sys.stdout))))
+            for _ in made:
+                # The reader of the table may have gone, but the picture is whole, and all is judged.
                 pass
         if self.series:
             write_picture(self.given, self.asked, self.series)
+
+    def tables(self, rows: Iterable[Row]) -> list[Section]:
+        """Returns the tables: of samples, and of expectations. Beside these, samples are printed only if some are
+        chosen."""
+        network, has_expectations = self.asked.network, self.asked.expectations is not None
+        found = [section(network, rows, self.has_faults)] if self.has_samples else []
+        # The verdicts are known once all samples are made.
+        verdicts = self.verdicts(() if found else rows)
+        return [*found, *([expectations_section(network, verdicts, self.has_faults)] if has_expectations else [])]
+
+    @property
+    def has_samples(self) -> bool:
+        """Returns whether samples are printed."""
+        given = self.given
+        options = given.node, given.slot, given.channel, given.buffer, given.signal, given.in_cycles, given.errors
+        return self.asked.expectations is None or bool(given.signals) or any(options)
+
+    def verdicts(self, rows: Iterable[Row]) -> Iterator[Row]:
+        """Yields the rows of expectations, after the rest of the samples."""
+        for _ in rows:
+            pass
+        yield from self.judgements
+
+    @property
+    def status(self) -> int:
+        """Returns the status that the expectations have."""
+        return MISSED if UNMET in self.outcomes else UNJUDGED if NEVER in self.outcomes else FINE
 
 
 def chained(first: Row, rows: Iterator[Row]) -> Iterator[Row]:
@@ -211,7 +276,8 @@ def spare(given: argparse.Namespace) -> None:
     """Raises `Stop` where the picture would overwrite an input, or can't be written."""
     try:
         spare_inputs({} if given.svg is None else {"--svg": given.svg},
-                     [("the cluster file", given.cluster), ("the scenario", given.scenario)])
+                     [("the cluster file", given.cluster), ("the scenario", given.scenario),
+                      *([] if given.expect is None else [("the file of --expect", given.expect)])])
         if given.svg is not None:
             try_file(given.svg)
     except Unusable as error:
@@ -226,13 +292,16 @@ def done(given: argparse.Namespace, inputs: Inputs) -> int:
     faults = Faults(given, inputs, Facts(inputs), asked.slots())
     inputs.awaited = frozenset() if given.endless else frozenset((NO_ROOM,))
     with runs_of(faults) as runs:
+        shown = Shown(given, asked, given.endless)
         try:
-            Shown(given, asked, given.endless).show(runs())
+            shown.show(runs())
         except Awaited:
             inputs.awaited = frozenset()
             pass_on(GOES_ON)
-            Shown(given, asked, True).show(runs())
-    return inputs.status
+            shown = Shown(given, asked, True)
+            shown.show(runs())
+    found = {inputs.status, shown.status}
+    return MISSED if MISSED in found else max(found)
 
 
 def main(words: list[str]) -> int:

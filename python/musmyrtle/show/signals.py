@@ -6,7 +6,7 @@ from textwrap import fill
 
 from musmyrtle.cluster import Buffer
 from musmyrtle.ending import FINE, status_of
-from musmyrtle.findings import block, counted
+from musmyrtle.findings import Finding, block, counted
 from musmyrtle.lint.command import REFUSED, USAGE, Parser, add_forms, formed, is_bold_on, printed, shown_examples
 from musmyrtle.lint.guarantees import number_of
 from musmyrtle.lint.lint import read_bytes, unreadable
@@ -97,12 +97,17 @@ def frames_in(inputs: Inputs) -> tuple[Text, Frames]:
         raise Stop(USAGE, f"{inputs.task.cluster} can't be read again, or was changed meanwhile") from None
     frames = Frames(inputs.network.cluster, Definitions.of(text))
     if frames.faults:
-        lines = [f"{COMMAND}: the signals of {visible(inputs.task.cluster)} are refused\n"]
-        lines += [block("error", it, is_bold_on(sys.stderr)) for it in frames.faults[:MOST_REASONS]]
-        more = len(frames.faults) - MOST_REASONS
-        write(sys.stderr, ["\n".join([*lines, *([f"and {counted(more, 'more error')}\n"] if more > 0 else [])])])
+        tell_faults(f"the signals of {inputs.task.cluster} are refused", frames.faults)
         raise Stop(REFUSED)
     return text, frames
+
+
+def tell_faults(headline: str, faults: list[Finding]) -> None:
+    """Writes the faults of an input to standard error, below a headline."""
+    lines = [f"{COMMAND}: {visible(headline)}\n"]
+    lines += [block("error", it, is_bold_on(sys.stderr)) for it in faults[:MOST_REASONS]]
+    more = len(faults) - MOST_REASONS
+    write(sys.stderr, ["\n".join([*lines, *([f"and {counted(more, 'more error')}\n"] if more > 0 else [])])])
 
 
 def named_buffer(given: argparse.Namespace, text: Text, frames: Frames) -> Buffer:
