@@ -40,8 +40,8 @@ WORD = re.compile(r"[^ \t]+")
 class Expectation:
     """A line: the signals at receivers that it names, its cycles or all, and what is compared with a limit by a sign.
 
-    `what` is `age`, `lost`, or empty for the value. The limit of a value is one of its signal's. That of an age is in
-    macroticks.
+    `what` is `age`, `lost`, or empty for the value. The limit of a value is one of its signal's, and an age is limited
+    in macroticks.
     """
 
     line: int

@@ -28,7 +28,7 @@ KIND, TITLE = "expectation", "Expectations"
 
 @dataclass
 class Verdict:
-    """How a line fared in a run: the cycles in which it was judged, and the first miss with what was there."""
+    """The verdict on a line in a run: the cycles in which it was judged, and the first miss with what was there."""
 
     judged: int = 0
     missed: int = 0
@@ -57,7 +57,7 @@ class Line:
     expectation: Expectation
     verdict: Verdict = field(default_factory=Verdict)
     known: dict[Place, tuple[Read, bool]] = field(default_factory=dict)
-    """What was read last at each place, and whether it was met."""
+    """The last value at each place, and whether it was met."""
 
 
 class Judge:

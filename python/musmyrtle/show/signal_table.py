@@ -42,7 +42,7 @@ def plain(value: int | float | bytes | None) -> Value:
 
 
 class Rows:
-    """Makes the rows of the samples of a run with a fault, or with none. What rows share is made once."""
+    """Makes the rows of the samples of a run with a fault, or with none. Parts that rows share are made once."""
 
     def __init__(self, network: Network, selection: Selection, fault: str | None = None) -> None:
         self.network, self.selection, self.fault = network, selection, fault

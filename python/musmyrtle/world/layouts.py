@@ -5,8 +5,11 @@ from typing import TYPE_CHECKING
 from musmyrtle.signals.refusals import Given, UnknownSignal
 
 if TYPE_CHECKING:
+    from musmyrtle.cluster import Cluster
+    from musmyrtle.selections import Directory
     from musmyrtle.signals.frames import Frames
     from musmyrtle.signals.layout import Layout
+    from musmyrtle.texts import Text
 
 
 class Layouts:
@@ -21,6 +24,10 @@ class Layouts:
         self._file, self._data = os.path.abspath(file), data
         self._frames: Frames | None = None
         self._received: dict[tuple[int, str | None, int], Layout] = {}
+        self._senders: dict[tuple[int, str, int], int | None] = {}
+        self._text: Text | None = None
+        self._cluster: Cluster | None = None
+        self._names: Directory | None = None
 
     def __reduce__(self) -> tuple[type["Layouts"], tuple[str, bytes | None]]:
         """Has a copy in another process read the layouts again."""
@@ -35,6 +42,41 @@ class Layouts:
                 raise UnknownSignal("no signals are known: the cluster file is no regular file")
             self._frames = frames_of(self._file, self._data)
         return self._frames
+
+    def text(self) -> "Text":
+        """Returns the text of the cluster file. Raises `UnknownSignal` where it is no regular file."""
+        if self._text is None:
+            from musmyrtle.texts import read_text
+            if self._data is None:
+                raise UnknownSignal("no receivers are known: the cluster file is no regular file")
+            self._text = read_text(self._file, self._data)
+        return self._text
+
+    def cluster(self) -> "Cluster":
+        """Returns the cluster, also of a file whose frames have faults."""
+        if self._cluster is None:
+            from musmyrtle.cluster import Reading
+            self._cluster = Reading(self.text().document).cluster
+        if self._cluster is None:
+            raise UnknownSignal("no receivers are known: the cluster file can't be read")
+        return self._cluster
+
+    def names(self) -> "Directory":
+        """Returns the names of nodes and buffers, or None for those without one."""
+        if self._names is None:
+            from musmyrtle.selections import Directory
+            self._names = Directory.of(self.text().document)
+        return self._names
+
+    def sender(self, slot: int, channel: str, count: int) -> int | None:
+        """Returns the node that is to send in a slot: its owner, or the one with a transmit buffer for it."""
+        place = slot, channel, count
+        if place not in self._senders:
+            nodes = self.cluster().nodes
+            self._senders[place] = next((it.number for it in nodes if it.owns(slot, channel, count) or any(
+                buffer.transmits and buffer.slot == slot and channel in buffer.channels and buffer.cycles.admit(count)
+                for buffer in it.buffers)), None)
+        return self._senders[place]
 
     def received(self, slot: int, channel: str | None, cycle: int) -> "Layout":
         """Returns the layout of a received frame. Raises `UnknownSignal` if its sender has none."""

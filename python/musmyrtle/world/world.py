@@ -5,6 +5,7 @@ the exception of its name, and has changed nothing.
 """
 import os
 import stat
+from collections import deque
 from collections.abc import Callable, Iterable, Iterator
 from contextlib import AbstractContextManager, contextmanager, suppress
 from functools import partial
@@ -22,6 +23,7 @@ from musmyrtle.world.faults import Fault, fault_line
 from musmyrtle.world.layouts import Layouts
 from musmyrtle.world.node import Buffer, Node
 from musmyrtle.world.playing import Host, Play
+from musmyrtle.world.receptions import Listener, Listening, Reception, Receptions
 from musmyrtle.world.refusals import BadCycles, BadName, NoHistory, TooManyFaults, WrongLength, refusal
 from musmyrtle.world.replies import Channel, Counters, Moment, Received, Record, Window, record_of, window_of
 from musmyrtle.world.session import CLOSE_SECONDS, FileName, Outputs, Session
@@ -95,6 +97,7 @@ class World:
         self._read_clock: Clock | None = None
         self.layouts = Layouts(os.fspath(cluster), self._data)
         self._session = Session(self._program, cluster, cycles, timeout, endless=self._is_endless, outputs=outputs)
+        self._receptions = Receptions(self.layouts, self.send)
         try:
             self._names = self._read_names(self._data)
         except BaseException:
@@ -337,15 +340,15 @@ class World:
         Raises the first refusal that isn't `WrongTurn`. Steps that were done before it stay done.
         """
         if not self._faults:
-            return moved(self.ask("window"))
+            return self._step("window")
         with self._session.lock:
             self._inject_due()
-            return moved(self.ask("window"))
+            return self._step("window")
 
     def cycle(self) -> Window | None:
         """Does windows up to the first one of the next cycle. Returns and raises as `window` does."""
         if not self._faults:
-            return moved(self.ask("cycle"))
+            return self._step("cycle")
         with self._session.lock:
             window = self.window()
             while window and not window.opens_cycle:
@@ -360,7 +363,7 @@ class World:
         """
         cycles = some_cycles(cycles, self._most_cycles)
         with self._session.lock:
-            if not self._faults:
+            if not self._faults and not self._receptions.listeners:
                 while cycles > MOST_CYCLES:
                     self.ask(f"run {MOST_CYCLES}")
                     cycles -= MOST_CYCLES
@@ -369,6 +372,54 @@ class World:
             for _ in range(cycles):
                 window = self.cycle()
             return window
+
+    def _step(self, line: str) -> Window | None:
+        """Does a step, and tells listeners what was stored in it. Raises its refusal."""
+        if not self._receptions.listeners:
+            return moved(self.ask(line))
+        with self._session.lock:
+            reply, found = self._receptions.step(line)
+        if reply.startswith("refused "):
+            raise refusal(reply, line)
+        self._receptions.tell(found)
+        return moved(reply)
+
+    # ---- received frames
+
+    def listen(self, listener: Listener, node: int | str | None = None, buffer: int | str | None = None) -> Listening:
+        """Has a function called with each frame that a receive buffer stores from now on: a `Reception`.
+
+        NODE and BUFFER are numbers or names, or None for all. The function is called by `window`, `cycle`, `run`,
+        `play` and `play_scenario`, after the window or the cycle in which the frame came, and may call the world. An
+        exception of it comes out of that call. In a cycle done at once it gets the last frame of each buffer. Frames of
+        receive FIFOs are left to `next` and `pop`. Returns a context manager, which `stop` or the end of its block
+        ends. Raises `UnknownName`, and `ValueError` for a buffer by name without its node.
+        """
+        number = self.names.node(node) if isinstance(node, str) else node
+        if isinstance(buffer, str):
+            if number is None:
+                raise ValueError(f"the buffer {buffer!r} is given by its name: give its node, too")
+            buffer = self.names.buffer(number, buffer)
+        with self._session.lock:
+            return self._receptions.listen(listener, number, buffer)
+
+    def frames(self, cycles: int | None = None, node: int | str | None = None, buffer: int | str | None = None
+               ) -> Iterator[Reception]:
+        """Does cycle after cycle, up to the end of the run or so many, and yields each frame that is stored.
+
+        NODE and BUFFER are those of `listen`, of which it raises what that raises, and what `cycle` raises. Frames come
+        by node and buffer once their cycle is done.
+        """
+        waiting: deque[Reception] = deque()
+        with self.listen(waiting.append, node, buffer):
+            left = 0 if self.now() is None else cycles
+            while left is None or left > 0:
+                window = self.cycle()
+                left = None if left is None else left - 1
+                while waiting:
+                    yield waiting.popleft()
+                if window is None:
+                    return
 
     def play_scenario(self, text: str, cycles: int) -> list[tuple[str, str]]:
         """Does a scenario in a world that has just been opened, for so many cycles, as a lockstep run does it.
