@@ -113,6 +113,7 @@ class Keys(Shows):
             *(("diff", it) for it in self.different()),
             ("signals", [*OF_SIGNALS, "--cycles", "4"]),
             ("signals", [*OF_SIGNALS, "--cycles", "4", "--expect", self.written("expected", "1.speed * > 0")]),
+            ("signals --recording", [self.recording_of_signals(), OF_SIGNALS[0]]),
             ("decode", [OF_SIGNALS[0], "engine", "data", "x222ef13c"]),
         ):
             with patch.dict(os.environ, judging.variables(self.folder) if words[1:2] == [missing] else {}):
@@ -138,6 +139,12 @@ class Keys(Shows):
         (self.folder / "short.pcap").write_bytes(without_records(capture.read_bytes(), 2))
         return [clusters, [str(TOP / "examples/signals/cluster.toml"), *scenes, "--cycles", "4"],
                 ["--recordings", THREE[0], str(capture), str(self.folder / "short.pcap")]]
+    def recording_of_signals(self) -> str:
+        """Returns the name of a capture of the example with signals."""
+        view = os.environ.get("MUSMYRTLE_VIEW", str(TOP / "fr_view"))
+        made = subprocess.run([view, "bus", *OF_SIGNALS, "--cycles", "4"], capture_output=True, check=True).stdout
+        (self.folder / "bus.pcap").write_bytes(made)
+        return str(self.folder / "bus.pcap")
 
     def test_findings(self) -> None:
         """The place and the reason of the README: `scenario:7:10: refused BadScript 2: the run has no cycle 3`."""

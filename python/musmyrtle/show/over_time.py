@@ -17,6 +17,7 @@ from musmyrtle.show.arrivals import Arrivals, Due
 from musmyrtle.show.choice import Chosen, Words, known_names
 from musmyrtle.show.engines import COMMAND, ENDLESS, Awaited, Inputs, opened
 from musmyrtle.show.facts import Facts
+from musmyrtle.show.monitor import add_judging
 from musmyrtle.show.options import CLUSTER, SCENARIO, add_places, statuses
 from musmyrtle.show.page import NO_ROOM, int_of_cycles
 from musmyrtle.show.plot import MOST_LINES, Axis, picture
@@ -28,10 +29,12 @@ from musmyrtle.show.signal_judging import MISSED as UNMET
 from musmyrtle.show.signal_judging import UNJUDGED as NEVER
 from musmyrtle.show.signal_judging import Judge
 from musmyrtle.show.signal_judging import section as expectations_section
+from musmyrtle.show.signal_recording import done_recording, prepared
 from musmyrtle.show.signal_runs import Faults, Run, add_faults, check_faults, runs_of
 from musmyrtle.show.signal_table import Rows, section
 from musmyrtle.show.signals import frames_in, tell_faults
 from musmyrtle.show.tables import Row, Section, as_text
+from musmyrtle.show.wireshark import write_tables
 from musmyrtle.signals.frames import Frames
 from musmyrtle.signals.receiving import Destinations, Layouts, routes_of
 from musmyrtle.signals.texts import bytes_of
@@ -54,15 +57,22 @@ def arguments() -> argparse.ArgumentParser:
                     formatter_class=argparse.RawDescriptionHelpFormatter)
     add = parser.add_argument
     add("cluster", metavar=CLUSTER, help="a cluster file with frames and signals")
-    add("scenario", metavar=SCENARIO, help="a scenario of this cluster")
+    add("scenario", metavar=SCENARIO, nargs="?", help="a scenario of this cluster")
     add("signals", metavar="NODE.SIGNAL", nargs="*",
         help="only these signals at these receivers, as brake.speed, brake.engine.speed for one buffer, or brake.* for "
              "all of a receiver")
-    add("--cycles", metavar="N", type=int_of_cycles, required=True,
+    add("--cycles", metavar="N", type=int_of_cycles,
         help=f"the cycles of the run, 1 to {MOST_CYCLES}, or more with --endless")
     add("--endless", action="store_true",
         help="a run without history, of up to 4,000,000 cycles; a run whose history has no room is one in any case")
     add_choice(parser)
+    add("--recording", metavar="RECORDING",
+        help="the signals of this capture (pcap or pcapng, link type 210) in the place of a run, for example of a "
+             "session; - is standard input, and nodes are the senders. Frames with a finding are left out and counted")
+    add_judging(parser)
+    add("--wireshark", metavar="FOLDER",
+        help="write tables of Wireshark's dissector of signals into this folder, a profile of Wireshark, and do no "
+             "more; standard error names what they can't say")
     add("--expect", metavar="FILE",
         help="judge the expectations of this file, as `brake.speed 0-9 >= 80`, `brake.speed * age <= 10ms` or "
              "`brake.speed * lost 0`, each in a line; samples are printed only if words or options choose some")
@@ -92,6 +102,16 @@ def parsed(words: list[str]) -> argparse.Namespace:
     """Returns the words of the command. Ends with status 2 for wrong ones."""
     parser = arguments()
     given = parser.parse_intermixed_args(words)
+    if given.wireshark is not None:
+        return given
+    if given.recording is not None:
+        return of_recording(parser, given)
+    absent = [name for name, value in ((SCENARIO, given.scenario), ("--cycles", given.cycles)) if value is None]
+    if absent:
+        parser.error(f"the following arguments are required: {', '.join(absent)}")
+    alone = {"--whole": given.whole, "--times": given.times, "--macrotick": given.macrotick is not None}
+    for name in (it for it, is_given in alone.items() if is_given):
+        parser.error(f"{name} needs --recording")
     if given.cycles > MOST_CYCLES and not given.endless:
         parser.error(f"a run of {given.cycles} cycles needs --endless: without it there are 1 to {MOST_CYCLES}")
     missing = given.in_cycles and given.in_cycles.missing(given.cycles)
@@ -100,6 +120,19 @@ def parsed(words: list[str]) -> argparse.Namespace:
     if given.stale is not None and given.svg is None:
         parser.error("--stale wants --svg FILE")
     check_faults(parser, given)
+    return given
+
+
+def of_recording(parser: argparse.ArgumentParser, given: argparse.Namespace) -> argparse.Namespace:
+    """Returns the words about a recording, which has no scenario. Ends with status 2 for those of runs."""
+    if given.scenario is not None:
+        given.signals, given.scenario = [given.scenario, *given.signals], None
+    of_runs = {"--cycles": given.cycles, "--endless": given.endless, "--svg": given.svg, "--expect": given.expect,
+               "--fault": given.fault, "--each-fault-of": given.each_fault_of, "--buffer": given.buffer,
+               "--in-cycles": given.in_cycles, "--errors": given.errors, "--stale": given.stale}
+    for name in (it for it, value in of_runs.items() if value):
+        parser.error(f"{name} is for a run, and doesn't go with --recording")
+    prepared(given)
     return given
 
 
@@ -304,11 +337,24 @@ def done(given: argparse.Namespace, inputs: Inputs) -> int:
     return MISSED if MISSED in found else max(found)
 
 
+def done_tables(given: argparse.Namespace) -> int:
+    """Writes the tables for Wireshark, and returns the status."""
+    with opened(given.cluster) as inputs:
+        notes = write_tables(given.wireshark, frames_in(inputs)[1])
+    for it in notes:
+        pass_on(f"{COMMAND}: {it}")
+    return FINE
+
+
 def main(words: list[str]) -> int:
     """Does the command, and returns the status."""
     def work() -> int:
         with breaking_off():
             given = parsed(words)
+            if given.wireshark is not None:
+                return done_tables(given)
+            if given.recording is not None:
+                return done_recording(given)
             spare(given)
             with opened(given.cluster, given.scenario, given.cycles) as inputs:
                 return done(given, inputs)

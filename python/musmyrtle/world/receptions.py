@@ -88,7 +88,7 @@ class Listening:
 
 
 class Receptions:
-    """What the receive buffers of a world held at its last step, and the listeners that hear of changes.
+    """The frames that the receive buffers of a world held at its last step, and the listeners that hear of changes.
 
     SEND returns the replies to requests between which no other comes.
     """
