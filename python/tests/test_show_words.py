@@ -107,9 +107,6 @@ class Keys(Shows):
             ("monitor", [THREE[0], str(TOP / "examples/recordings/disturbed.pcap")]), ("monitor", [THREE[0], THREE[0]]),
             *((it, run) for it in ("run", "log", "commits", "reads")),
             ("run", [run[0], missing, "--cycles", "2"]),
-            ("signals", [str(TOP / "examples/signals/cluster.toml"), str(TOP / "examples/signals/scenario"), "--cycles",
-                         "4"]),
-            ("decode", [str(TOP / "examples/signals/cluster.toml"), "engine", "data", "x222ef13c"]),
             *(("diff", it) for it in self.different()),
             ("signals", [*OF_SIGNALS, "--cycles", "4"]),
             ("signals", [*OF_SIGNALS, "--cycles", "4", "--expect", self.written("expected", "1.speed * > 0")]),
@@ -139,6 +136,7 @@ class Keys(Shows):
         (self.folder / "short.pcap").write_bytes(without_records(capture.read_bytes(), 2))
         return [clusters, [str(TOP / "examples/signals/cluster.toml"), *scenes, "--cycles", "4"],
                 ["--recordings", THREE[0], str(capture), str(self.folder / "short.pcap")]]
+
     def recording_of_signals(self) -> str:
         """Returns the name of a capture of the example with signals."""
         view = os.environ.get("MUSMYRTLE_VIEW", str(TOP / "fr_view"))
