@@ -40,6 +40,7 @@ SCENARIO = Kind("a scenario", SWAPPED)
 CLUSTER = Kind("a cluster file", SWAPPED)
 TRACE = Kind("a trace", "`musmyrtle lint TRACE` explains a trace, and takes nothing else")
 NO_IMPORT = "there is no import of it: write the cluster as docs/formats/cluster.md describes"
+IMPORT = "`musmyrtle import FILE -o cluster.toml` makes a cluster file of it"
 EXPORT = "export it as a capture (pcap or pcapng) of link type 210"
 UNPACK = "unpack it first"
 BY_BEGIN: tuple[tuple[bytes, Kind], ...] = (
@@ -57,7 +58,7 @@ BY_BEGIN: tuple[tuple[bytes, Kind], ...] = (
 )
 """The kinds that the first bytes tell, after a byte order mark and white space."""
 IN_XML: tuple[tuple[bytes, Kind], ...] = (
-    (b"<AUTOSAR", Kind("an ARXML file of AUTOSAR", NO_IMPORT)), (b"FIBEX", Kind("a FIBEX file", NO_IMPORT)),
+    (b"<AUTOSAR", Kind("an ARXML file of AUTOSAR", IMPORT)), (b"FIBEX", Kind("a FIBEX file", IMPORT)),
     (b"<html", Kind("an HTML page")), (b"<!DOCTYPE html", Kind("an HTML page")), (b"", Kind("an XML file", NO_IMPORT)),
 )
 """The kinds of files that begin with `<`, by a text in their begin."""

@@ -11,7 +11,7 @@ from tests.cases import CLUSTER, SCENARIO, Cases
 TOP = Path(__file__).resolve().parents[2]
 MARK = b"\xef\xbb\xbf"
 ARXML = '<?xml version="1.0"?>\n<AUTOSAR xmlns="http://autosar.org/schema/r4.0">\n'
-NO_IMPORT = "There is no import of it: write the cluster as docs/formats/cluster.md describes."
+IMPORT = "`musmyrtle import FILE -o cluster.toml` makes a cluster file of it."
 SWAPPED = "Are the two files swapped? The cluster file comes first, and then the scenario."
 
 FOR_CLUSTERS: tuple[tuple[bytes, str], ...] = (
@@ -19,7 +19,7 @@ FOR_CLUSTERS: tuple[tuple[bytes, str], ...] = (
     (b"\xd4\xc3\xb2\xa1\x02\0\x04\0",
      "is a capture of a bus, and no cluster file `musmyrtle monitor CLUSTER RECORDING`"),
     (b"\x0a\x0d\x0d\x0a\x1c\0\0\0", "is a capture of a bus, and no cluster file"),
-    (ARXML.encode(), f"is an ARXML file of AUTOSAR, and no cluster file {NO_IMPORT}"),
+    (ARXML.encode(), f"is an ARXML file of AUTOSAR, and no cluster file {IMPORT}"),
     (MARK + ARXML.encode(), "is an ARXML file of AUTOSAR"),
     (b'<?xml version="1.0"?><fx:FIBEX>', "is a FIBEX file, and no cluster file"),
     (b"<network/>", "is an XML file, and no cluster file"),
@@ -87,7 +87,7 @@ IN_SCENARIOS = (
     ("Is `read` meant?", "read 1 0 3 1", "receive 1 0 3 1"),
     ("Is `babble` meant?", "babble 2 A * s* x00", "jam 2 A * s* x00"),
     (f"the file is a cluster file, and no scenario {SWAPPED}", SCENARIO, CLUSTER),
-    (f"the file is an ARXML file of AUTOSAR, and no scenario {NO_IMPORT}", SCENARIO, ARXML),
+    (f"the file is an ARXML file of AUTOSAR, and no scenario {IMPORT}", SCENARIO, ARXML),
 )
 COMMANDS = (
     (("page", "c", "s", "--cycles", "4", "-o", "run.html"), "musmyrtle page writes to standard output: > FILE"),

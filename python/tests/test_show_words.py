@@ -22,6 +22,7 @@ from musmyrtle.show.manual import manual
 from musmyrtle.show.tables import Column, Name, Receiver, Receivers, Row, Section, Time, as_csv, as_json, as_text, cell
 from musmyrtle.version import version
 from tests import judging
+from tests.importing import FIBEX, FOLDER, TRUSTING
 from tests.shows import NETWORK, POP, SCENE, THREE, Shows
 from tests.test_diff_clusters import WHOLE
 from tests.test_diff_runs import SPEEDS, without_records
@@ -112,8 +113,9 @@ class Keys(Shows):
             ("signals", [*OF_SIGNALS, "--cycles", "4", "--expect", self.written("expected", "1.speed * > 0")]),
             ("signals --recording", [self.recording_of_signals(), OF_SIGNALS[0]]),
             ("decode", [OF_SIGNALS[0], "engine", "data", "x222ef13c"]),
+            ("import --compare", [str(FOLDER / "network.toml"), str(FIBEX)]),
         ):
-            with patch.dict(os.environ, judging.variables(self.folder) if words[1:2] == [missing] else {}):
+            with TRUSTING, patch.dict(os.environ, judging.variables(self.folder) if words[1:2] == [missing] else {}):
                 output = self.asked(*command.split(), *words, "--json")[1]
             for line in output.splitlines():
                 row = json.loads(line)
@@ -420,7 +422,8 @@ class Help(Shows):
                     words = [str(self.folder / it) if it.endswith(".html") else it for it in words]
                     # The recording of the examples has a finding, and its files differ.
                     has_finding = it.name in ("monitor", "diff") or "--recording" in words
-                    self.assertEqual(self.asked(*words)[0], 3 if has_finding else 0)
+                    with TRUSTING:
+                        self.assertEqual(self.asked(*words)[0], 3 if has_finding else 0)
 
     def test_version(self) -> None:
         self.assertEqual(self.printed("--version"), f"musmyrtle {version()}\n")

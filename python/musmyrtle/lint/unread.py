@@ -17,7 +17,7 @@ SECOND_KEYS = ("frame",)
 """The keys at the top of the file that `signals` names."""
 NAMED = ("name",)
 """The program doesn't read it, and host programs find nodes and buffers by it."""
-PHYSICAL_KEYS = ("bit_rate", "macrotick_us")
+PHYSICAL_KEYS = ("bit_rate", "macrotick_us", "tss_bits")
 MOST_UNREAD = 20
 """The number of unread keys that have a warning each; the others are counted. A file has room for 200,000 of them."""
 

@@ -12,7 +12,7 @@ from musmyrtle.breaking import breaking_off
 from musmyrtle.ending import status_of
 from musmyrtle.lint.command import formed, is_bold_on, printed
 from musmyrtle.selections import single_slot
-from musmyrtle.show import monitor, options, over_time, page, signals
+from musmyrtle.show import imports, monitor, options, over_time, page, signals
 from musmyrtle.show.commits import commits
 from musmyrtle.show.engines import COMMAND, Inputs, opened
 from musmyrtle.show.facts import Facts
@@ -131,6 +131,7 @@ COMMANDS = (
     Command("annotate", signals.ANNOTATE, signals.ANNOTATE_EXAMPLES, signals.annotate_arguments, signals.annotate),
     Command("diff", musmyrtle.diff.command.PURPOSE, musmyrtle.diff.command.EXAMPLES, musmyrtle.diff.command.arguments,
             musmyrtle.diff.command.main),
+    Command("import", imports.PURPOSE, imports.EXAMPLES, imports.arguments, imports.main),
     Command("monitor", monitor.PURPOSE, monitor.EXAMPLES, monitor.arguments, monitor.main),
     Command("page", page.PURPOSE, page.EXAMPLE, page.arguments, page.main),
 )
