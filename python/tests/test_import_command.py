@@ -28,6 +28,7 @@ class TestWords(Importing):
                             ((str(ARXML), "--guard", "C"), "invalid choice"),
                             ((str(ARXML), "--nodez", "a"), "did you mean --nodes?"),
                             ((str(ARXML), "--bit-counting", "x"), "invalid choice"),
+                            ((str(ARXML), "--json"), "--json and --csv are forms of the table of --compare CLUSTER"),
                             ((str(self.folder / "none.arxml"),), "none.arxml: No such file or directory"),
                             ((str(self.folder),), f"{self.folder}: Is a directory"), (("a\0b",), "embedded null byte")):
             status, output, error = self.asked("import", *words)

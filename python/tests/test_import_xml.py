@@ -51,6 +51,14 @@ class TestUnsafe(Shows):
                                        "external reference isn't read\n")
 
     @needs_defusedxml
+    def test_what_is_no_xml(self) -> None:
+        for text, told in (("", "line 1, column 1: no element found"),
+                           (f"<AUTOSAR {NAMESPACE}>", "line 1, column 49: no element found"),
+                           ("no XML", "line 1, column 1: syntax error")):
+            status, _, error = self.asked("import", self.written("bad.arxml", text))
+            self.assertEqual((status, error), (1, f"refused NotXml {self.folder}/bad.arxml: {told}\n"))
+
+    @needs_defusedxml
     def test_the_example(self) -> None:
         """The parser of strangers' files reads what Python's own reads."""
         self.assertEqual(self.asked("import", str(ARXML))[1], (ARXML.parent / "network.toml").read_text())

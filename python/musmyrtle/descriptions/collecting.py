@@ -17,6 +17,10 @@ MOST_ELEMENTS = 4_000_000
 DOCUMENTATION = frozenset(("DESC", "LONG-NAME", "ADMIN-DATA", "INTRODUCTION", "ANNOTATIONS", "SDGS", "COMPANY-DATAS"))
 """Elements for people and tools, which describe nothing of the network."""
 ID, ID_REF = "ID", "ID-REF"
+ATTRIBUTES = frozenset((ID, ID_REF, "INTERVAL-TYPE", "BASE-DATA-TYPE", "ENCODING"))
+"""The attributes that are read."""
+NO_ATTRIBUTES: dict[str, str] = {}
+MOST_KNOWN = 100_000
 
 
 class Place(Enum):
@@ -135,6 +139,7 @@ class Collector:
         self.stack: list[Element] = []
         self.depth = self.dropping = self.keeping = self.length = 0
         self.texts: list[str] = []
+        self.known: dict[str, str] = {}
 
     # ---- what the parser calls
 
@@ -156,7 +161,8 @@ class Collector:
             if name not in DOCUMENTATION:
                 self.description.dropped[name] += 1
             return
-        self.open(name, {local(key): value for key, value in attributes.items()})
+        self.open(name, {local(key): value for key, value in attributes.items() if local(key) in ATTRIBUTES}
+                  if attributes else NO_ATTRIBUTES)
         self.keeping += place is Place.KEPT
 
     def end(self, _: str) -> None:
@@ -167,7 +173,9 @@ class Collector:
             return
         element = self.stack.pop()
         if not element.children and self.texts:
-            element.text = "".join(self.texts).strip()
+            text = "".join(self.texts).strip()
+            # Most texts stand many times in a description.
+            element.text = self.known.setdefault(text, text) if len(self.known) < MOST_KNOWN else text
         self.texts, self.length = [], 0
         if element.tag == "SHORT-NAME":
             self.name(self.stack[-1], element)
@@ -195,7 +203,7 @@ class Collector:
         if known is not None and (known is not found or found is FIBEX):
             raise Refused("Format", self.file, "expected is one FIBEX file, or the AUTOSAR files of one description")
         self.description.format = found
-        self.stack.append(Element(name, {}, None))
+        self.stack.append(Element(name, NO_ATTRIBUTES, None))
 
     def place_of(self, name: str) -> Place:
         """Returns what becomes of an element that begins."""

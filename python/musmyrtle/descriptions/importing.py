@@ -14,7 +14,7 @@ from musmyrtle.descriptions.report import Refused, Report, few
 from musmyrtle.descriptions.scheduling import Schedule
 from musmyrtle.descriptions.stand_ins import chosen_nodes
 from musmyrtle.descriptions.toml_text import comment
-from musmyrtle.descriptions.xml_files import read_files
+from musmyrtle.descriptions.xml_files import Tell, read_files
 from musmyrtle.findings import counted
 from musmyrtle.lint.clashes import clashes
 from musmyrtle.places import Path
@@ -63,12 +63,12 @@ class NotImported(Exception):
         self.refusals, self.notes = refusals, notes
 
 
-def imported(files: list[str], wishes: Wishes) -> Imported:
-    """Returns the cluster file of a description. Raises `NotImported`."""
+def imported(files: list[str], wishes: Wishes, tell: Tell = lambda done, of: None) -> Imported:
+    """Returns the cluster file of a description. TELL gets how many bytes of all are read. Raises `NotImported`."""
     report, description = Report(), Description()
     made = None
     with report.going_on():
-        digests = read_files(files, lambda file: Collector(file, description))
+        digests = read_files(files, lambda file: Collector(file, description), tell)
         network = network_of(description, wishes, report)
         note_unread(description, report)
         if network is not None and not report.refusals:

@@ -7,7 +7,6 @@ from musmyrtle.findings import joined
 
 MOST_NAMED = 50
 """The things that one note names. Of more it counts the rest."""
-MOST_REFUSALS = 200
 
 
 class Refused(Exception):

@@ -5,6 +5,7 @@ the library.
 """
 import os
 import stat
+from collections.abc import Callable
 from typing import Any, Protocol
 from xml.etree.ElementTree import ParseError
 
@@ -19,6 +20,10 @@ LONGEST_TOKEN = 1024 * 1024
 """The bytes of a tag or a comment. The parser keeps the whole of one, and looks at it again for each piece."""
 MISSING = ("import reads XML by defusedxml, which isn't installed: apt install python3-defusedxml, or "
            "pip install defusedxml")
+
+
+Tell = Callable[[int, int], None]
+"""A function that gets how many bytes of all are read."""
 
 
 class Target(Protocol):
@@ -46,7 +51,7 @@ def parser_of(target: Target) -> Any:
     return DefusedXMLParser(target=target, forbid_dtd=True)
 
 
-def read_files(files: list[str], target_of: Any) -> list[bytes]:
+def read_files(files: list[str], target_of: Callable[[str], Target], tell: Tell) -> list[bytes]:
     """Reads files, each into a target of its own. Returns their SHA-256 digests.
 
     Raises `Refused` for what is no XML, is too large or isn't safe, and `Stop` for a file that can't be read.
@@ -55,10 +60,13 @@ def read_files(files: list[str], target_of: Any) -> list[bytes]:
     if sum(sizes) > FILE_LIMIT:
         largest = files[sizes.index(max(sizes))]
         raise Refused("TooLarge", largest, f"the files have {sum(sizes)} bytes, and at most {FILE_LIMIT} are read")
-    room, digests = FILE_LIMIT, []
+    before, digests = 0, []
     for file in files:
-        digest, room = read_file(file, target_of(file), room)
+        def told(fed: int, before: int = before) -> None:
+            tell(before + fed, max(sum(sizes), before + fed))
+        digest, fed = read_file(file, target_of(file), FILE_LIMIT - before, told)
         digests.append(digest)
+        before += fed
     return digests
 
 
@@ -82,8 +90,8 @@ def place_in(parser: Any, fed: int) -> int:
     return fed if inner is None else int(inner.CurrentByteIndex)
 
 
-def read_file(file: str, target: Target, room: int) -> tuple[bytes, int]:
-    """Reads one file of at most ROOM bytes. Returns its digest and the room that is left."""
+def read_file(file: str, target: Target, room: int, tell: Callable[[int], None]) -> tuple[bytes, int]:
+    """Reads one file of at most ROOM bytes. Returns its digest and its length."""
     # Most commands need no digest.
     from hashlib import sha256
     parser, digest, fed = parser_of(target), sha256(), 0
@@ -93,6 +101,7 @@ def read_file(file: str, target: Target, room: int) -> tuple[bytes, int]:
                 fed += len(piece)
                 if fed > room:
                     raise Refused("TooLarge", file, f"it has more than the {FILE_LIMIT} bytes that are read")
+                tell(fed)
                 digest.update(piece)
                 parser.feed(piece)
                 if fed - place_in(parser, fed) > LONGEST_TOKEN:
@@ -100,11 +109,11 @@ def read_file(file: str, target: Target, room: int) -> tuple[bytes, int]:
         parser.close()
     except ParseError as error:
         line, column = error.position
-        raise Refused("NotXml", file, f"line {line}, column {column + 1}: {error.msg.partition(':')[0]}") from None
+        raise Refused("NotXml", file, f"line {line}, column {column + 1}: {str(error.msg).partition(':')[0]}") from None
     except OSError as error:
         raise unreadable(file, error) from None
     except (ValueError, LookupError) as error:
         # The exceptions of defusedxml are of this kind, and so are those of unknown encodings.
         raise Refused("UnsafeXml", file, f"{type(error).__name__}: a document type, an entity or an external reference "
                       "isn't read" if type(error).__module__.startswith("defusedxml") else str(error)) from None
-    return digest.digest(), room - fed
+    return digest.digest(), fed

@@ -1,15 +1,17 @@
-"""The command `import`: a cluster file, made of a system description of AUTOSAR 4 or FIBEX."""
+"""The command `import`: a cluster file, made of a system description of AUTOSAR 4 or FIBEX.
+
+The readers are imported where they are used, since all other commands would wait for them.
+"""
 import argparse
 import io
 import os
 import sys
+import time
 from contextlib import suppress
 from textwrap import fill
+from typing import TYPE_CHECKING
 
 from musmyrtle.cluster import GUARDS
-from musmyrtle.descriptions.comparing import compare
-from musmyrtle.descriptions.importing import Imported, NotImported, Wishes, imported
-from musmyrtle.descriptions.report import MOST_REFUSALS
 from musmyrtle.ending import FINE, status_of
 from musmyrtle.faults.whole_files import Unusable, replace_file, spare_inputs
 from musmyrtle.findings import counted
@@ -21,6 +23,9 @@ from musmyrtle.show.options import WIDTH
 from musmyrtle.show.tables import Column, Row, Section, as_text
 from musmyrtle.texts import NoText, Text, read_text
 
+if TYPE_CHECKING:
+    from musmyrtle.descriptions.importing import Imported, Wishes
+
 PURPOSE = "Makes a cluster file of an AUTOSAR 4 system description or a FIBEX 3.1 or 4 file."
 EXAMPLES = ("import examples/descriptions/network.arxml > cluster.toml",
             "import examples/descriptions/network.fibex.xml --nodes Brake --guard AB > cluster.toml")
@@ -30,6 +35,9 @@ STATUSES = ("status: 0 if it is done, with notes on standard error, 1 if the des
 COLUMNS = (Column("thing", "thing"), Column("name", "name", "whole"), Column("change", "change"), Column("key", "key"),
            Column("before", "before"), Column("after", "after"))
 DIFFERENT = 3
+MEGABYTE = 1_000_000
+MOST_REFUSALS = 200
+"""The refusals that are printed."""
 
 
 def arguments() -> argparse.ArgumentParser:
@@ -57,16 +65,51 @@ def arguments() -> argparse.ArgumentParser:
     return parser
 
 
-def wishes_of(given: argparse.Namespace) -> Wishes:
+def parsed(words: list[str]) -> argparse.Namespace:
+    """Returns the words. Ends with status 2 for wrong ones."""
+    parser = arguments()
+    given = parser.parse_args(words)
+    if given.compare is None and (given.json or given.csv):
+        parser.error("--json and --csv are forms of the table of --compare CLUSTER")
+    return given
+
+
+class Progress:
+    """A line on a terminal that shows how much of the files is read."""
+
+    def __init__(self) -> None:
+        self.is_on_terminal = sys.stderr is not None and sys.stderr.isatty()
+        self.is_shown, self.last = False, time.monotonic()
+
+    def __call__(self, done: int, of: int) -> None:
+        """Shows the bytes that are read."""
+        now = time.monotonic()
+        if self.is_on_terminal and now - self.last > 0.2:
+            self.is_shown, self.last = True, now
+            write(sys.stderr, [f"\r\x1b[K{done // MEGABYTE} of {of // MEGABYTE} MB read"])
+
+    def end(self) -> None:
+        """Removes the line."""
+        if self.is_shown:
+            write(sys.stderr, ["\r\x1b[K"])
+
+
+def wishes_of(given: argparse.Namespace) -> "Wishes":
     """Returns what the words ask for."""
+    from musmyrtle.descriptions.importing import Wishes
     names = tuple(dict.fromkeys(name for it in given.nodes for name in it.split(",") if name))
     return Wishes(given.cluster, names, given.split, given.listen, given.guard, given.bit_counting)
 
 
-def made(given: argparse.Namespace) -> Imported:
+def made(given: argparse.Namespace) -> "Imported":
     """Returns the cluster file. Raises `Stop` after the refusals of a description."""
+    from musmyrtle.descriptions.importing import NotImported, imported
+    progress = Progress()
     try:
-        return imported(given.files, wishes_of(given))
+        try:
+            return imported(given.files, wishes_of(given), progress)
+        finally:
+            progress.end()
     except NotImported as refused:
         tell("note", refused.notes)
         tell("refused", refused.refusals[:MOST_REFUSALS])
@@ -80,7 +123,7 @@ def tell(word: str, lines: list[str]) -> None:
         pass_on(f"{word} {line}")
 
 
-def written(given: argparse.Namespace, found: Imported) -> None:
+def written(given: argparse.Namespace, found: "Imported") -> None:
     """Writes the cluster file, whole or not at all."""
     if given.output is None:
         if isinstance(sys.stdout, io.TextIOWrapper):
@@ -107,8 +150,9 @@ def existing(file: str) -> Text:
         raise Stop(USAGE, f"{error.why.place or file}: {error.why.headline}. {error.why.reason}") from None
 
 
-def compared(given: argparse.Namespace, old: Text, found: Imported) -> int:
+def compared(given: argparse.Namespace, old: Text, found: "Imported") -> int:
     """Prints the differences, and returns the status."""
+    from musmyrtle.descriptions.comparing import compare
     changes = compare(old, read_text("", found.text.encode()))
     rows = [Row({"thing": it.kind, "name": it.name, "change": it.what, "key": it.key or None,
                  "before": it.before or None, "after": it.after or None}) for it in changes]
@@ -140,4 +184,4 @@ def main(words: list[str]) -> int:
     if sys.stderr is not None and hasattr(sys.stderr, "reconfigure"):
         # A terminal may be unable to spell the names of a description.
         sys.stderr.reconfigure(errors="backslashreplace")
-    return status_of(COMMAND, lambda: done(arguments().parse_args(words)))
+    return status_of(COMMAND, lambda: done(parsed(words)))
