@@ -1,5 +1,6 @@
 """Tests of the words, the outputs and the failures of `import`."""
 import hashlib
+import io
 import os
 import subprocess
 import sys
@@ -7,6 +8,7 @@ import tomllib
 from pathlib import Path
 from unittest import mock
 
+from musmyrtle.show import imports
 from musmyrtle.version import version
 from tests.importing import ARXML, FIBEX, FOLDER, Importing, changed, flat
 
@@ -116,6 +118,28 @@ class TestOutput(Importing):
                              capture_output=True)
         self.assertEqual(ran.returncode, 0, ran.stderr)
         self.assertIn('unit = "µm"', ran.stdout.decode())
+
+
+class TestProgress(Importing):
+    def test_on_a_terminal(self) -> None:
+        """The line is shown after a while, and removed before anything else is printed."""
+        terminal = io.StringIO()
+        with mock.patch.object(sys, "stderr", terminal), mock.patch.object(terminal, "isatty", return_value=True):
+            progress = imports.Progress()
+            progress(1_000_000, 3_000_000)
+            progress.last -= 1
+            progress(2_000_000, 3_000_000)
+            progress.end()
+        self.assertEqual(terminal.getvalue(), "\r\x1b[K2 of 3 MB read\r\x1b[K")
+
+    def test_elsewhere(self) -> None:
+        terminal = io.StringIO()
+        with mock.patch.object(sys, "stderr", terminal):
+            progress = imports.Progress()
+            progress.last -= 1
+            progress(2_000_000, 3_000_000)
+            progress.end()
+        self.assertEqual(terminal.getvalue(), "")
 
 
 class TestHostileNames(Importing):

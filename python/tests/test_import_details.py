@@ -40,6 +40,31 @@ class TestSignals(Importing):
         self.assertEqual([signal_of(found, it).get("update") for it in ("speed", "gear", "acceleration", "torque")],
                          [[63, 40], [40], None, [127]])
 
+    def test_update_bits_of_later_pdus(self) -> None:
+        """The update bit of a signal counts from its PDU on, which begins at byte 8."""
+        text = flat(ARXML.read_text())
+        mapping = text[text.index("<SHORT-NAME>ptorque<"):]
+        mapping = mapping[:mapping.index("</I-SIGNAL-TO-I-PDU-MAPPING>")]
+        found = self.tables(changed(text, (mapping, f"{mapping}<{UPDATE}>40</{UPDATE}>")))
+        self.assertEqual(signal_of(found, "torque")["update"], [127, 104])
+        text = flat(FIBEX.read_text())
+        found = self.tables(changed(text, ('<fx:SIGNAL-REF ID-REF="torque"/>', '<fx:SIGNAL-UPDATE-BIT-POSITION>40'
+                                           '</fx:SIGNAL-UPDATE-BIT-POSITION><fx:SIGNAL-REF ID-REF="torque"/>')))
+        self.assertEqual(signal_of(found, "torque")["update"], [127, 104])
+
+    def test_raw_values(self) -> None:
+        """An invalid value of 0 says something, and an initial one doesn't. A float may have any number."""
+        text = flat(ARXML.read_text())
+        found = self.tables(changed(text, ("<VALUE>65535<", "<VALUE>0<"), ("<VALUE>40<", "<VALUE>0<")))
+        self.assertEqual(signal_of(found, "speed")["invalid"], 0)
+        self.assertNotIn("initial", signal_of(found, "temperature"))
+        value_of = "<NUMERICAL-VALUE-SPECIFICATION><VALUE>{}</VALUE></NUMERICAL-VALUE-SPECIFICATION>"
+        initial = f"<INIT-VALUE>{value_of}</INIT-VALUE>"
+        for value, wanted in (("1.5", 1.5), ("-1e-3", -0.001), ("1e39", None)):
+            name = "<I-SIGNAL><SHORT-NAME>torque</SHORT-NAME>"
+            found = self.tables(changed(text, (name, name + initial.format(value))))
+            self.assertEqual(signal_of(found, "torque").get("initial"), wanted)
+
     def test_the_network_comes_first(self) -> None:
         """A conversion of the network representation counts, and not that of the system signal."""
         old = '<BASE-TYPE-REF DEST="SW-BASE-TYPE">/Network/base_s</BASE-TYPE-REF>'
@@ -88,6 +113,13 @@ class TestEnds(Importing):
         other = changed(text, (ports, pdus), ("<CHANNEL-NAME>CHANNEL-A<", f"<PDU-TRIGGERINGS>{triggering}"
                                               "</PDU-TRIGGERINGS><CHANNEL-NAME>CHANNEL-A<"))
         self.assertEqual(self.tables(other), self.tables(text))
+
+    def test_a_port_that_stands_twice(self) -> None:
+        """A node that a triggering names twice is one sender and one receiver."""
+        text = flat(ARXML.read_text())
+        for port in ("Brake/OnA/Out", "Door/OnA/In"):
+            reference = f'<FRAME-PORT-REF DEST="FRAME-PORT">/Network/{port}</FRAME-PORT-REF>'
+            self.assertEqual(self.tables(changed(text, (reference, reference * 2))), self.tables(text))
 
     def test_connectors_of_other_clusters(self) -> None:
         """A controller on CAN is none of this cluster, and nothing of it is noted."""

@@ -101,6 +101,8 @@ REFUSED_ARXML = (
 )
 REFUSED_FIBEX = (
     ("<flexray:MACROTICK>1<", "<flexray:MACROTICK>0.000001<", "Unit /Backbone: "),
+    ("<flexray:NUMBER-OF-STATIC-SLOTS>8</flexray:NUMBER-OF-STATIC-SLOTS>", "",
+     "Missing /Backbone/NUMBER-OF-STATIC-SLOTS: the element isn't there"),
     ("<fx:SPEED>10000000<", "<fx:SPEED>10<", "BitRate /Backbone/SPEED: it is 10 bits a second"),
     ("<flexray:CYCLE>1000<", "<flexray:CYCLE>1<", "CycleTime /Backbone/CYCLE: it is 1 microseconds"),
     ("BIT-COUNTING-POLICY>MONOTONE<", "BIT-COUNTING-POLICY>ODD<",
@@ -219,8 +221,10 @@ class TestRefusals(Importing):
         self.assertIn("NoFrames /Backbone: no frame of the cluster has a slot", self.refusals(text))
 
     def test_no_cluster(self) -> None:
-        self.assertEqual(self.refusals(ARXML.read_text().replace("FLEXRAY-CLUSTER>", "CAN-CLUSTER>")),
-                         ["NoCluster the files: there is no FlexRay cluster"])
+        status, _, told = self.asked("import", self.written("can.arxml", ARXML.read_text().replace(
+            "FLEXRAY-CLUSTER>", "CAN-CLUSTER>")))
+        self.assertEqual((status, told), (1, "note elements of other kinds aren't read: 1 CAN-CLUSTER\n"
+                                             "refused NoCluster the files: there is no FlexRay cluster\n"))
 
     def test_two_elements_of_one_path(self) -> None:
         """They are one where they are the same, and refused where they differ and one of them is needed."""

@@ -17,7 +17,8 @@ MOST_ELEMENTS = 4_000_000
 DOCUMENTATION = frozenset(("DESC", "LONG-NAME", "ADMIN-DATA", "INTRODUCTION", "ANNOTATIONS", "SDGS", "COMPANY-DATAS"))
 """Elements for people and tools, which describe nothing of the network."""
 ID, ID_REF = "ID", "ID-REF"
-ATTRIBUTES = frozenset((ID, ID_REF, "INTERVAL-TYPE", "BASE-DATA-TYPE", "ENCODING"))
+TYPE = "type"
+ATTRIBUTES = frozenset((ID, ID_REF, TYPE, "INTERVAL-TYPE", "BASE-DATA-TYPE", "ENCODING"))
 """The attributes that are read."""
 NO_ATTRIBUTES: dict[str, str] = {}
 MOST_KNOWN = 100_000

@@ -1,7 +1,7 @@
 """A FlexRay cluster of a FIBEX 3.1 or 4 file."""
 from collections import defaultdict
 
-from musmyrtle.descriptions.collecting import ID_REF, Description
+from musmyrtle.descriptions.collecting import ID_REF, TYPE, Description
 from musmyrtle.descriptions.elements import (Element, every, fraction, has, needed, number, one, optional, path_of,
                                              shown, text, truth)
 from musmyrtle.descriptions.fibex_signals import FibexSignals
@@ -33,7 +33,7 @@ class Fibex:
 
     def network(self, wanted: str | None) -> Network | None:
         """Returns the cluster of a name, or the only one, or None after refusals. Raises `Refused`."""
-        clusters = (it for it in self.description.of_kind("CLUSTER") if has(it, PARAMETERS["static_slots"]))
+        clusters = (it for it in self.description.of_kind("CLUSTER") if is_flexray(it))
         cluster = self.description.reach(chosen(clusters, wanted, "the file"))
         signals = FibexSignals(self.description, self.report, cluster, self.counting)
         channels = [self.description.referred(it) for it in every(cluster, "CHANNEL-REFS/CHANNEL-REF")]
@@ -134,3 +134,8 @@ class Fibex:
         return [Sending(frame.name, path_of(triggering), self.channels[id(channel)], number(it, "SLOT-ID"),
                         cycles_of(it), layout.length, has_preamble, list(senders), list(receivers), layout)
                 for it in timings]
+
+
+def is_flexray(cluster: Element) -> bool:
+    """Returns whether a cluster is one of FlexRay, by its type or by a parameter that no other cluster has."""
+    return "flexray" in cluster.attributes.get(TYPE, "").lower() or has(cluster, PARAMETERS["static_slots"])

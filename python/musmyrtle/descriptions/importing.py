@@ -66,10 +66,12 @@ class NotImported(Exception):
 def imported(files: list[str], wishes: Wishes, tell: Tell = lambda done, of: None) -> Imported:
     """Returns the cluster file of a description. TELL gets how many bytes of all are read. Raises `NotImported`."""
     report, description = Report(), Description()
-    made = None
+    network = made = None
     with report.going_on():
         digests = read_files(files, lambda file: Collector(file, description), tell)
-        network = network_of(description, wishes, report)
+        with report.going_on():
+            network = network_of(description, wishes, report)
+        # A refusal may come from a name that only these notes show.
         note_unread(description, report)
         if network is not None and not report.refusals:
             made = made_of(network, wishes, report)
