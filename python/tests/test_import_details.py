@@ -1,4 +1,6 @@
 """Tests of details of `import` that the samples don't have: groups, whole bytes, ports of PDUs, other clusters."""
+import tomllib
+
 from tests.describing import arxml
 from tests.importing import ARXML, FIBEX, Importing, Tables, changed, flat
 from tests.test_import_sizes import large
@@ -140,6 +142,22 @@ class TestEnds(Importing):
         other = changed(text, ("<fx:FRAME-TRIGGERINGS>", f"{triggering}<fx:FRAME-TRIGGERINGS>"))
         other = other.replace(reference, reference + '<fx:PDU-TRIGGERING-REF ID-REF="PtMotion"/>')
         self.assertEqual(self.tables(other), self.tables(text))
+
+
+class TestChannels(Importing):
+    def test_a_dynamic_frame_on_both_channels(self) -> None:
+        """It is sent by two buffers, which the host commits to one by one, and received by one."""
+        tables = large()
+        sender, receiver = tables["node"][2], tables["node"][3]
+        sender["buffer"] = [{"kind": "event", "slot": 200, "channels": channel, "words": 4, "frame": "Both"}
+                            for channel in "AB"]
+        receiver["buffer"] = [{"kind": "receive", "slot": 200, "channels": "AB"}]
+        del tables["node"][4:]
+        text, notes = self.imported(arxml(tables))
+        found = {it["name"]: [(line["name"], line["channels"]) for line in it["buffer"]]
+                 for it in tomllib.loads(text)["node"]}
+        self.assertEqual((found["Ecu2"], found["Ecu3"]), ([("Both", "A"), ("Both-2", "B")], [("Both", "AB")]))
+        self.assertTrue(any("are sent by several buffers" in it and "Both by 2" in it for it in notes), notes)
 
 
 class TestStandIns(Importing):

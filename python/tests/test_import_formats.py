@@ -2,9 +2,11 @@
 
 `network.toml` of `examples/descriptions` was compared with the descriptions by hand: slots, cycles and bits.
 """
+import subprocess
 import tomllib
 from fractions import Fraction
 
+from musmyrtle.program import usual_program
 from tests.describing import arxml, fibex
 from tests.importing import ARXML, FIBEX, FOLDER, Importing, Tables, changed, facts, flat
 from tests.shows import EXAMPLES
@@ -89,14 +91,15 @@ class TestFacts(Importing):
                     self.assertEqual(wanted, found)
 
     def test_the_car(self) -> None:
-        """The plan is the same line for line, and nothing else but `words_per_minislot` was fitted."""
-        wanted = self.printed("plan", str(EXAMPLES / "vehicle/cluster.toml"), "--csv")
-        names = {it["name"] for it in example("vehicle")["node"]}
+        """The parameters and the plan are the same byte for byte, and the nodes have their names."""
+        names = [it["name"] for it in example("vehicle")["node"]]
         for write in WRITERS:
             text, _ = self.imported(write(example("vehicle")), "--guard", "AB")
-            self.assertEqual(names, {it["name"] for it in tomllib.loads(text)["node"]})
-            found = self.printed("plan", self.written("imported.toml", text), "--csv")
-            self.assertEqual(len(found.splitlines()), len(wanted.splitlines()))
+            self.assertEqual(names, [it["name"] for it in tomllib.loads(text)["node"]])
+            for command in ("check", "plan"):
+                ran = subprocess.run([usual_program("fr_bench") or "", command, self.written("imported.toml", text)],
+                                     capture_output=True)
+                self.assertEqual(ran.stdout, (EXAMPLES / "vehicle" / command).read_bytes())
 
     def test_signals(self) -> None:
         """The signals of the example, but for `when`, `unused` and bytes, which this writer doesn't spell."""
