@@ -110,6 +110,10 @@ async function testPlot(page) {
                          [100, 200].map((x) => ["error", `move ${x - 4} ${plot.heightOf(87.5) - 4}`]));
   explorer.paint();
   assert.ok(plot.canvas.painted.texts.includes("90"));
+  // A cycle has 100 macroticks, and the state buffer is sent in each one.
+  assert.strictEqual(plots.ageOf(plot.chosen), 200);
+  plots.age.value = "3";
+  assert.strictEqual(plots.ageOf(plot.chosen), 300);
   explorer.print(true);
   plots.hide(plot);
   assert.strictEqual(document.activeElement.id, "signal");
