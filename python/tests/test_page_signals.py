@@ -114,6 +114,17 @@ class Series(SignalPages):
         self.assertEqual(speed["channel B"]["steps"], [[0, "8750"], [300, "9000"], [400, "9000"]])
         self.assertEqual(speed["channel A"]["losses"][:1], [100])
 
+    def test_numbers_of_buffers(self) -> None:
+        """Buffer 1 has the even cycles, and buffer 10 the odd ones."""
+        text = SIGNALS.read_text()
+        front, buffers = text[:text.rindex("buffer = [")], ['{kind = "receive", slot = 2, channels = "AB"}'] * 11
+        for number, base in ((1, 0), (10, 1)):
+            buffers[number] = f'{{kind = "receive", slot = 1, channels = "AB", base = {base}, repetition = 2}}'
+        cluster = self.written("cluster.toml", f"{front}buffer = [{', '.join(buffers)}]\n")
+        speed = self.series(self.page_of(cluster=cluster))["engine (0) data (0): speed [km/h]"]
+        self.assertEqual([(speed[f"dashboard (2) buffer {it}"]["steps"], speed[f"dashboard (2) buffer {it}"]["losses"])
+                          for it in (1, 10)], [([[0, "8750"], [400, "9000"]], [200]), ([[300, "9000"]], [100])])
+
     def test_receivers_with_a_fifo(self) -> None:
         """A FIFO is due where no buffer of its node is, and stores the frames of both channels."""
         text = SIGNALS.read_text().replace(
@@ -140,6 +151,11 @@ class Plots(SignalPages):
         self.assertIn("engine (0) data (0): speed [km/h]Hidecommitted: 2 commitsbrake (1) engine (1): 3 frames, 2 lost"
                       "dashboard (2) engine (0): 3 frames, 2 lostengine (0) data (0): gearHide", first)
 
+    def test_the_signal_with_the_most_values_comes_first(self) -> None:
+        """Here the speed stays, and the gear changes."""
+        first = self.walked(self.page_of(SCENE.replace("x2328", "x222e")))[0]["plots"]
+        self.assertLess(first.index("gearHide"), first.index("speed [km/h]Hide"))
+
     def test_values_at_the_pointer(self) -> None:
         """Exact values, ages in microseconds, names, and the loss after the last frame."""
         _, early, late, named = self.walked(self.page_of(), "plot 0 point 60", "plot 0 point 250", "plot 1 point 310")
@@ -159,6 +175,8 @@ class Plots(SignalPages):
                                                       "1,000 µs old, lost in cycle 2"), shown[3]["status"])
         self.assertEqual(shown[4]["view"][1], 100)
         self.assertTrue(shown[5]["status"].startswith("1,500 µs"))
+        begin, span = shown[5]["view"]
+        self.assertTrue(begin <= 300 <= begin + span, shown[5]["view"])
         self.assertIn("Slot 1 on", shown[6]["details"])
         self.assertIn("in cycle 3", shown[6]["details"])
 
