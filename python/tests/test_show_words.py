@@ -419,7 +419,7 @@ class Help(Shows):
             for example in it.examples:
                 with self.subTest(example):
                     words = example.partition(" > ")[0].replace("examples/", f"{TOP}/examples/").split()
-                    words = [str(self.folder / it) if it.endswith(".html") else it for it in words]
+                    words = [str(self.folder / it) if it.endswith((".html", ".svg")) else it for it in words]
                     # The recording of the examples has a finding, and its files differ.
                     has_finding = it.name in ("monitor", "diff") or "--recording" in words
                     with TRUSTING:
