@@ -20,6 +20,7 @@ from musmyrtle.show.latency import latencies, latency, way
 from musmyrtle.show.log import log
 from musmyrtle.show.options import Words
 from musmyrtle.show.parameters import check
+from musmyrtle.show.payloads import with_signals
 from musmyrtle.show.reads import reads
 from musmyrtle.show.selection import Selection, known_buffers, known_places, numbers_of_nodes
 from musmyrtle.show.senders import plan
@@ -68,6 +69,8 @@ def table(name: str, purpose: str, words: Words, examples: tuple[str, ...],
                 scenario = (given.scenario, given.cycles) if words.has_run else (None, None)
                 with opened(given.cluster, *scenario) as inputs:
                     found = sections(inputs, given)
+                    if getattr(given, "signals", False):
+                        found = with_signals(inputs, found)
                     printed(formed(given, found, as_text(found, is_bold_on(sys.stdout))))
             return inputs.status
         return status_of(COMMAND, work)

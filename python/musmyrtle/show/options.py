@@ -8,6 +8,9 @@ from musmyrtle.lint.command import Parser, add_forms, shown_examples
 from musmyrtle.lint.command import cycles_of as number_of_cycles
 from musmyrtle.selections import cycles_of, places_in
 
+HELP = ("below each row also the signals of its payload, by the frames of the cluster file: a line for each in a text, "
+        "a key `signals` with --json, and a row of the kind `signal` for each with --csv")
+
 CLUSTER, SCENARIO = "CLUSTER", "SCENARIO"
 WIDTH = 110
 
@@ -50,6 +53,8 @@ def arguments(name: str, purpose: str, words: Words, examples: tuple[str, ...]) 
         add("--in-cycles", metavar="CYCLE,..", type=cycles_of,
             help="only rows of these cycles of the run, as 0-10/2,13")
         add("--errors", action="store_true", help="only rows with an error")
+    if words.has_run:
+        add("--signals", action="store_true", help=HELP)
     add_forms(parser)
     return parser
 

@@ -26,6 +26,8 @@ MOST_BYTES, FIRST_BYTES = 16, 8
 """The bytes that a text shows whole. Of more it shows the first ones and the last one."""
 MOST_SPELLED = 4096
 """The values of a column whose texts are kept."""
+SIGNAL = "signal"
+"""The kind of the rows of signals below others in CSV."""
 BYTES = re.compile("x(?:[0-9a-f]{2})*")
 NUMERIC = re.compile(r"[0-9.]+|-")
 
@@ -283,6 +285,8 @@ class Row:
 
     values: Mapping[str, Value]
     is_error: bool = False
+    below: "tuple[Row, ...] | None" = None
+    """The rows of signals in its payload, or None if they aren't asked for."""
 
 
 @dataclass(frozen=True)
@@ -299,6 +303,8 @@ class Section:
     columns: tuple[Column, ...]
     rows: Iterable[Row]
     nothing: str = ""
+    below: tuple[Column, ...] = ()
+    """The columns of the rows below each row: of a key `signals` in JSON, of rows of the kind `signal` in CSV."""
 
 
 class Spelled(dict[tuple[type, Value], str]):
@@ -352,8 +358,11 @@ def as_json(sections: Iterable[Section]) -> Iterator[str]:
         spelling = Spelling(((it.key, known.setdefault(it, Spelled(partial(json_fields, it))))
                              for it in section.columns), ", ")
         front = json.dumps({"kind": section.kind})[:-1]
+        inner = Spelling(((it.key, Spelled(partial(json_fields, it))) for it in section.below), ", ")
         for row in section.rows:
-            yield f"{', '.join([front, *spelling.row(row)])}}}\n"
+            more = [] if row.below is None else [
+                f'"signals": [{", ".join("{" + ", ".join(inner.row(it)) + "}" for it in row.below)}]']
+            yield f"{', '.join([front, *spelling.row(row), *more])}}}\n"
 
 
 def json_fields(column: Column, value: Value) -> str:
@@ -363,17 +372,19 @@ def json_fields(column: Column, value: Value) -> str:
 
 def as_csv(sections: Sequence[Section]) -> Iterator[str]:
     """Yields one table for all sections: a heading with the keys of all columns, each once, and a line for each row."""
-    keys = list(dict.fromkeys(key for section in sections for column in section.columns for key in column.keys))
+    keys = list(dict.fromkeys(key for section in sections for column in (*section.columns, *section.below)
+                              for key in column.keys))
     yield csv_line(["kind", *keys])
     for section in sections:
-        spelling = csv_spelling(section, keys)
+        spelling, inner = csv_spelling(section.columns, keys), csv_spelling(section.below, keys)
         for row in section.rows:
             yield f"{','.join([section.kind, *spelling.row(row)])}\n"
+            yield from (f"{','.join([SIGNAL, *inner.row(it)])}\n" for it in row.below or ())
 
 
-def csv_spelling(section: Section, keys: Sequence[str]) -> Spelling:
-    """Returns the texts of the cells of a section in the places of all keys. Those of other sections stay empty."""
-    own = {key: (column, place) for column in section.columns for place, key in enumerate(column.keys)}
+def csv_spelling(columns: Iterable[Column], keys: Sequence[str]) -> Spelling:
+    """Returns the texts of the cells of columns in the places of all keys. Those of other columns stay empty."""
+    own = {key: (column, place) for column in columns for place, key in enumerate(column.keys)}
     empty = Spelled(lambda _: "")
     return Spelling(((own[it][0].key, Spelled(partial(csv_cell, *own[it]))) if it in own else ("", empty)
                      for it in keys), ",")
@@ -402,19 +413,27 @@ def as_text(sections: Iterable[Section], is_coloured: bool = False) -> Iterator[
             is_first = False
 
 
+def below_text(words: Sequence[str]) -> str:
+    """Returns the line of a signal below a row, as `    speed=87.5 km/h` or `    gear=drive`."""
+    signal, value, unit, name = words[:4]
+    return f"    {signal}={name}" if name != ABSENT else f"    {signal}={value}{'' if unit == ABSENT else f' {unit}'}"
+
+
 def text_lines(section: Section, is_coloured: bool) -> Iterator[str]:
     """Yields the lines of one table for people."""
     shown = [it for it in section.columns if it.heading]
     spelling = Spelling((it.key, Spelled(it.text)) for it in shown)
-    rows = [(row.is_error, tuple(spelling.row(row))) for row in section.rows]
+    inner = Spelling((it.key, Spelled(it.text)) for it in section.below)
+    rows = [(row.is_error, tuple(spelling.row(row)), [below_text(inner.row(it)) for it in row.below or ()])
+            for row in section.rows]
     if not rows:
         if section.nothing:
             yield section.nothing
         return
-    kept = [place for place in range(len(shown)) if any(words[place] != ABSENT for _, words in rows)]
+    kept = [place for place in range(len(shown)) if any(words[place] != ABSENT for _, words, _ in rows)]
     columns = [shown[it] for it in kept]
-    cells = [tuple(words[it] for it in kept) for _, words in rows] if len(kept) < len(shown) else \
-        [words for _, words in rows]
+    cells = [tuple(words[it] for it in kept) for _, words, _ in rows] if len(kept) < len(shown) else \
+        [words for _, words, _ in rows]
     widths = [max(len(column.heading), *(len(row[place]) for row in cells)) for place, column in enumerate(columns)]
     is_right = [all(NUMERIC.fullmatch(row[place]) for row in cells) for place in range(len(columns))]
 
@@ -428,8 +447,9 @@ def text_lines(section: Section, is_coloured: bool) -> Iterator[str]:
     if section.title:
         yield coloured(section.title, BOLD)
     yield coloured(line(it.heading for it in columns), BOLD)
-    for (is_error, _), words in zip(rows, cells):
+    for (is_error, _, below), words in zip(rows, cells):
         yield coloured(line(words), RED) if is_error else line(words)
+        yield from below
     for it in columns:
         if it.meaning:
             yield f"{it.heading.partition(' [')[0]}: {it.meaning}"
