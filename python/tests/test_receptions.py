@@ -105,7 +105,7 @@ class TestListeners(Shows):
                 found[0]["speed"]
 
     def test_exceptions(self) -> None:
-        """What a listener raises comes out of the step, which is done. The world goes on."""
+        """An exception of a listener comes out of the step, which is done. The world goes on."""
         def fail(_: Reception) -> None:
             raise ArithmeticError
 

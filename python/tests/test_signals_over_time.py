@@ -173,6 +173,19 @@ class TestOtherNetworks(OverTime):
             (0, 1, "angle", -2, 0, "new"), (40, None, "count", 1, 0, "new"), (100, 1, "angle", -2, 100, "null"),
             (140, None, "count", 1, 100, "lost"), (200, 1, "angle", -2, 200, "null")])
 
+    def test_a_buffer_before_the_fifo(self) -> None:
+        """The FIFO isn't due for what a receive buffer of its node admits."""
+        network = with_frames().replace('slot = 5, channels = "B"', 'slot = 3, channels = "A"')
+        scene = "frscenario 3\ncommit 0 0 0-1 1 x01" + 31 * "00" + "\nmute 0 A 1 m1\nend\n"
+        found = self.samples("cycle buffer_name what", *self.scene(scene, 2, network), "brake.count")
+        self.assertEqual(found, [(0, "unused", "new"), (1, "unused", "lost")])
+
+    def test_cycles_of_a_receive_buffer(self) -> None:
+        network = with_frames().replace('kind = "receive", slot = 1, channels = "AB"',
+                                        'kind = "receive", slot = 1, channels = "A", base = 1, repetition = 2')
+        words = self.scene("frscenario 3\ncommit 0 0 0-3 0 x0001\nend\n", 4, network)
+        self.assertEqual(self.samples("cycle channel what", *words), [(1, "A", "new"), (3, "A", "new")])
+
     def test_values_out_of_their_limits(self) -> None:
         words = self.scene("frscenario 3\ncommit 0 0 0 0 x0064\ncommit 0 0 1 0 x0065\nend\n", 3, with_frames())
         self.assertEqual(self.samples("value in_range", *words), [(100, True), (101, False), (101, False)])
