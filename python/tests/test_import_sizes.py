@@ -130,11 +130,14 @@ class TestCar(Importing):
 
 
 def commits_of(text: str) -> str:
-    """Returns a scenario with a commit to each transmit buffer in each of 8 cycles, with a payload of its place."""
+    """Returns a scenario with a commit to each transmit buffer in each of 8 cycles, with a payload of its slot.
+
+    A stand-in may send one frame of several nodes from one buffer, so the payload doesn't say the cycles.
+    """
     lines = []
     for node, it in enumerate(tomllib.loads(text)["node"]):
         for buffer, line in enumerate(it["buffer"]):
             if line["kind"] != "receive":
-                place = f"{line['slot']:03x}{line.get('base', 0):02x}{line['channels']}".encode().hex()
+                place = f"{line['slot']:03x}{line['channels']}".encode().hex()
                 lines.append(f"commit {node} 0 0-7 {buffer} x{(place * 300)[:4 * line.get('words', 8)]}\n")
     return "".join(["frscenario 3\n", *lines, "end\n"])
