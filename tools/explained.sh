@@ -239,6 +239,9 @@ find_wrong_request() {
         $1 in form && NF == split(form[$1], words, " ") + 1 {
             tell("has a cycle, as in a scenario; a request is " form[$1])
         }
+        ($1 in form || $1 in has_node) && NF > 1 && $2 ~ /,/ {
+            tell("has a list, as in a scenario; a request has one node")
+        }
         ($1 in form || $1 in has_node) && NF > 1 && $2 !~ /^[0-9]+$/ {
             tell("names a node, as in a scenario; a request has its number")
         }

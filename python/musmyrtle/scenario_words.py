@@ -26,6 +26,8 @@ MOST_BYTES = {"commit": 254, "expect": 254, "babble": 262}
 NUMBER = re.compile(r"0|[1-9][0-9]*")
 HEX = re.compile(r"x(?:[0-9a-f]{2})*")
 WORD = re.compile(r"[^ \t]+")
+RANGE = re.compile(r"\[?[0-9]+(?:-|;|\.\.|,|$)")
+"""A word that is meant as several numbers, in the form of other tools."""
 MOST_MEANT = 64
 """The largest number of lines for which a line with lists stands."""
 OLD_PLACE = re.compile(r"s\*|[sm][1-9][0-9]*")
@@ -162,6 +164,9 @@ class Words:
                 return None
             why = self.names.why_no_buffer(node, word)
         thing = "a node" if name == "NODE" else "a buffer of the node"
+        several = " Several stand with commas between them, as `0,1`. Only cycles and static slots have ranges."
+        if RANGE.match(word):
+            why += several
         return f"{why} Expected a number from 0 to {GREATEST[name]} without leading zeros or the name of {thing}"
 
     def node(self) -> int | None:

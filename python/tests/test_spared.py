@@ -28,6 +28,13 @@ class Folder(unittest.TestCase):
         (self.folder / name).write_text(text)
         return self.folder / name
 
+    def ended(self, output: str, mode: str, *words: str) -> tuple[int, str]:
+        """Returns the status of a command and its last message. Its table goes to a file."""
+        with open(self.folder / output, mode) as file:
+            ran = subprocess.run([sys.executable, "-B", str(TOP / "musmyrtle"), *words], cwd=self.folder,
+                                 stdout=file, stderr=subprocess.PIPE, text=True, timeout=120)
+        return ran.returncode, (ran.stderr.splitlines() or [""])[-1]
+
     def contents(self) -> dict[str, str]:
         """Returns the text of each file by its path."""
         files = (it for it in self.folder.rglob("*") if it.is_file())
@@ -116,18 +123,11 @@ class TestWorlds(Folder):
 
 
 class TestFaults(Folder):
-    def faults(self, output: str, mode: str, *words: str) -> tuple[int, str]:
-        """Returns the status of the command and its last message. Its table goes to a file."""
-        with open(self.folder / output, mode) as file:
-            ran = subprocess.run([sys.executable, "-B", str(TOP / "musmyrtle"), "faults", *words], cwd=self.folder,
-                                 stdout=file, stderr=subprocess.PIPE, text=True, timeout=120)
-        return ran.returncode, ran.stderr.splitlines()[-1]
-
     def test_the_file_of_standard_output(self) -> None:
         """The shell has opened it. Nothing more is lost, and no table goes where a page replaces it."""
         self.file("scenario", SCENE)
-        words = "cluster.toml", "scenario", "--cycles", "2", "--kinds", "lost"
-        self.assertEqual(self.faults("table", "w", *words)[0], 0)
+        words = "faults", "cluster.toml", "scenario", "--cycles", "2", "--kinds", "lost"
+        self.assertEqual(self.ended("table", "w", *words)[0], 0)
         table = (self.folder / "table").read_text()
         for output, mode, more, what in (
                 ("page", "w", ("--html", "page"), "the file of --html"),
@@ -135,7 +135,7 @@ class TestFaults(Folder):
                 ("table", "a", ("--against", "table"), "the table of --against"),
                 ("scenario", "a", (), "the scenario"), ("cluster.toml", "a", (), "the cluster file")):
             with self.subTest(output):
-                self.assertEqual(self.faults(output, mode, *words, *more), (
+                self.assertEqual(self.ended(output, mode, *words, *more), (
                     2, f"musmyrtle faults: standard output is {what}, which would be overwritten: name another file"))
         self.assertEqual((self.folder / "table").read_text(), table)
         self.assertEqual((self.cluster.read_text(), (self.folder / "scenario").read_text()), (TWO_NODES, SCENE))
@@ -145,9 +145,24 @@ class TestFaults(Folder):
         module = self.file("hosts.py", text)
         (self.folder / "page").symlink_to("hosts.py")
         for option, file in (("--html", "hosts.py"), ("--joblog", "hosts.py"), ("--html", "page")):
+            more = ["--resume"] if option == "--joblog" else []
             with self.subTest(option):
-                status, told = self.faults("table", "w", THREE[0], "--host", "hosts:drive", "--cycles", "2", "--kinds",
-                                           "lost", option, file, *(["--resume"] if option == "--joblog" else []))
+                status, told = self.ended("table", "w", "faults", THREE[0], "--host", "hosts:drive", "--cycles", "2",
+                                          "--kinds", "lost", option, file, *more)
                 self.assertEqual((status, told), (2, f"musmyrtle faults: {option} {file} is the module of --host, "
                                                      "which would be overwritten: name another file"))
                 self.assertEqual(module.read_text(), text)
+
+
+class TestCommands(Folder):
+    def test_the_file_of_standard_output(self) -> None:
+        self.file("scenario", SCENE)
+        run = "cluster.toml", "scenario", "--cycles", "2"
+        for command, words in ("lint", ("cluster.toml",)), ("lint", run), ("run", run), ("log", run), ("reads", run):
+            self.assertEqual(self.ended("table", "w", command, *words)[0], 0)
+            for output, what in (("cluster.toml", "the cluster file"), ("scenario", "the scenario"))[:len(words)]:
+                with self.subTest(command, output=output):
+                    status, told = self.ended(output, "a", command, *words)
+                    self.assertEqual((status, told.split(": ", 1)[1]), (
+                        2, f"standard output is {what}, which would be overwritten: name another file"))
+        self.assertEqual((self.cluster.read_text(), (self.folder / "scenario").read_text()), (TWO_NODES, SCENE))

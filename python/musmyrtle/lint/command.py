@@ -26,6 +26,7 @@ from musmyrtle.other_words import OUTPUTS, meant_by
 from musmyrtle.output import Stop, write
 from musmyrtle.program import Answer, ask, by_option, no_answer, usual_program
 from musmyrtle.show.tables import Section, as_csv, as_json, as_text
+from musmyrtle.spared import Output, clash
 from musmyrtle.version import version
 from musmyrtle.visible import cut, visible
 
@@ -188,7 +189,15 @@ def words_for(task: Task) -> list[str]:
 
 @contextmanager
 def lasting(task: Task) -> Iterator[Task]:
-    """Yields the task with files that can be read again, also by another process."""
+    """Yields the task with files that can be read again, also by another process.
+
+    Raises `Stop` if standard output is one of them, which a command would spoil.
+    """
+    inputs = [("the cluster file", task.cluster), ("the scenario", task.scenario)]
+    spoiled = clash([Output("/dev/stdout", "standard output", "standard output")],
+                    [(what, name) for what, name in inputs if name is not None])
+    if spoiled:
+        raise Stop(USAGE, spoiled)
     with ExitStack() as copies:
         names = dict.fromkeys(it for it in (task.cluster, task.scenario) if it is not None)
         yield replace(task, files={name: lasting_file(name, copies) for name in names})

@@ -112,7 +112,9 @@ class Expectations:
         if unlike is None:
             return None
         other, cycle = unlike
-        headline = f"lines {other.number} and {line.number} expect different contents in cycle {cycle}"
+        whose = f"lines {other.number} and {line.number} expect" if other.number != line.number else \
+            f"the lists of line {line.number} expect"
+        headline = f"{whose} different contents in cycle {cycle}"
         reason = f"Expected other cycles, or one of both lines. {AS_MISSED}"
         note = Note(f"line {other.number}", self.scenario.place_of(other))
         return Finding(headline, reason, self.scenario.place_of(line), (note,))

@@ -152,14 +152,16 @@ class Run:
         is_all = line.cycles.last is None and other.cycles.last is None
         when = "in every cycle" if is_all else f"in cycle {(common & -common).bit_length() - 1}"
         place = common_place(line.place, other.place)
-        headline = f"two lines {line.kind}{whose} on {line.word('CHANNEL')} at {place} {when}"
+        where = f"{line.kind}{whose} on {line.word('CHANNEL')} at {place} {when}"
+        is_own = line.number == other.number
+        headline = f"the lists of the line name {where} twice" if is_own else f"two lines {where}"
         reason = "A window takes one fault of a kind for each node and channel. Expected another cycle or place."
         if line.is_lost or other.is_lost:
             reason += " A line `lost` is `mute` on both channels in every window."
         if {line.place.segment, other.place.segment} == {"m", "d"} and place.first is not None:
             reason += " A dynamic slot may open at any minislot."
         note = Note(f"line {other.number} names it too", self.scenario.place_of(other, "PLACE"))
-        return Finding(headline, reason, self.scenario.place_of(line, "PLACE"), (note,))
+        return Finding(headline, reason, self.scenario.place_of(line, "PLACE"), () if is_own else (note,))
 
     def no_rooms(self) -> Refusals:
         """Returns the findings in the order of their nodes, for host entries before slot entries."""
