@@ -9,7 +9,7 @@ import musmyrtle.lint.command
 from musmyrtle.ending import reason_of, status_of
 from musmyrtle.lint.lint import unreadable
 from musmyrtle.output import Stop
-from musmyrtle.program import ask
+from musmyrtle.program import ask, usual_program
 from tests.shows import EXAMPLES, THREE, Shows
 from tests.test_streams import shell
 
@@ -128,10 +128,23 @@ class Machine(Shows):
 
     def stub(self, refusal: str) -> str:
         """Returns a program that refuses each input so."""
+        return self.script(f"echo 'refused {refusal}' >&2\nexit 1\n")
+
+    def script(self, lines: str) -> str:
+        """Returns a program of these lines of a shell."""
         file = self.folder / "stub"
-        file.write_text(f"#!/bin/sh\necho 'refused {refusal}' >&2\nexit 1\n")
+        file.write_text(f"#!/bin/sh\n{lines}")
         file.chmod(0o755)
         return str(file)
+
+    def test_an_output_that_is_cut_off(self) -> None:
+        """The status is 0, and the last line has no line feed."""
+        stub = self.script(f"{usual_program('fr_view')} \"$@\" | head -c -1\n")
+        for words in (it for it in COMMANDS if it[0] in ("latency", "run", "log", "commits", "reads")):
+            with self.subTest(words=words), patch.dict(os.environ, {"MUSMYRTLE_VIEW": stub}):
+                status, output, error = self.asked(*words)
+                self.assertEqual((status, output, error.count("\n")), (2, "", 1), error)
+                self.assertRegex(error, "^musmyrtle: the output of .* is cut off: its last line has no line feed\n$")
 
     def test_no_verdict(self) -> None:
         for refusal, what in (("Memory", "out of memory"), ("Write", "its output can't be written"),

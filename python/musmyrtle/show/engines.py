@@ -123,6 +123,8 @@ class Inputs:
         program = self.program(name)
         status, output, told = self.ran(program, name, words, data)
         idle = self.told(program, words, status, told)
+        if output and not output.endswith(b"\n"):
+            raise cut_off(program, words)
         return Printed(output.decode(errors="replace").splitlines(), tuple(idle))
 
     def ran(self, program: str, name: str, words: list[str], data: bytes = b"") -> tuple[int, bytes, bytes]:
@@ -138,13 +140,14 @@ class Inputs:
         """Yields the lines that `fr_view` prints about the run, as it prints them. Raises what `ask` raises."""
         name, pipe = "fr_view", subprocess.PIPE
         program, words_of_run = self.program(name), self.words_of_run(command, *words)
+        is_whole = True
         with temporary_file() as told:
             try:
                 with self.children.started([program, *words_of_run], stdin=subprocess.DEVNULL, stdout=pipe,
                                            stderr=told) as process:
                     for line in process.stdout or ():
-                        if not line.endswith(b"\n"):
-                            # The program ended within a line, which its status tells.
+                        is_whole = line.endswith(b"\n")
+                        if not is_whole:
                             break
                         yield line.decode(errors="replace").rstrip("\n")
             except OSError as error:
@@ -152,6 +155,8 @@ class Inputs:
             self.keep(program, name)
             told.seek(0)
             self.told(program, words_of_run, process.returncode, told.read())
+        if not is_whole:
+            raise cut_off(program, words_of_run)
 
     def no_start(self, program: str, name: str, error: OSError) -> Stop:
         """Returns the end of a command that can't run a program."""
@@ -203,6 +208,11 @@ class Inputs:
             raise Stop(USAGE, no_answer(program, words, answer))
         write(sys.stderr, ["\n".join(reasons(told, found))])
         raise Stop(REFUSED)
+
+
+def cut_off(program: str, words: list[str]) -> Stop:
+    """Returns the end of a command whose program ended well, but within a line."""
+    return Stop(USAGE, visible(f"the output of {program} {words[0]} is cut off: its last line has no line feed"))
 
 
 def reasons(refusal: str, found: Lint) -> Iterator[str]:
