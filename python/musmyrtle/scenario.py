@@ -80,6 +80,8 @@ class Reading:
         self.cycles, self.names = cycles, LineNames(names)
         self.meant = 2
         """The lines for which the lines with words stand, and the first and the last one."""
+        self.beyond: int | None = None
+        """The line with which they are more than a scenario may have."""
         self.read(data)
 
     def refuse(self, refusal: str, headline: str, reason: str, number: int | None = None,
@@ -151,6 +153,8 @@ class Reading:
             return True
         else:
             self.meant += len(line.meant())
+            if self.beyond is None and self.meant > MOST_LINES:
+                self.beyond = number
             self.add(line.lines(number))
         return False
 
@@ -171,9 +175,10 @@ class Reading:
 
     def count_lines(self) -> None:
         """Refuses more lines in place of those with lists than a scenario may have. Only the calls come later."""
-        if self.meant > MOST_LINES:
+        if self.beyond is not None:
             headline = f"the scenario stands for {self.meant} lines, with the lines of lists counted one by one"
-            self.refuse("TooManyLines", headline, f"A scenario has at most {MOST_LINES}. Expected shorter lists.", 1)
+            reason = f"It has at most {MOST_LINES}. The lines up to this one stand for more. Expected shorter lists."
+            self.refuse("TooManyLines", headline, reason, self.beyond)
 
     def count_calls(self) -> None:
         """Refuses more calls in the run than there may be. This comes after all other faults."""

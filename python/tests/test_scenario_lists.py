@@ -64,6 +64,8 @@ class Lists(unittest.TestCase):
         name, headline, _, _ = refused(long * 63 + "pop 0 0 0\n" * 63)
         self.assertEqual((name, headline), (
             "TooManyLines", "the scenario stands for 4097 lines, with the lines of lists counted one by one"))
+        place = read(long * 63 + "pop 0 0 0\n" * 70).refusals[0][1].place
+        self.assertEqual(place and place.line, 127)
         self.assertEqual(refused(long * 64 + "pop\n")[0], "BadLine 66")
 
     def test_earlier_versions_have_no_lists(self) -> None:
