@@ -152,18 +152,21 @@ class TestInterrupted(Sessions):
         raise Interrupt
 
     def test_no_reply_belongs_to_an_earlier_request(self):
-        """Signals come at random moments: a world goes on with the right replies, or reports that it is over."""
+        """Signals come at random moments: a world goes on with the right replies, or reports that it is over.
+
+        The interpreter drops what a handler raises within a callback of a weak reference, so signals come again.
+        """
         moments, over = random.Random(4), 0
         for turn in range(60):
             with World(THREE_NODES, 8) as world:
                 asked = 0
                 try:
-                    signal.setitimer(signal.ITIMER_REAL, moments.uniform(0.0001, 0.003))
+                    signal.setitimer(signal.ITIMER_REAL, moments.uniform(0.0001, 0.003), 2)
                     while True:
                         asked += 1
                         world.ask(f"commit 0 0 0 x{asked % 16:04x}" if asked < 40 else "now")
                 except Interrupt:
-                    pass
+                    signal.setitimer(signal.ITIMER_REAL, 0)
                 try:
                     for request, front in (("now", "open "), ("mute 9 A", "refused Bus"), ("report 0", "lines 5\ntx"),
                                            ("read 1 0 1", "frame "), ("withdraw 1 0 0", "withdrawn ")):

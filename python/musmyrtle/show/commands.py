@@ -89,7 +89,6 @@ def selected(make: Callable[[Facts, Selection], list[Section]], has_minislots: b
     The run comes first, since only an accepted cluster has names.
     """
     def sections(inputs: Inputs, given: argparse.Namespace) -> list[Section]:
-        inputs.passes_idle_on = True
         facts = Facts(inputs)
         facts.run()
         return make(facts, selection_of(given, inputs, has_minislots))

@@ -61,8 +61,6 @@ class Inputs:
         """The expectations of the scenario that the run missed."""
         self.passes_misses_on = True
         """False for a command that has a table of them, in which they aren't messages."""
-        self.passes_idle_on = False
-        """True for a command that has no table of the lines of faults without effect."""
         self.is_endless = self.is_unjudged = False
         """True for a command whose run keeps no history; and for a view that judged none of the expectations. In a run
         with history these are judged by another view."""
@@ -186,9 +184,7 @@ class Inputs:
 
     def is_told_otherwise(self, line: str) -> bool:
         """Returns whether the command itself prints what a line says, or asks another view for it."""
-        if idle_line_of(line) is not None:
-            return not self.passes_idle_on
-        if not self.is_endless and line.endswith(NOT_JUDGED):
+        if idle_line_of(line) is not None or not self.is_endless and line.endswith(NOT_JUDGED):
             return True
         return not self.passes_misses_on and miss_of(line) is not None
 
