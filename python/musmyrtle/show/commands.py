@@ -4,6 +4,7 @@ import sys
 from collections.abc import Callable
 from dataclasses import dataclass
 
+import musmyrtle.design.words
 import musmyrtle.diff.command
 import musmyrtle.faults.command
 import musmyrtle.faults.options
@@ -134,6 +135,8 @@ COMMANDS = (
     Command("annotate", signals.ANNOTATE, signals.ANNOTATE_EXAMPLES, signals.annotate_arguments, signals.annotate),
     Command("diff", musmyrtle.diff.command.PURPOSE, musmyrtle.diff.command.EXAMPLES, musmyrtle.diff.command.arguments,
             musmyrtle.diff.command.main),
+    Command("design", musmyrtle.design.words.PURPOSE, musmyrtle.design.words.EXAMPLES,
+            musmyrtle.design.words.arguments, musmyrtle.design.words.main),
     Command("import", imports.PURPOSE, imports.EXAMPLES, imports.arguments, imports.main),
     Command("monitor", monitor.PURPOSE, monitor.EXAMPLES, monitor.arguments, monitor.main),
     Command("page", page.PURPOSE, page.EXAMPLE, page.arguments, page.main),

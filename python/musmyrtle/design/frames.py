@@ -1,0 +1,156 @@
+"""Frames of a network for one choice of parameters: signals of one sender share frames, and each frame has its cycles.
+"""
+from collections import defaultdict
+from collections.abc import Iterable, Iterator, Mapping
+from dataclasses import dataclass, replace
+from typing import Any
+
+from musmyrtle.design.network import EITHER, REPETITIONS, Message
+
+LONGEST_FRAME = 254
+"""The bytes of the longest frame."""
+MOST_SIGNALS = 1024
+
+
+@dataclass(frozen=True)
+class Frame:
+    """A frame: a message, or the signals of several. Times are in macroticks."""
+
+    name: str
+    sender: int
+    receivers: tuple[int, ...]
+    bytes: int
+    period: int
+    deadline: int | None
+    is_static: bool
+    channels: str
+    kind: str
+    slot: int | None = None
+    base: int | None = None
+    repetition: int | None = None
+    members: tuple[Message, ...] = ()
+    signals: tuple[Mapping[str, Any], ...] = ()
+    is_kept: bool = False
+    """True for a frame of a kept cluster file that isn't to move."""
+
+    @property
+    def words(self) -> int:
+        """Returns the two-byte words of its payload."""
+        return (self.bytes + 1) // 2
+
+    def repetitions(self, cycle: int, length: int) -> Iterator[int]:
+        """Yields the repetitions, greatest first, by which each value has a cycle and can arrive in time.
+
+        LENGTH is the time of the frame or its slot. The deadline counts from the start of the slot in one cycle to the
+        end of the frame in the next one.
+        """
+        for it in reversed(REPETITIONS):
+            in_time = self.deadline is None or it * cycle + length <= self.deadline
+            if it * cycle <= self.period and in_time and self.repetition in (None, it):
+                yield it
+
+    def deadline_by(self, static_mt: int) -> int:
+        """Returns the deadline. Without one it is a period and the length of a static slot."""
+        return self.period + static_mt if self.deadline is None else self.deadline
+
+
+def timed(value: int, cycle: int) -> int:
+    """Returns a time of a message in macroticks, where a negative one is in cycles."""
+    return value if value > 0 else -value * cycle
+
+
+def frame_of(it: Message, cycle: int) -> Frame:
+    """Returns the frame of a message that shares it with no other."""
+    deadline = None if it.deadline is None else timed(it.deadline, cycle)
+    return Frame(it.name, it.sender, it.receivers, it.bytes, timed(it.period, cycle), deadline, it.is_static,
+                 it.channels, it.kind, it.slot, it.base, it.repetition, (it,), it.signals)
+
+
+def frames_of(messages: Iterable[Message], cycle: int, room: int, names: Iterable[str]) -> list[Frame]:
+    """Returns the frames of all messages, with at most ROOM bytes of signals in a frame.
+
+    NAMES are the names that are taken. First fit: signals with the shortest period come first, then the longest ones.
+    """
+    found: list[Frame] = []
+    shared: dict[tuple[int, bool, str, str], list[Message]] = defaultdict(list)
+    for it in messages:
+        if it.bits:
+            shared[it.sender, it.is_static, it.channels, it.kind].append(it)
+        else:
+            found.append(frame_of(it, cycle))
+    taken = {it.name for it in found} | set(names)
+    for members in shared.values():
+        found += packed(members, cycle, room, taken)
+    return found
+
+
+def packed(members: list[Message], cycle: int, room: int, taken: set[str]) -> Iterator[Frame]:
+    """Yields the frames of the signals of one sender on the same channels, by first fit."""
+    def urgency(it: Message) -> tuple[int, int]:
+        deadline = timed(it.deadline or it.period, cycle)
+        return cycles_of(timed(it.period, cycle), deadline, cycle), deadline
+    members = sorted(members, key=lambda it: (urgency(it), -it.bits, it.name))
+    groups: list[tuple[tuple[int, int], list[Message], list[int]]] = []
+    for it in members:
+        for key, group, used in groups:
+            # A signal in a frame with a shorter period is sent more often than it has to be: only rests are filled.
+            fits = used[0] + it.bits <= 8 * room and len(group) < MOST_SIGNALS
+            if fits and (key[0] == urgency(it)[0] or it.is_static):
+                group.append(it)
+                used[0] += it.bits
+                break
+        else:
+            groups.append((urgency(it), [it], [it.bits]))
+    for _, group, _ in groups:
+        yield shared_frame(group, cycle, taken)
+
+
+def cycles_of(period: int, deadline: int, cycle: int) -> int:
+    """Returns the greatest repetition whose cycles come within a period and a deadline, at least 1."""
+    return next((it for it in reversed(REPETITIONS) if it * cycle <= min(period, deadline)), 1)
+
+
+def shared_frame(group: list[Message], cycle: int, taken: set[str]) -> Frame:
+    """Returns the frame of some signals, with the shortest of their periods and deadlines."""
+    first = group[0]
+    tables, end = list[Mapping[str, Any]](), 0
+    for it in group:
+        tables.append({"name": it.name, "bit": end, **{key: value for key, value in it.signals[0].items()
+                                                       if key != "name"}})
+        end += it.bits
+    deadlines = [timed(it.deadline, cycle) for it in group if it.deadline is not None]
+    free = [timed(it.period, cycle) for it in group if it.deadline is None]
+    period = min(timed(it.period, cycle) for it in group)
+    deadline = min(deadlines) if deadlines and not (free and min(free) < min(deadlines)) else None
+    receivers = dict.fromkeys(it for member in group for it in member.receivers)
+    return Frame(free_name(first.name, taken), first.sender, tuple(sorted(receivers)), -(-end // 8), period, deadline,
+                 first.is_static, first.channels, first.kind, members=tuple(group), signals=tuple(tables))
+
+
+def free_name(first: str, taken: set[str]) -> str:
+    """Returns a name for the frame of the signals that begin with this one."""
+    number, name = 1, f"{first[:24]}.frame"
+    while name in taken:
+        number += 1
+        name = f"{first[:20]}.frame{number}"
+    taken.add(name)
+    return name
+
+
+def least_frames(messages: Iterable[Message], room: int) -> int:
+    """Returns a bound: no packing of the signals, of any periods, has fewer frames."""
+    bits: dict[tuple[int, bool, str, str], int] = defaultdict(int)
+    for it in messages:
+        if it.bits:
+            bits[it.sender, it.is_static, it.channels, it.kind] += it.bits
+    return sum(-(-it // (8 * room)) for it in bits.values())
+
+
+def on_both(it: Frame) -> Frame:
+    """Returns the frame on both channels."""
+    return replace(it, channels="AB")
+
+
+def channels_of(it: Frame) -> str:
+    """Returns the channels that a frame may have, `AB` for either."""
+    return "AB" if it.channels == EITHER else it.channels

@@ -1,0 +1,69 @@
+"""The judge of a schedule: `fr_bench check`, the warnings of `lint --strict`, and `fr_view latency` of the file itself."""
+from dataclasses import dataclass, field
+from pathlib import Path
+
+from musmyrtle.breaking import temporary_folder
+from musmyrtle.design.building import Built, Line
+from musmyrtle.findings import Finding
+from musmyrtle.latencies import Latency, Load
+from musmyrtle.lint.guarantees import Guarantees
+from musmyrtle.lint.lint import Ran, Task, lint
+from musmyrtle.show.engines import opened
+from musmyrtle.show.latency import latencies
+from musmyrtle.show.network import Network as Shown
+from musmyrtle.faults.whole_files import write_file
+
+
+@dataclass(frozen=True)
+class Judged:
+    """A transmit buffer with what the program says of it, and its deadline in macroticks."""
+
+    line: Line
+    latency: Latency
+    deadline: int
+
+    @property
+    def is_met(self) -> bool:
+        """Returns whether the worst case meets the deadline."""
+        return self.latency.worst is not None and self.latency.worst <= self.deadline
+
+
+@dataclass
+class Verdict:
+    """What the programs say of a cluster file."""
+
+    rows: list[Judged] = field(default_factory=list)
+    loads: list[Load] = field(default_factory=list)
+    warnings: list[Finding] = field(default_factory=list)
+    shown: Shown | None = None
+
+    @property
+    def late(self) -> list[Judged]:
+        """Returns the transmit buffers that miss their deadlines."""
+        return [it for it in self.rows if not it.is_met]
+
+    @property
+    def is_good(self) -> bool:
+        """Returns whether each deadline is met, and there is no warning."""
+        return not self.late and not self.warnings
+
+
+def verdict_of(built: Built, static_mt: int, allowed: frozenset[str] = frozenset()) -> Verdict:
+    """Returns the verdict about a cluster file. Raises `Stop` where a program refuses it or fails."""
+    with temporary_folder("musmyrtle-") as folder:
+        file = Path(folder) / "cluster.toml"
+        write_file(file, built.text.encode())
+        with opened(str(file)) as inputs:
+            inputs.of_cluster("fr_bench", "check")
+            found = lint(Task(str(file), allowed=allowed), Ran(), Guarantees(str(file)))
+            by_buffer, loads = latencies(inputs)
+            shown = inputs.network
+    known = {(it.node, it.buffer): it for it in by_buffer}
+    rows = [Judged(it, known[it.node, it.number], deadline_of(it, static_mt)) for it in built.sent]
+    return Verdict(rows, loads, found.warnings, shown)
+
+
+def deadline_of(it: Line, static_mt: int) -> int:
+    """Returns the deadline of a transmit buffer in macroticks."""
+    frame = it.placed.frame
+    return frame.deadline_by(static_mt) if frame.is_static else frame.deadline or frame.period

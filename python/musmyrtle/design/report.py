@@ -1,0 +1,84 @@
+"""The report of a design: tables of messages, channels and nodes, notes, and what isn't met."""
+from collections.abc import Iterator, Sequence
+
+from musmyrtle.design.judging import Judged, Verdict
+from musmyrtle.design.network import Network
+from musmyrtle.design.scheduling import Miss, Schedule, cycles_left
+from musmyrtle.lint.loads import load_section
+from musmyrtle.show.tables import Column, Name, Row, Section
+
+ROOM = (Column("node", "node", "name"), Column("slots", "static slots"), Column("free", "free cycles of them"),
+        Column("unowned", "static slots without an owner"), Column("buffers", "free buffers"))
+MISSES = (Column("name", "what", "whole"), Column("reason", "bottleneck", "whole"),
+          Column("change", "smallest change", "whole"))
+NOTES = (Column("note", "note", "whole"),)
+MARGIN = "from worst to the deadline"
+
+
+def sections_of(network: Network, schedule: Schedule, verdict: Verdict | None) -> Iterator[Section]:
+    """Yields the tables of a report."""
+    if verdict is not None and verdict.shown is not None:
+        yield message_section(verdict)
+        yield load_section(verdict.loads, verdict.shown.cluster)
+        yield room_section(network, schedule, verdict)
+    misses = [*schedule.misses, *late(verdict)]
+    if misses:
+        rows = [Row({"name": it.name, "reason": it.reason, "change": it.change or None}, True) for it in misses]
+        yield Section("miss", "What isn't met", MISSES, rows)
+    if schedule.notes:
+        yield Section("note", "Notes", NOTES, [Row({"note": it}) for it in schedule.notes])
+
+
+def message_section(verdict: Verdict) -> Section:
+    """Returns the table of messages."""
+    shown = verdict.shown
+    assert shown is not None
+    columns = (Column("message", "message", "whole"), Column("frame", "frame", "whole"), Column("node", "node", "name"),
+               Column("buffer", "", "name"), Column("slot", "slot"), Column("channels", "channels"),
+               Column("base", ""), Column("repetition", ""), Column("cycles", "cycles"), shown.column("worst", "worst"),
+               shown.column("deadline", "deadline"), shown.column("margin", "margin", MARGIN))
+    rows = []
+    for it in verdict.rows:
+        placed, worst = it.line.placed, it.latency.worst
+        for member in placed.frame.members:
+            rows.append(Row({
+                "message": member.name, "frame": placed.frame.name if member.bits else None,
+                "node": shown.node(it.line.node), "buffer": shown.buffer(it.line.node, it.line.number),
+                "slot": placed.slot, "channels": placed.channels, "base": placed.cycles.base,
+                "repetition": placed.cycles.repetition, "cycles": str(placed.cycles),
+                "worst": None if worst is None else shown.time(worst), "deadline": shown.time(it.deadline),
+                "margin": None if worst is None else shown.time(it.deadline - worst)}, not it.is_met))
+    return Section("message", "Messages, by the proved program", columns, rows)
+
+
+def room_section(network: Network, schedule: Schedule, verdict: Verdict) -> Section:
+    """Returns the table of the room for growth."""
+    slots, parameters, rows = schedule.slots, schedule.parameters, []
+    assert parameters is not None and verdict.shown is not None
+    unowned = sum(1 for slot in range(1, parameters.static_slots + 1) if slots.is_free(slot, "AB"))
+    for number, node in enumerate(network.nodes):
+        own = [(slot, channel) for (slot, channel), owner in slots.owners.items() if owner == number]
+        free = sum(cycles_left(slots, slot, channel) for slot, channel in own)
+        buffers = 64 - len(verdict.shown.cluster.nodes[number].buffers)
+        rows.append(Row({"node": Name(number, node.name, "node"), "slots": len({slot for slot, _ in own}),
+                         "free": free, "unowned": unowned, "buffers": buffers}))
+    return Section("room", "Room for growth", ROOM, rows)
+
+
+def late(verdict: Verdict | None) -> Sequence[Miss]:
+    """Returns the deadlines that the programs don't confirm, and the warnings."""
+    if verdict is None:
+        return ()
+    return [*(miss_of(it) for it in verdict.late),
+            *(Miss(f"lint {it.name}", f"{it.headline}. {it.reason}") for it in verdict.warnings)]
+
+
+def miss_of(it: Judged) -> Miss:
+    """Returns a missed deadline with its numbers."""
+    frame, worst = it.line.placed.frame, it.latency.worst
+    if worst is None:
+        return Miss(frame.name, f"slot {it.latency.slot} can open at minislot {it.latency.last} in each of its cycles, "
+                    f"and its node begins no frame after minislot {it.latency.latest}",
+                    "fewer or shorter frames before it, or more minislots")
+    return Miss(frame.name, f"its worst case is {worst} macroticks, and its deadline {it.deadline}",
+                f"a deadline of at least {worst} macroticks")

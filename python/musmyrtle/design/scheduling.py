@@ -1,0 +1,239 @@
+"""A schedule of a network for one choice of parameters: both segments, and what can't be had."""
+import time
+from collections.abc import Sequence
+from dataclasses import dataclass, field, replace
+
+from musmyrtle.cluster import LAST_SLOT, MOST_LINES, Parameters
+from musmyrtle.design.frames import Frame, frames_of, least_frames
+from musmyrtle.design.network import Network
+from musmyrtle.design.packing import Item, NoSlot, Placed, Slots, least_slots, packed
+from musmyrtle.design.parameters import Setting
+from musmyrtle.design.searching import Copy, Found, Search, Tell, copies_of
+
+MOST_KEY_SLOTS = 3
+"""The sync nodes that are chosen where the file names none: with three the start tolerates the loss of one."""
+
+
+@dataclass
+class Miss:
+    """A deadline or a need that isn't met: the bottleneck with its numbers, and the change that helps."""
+
+    name: str
+    reason: str
+    change: str = ""
+    is_fatal: bool = False
+    """True if there is no cluster file at all."""
+
+
+@dataclass
+class Wishes:
+    """What the words of the command ask for."""
+
+    reserved_slots: int = 0
+    reserved_minislots: int = 0
+    seed: int = 1
+    until: float = field(default_factory=lambda: time.monotonic() + 60)
+    tell: Tell = lambda text: None
+
+
+@dataclass
+class Schedule:
+    """Parameters, places of all frames, notes and misses."""
+
+    setting: Setting
+    parameters: Parameters | None = None
+    frames: list[Frame] = field(default_factory=list)
+    sync: list[int] = field(default_factory=list)
+    slots: Slots = field(default_factory=Slots)
+    found: Found | None = None
+    notes: list[str] = field(default_factory=list)
+    misses: list[Miss] = field(default_factory=list)
+    latest: dict[int, int] = field(default_factory=dict)
+    """The latest minislot of each node with dynamic frames."""
+
+    @property
+    def dynamic(self) -> list[Placed]:
+        """Returns the places of the dynamic frames, by channel and slot."""
+        if self.found is None or self.parameters is None:
+            return []
+        first = self.parameters.static_slots + 1
+        return [Placed(it.frame, first + place, channel, it.cycles) for channel, lane in self.found.lanes.items()
+                for place, group in lane.slots.items() for it in group]
+
+    @property
+    def is_possible(self) -> bool:
+        """Returns whether there is a cluster file that can be judged."""
+        return not any(it.is_fatal for it in self.misses)
+
+
+class Scheduler:
+    """Makes the schedule of a network."""
+
+    def __init__(self, network: Network, setting: Setting, wishes: Wishes) -> None:
+        self.network, self.setting, self.wishes = network, setting, wishes
+        self.made = Schedule(setting)
+
+    def schedule(self) -> Schedule:
+        """Returns the schedule."""
+        setting, made = self.setting, self.made
+        room = 2 * setting.static_words or 1
+        made.frames = frames_of(self.network.messages, setting.cycle_mt, room, ())
+        self.check_sizes()
+        if not made.is_possible:
+            return made
+        items = [self.item(it) for it in made.frames if it.is_static]
+        made.sync = self.sync_nodes(items)
+        self.place_static(items)
+        if made.is_possible:
+            self.place_dynamic([it for it in made.frames if not it.is_static])
+        return made
+
+    def miss(self, name: str, reason: str, change: str = "", is_fatal: bool = False) -> None:
+        self.made.misses.append(Miss(name, reason, change, is_fatal))
+
+    # ---- what no schedule can have
+
+    def check_sizes(self) -> None:
+        """Notes frames that are too long, and nodes with more buffers than a cluster file has."""
+        words = self.setting.static_words
+        for it in self.made.frames:
+            if it.is_static and it.words > words:
+                self.miss(it.name, f"it has {it.words} words, and a static frame has {words}",
+                          f"static_words of at least {it.words}", True)
+        for number, node in enumerate(self.network.nodes):
+            sent = sum(len(copies_of(it)) if not it.is_static else 1 for it in self.made.frames if it.sender == number)
+            received = sum(len(copies_of(it)) if not it.is_static else 1 for it in self.made.frames
+                           if number in it.receivers)
+            if sent + received > MOST_LINES:
+                self.miss(node.name, f"it would have {sent + received} buffers, {sent} to send and {received} to "
+                          f"receive, and a node of a cluster file has at most {MOST_LINES}",
+                          "signals with `bits`, which share frames, or fewer receivers", True)
+
+    # ---- the static segment
+
+    def item(self, it: Frame) -> Item:
+        """Returns a static frame with the greatest repetition that its period and deadline allow."""
+        setting = self.setting
+        found = next(it.repetitions(setting.cycle_mt, setting.static_mt), None)
+        if found is None:
+            needed = setting.cycle_mt + setting.static_mt
+            if it.period < setting.cycle_mt:
+                self.miss(it.name, f"its period is {it.period} macroticks, and a slot comes once in a cycle of "
+                          f"{setting.cycle_mt}", f"cycle_mt of at most {it.period}")
+            elif it.deadline is not None and it.deadline < needed:
+                self.miss(it.name, f"its deadline is {it.deadline} macroticks, and the worst case of a static slot is a "
+                          f"cycle and the slot, {setting.cycle_mt} + {setting.static_mt} = {needed}",
+                          f"a deadline of at least {needed} macroticks, or cycle_mt of at most "
+                          f"{it.deadline - setting.static_mt}")
+            else:
+                self.miss(it.name, f"its fixed repetition {it.repetition} comes too rarely for its period of "
+                          f"{it.period} macroticks and its deadline", "a lower repetition")
+        return Item(it, found or it.repetition or 1)
+
+    def sync_nodes(self, items: Sequence[Item]) -> list[int]:
+        """Returns the sync nodes: those of the file, or the first ones that have a slot on both channels anyway."""
+        named = [number for number, it in enumerate(self.network.nodes) if it.is_sync]
+        if named:
+            return named
+        on_both = [it.frame.sender for it in items if it.frame.channels == "AB"]
+        sending = [it.frame.sender for it in items]
+        order = list(dict.fromkeys([*sorted(on_both), *sorted(sending), *range(len(self.network.nodes))]))
+        chosen = order[:min(MOST_KEY_SLOTS, max(2, len(set(on_both))))]
+        self.made.notes.append("sync and startup frames come from " + ", ".join(
+            self.network.nodes[it].name for it in sorted(chosen)) + ", since the network file names no sync node")
+        return sorted(chosen)
+
+    def place_static(self, items: list[Item]) -> None:
+        """Places the static frames, and chooses the numbers of slots and minislots."""
+        setting, made = self.setting, self.made
+        try:
+            made.slots = packed(items, made.sync)
+        except NoSlot as error:
+            self.miss(error.frame.name, str(error), "another fixed slot, or none", True)
+            return
+        used = max((slot for slot, _ in made.slots.owners), default=0)
+        if all(it.frame.slot is None for it in items):
+            least = least_slots(items, made.sync)
+            made.notes.append(f"the frames need {least} static slots, and no packing of them has fewer")
+        self.note_frames()
+        wanted = max(2, used) + self.wishes.reserved_slots * len(self.network.nodes)
+        made.parameters = setting.parameters(wanted)
+        if made.parameters is None:
+            self.no_room(wanted)
+
+    def note_frames(self) -> None:
+        """Notes how many frames the signals have, and the bound of it."""
+        shared = [it for it in self.made.frames if it.members and it.members[0].bits]
+        if shared:
+            bound = least_frames(self.network.messages, 2 * self.setting.static_words or 1)
+            signals = sum(len(it.members) for it in shared)
+            self.made.notes.append(f"{signals} signals have {len(shared)} frames, and no packing has fewer than {bound}")
+
+    def no_room(self, wanted: int) -> None:
+        """Notes that the static segment doesn't fit."""
+        setting = self.setting
+        most = setting.most_slots()
+        needed = wanted * setting.static_mt + setting.minislots[0] * setting.minislot_mt
+        short = needed - setting.room
+        if most >= setting.static_slots[1]:
+            self.miss("static segment", f"it needs {wanted} slots, and static_slots is at most {most}",
+                      f"static_slots of at least {wanted}", True)
+            return
+        self.miss("static segment", f"it needs {wanted} slots of {setting.static_mt} macroticks, which with "
+                  f"{setting.minislots[0]} minislots are {needed}, and the cycle has room for {setting.room}",
+                  f"cycle_mt of at least {setting.cycle_mt + short}, or {wanted - most} fewer slots by longer periods",
+                  True)
+
+    # ---- the dynamic segment
+
+    def place_dynamic(self, frames: Sequence[Frame]) -> None:
+        """Searches for an order of the dynamic frames."""
+        parameters, wishes, nodes = self.made.parameters, self.wishes, len(self.network.nodes)
+        if parameters is None or not frames:
+            return
+        for sender in {it.sender for it in frames}:
+            longest = max(parameters.minislots_of(it.words) for it in frames if it.sender == sender)
+            self.made.latest[sender] = parameters.minislots - longest - parameters.idle + 1
+        copies = [copy for it in frames for copy in self.copies(it, parameters)]
+        if not self.made.is_possible:
+            return
+        search = Search(copies, wishes.reserved_minislots * nodes, wishes.seed, wishes.until, wishes.tell)
+        self.made.found = search.found()
+        self.made.notes += self.made.found.moves
+        if self.made.found.is_cut:
+            self.made.notes.append("the search ended at --seconds, so another run may find another schedule")
+        places = sum(len(lane.slots) for lane in self.made.found.lanes.values())
+        if parameters.static_slots + places > LAST_SLOT:
+            self.miss("dynamic segment", f"it needs {places} slots after {parameters.static_slots}, and slot {LAST_SLOT} "
+                      "is the last", "fewer messages", True)
+
+    def copies(self, it: Frame, parameters: Parameters) -> list[Copy]:
+        """Returns the copies of a frame, one for each channel on which it has to be sent."""
+        filled, each = parameters.minislots_of(it.words), parameters.minislot_mt
+        latest = self.made.latest[it.sender]
+        if it.words == 0:
+            self.miss(it.name, "it has no bytes", "at least one byte")
+        if latest < 1:
+            self.miss(it.name, f"the longest dynamic frame of its sender fills {filled} minislots, and there are "
+                      f"{parameters.minislots}", "more minislots, or a shorter frame", True)
+            return []
+        deadline = it.period if it.deadline is None else it.deadline
+        slacks = tuple((repetition, (deadline - repetition * parameters.cycle_mt) // each - filled)
+                       for repetition in replace(it, deadline=deadline).repetitions(parameters.cycle_mt, filled * each))
+        if not slacks:
+            least = parameters.cycle_mt + filled * each
+            self.miss(it.name, f"its deadline is {deadline} macroticks, its period {it.period}, and the worst case of "
+                      f"the first dynamic slot is a cycle and its frame, {parameters.cycle_mt} + {filled * each} = "
+                      f"{least}", f"a deadline of at least {least} macroticks, or a shorter cycle")
+            slacks = ((it.repetition or 1, 0),)
+        slot = None if it.slot is None else it.slot - parameters.static_slots - 1
+        if slot is not None and slot < 0:
+            self.miss(it.name, f"slot {it.slot} is fixed for it, and the dynamic segment begins with slot "
+                      f"{parameters.static_slots + 1}", "another fixed slot, or `static_slots` as a number", True)
+        return [Copy(it, channels, filled, filled + parameters.idle - 1, latest, slacks, slot)
+                for channels in copies_of(it)]
+
+
+def cycles_left(slots: Slots, slot: int, channel: str) -> int:
+    """Returns the cycles of the 64 in which no frame has a slot on a channel."""
+    return 64 - slots.used[slot, channel].bit_count()
