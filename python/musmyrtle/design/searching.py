@@ -14,8 +14,8 @@ MOST_EXACT = 4000
 """The choices of cycles and channels up to which all are tried."""
 MOST_PARTS = 6
 """The frames of a channel up to which all ways to share slots are tried."""
-STEPS, WORK = 2000, 200_000
-"""The moves that are tried, and the work of all of them: fewer moves where there are many frames."""
+ROUNDS, STEPS, WORK = 12, 2000, 200_000
+"""The starts, the moves of each one, and the work of all its moves: fewer moves where there are many frames."""
 MOST_MOVES = 12
 
 Choice = tuple[str, int, int]
@@ -85,7 +85,14 @@ class Search:
         best = Found(self.lanes(state))
         if best.cost and prod(len(it.choices()) for it in self.copies) <= MOST_EXACT:
             return self.exact(best)
-        return self.improved(state, best) if best.cost else best
+        for number in range(ROUNDS):
+            if not best.cost or best.is_cut:
+                break
+            begin = state if not number else self.first(is_random=True)
+            found = self.improved(begin, Found(self.lanes(begin)), number)
+            if found.cost < best.cost or found.is_cut:
+                best = Found(min(found, best, key=lambda it: it.cost).lanes, found.moves, is_cut=found.is_cut)
+        return best
 
     # ---- one choice
 
@@ -111,12 +118,17 @@ class Search:
         shared = measured(merged(lane), self.offset)
         return shared if shared.cost < lane.cost else lane
 
-    def first(self) -> list[Choice]:
-        """Returns a first choice: the rarest cycles, spread so that they meet the fewest others."""
+    def first(self, is_random: bool = False) -> list[Choice]:
+        """Returns a first choice: the rarest cycles, spread so that they meet the fewest others.
+
+        IS_RANDOM draws the order in which the frames choose.
+        """
         loads = {channel: [0] * 64 for channel in "AB"}
         chosen: dict[int, Choice] = {}
         order = sorted(range(len(self.copies)), key=lambda it: (self.copies[it].slacks[0][0], -self.copies[it].further,
                                                                 self.copies[it].frame.name))
+        if is_random:
+            order.sort(key=lambda it: self.copies[it].slacks[0][0] * self.random.uniform(0.3, 3))
         for number in order:
             copy = self.copies[number]
             rarest = [it for it in copy.choices() if it[1] == copy.slacks[0][0]]
@@ -161,30 +173,33 @@ class Search:
 
     # ---- moves
 
-    def improved(self, state: list[Choice], best: Found) -> Found:
-        """Returns the best orders after many small moves, of which each that makes nothing worse is kept."""
+    def improved(self, state: list[Choice], best: Found, number: int) -> Found:
+        """Returns the best orders after many small moves, of which each that makes nothing worse is kept.
+
+        NUMBER is that of the start.
+        """
         steps = max(50, min(STEPS, WORK // (1 + len(self.copies))))
         current, cost = list(state), best.cost
         best_state = list(state)
         for step in range(steps):
             if not step % 16:
-                self.tell(f"move {step} of {steps}: {best.cost} minislots are missing")
+                self.tell(f"start {number + 1} of {ROUNDS}, move {step} of {steps}: {best.cost} minislots are missing")
             if time.monotonic() > self.until:
                 best.is_cut = True
                 break
             moved = self.moved(current)
             if moved is None:
                 break
-            number, choice = moved
-            before, current[number] = current[number], choice
+            place, choice = moved
+            before, current[place] = current[place], choice
             lanes = self.lanes(current)
             further = sum(it.cost for it in lanes.values())
             if further > cost and self.random.random() > 0.02:
-                current[number] = before
+                current[place] = before
                 continue
             cost = further
             if cost < best.cost:
-                text = moved_text(self.copies[number].frame.name, before, choice, best.cost, cost)
+                text = moved_text(self.copies[place].frame.name, before, choice, best.cost, cost)
                 best = Found(lanes, [*best.moves, text][-MOST_MOVES:])
                 best_state = list(current)
             if not cost:
