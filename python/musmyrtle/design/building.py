@@ -6,12 +6,13 @@ from fractions import Fraction
 from typing import Any
 
 from musmyrtle.cluster import PARAMETERS, Cycles, Parameters
-from musmyrtle.descriptions.toml_text import comment, inline, quoted, value_text
+from musmyrtle.descriptions.toml_text import BARE, comment, inline, quoted, value_text
 from musmyrtle.design.frames import Frame
 from musmyrtle.design.network import Network
 from musmyrtle.design.packing import KEY_SLOT, Placed
 from musmyrtle.design.scheduling import Schedule
 from musmyrtle.signals.exact import exact_in_file
+from musmyrtle.toml_values import Moment
 from musmyrtle.version import version
 
 CYCLES_OF_ROOM = 64
@@ -147,7 +148,7 @@ def frame_key(it: Frame) -> dict[str, Any]:
 
 def table_text(table: Mapping[str, Any]) -> str:
     """Returns a table of the network file in one line."""
-    return "{" + ", ".join(f"{quoted(key)} = {any_text(it)}" if not key.isidentifier() else f"{key} = {any_text(it)}"
+    return "{" + ", ".join(f"{key if BARE.fullmatch(key) else quoted(key)} = {any_text(it)}"
                            for key, it in table.items()) + "}"
 
 
@@ -157,6 +158,8 @@ def any_text(value: Any) -> str:
         return table_text(value)
     if isinstance(value, list):
         return f"[{', '.join(map(any_text, value))}]"
+    if isinstance(value, Moment):
+        return str(value)
     if isinstance(value, float):
         exact = exact_in_file(value)
         return number_text(value) if exact is None or hasattr(value, "text") else value_text(Fraction(exact))

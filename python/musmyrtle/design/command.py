@@ -4,8 +4,11 @@ import os
 import sys
 import time
 
+from musmyrtle.cluster import Reading
 from musmyrtle.design.building import Builder, Built
+from musmyrtle.design.extending import Extender
 from musmyrtle.design.judging import Verdict, verdict_of
+from musmyrtle.design.keeping import Kept, kept_of
 from musmyrtle.design.network import Network
 from musmyrtle.design.parameters import settings
 from musmyrtle.design.reading import NetworkReading
@@ -15,12 +18,13 @@ from musmyrtle.ending import FINE
 from musmyrtle.faults.whole_files import Unusable, replace_file, spare_inputs
 from musmyrtle.findings import block, counted
 from musmyrtle.lint.command import REFUSED, USAGE, formed, is_bold_on, printed
-from musmyrtle.lint.lint import unreadable
+from musmyrtle.lint.lint import read_bytes, unreadable
 from musmyrtle.output import Stop, pass_on, write
 from musmyrtle.places import Places
-from musmyrtle.show.engines import COMMAND, MOST_REASONS
+from musmyrtle.show.engines import COMMAND, MOST_REASONS, opened
+from musmyrtle.show.latency import latencies
 from musmyrtle.show.tables import as_text
-from musmyrtle.texts import Text, not_utf8, no_toml
+from musmyrtle.texts import Text, no_toml, not_utf8, read_text
 from musmyrtle.toml_reader import Reader
 from musmyrtle.toml_tables import BY_HEADER, Table
 from musmyrtle.toml_values import NoToml
@@ -61,10 +65,23 @@ def refused(names: list[str], reasons: list[str]) -> Stop:
     return Stop(REFUSED)
 
 
-def network_of(file: str) -> Network:
+def kept_from(file: str, network: Network) -> Kept:
+    """Returns the cluster file of `--keep`, which `fr_bench` accepts. Raises `Stop` for another one."""
+    with opened(file) as inputs:
+        inputs.of_cluster("fr_bench", "check")
+        found, _ = latencies(inputs)
+        data = read_bytes(inputs.task.file(file)) or b""
+    text = read_text(file, data)
+    cluster = Reading(text.document).cluster
+    if cluster is None:
+        raise Stop(USAGE, f"{file} was changed meanwhile")
+    return kept_of(text, cluster, network, found)
+
+
+def network_of(file: str, has_parameters: bool = True) -> Network:
     """Returns the network of a file. Raises `Stop` after all reasons to refuse it."""
     text = text_of(file)
-    reading = NetworkReading(text)
+    reading = NetworkReading(text, has_parameters)
     if reading.faults:
         reasons = [block(f"refused {it.refusal}", text.finding(it.headline, it.reason, it.path, it.notes),
                          is_bold_on(sys.stderr)) for it in reading.faults[:MOST_REASONS]]
@@ -97,15 +114,16 @@ class Progress:
 Design = tuple[Schedule, Built | None, Verdict | None]
 
 
-def best_of(network: Network, wishes: Wishes, allowed: frozenset[str]) -> Design:
+def best_of(network: Network, wishes: Wishes, allowed: frozenset[str], kept: Kept | None = None) -> Design:
     """Returns the first schedule that meets all deadlines, or otherwise the one that misses least."""
     best: tuple[tuple[int, int], Design] | None = None
-    for setting in settings(network):
-        schedule = Scheduler(network, setting, wishes).schedule()
+    for setting in settings(network) if kept is None else [kept.setting]:
+        schedule = Scheduler(network, setting, wishes, kept).schedule()
         built = verdict = None
         if schedule.is_possible and schedule.parameters is not None:
-            built = Builder(network, schedule, schedule.parameters).built()
-            verdict = verdict_of(built, setting.static_mt, allowed)
+            built = Builder(network, schedule, schedule.parameters).built() if kept is None else \
+                Extender(kept, schedule, schedule.parameters).built()
+            verdict = verdict_of(built, setting.static_mt, allowed, kept)
         is_good = verdict is not None and verdict.is_good and not schedule.misses
         missing = len(schedule.misses) + (len(verdict.late) + len(verdict.warnings) if verdict else 0)
         rank = 0 if verdict else 1, missing
@@ -120,11 +138,13 @@ def best_of(network: Network, wishes: Wishes, allowed: frozenset[str]) -> Design
 def done(given: argparse.Namespace) -> int:
     """Does the command, and returns the status."""
     check_output(given)
-    network = network_of(given.network)
+    network = network_of(given.network, given.keep is None)
+    kept = None if given.keep is None else kept_from(given.keep, network)
+    network = network if kept is None else kept.network
     progress = Progress()
     wishes = Wishes(*given.reserve, given.seed, time.monotonic() + given.seconds, progress)
     try:
-        schedule, built, verdict = best_of(network, wishes, frozenset(given.allow))
+        schedule, built, verdict = best_of(network, wishes, frozenset(given.allow), kept)
     finally:
         progress.end()
     sections = list(sections_of(network, schedule, verdict))
@@ -149,7 +169,8 @@ def check_output(given: argparse.Namespace) -> None:
     if given.output is None:
         return
     try:
-        spare_inputs({"-o": given.output}, [("the network file", given.network)])
+        kept = [] if given.keep is None else [("the kept cluster file", given.keep)]
+        spare_inputs({"-o": given.output}, [("the network file", given.network), *kept])
     except Unusable as error:
         raise Stop(USAGE, str(error)) from None
     if os.path.isdir(given.output):

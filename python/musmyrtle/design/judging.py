@@ -4,14 +4,15 @@ from pathlib import Path
 
 from musmyrtle.breaking import temporary_folder
 from musmyrtle.design.building import Built, Line
+from musmyrtle.design.keeping import Kept
+from musmyrtle.faults.whole_files import write_file
 from musmyrtle.findings import Finding
-from musmyrtle.latencies import Latency, Load
+from musmyrtle.latencies import GUARANTEED, Latency, Load
 from musmyrtle.lint.guarantees import Guarantees
 from musmyrtle.lint.lint import Ran, Task, lint
 from musmyrtle.show.engines import opened
 from musmyrtle.show.latency import latencies
 from musmyrtle.show.network import Network as Shown
-from musmyrtle.faults.whole_files import write_file
 
 
 @dataclass(frozen=True)
@@ -20,11 +21,16 @@ class Judged:
 
     line: Line
     latency: Latency
-    deadline: int
+    deadline: int | None
+    """None for a kept buffer that the network file doesn't have."""
+    was_guaranteed: bool = False
 
     @property
     def is_met(self) -> bool:
-        """Returns whether the worst case meets the deadline."""
+        """Returns whether the worst case meets the deadline. Without one the buffer has to stay guaranteed if it was.
+        """
+        if self.deadline is None:
+            return not self.was_guaranteed or self.latency.state == GUARANTEED
         return self.latency.worst is not None and self.latency.worst <= self.deadline
 
 
@@ -48,7 +54,8 @@ class Verdict:
         return not self.late and not self.warnings
 
 
-def verdict_of(built: Built, static_mt: int, allowed: frozenset[str] = frozenset()) -> Verdict:
+def verdict_of(built: Built, static_mt: int, allowed: frozenset[str] = frozenset(), kept: Kept | None = None
+               ) -> Verdict:
     """Returns the verdict about a cluster file. Raises `Stop` where a program refuses it or fails."""
     with temporary_folder("musmyrtle-") as folder:
         file = Path(folder) / "cluster.toml"
@@ -59,11 +66,14 @@ def verdict_of(built: Built, static_mt: int, allowed: frozenset[str] = frozenset
             by_buffer, loads = latencies(inputs)
             shown = inputs.network
     known = {(it.node, it.buffer): it for it in by_buffer}
-    rows = [Judged(it, known[it.node, it.number], deadline_of(it, static_mt)) for it in built.sent]
+    rows = [Judged(it, known[it.node, it.number], deadline_of(it, static_mt),
+                   kept is not None and it.placed.frame.is_kept and kept.is_guaranteed(it.placed)) for it in built.sent]
     return Verdict(rows, loads, found.warnings, shown)
 
 
-def deadline_of(it: Line, static_mt: int) -> int:
-    """Returns the deadline of a transmit buffer in macroticks."""
+def deadline_of(it: Line, static_mt: int) -> int | None:
+    """Returns the deadline of a transmit buffer in macroticks, or None for one that the network file doesn't have."""
     frame = it.placed.frame
+    if not frame.members:
+        return None
     return frame.deadline_by(static_mt) if frame.is_static else frame.deadline or frame.period

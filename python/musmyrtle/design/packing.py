@@ -223,7 +223,7 @@ def packed(items: list[Item], sync: Iterable[int], slots: Slots | None = None) -
     for it in sorted((it for it in items if it.frame.slot is not None), key=lambda it: it.frame.base is None):
         made.fix(it)
     syncing = [it for it in sync if not made.of(it, "AB")]
-    free = [it for it in items if it.frame.slot is None and not fill(made, it)]
+    free = [it for it in sorted(items, key=by_size) if it.frame.slot is None and not fill(made, it)]
     loads = loads_of(free, syncing)
     singles = singles_of(loads)
     for load in loads.values():
@@ -238,6 +238,11 @@ def packed(items: list[Item], sync: Iterable[int], slots: Slots | None = None) -
                 made.new(load.sender, channel)
             place(made, [*load.items[channel], *divided.get(channel, [])], channel)
     return made
+
+
+def by_size(it: Item) -> tuple[bool, bool, int, str]:
+    """Returns the place of a frame among those that are put into slots: both channels, one channel, then either."""
+    return it.frame.channels != "AB", it.frame.channels == EITHER, it.repetition, it.frame.name
 
 
 def fill(slots: Slots, it: Item) -> bool:

@@ -1,6 +1,7 @@
 """The report of a design: tables of messages, channels and nodes, notes, and what isn't met."""
 from collections.abc import Iterator, Sequence
 
+from musmyrtle.cluster import MOST_LINES
 from musmyrtle.design.judging import Judged, Verdict
 from musmyrtle.design.network import Network
 from musmyrtle.design.scheduling import Miss, Schedule, cycles_left
@@ -40,14 +41,16 @@ def message_section(verdict: Verdict) -> Section:
     rows = []
     for it in verdict.rows:
         placed, worst = it.line.placed, it.latency.worst
-        for member in placed.frame.members:
+        names = [(member.name, placed.frame.name if member.bits else None) for member in placed.frame.members]
+        for name, frame in names or [(placed.frame.name, None)]:
             rows.append(Row({
-                "message": member.name, "frame": placed.frame.name if member.bits else None,
+                "message": name, "frame": frame,
                 "node": shown.node(it.line.node), "buffer": shown.buffer(it.line.node, it.line.number),
                 "slot": placed.slot, "channels": placed.channels, "base": placed.cycles.base,
                 "repetition": placed.cycles.repetition, "cycles": str(placed.cycles),
-                "worst": None if worst is None else shown.time(worst), "deadline": shown.time(it.deadline),
-                "margin": None if worst is None else shown.time(it.deadline - worst)}, not it.is_met))
+                "worst": None if worst is None else shown.time(worst), "deadline": None if it.deadline is None else shown.time(it.deadline),
+                "margin": None if worst is None or it.deadline is None else shown.time(it.deadline - worst)},
+                not it.is_met))
     return Section("message", "Messages, by the proved program", columns, rows)
 
 
@@ -59,7 +62,7 @@ def room_section(network: Network, schedule: Schedule, verdict: Verdict) -> Sect
     for number, node in enumerate(network.nodes):
         own = [(slot, channel) for (slot, channel), owner in slots.owners.items() if owner == number]
         free = sum(cycles_left(slots, slot, channel) for slot, channel in own)
-        buffers = 64 - len(verdict.shown.cluster.nodes[number].buffers)
+        buffers = MOST_LINES - len(verdict.shown.cluster.nodes[number].buffers)
         rows.append(Row({"node": Name(number, node.name, "node"), "slots": len({slot for slot, _ in own}),
                          "free": free, "unowned": unowned, "buffers": buffers}))
     return Section("room", "Room for growth", ROOM, rows)
@@ -80,5 +83,8 @@ def miss_of(it: Judged) -> Miss:
         return Miss(frame.name, f"slot {it.latency.slot} can open at minislot {it.latency.last} in each of its cycles, "
                     f"and its node begins no frame after minislot {it.latency.latest}",
                     "fewer or shorter frames before it, or more minislots")
+    if it.deadline is None:
+        return Miss(frame.name, f"it was guaranteed, and its slot can now open at minislot {it.latency.last}, after the "
+                    f"latest minislot {it.latency.latest}", "longer deadlines of the messages that are added")
     return Miss(frame.name, f"its worst case is {worst} macroticks, and its deadline {it.deadline}",
                 f"a deadline of at least {worst} macroticks")

@@ -5,6 +5,7 @@ from dataclasses import dataclass, field, replace
 
 from musmyrtle.cluster import LAST_SLOT, MOST_LINES, Parameters
 from musmyrtle.design.frames import Frame, frames_of, least_frames
+from musmyrtle.design.keeping import NO_LIMIT, Kept
 from musmyrtle.design.network import Network
 from musmyrtle.design.packing import Item, NoSlot, Placed, Slots, least_slots, packed
 from musmyrtle.design.parameters import Setting
@@ -69,23 +70,27 @@ class Schedule:
 class Scheduler:
     """Makes the schedule of a network."""
 
-    def __init__(self, network: Network, setting: Setting, wishes: Wishes) -> None:
-        self.network, self.setting, self.wishes = network, setting, wishes
+    def __init__(self, network: Network, setting: Setting, wishes: Wishes, kept: Kept | None = None) -> None:
+        """KEPT is the cluster to which the messages of the network are added, if there is one."""
+        self.network, self.setting, self.wishes, self.kept = network, setting, wishes, kept
         self.made = Schedule(setting)
 
     def schedule(self) -> Schedule:
         """Returns the schedule."""
         setting, made = self.setting, self.made
         room = 2 * setting.static_words or 1
-        made.frames = frames_of(self.network.messages, setting.cycle_mt, room, ())
-        self.check_sizes()
+        placed = [] if self.kept is None else self.kept.placed
+        held = [it.frame for it in placed]
+        new = frames_of(self.network.messages, setting.cycle_mt, room, [it.name for it in held])
+        made.frames = [*held, *new]
+        self.check_sizes(new)
         if not made.is_possible:
             return made
-        items = [self.item(it) for it in made.frames if it.is_static]
+        items = [self.item(it) for it in new if it.is_static]
         made.sync = self.sync_nodes(items)
         self.place_static(items)
         if made.is_possible:
-            self.place_dynamic([it for it in made.frames if not it.is_static])
+            self.place_dynamic([it for it in new if not it.is_static], [it for it in placed if not it.frame.is_static])
         return made
 
     def miss(self, name: str, reason: str, change: str = "", is_fatal: bool = False) -> None:
@@ -93,17 +98,17 @@ class Scheduler:
 
     # ---- what no schedule can have
 
-    def check_sizes(self) -> None:
+    def check_sizes(self, frames: Sequence[Frame]) -> None:
         """Notes frames that are too long, and nodes with more buffers than a cluster file has."""
-        words = self.setting.static_words
-        for it in self.made.frames:
+        words, nodes = self.setting.static_words, [] if self.kept is None else self.kept.cluster.nodes
+        for it in frames:
             if it.is_static and it.words > words:
                 self.miss(it.name, f"it has {it.words} words, and a static frame has {words}",
                           f"static_words of at least {it.words}", True)
         for number, node in enumerate(self.network.nodes):
-            sent = sum(len(copies_of(it)) if not it.is_static else 1 for it in self.made.frames if it.sender == number)
-            received = sum(len(copies_of(it)) if not it.is_static else 1 for it in self.made.frames
-                           if number in it.receivers)
+            held = [it.transmits for it in nodes[number].buffers] if number < len(nodes) else []
+            sent = sum(held) + sum(buffers_of(it) for it in frames if it.sender == number)
+            received = len(held) - sum(held) + sum(buffers_of(it) for it in frames if number in it.receivers)
             if sent + received > MOST_LINES:
                 self.miss(node.name, f"it would have {sent + received} buffers, {sent} to send and {received} to "
                           f"receive, and a node of a cluster file has at most {MOST_LINES}",
@@ -133,7 +138,7 @@ class Scheduler:
     def sync_nodes(self, items: Sequence[Item]) -> list[int]:
         """Returns the sync nodes: those of the file, or the first ones that have a slot on both channels anyway."""
         named = [number for number, it in enumerate(self.network.nodes) if it.is_sync]
-        if named:
+        if named or self.kept is not None:
             return named
         on_both = [it.frame.sender for it in items if it.frame.channels == "AB"]
         sending = [it.frame.sender for it in items]
@@ -147,12 +152,12 @@ class Scheduler:
         """Places the static frames, and chooses the numbers of slots and minislots."""
         setting, made = self.setting, self.made
         try:
-            made.slots = packed(items, made.sync)
+            made.slots = packed(items, made.sync, None if self.kept is None else self.kept.slots())
         except NoSlot as error:
             self.miss(error.frame.name, str(error), "another fixed slot, or none", True)
             return
         used = max((slot for slot, _ in made.slots.owners), default=0)
-        if all(it.frame.slot is None for it in items):
+        if self.kept is None and all(it.frame.slot is None for it in items):
             least = least_slots(items, made.sync)
             made.notes.append(f"the frames need {least} static slots, and no packing of them has fewer")
         self.note_frames()
@@ -186,15 +191,17 @@ class Scheduler:
 
     # ---- the dynamic segment
 
-    def place_dynamic(self, frames: Sequence[Frame]) -> None:
-        """Searches for an order of the dynamic frames."""
+    def place_dynamic(self, frames: Sequence[Frame], placed: Sequence[Placed] = ()) -> None:
+        """Searches for an order of the dynamic frames. PLACED ones are kept where they are."""
         parameters, wishes, nodes = self.made.parameters, self.wishes, len(self.network.nodes)
-        if parameters is None or not frames:
+        everything = [*frames, *(it.frame for it in placed)]
+        if parameters is None or not everything:
             return
-        for sender in {it.sender for it in frames}:
-            longest = max(parameters.minislots_of(it.words) for it in frames if it.sender == sender)
-            self.made.latest[sender] = parameters.minislots - longest - parameters.idle + 1
+        for sender in sorted({it.sender for it in everything}):
+            longest = max(parameters.minislots_of(it.words) for it in everything if it.sender == sender)
+            self.made.latest[sender] = self.latest_of(sender, parameters.minislots - longest - parameters.idle + 1)
         copies = [copy for it in frames for copy in self.copies(it, parameters)]
+        copies += [self.kept_copy(it, parameters) for it in placed]
         if not self.made.is_possible:
             return
         search = Search(copies, wishes.reserved_minislots * nodes, wishes.seed, wishes.until, wishes.tell)
@@ -206,6 +213,23 @@ class Scheduler:
         if parameters.static_slots + places > LAST_SLOT:
             self.miss("dynamic segment", f"it needs {places} slots after {parameters.static_slots}, and slot {LAST_SLOT} "
                       "is the last", "fewer messages", True)
+
+    def latest_of(self, sender: int, most: int) -> int:
+        """Returns the latest minislot of a node: the greatest that is allowed, or less if a kept cluster has less."""
+        if self.kept is None or sender >= len(self.kept.cluster.nodes):
+            return most
+        return min([most, *(it for it in self.kept.cluster.nodes[sender].latest.values() if it)])
+
+    def kept_copy(self, it: Placed, parameters: Parameters) -> Copy:
+        """Returns a kept frame, which has one choice. Without a deadline it stays guaranteed if it was."""
+        frame, filled = it.frame, parameters.minislots_of(it.frame.words)
+        assert self.kept is not None
+        slack, latest = NO_LIMIT, self.made.latest[frame.sender] if self.kept.is_guaranteed(it) else NO_LIMIT
+        if frame.members:
+            spare = (frame.deadline or frame.period) - it.cycles.repetition * parameters.cycle_mt
+            slack = spare // parameters.minislot_mt - filled
+        return Copy(frame, it.channels, filled, filled + parameters.idle - 1, latest,
+                    ((it.cycles.repetition, slack),), it.slot - parameters.static_slots - 1)
 
     def copies(self, it: Frame, parameters: Parameters) -> list[Copy]:
         """Returns the copies of a frame, one for each channel on which it has to be sent."""
@@ -232,6 +256,11 @@ class Scheduler:
                       f"{parameters.static_slots + 1}", "another fixed slot, or `static_slots` as a number", True)
         return [Copy(it, channels, filled, filled + parameters.idle - 1, latest, slacks, slot)
                 for channels in copies_of(it)]
+
+
+def buffers_of(it: Frame) -> int:
+    """Returns the buffers that a node needs for a frame: a dynamic one on both channels has two."""
+    return 1 if it.is_static else len(copies_of(it))
 
 
 def cycles_left(slots: Slots, slot: int, channel: str) -> int:

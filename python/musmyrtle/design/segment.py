@@ -80,11 +80,7 @@ def ordered(groups: Iterable[Sequence[Entry]], offset: int = 0) -> Lane:
     fixed = {it[0].slot: it for it in groups if it[0].slot is not None}
     cycles = max((it.cycles.repetition for group in [*free, *fixed.values()] for it in group), default=1)
     loads, lane = loads_of([*free, *fixed.values()], cycles), Lane()
-    open_places = [it for it in range(len(free) + len(fixed) + max([-1, *(it for it in fixed if it is not None)]) + 1)
-                   if it not in fixed]
-    last = max([*open_places[:len(free)], *(it for it in fixed if it is not None)], default=-1)
-    if fixed:
-        last = max(last, max(it for it in fixed if it is not None) + len(free))
+    last = max(fixed, default=-1) + len(free)
     for place in range(last, -1, -1):
         if place in fixed:
             put(lane, fixed[place], loads, place, offset)
