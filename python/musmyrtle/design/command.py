@@ -24,7 +24,7 @@ from musmyrtle.places import Places
 from musmyrtle.show.engines import COMMAND, MOST_REASONS, opened
 from musmyrtle.show.latency import latencies
 from musmyrtle.show.tables import as_text
-from musmyrtle.texts import Text, no_toml, not_utf8, read_text
+from musmyrtle.texts import FILE_LIMIT, Text, no_toml, not_utf8, read_text
 from musmyrtle.toml_reader import Reader
 from musmyrtle.toml_tables import BY_HEADER, Table
 from musmyrtle.toml_values import NoToml
@@ -123,7 +123,10 @@ def best_of(network: Network, wishes: Wishes, allowed: frozenset[str], kept: Kep
         if schedule.is_possible and schedule.parameters is not None:
             built = Builder(network, schedule, schedule.parameters).built() if kept is None else \
                 Extender(kept, schedule, schedule.parameters).built()
-            verdict = verdict_of(built, setting.static_mt, allowed, kept)
+            if len(built.text.encode()) > FILE_LIMIT:
+                schedule.miss_length(len(built.text.encode()))
+            else:
+                verdict = verdict_of(built, setting.static_mt, allowed, kept)
         is_good = verdict is not None and verdict.is_good and not schedule.misses
         missing = len(schedule.misses) + (len(verdict.late) + len(verdict.warnings) if verdict else 0)
         rank = 0 if verdict else 1, missing
@@ -142,7 +145,8 @@ def done(given: argparse.Namespace) -> int:
     kept = None if given.keep is None else kept_from(given.keep, network)
     network = network if kept is None else kept.network
     progress = Progress()
-    wishes = Wishes(*given.reserve, given.seed, time.monotonic() + given.seconds, progress)
+    slots, minislots = given.reserve
+    wishes = Wishes(slots, minislots, given.seed, time.monotonic() + given.seconds, progress)
     try:
         schedule, built, verdict = best_of(network, wishes, frozenset(given.allow), kept)
     finally:

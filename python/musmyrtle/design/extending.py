@@ -19,8 +19,8 @@ class Extender:
         self.kept, self.schedule, self.parameters = kept, schedule, parameters
         self.document = plain(kept.text.document)
         places = [*schedule.slots.placed, *schedule.dynamic]
-        self.new = sorted((it for it in places if not it.frame.is_kept), key=lambda it: (it.slot, it.channels,
-                                                                                        it.cycles.base))
+        new = [it for it in places if not it.frame.is_kept]
+        self.new = sorted(new, key=lambda it: (it.slot, it.channels, it.cycles.base))
         names = [it.frame.name for it in self.new]
         self.several = {it for it in names if names.count(it) > 1} if len(set(names)) < len(names) else set()
         self.sent = [Line(it.frame.sender, kept.numbers[it.frame.name], it) for it in kept.placed]
@@ -43,7 +43,8 @@ class Extender:
         is_new = number == len(nodes)
         if is_new:
             wish = self.kept.network.nodes[number]
-            nodes.append({"name": wish.name, **({"tasks": wish.tasks} if wish.tasks != 1 else {})})
+            tasks: dict[str, Any] = {"tasks": wish.tasks} if wish.tasks != 1 else {}
+            nodes.append({"name": wish.name, **tasks})
         node = nodes[number]
         latest = self.schedule.latest.get(number)
         if latest is not None:

@@ -1,4 +1,4 @@
-"""The judge of a schedule: `fr_bench check`, the warnings of `lint --strict`, and `fr_view latency` of the file itself."""
+"""The judge of a schedule: `fr_bench check`, the warnings of `lint`, and `fr_view latency` of the file itself."""
 from dataclasses import dataclass, field
 from pathlib import Path
 

@@ -37,9 +37,8 @@ class Kept:
     def setting(self) -> Setting:
         """Returns the parameters, none of which is free."""
         it = self.cluster.parameters
-        values = [getattr(it, key) for key in ("cycle_mt", "static_words", "static_mt", "minislot_mt", "symbol_mt",
-                                               "nit_mt", "idle", "words_per_minislot")]
-        return Setting(*values, (it.static_slots, it.static_slots), (it.minislots, it.minislots))
+        return Setting(it.cycle_mt, it.static_words, it.static_mt, it.minislot_mt, it.symbol_mt, it.nit_mt, it.idle,
+                       it.words_per_minislot, (it.static_slots, it.static_slots), (it.minislots, it.minislots))
 
     def slots(self) -> Slots:
         """Returns the static slots with their owners and the cycles that are taken."""

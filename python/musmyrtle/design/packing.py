@@ -176,7 +176,8 @@ class Slots:
         taken = 0
         for channel in channels:
             taken |= self.used[slot, channel]
-        return next((it for it in (Cycles(base, repetition) for base in bases(repetition)) if not it.bits & taken), None)
+        choices = (Cycles(base, repetition) for base in bases(repetition))
+        return next((it for it in choices if not it.bits & taken), None)
 
     def put(self, frame: Frame, slot: int, channels: str, cycles: Cycles) -> None:
         for channel in channels:

@@ -1,4 +1,4 @@
-"""The parameters of the cycle: those of the network file, the choices that it leaves, and those that follow from bits."""
+"""The parameters of the cycle: those of the network file, its choices, and those that follow from bits."""
 from collections.abc import Iterable, Iterator
 from dataclasses import dataclass
 from itertools import islice, product
@@ -85,8 +85,8 @@ def setting_of(network: Network, chosen: dict[str, int]) -> Setting:
     """Returns a setting. Slot length and words of a minislot follow from the bits where the file leaves them."""
     bits = network.bits_of_macrotick
     static_mt = chosen.get("static_mt") or static_length(chosen["static_words"], bits)
-    words = chosen.get("words_per_minislot") or words_per_minislot(network.messages, chosen["minislot_mt"] * bits,
-                                                                  chosen["idle"])
+    each = chosen["minislot_mt"] * bits
+    words = chosen.get("words_per_minislot") or words_per_minislot(network.messages, each, chosen["idle"])
     ranges = [(network.params[key][0], max(network.params[key])) if key in network.params else PARAMETERS[key]
               for key in COUNTED]
     return Setting(chosen["cycle_mt"], chosen["static_words"], static_mt, chosen["minislot_mt"], chosen["symbol_mt"],

@@ -1,6 +1,5 @@
 """The reading of a network file: all faults at once, each with its place."""
-from collections import Counter
-from collections.abc import Iterator, Sequence
+from collections.abc import Iterable, Iterator, Sequence
 from fractions import Fraction
 from typing import Any
 
@@ -96,16 +95,16 @@ class NetworkReading:
         found: Sequence[int] | None = None
         if type(value) is int:
             found = (value,)
-        elif isinstance(value, list) and 0 < len(value) <= MOST_CHOICES and all(type(it) is int for it in value):
+        elif isinstance(value, list) and 0 < len(value) <= MOST_CHOICES and are_numbers(value):
             found = tuple(dict.fromkeys(value))
-        elif isinstance(value, dict) and set(value) == {"from", "to"} and all(type(it) is int for it in value.values()):
+        elif isinstance(value, dict) and set(value) == {"from", "to"} and are_numbers(value.values()):
             found = range(value["from"], min(value["to"], most + 1) + 1)
         if found and all(least <= it <= most for it in (min(found), max(found))):
             self.network.params[key] = found
             return
+        right = f"Expected a whole number from {least} to {most}, an array of at most {MOST_CHOICES} such numbers, or "
         self.fault("BadParams", f"`{key}` of `[params]` is {shown(value)}",
-                   f"Expected a whole number from {least} to {most}, an array of at most {MOST_CHOICES} such numbers, or "
-                   "a range {from = .., to = ..} of them.", ("params", key))
+                   right + "a range {from = .., to = ..} of them.", ("params", key))
 
     # ---- nodes
 
@@ -170,9 +169,10 @@ class NetworkReading:
             if len(self.faults) == before and message is not None:
                 self.network.messages.append(message)
 
-    def summary(self) -> Counter[str]:
-        """Returns how many faults have each name."""
-        return Counter(it.refusal for it in self.faults)
+
+def are_numbers(values: Iterable[object]) -> bool:
+    """Returns whether all values are whole numbers."""
+    return all(type(it) is int for it in values)
 
 
 class MessageReading:
@@ -250,8 +250,8 @@ class MessageReading:
         """Returns the bytes of the frame, or the bits of a signal, and the tables of signals."""
         given = [it for it in ("bits", "signal", "bytes") if it in self.table]
         if not given:
-            self.wrong("bytes", "Expected `bytes`, the length of its frame; or `bits` for a signal that shares a frame; "
-                       "or `signal`, an array of signals.", f"{self.who} has no length")
+            self.wrong("bytes", "Expected `bytes`, the length of its frame; or `bits` of a signal that shares one; or "
+                       "`signal`, an array of signals.", f"{self.who} has no length")
             return 0, 0, ()
         if "bits" in self.table:
             if len(given) > 1:
@@ -313,8 +313,10 @@ class MessageReading:
             self.wrong(key, "Expected a number above 0.")
             return None
         if key.endswith("cycles"):
-            return -int(value) if value.denominator == 1 and value <= LONGEST_TIME else self.wrong(
-                key, "Expected a whole number of cycles.")
+            if value.denominator == 1 and value <= LONGEST_TIME:
+                return -int(value)
+            self.wrong(key, "Expected a whole number of cycles.")
+            return None
         macrotick = exact_in_file(self.network.network.macrotick_us) or Fraction(1)
         found = value * 1000 / macrotick
         if not 1 <= found <= LONGEST_TIME:

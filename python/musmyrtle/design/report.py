@@ -1,11 +1,13 @@
 """The report of a design: tables of messages, channels and nodes, notes, and what isn't met."""
-from collections.abc import Iterator, Sequence
+from collections.abc import Iterator
 
 from musmyrtle.cluster import MOST_LINES
+from musmyrtle.design.bottlenecks import misses_of
 from musmyrtle.design.judging import Judged, Verdict
 from musmyrtle.design.network import Network
-from musmyrtle.design.scheduling import Miss, Schedule, cycles_left
+from musmyrtle.design.scheduling import Schedule, cycles_left
 from musmyrtle.lint.loads import load_section
+from musmyrtle.show.network import Network as Shown
 from musmyrtle.show.tables import Column, Name, Row, Section
 
 ROOM = (Column("node", "node", "name"), Column("slots", "static slots"), Column("free", "free cycles of them"),
@@ -22,7 +24,7 @@ def sections_of(network: Network, schedule: Schedule, verdict: Verdict | None) -
         yield message_section(verdict)
         yield load_section(verdict.loads, verdict.shown.cluster)
         yield room_section(network, schedule, verdict)
-    misses = [*schedule.misses, *late(verdict)]
+    misses = [*schedule.misses, *([] if verdict is None else misses_of(schedule, verdict))]
     if misses:
         rows = [Row({"name": it.name, "reason": it.reason, "change": it.change or None}, True) for it in misses]
         yield Section("miss", "What isn't met", MISSES, rows)
@@ -38,20 +40,22 @@ def message_section(verdict: Verdict) -> Section:
                Column("buffer", "", "name"), Column("slot", "slot"), Column("channels", "channels"),
                Column("base", ""), Column("repetition", ""), Column("cycles", "cycles"), shown.column("worst", "worst"),
                shown.column("deadline", "deadline"), shown.column("margin", "margin", MARGIN))
-    rows = []
-    for it in verdict.rows:
-        placed, worst = it.line.placed, it.latency.worst
-        names = [(member.name, placed.frame.name if member.bits else None) for member in placed.frame.members]
-        for name, frame in names or [(placed.frame.name, None)]:
-            rows.append(Row({
-                "message": name, "frame": frame,
-                "node": shown.node(it.line.node), "buffer": shown.buffer(it.line.node, it.line.number),
-                "slot": placed.slot, "channels": placed.channels, "base": placed.cycles.base,
-                "repetition": placed.cycles.repetition, "cycles": str(placed.cycles),
-                "worst": None if worst is None else shown.time(worst), "deadline": None if it.deadline is None else shown.time(it.deadline),
-                "margin": None if worst is None or it.deadline is None else shown.time(it.deadline - worst)},
-                not it.is_met))
+    rows = [row for it in verdict.rows for row in message_rows(it, shown)]
     return Section("message", "Messages, by the proved program", columns, rows)
+
+
+def message_rows(it: Judged, shown: Shown) -> Iterator[Row]:
+    """Yields a row for each message of a transmit buffer."""
+    placed, worst = it.line.placed, it.latency.worst
+    margin = None if worst is None or it.deadline is None else shown.time(it.deadline - worst)
+    names = [(member.name, placed.frame.name if member.bits else None) for member in placed.frame.members]
+    for name, frame in names or [(placed.frame.name, None)]:
+        yield Row({
+            "message": name, "frame": frame, "node": shown.node(it.line.node),
+            "buffer": shown.buffer(it.line.node, it.line.number), "slot": placed.slot, "channels": placed.channels,
+            "base": placed.cycles.base, "repetition": placed.cycles.repetition, "cycles": str(placed.cycles),
+            "worst": None if worst is None else shown.time(worst),
+            "deadline": None if it.deadline is None else shown.time(it.deadline), "margin": margin}, not it.is_met)
 
 
 def room_section(network: Network, schedule: Schedule, verdict: Verdict) -> Section:
@@ -66,25 +70,3 @@ def room_section(network: Network, schedule: Schedule, verdict: Verdict) -> Sect
         rows.append(Row({"node": Name(number, node.name, "node"), "slots": len({slot for slot, _ in own}),
                          "free": free, "unowned": unowned, "buffers": buffers}))
     return Section("room", "Room for growth", ROOM, rows)
-
-
-def late(verdict: Verdict | None) -> Sequence[Miss]:
-    """Returns the deadlines that the programs don't confirm, and the warnings."""
-    if verdict is None:
-        return ()
-    return [*(miss_of(it) for it in verdict.late),
-            *(Miss(f"lint {it.name}", f"{it.headline}. {it.reason}") for it in verdict.warnings)]
-
-
-def miss_of(it: Judged) -> Miss:
-    """Returns a missed deadline with its numbers."""
-    frame, worst = it.line.placed.frame, it.latency.worst
-    if worst is None:
-        return Miss(frame.name, f"slot {it.latency.slot} can open at minislot {it.latency.last} in each of its cycles, "
-                    f"and its node begins no frame after minislot {it.latency.latest}",
-                    "fewer or shorter frames before it, or more minislots")
-    if it.deadline is None:
-        return Miss(frame.name, f"it was guaranteed, and its slot can now open at minislot {it.latency.last}, after the "
-                    f"latest minislot {it.latency.latest}", "longer deadlines of the messages that are added")
-    return Miss(frame.name, f"its worst case is {worst} macroticks, and its deadline {it.deadline}",
-                f"a deadline of at least {worst} macroticks")

@@ -3,14 +3,17 @@ import time
 from collections.abc import Sequence
 from dataclasses import dataclass, field, replace
 
-from musmyrtle.cluster import LAST_SLOT, MOST_LINES, Parameters
+from musmyrtle.cluster import LAST_SLOT, MOST_LINES, PARAMETERS, Parameters
 from musmyrtle.design.frames import Frame, frames_of, least_frames
 from musmyrtle.design.keeping import NO_LIMIT, Kept
 from musmyrtle.design.network import Network
 from musmyrtle.design.packing import Item, NoSlot, Placed, Slots, least_slots, packed
 from musmyrtle.design.parameters import Setting
 from musmyrtle.design.searching import Copy, Found, Search, Tell, copies_of
+from musmyrtle.findings import counted
+from musmyrtle.texts import FILE_LIMIT
 
+MOST_CYCLE, MOST_CYCLES_TRIED = PARAMETERS["cycle_mt"][1], 50
 MOST_KEY_SLOTS = 3
 """The sync nodes that are chosen where the file names none: with three the start tolerates the loss of one."""
 
@@ -65,6 +68,11 @@ class Schedule:
     def is_possible(self) -> bool:
         """Returns whether there is a cluster file that can be judged."""
         return not any(it.is_fatal for it in self.misses)
+
+    def miss_length(self, length: int) -> None:
+        """Notes that the cluster file would be too long."""
+        self.misses.append(Miss("cluster file", f"it would have {length} bytes, and has at most {FILE_LIMIT}",
+                                "fewer signals", True))
 
 
 class Scheduler:
@@ -126,8 +134,8 @@ class Scheduler:
                 self.miss(it.name, f"its period is {it.period} macroticks, and a slot comes once in a cycle of "
                           f"{setting.cycle_mt}", f"cycle_mt of at most {it.period}")
             elif it.deadline is not None and it.deadline < needed:
-                self.miss(it.name, f"its deadline is {it.deadline} macroticks, and the worst case of a static slot is a "
-                          f"cycle and the slot, {setting.cycle_mt} + {setting.static_mt} = {needed}",
+                self.miss(it.name, f"its deadline is {it.deadline} macroticks, and the worst case of a static slot is "
+                          f"a cycle and the slot, {setting.cycle_mt} + {setting.static_mt} = {needed}",
                           f"a deadline of at least {needed} macroticks, or cycle_mt of at most "
                           f"{it.deadline - setting.static_mt}")
             else:
@@ -161,6 +169,11 @@ class Scheduler:
             least = least_slots(items, made.sync)
             made.notes.append(f"the frames need {least} static slots, and no packing of them has fewer")
         self.note_frames()
+        for number, node in enumerate(self.network.nodes):
+            own = len({slot for (slot, _), owner in made.slots.owners.items() if owner == number})
+            if own > MOST_LINES:
+                self.miss(node.name, f"it needs {own} static slots, and a node of a cluster file has at most "
+                          f"{MOST_LINES}", "longer periods, or signals with `bits`, which share frames", True)
         wanted = max(2, used) + self.wishes.reserved_slots * len(self.network.nodes)
         made.parameters = setting.parameters(wanted)
         if made.parameters is None:
@@ -172,22 +185,48 @@ class Scheduler:
         if shared:
             bound = least_frames(self.network.messages, 2 * self.setting.static_words or 1)
             signals = sum(len(it.members) for it in shared)
-            self.made.notes.append(f"{signals} signals have {len(shared)} frames, and no packing has fewer than {bound}")
+            self.made.notes.append(f"{counted(signals, 'signal')} {'has' if signals == 1 else 'have'} "
+                                   f"{counted(len(shared), 'frame')}, and no packing has fewer than {bound}")
 
     def no_room(self, wanted: int) -> None:
-        """Notes that the static segment doesn't fit."""
+        """Notes that the static segment doesn't fit, with the least cycle for which it does."""
         setting = self.setting
         most = setting.most_slots()
-        needed = wanted * setting.static_mt + setting.minislots[0] * setting.minislot_mt
-        short = needed - setting.room
         if most >= setting.static_slots[1]:
-            self.miss("static segment", f"it needs {wanted} slots, and static_slots is at most {most}",
+            what = "kept cluster file" if self.kept is not None else "network file"
+            self.miss("static segment", f"it needs {wanted} slots, and the {what} has {most}",
                       f"static_slots of at least {wanted}", True)
             return
+        needed = wanted * setting.static_mt + setting.minislots[0] * setting.minislot_mt
+        least = self.least_cycle()
+        change = "longer periods" if least is None else f"cycle_mt of at least {least}"
         self.miss("static segment", f"it needs {wanted} slots of {setting.static_mt} macroticks, which with "
-                  f"{setting.minislots[0]} minislots are {needed}, and the cycle has room for {setting.room}",
-                  f"cycle_mt of at least {setting.cycle_mt + short}, or {wanted - most} fewer slots by longer periods",
-                  True)
+                  f"{setting.minislots[0]} minislots are {needed}, and the cycle has room for {setting.room}, so for "
+                  f"{most} slots", change, True)
+
+    def least_cycle(self) -> int | None:
+        """Returns the least cycle up to twice as long in which the static segment has room, or None.
+
+        A longer cycle can need more slots, since a frame then has fewer cycles in its period. So each one is tried,
+        from the shortest on, in the steps of a static slot.
+        """
+        setting = self.setting
+        step = max(setting.static_mt, setting.cycle_mt // MOST_CYCLES_TRIED)
+        for cycle in range(setting.cycle_mt + step, min(MOST_CYCLE, 2 * setting.cycle_mt) + 1, step):
+            further = Scheduler(self.network, replace(setting, cycle_mt=cycle), self.wishes, self.kept)
+            if further.has_static_room():
+                return cycle
+        return None
+
+    def has_static_room(self) -> bool:
+        """Returns whether the static segment has room in the cycle, and its frames meet their deadlines."""
+        frames = frames_of(self.network.messages, self.setting.cycle_mt, 2 * self.setting.static_words or 1, ())
+        items = [self.item(it) for it in frames if it.is_static]
+        if self.made.misses or any(it.frame.slot is not None for it in items):
+            return False
+        wanted = max(2, least_slots(items, self.sync_nodes(items)))
+        wanted += self.wishes.reserved_slots * len(self.network.nodes)
+        return self.setting.parameters(wanted) is not None
 
     # ---- the dynamic segment
 
@@ -211,8 +250,8 @@ class Scheduler:
             self.made.notes.append("the search ended at --seconds, so another run may find another schedule")
         places = sum(len(lane.slots) for lane in self.made.found.lanes.values())
         if parameters.static_slots + places > LAST_SLOT:
-            self.miss("dynamic segment", f"it needs {places} slots after {parameters.static_slots}, and slot {LAST_SLOT} "
-                      "is the last", "fewer messages", True)
+            self.miss("dynamic segment", f"it needs {places} slots after {parameters.static_slots}, and slot "
+                      f"{LAST_SLOT} is the last", "fewer messages", True)
 
     def latest_of(self, sender: int, most: int) -> int:
         """Returns the latest minislot of a node: the greatest that is allowed, or less if a kept cluster has less."""

@@ -74,7 +74,7 @@ def ordered(groups: Iterable[Sequence[Entry]], offset: int = 0) -> Lane:
     """Returns the order of the slots of a channel, with fixed slots where they are.
 
     OFFSET is the number of minislots that are kept free before the first slot. The last place goes to the first group
-    that bears it, those with the most slack first. Where none does, it goes to the one that is least late.
+    that bears it, those with the most slack first. If none does, it goes to the one that is least late.
     """
     free = sorted((it for it in groups if it[0].slot is None), key=patience)
     fixed = {it[0].slot: it for it in groups if it[0].slot is not None}

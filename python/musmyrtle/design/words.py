@@ -10,7 +10,7 @@ from musmyrtle.show.options import WIDTH
 
 COMMAND = "musmyrtle"
 USUAL_SECONDS, MOST_SECONDS = 60, 86_400
-PURPOSE = ("Makes a cluster file of a list of messages: slots, cycles and latest minislots by which each message meets\n"
+PURPOSE = ("Makes a cluster file of a list of messages: slots, cycles and latest minislots by which each one meets\n"
            "its deadline. `fr_bench check`, `lint --strict` and `fr_view latency` judge the result of the search.")
 EXAMPLES = ("design examples/networks/car.toml", "design examples/networks/car.toml -o cluster.toml")
 STATUSES = ("status: 0 if each deadline is met, 1 if the network file is refused, with all reasons, 2 if the words are "
@@ -60,7 +60,7 @@ def reserve_of(word: str) -> tuple[int, int]:
     """Returns the static slots and minislots that each node keeps free."""
     found = re.fullmatch(r"([0-9]{1,3})(?:,([0-9]{1,4}))?", word)
     if not found:
-        raise argparse.ArgumentTypeError(f"{word!r} is no number of slots, and no two numbers such as 1,10 of slots and "
+        raise argparse.ArgumentTypeError(f"{word!r} is no number of slots, and no two numbers as 1,10 of slots and "
                                          "minislots")
     return int(found[1]), int(found[2] or 0)
 
