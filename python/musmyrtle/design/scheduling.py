@@ -246,12 +246,22 @@ class Scheduler:
         search = Search(copies, wishes.reserved_minislots * nodes, wishes.seed, wishes.until, wishes.tell)
         self.made.found = search.found()
         self.made.notes += self.made.found.moves
+        if wishes.reserved_minislots:
+            self.note_reserve(self.made.found)
         if self.made.found.is_cut:
             self.made.notes.append("the search ended at --seconds, so another run may find another schedule")
         places = sum(len(lane.slots) for lane in self.made.found.lanes.values())
         if parameters.static_slots + places > LAST_SLOT:
             self.miss("dynamic segment", f"it needs {places} slots after {parameters.static_slots}, and slot "
                       f"{LAST_SLOT} is the last", "fewer messages", True)
+
+    def note_reserve(self, found: Found) -> None:
+        """Notes the frames that would be late if the reserved minislots were taken, which no program judges."""
+        late = {it.frame.name: most for lane in found.lanes.values() for it, most in lane.misses}
+        count = self.wishes.reserved_minislots * len(self.network.nodes)
+        for name, most in late.items():
+            self.miss(name, f"with {count} reserved minislots in each cycle it is {counted(most, 'minislot')} late",
+                      f"a deadline that is {counted(most, 'minislot')} longer, or a smaller --reserve")
 
     def latest_of(self, sender: int, most: int) -> int:
         """Returns the latest minislot of a node: the greatest that is allowed, or less if a kept cluster has less."""

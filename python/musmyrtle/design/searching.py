@@ -8,7 +8,7 @@ from math import prod
 
 from musmyrtle.cluster import Cycles
 from musmyrtle.design.frames import Frame, channels_of
-from musmyrtle.design.segment import Entry, Lane, measured, merged, ordered
+from musmyrtle.design.segment import Entry, Lane, compacted, loads_of, measured, merged, ordered
 
 MOST_EXACT = 4000
 """The choices of cycles and channels up to which all are tried."""
@@ -80,6 +80,13 @@ class Search:
         self.kept: dict[tuple[str, tuple[tuple[int, Choice], ...]], Lane] = {}
 
     def found(self) -> Found:
+        """Returns the best orders, in which frames share slots if they can."""
+        best = self.searched()
+        if not best.cost:
+            best.lanes = {channel: compacted(lane, self.offset) for channel, lane in best.lanes.items()}
+        return best
+
+    def searched(self) -> Found:
         """Returns the best orders."""
         state = self.first()
         best = Found(self.lanes(state))
@@ -216,7 +223,9 @@ class Search:
         numbers = [it for it in range(len(self.copies)) if len(self.copies[it].choices()) > 1]
         urgent = [it for it in numbers if self.copies[it].frame.name in late]
         near = [it for it in numbers if state[it][0] in channels]
-        pool = urgent if urgent and self.random.random() < 0.4 else near or numbers
+        draw = self.random.random()
+        pool = urgent if urgent and draw < 0.3 else self.in_the_way(state, lanes, numbers) if draw < 0.8 else near
+        pool = pool or near or numbers
         if not pool:
             return None
         number = self.random.choice(pool)
@@ -225,6 +234,17 @@ class Search:
         others = [it for it in copy.choices() if it != state[number] and it[1] == repetition] or \
             [it for it in copy.choices() if it != state[number]]
         return number, self.random.choice(others)
+
+    def in_the_way(self, state: Sequence[Choice], lanes: dict[str, Lane], numbers: Sequence[int]) -> list[int]:
+        """Returns the frames that are sent in the worst cycle of a late one."""
+        late = [it for lane in lanes.values() for it, _ in lane.misses]
+        if not late:
+            return []
+        it = self.random.choice(late)
+        loads = loads_of(lanes[it.channel].slots.values(), 64)
+        worst = max(range(it.cycles.base, 64, it.cycles.repetition), key=lambda cycle: loads[cycle])
+        return [number for number in numbers if state[number][0] == it.channel
+                and worst % state[number][1] == state[number][2]]
 
 
 def grouped(entries: Sequence[Entry]) -> list[list[Entry]]:

@@ -4,7 +4,7 @@ In the model each frame is sent in each of its cycles. A slot opens latest when 
 delay of a slot is a sum, and a frame that moves back lets all others come earlier. So the last place can be given to
 any frame that bears it, and then the place before it: if some order meets all deadlines, this finds one.
 """
-from collections.abc import Iterable, Sequence
+from collections.abc import Iterable, Iterator, Sequence
 from dataclasses import dataclass, field
 
 from musmyrtle.cluster import Cycles
@@ -149,3 +149,36 @@ def measured(lane: Lane, offset: int = 0) -> Lane:
             for cycle in range(it.cycles.base, cycles, it.cycles.repetition):
                 loads[cycle] += it.further
     return found
+
+
+def compacted(lane: Lane, offset: int = 0) -> Lane:
+    """Returns the order with fewer slots, in which no frame is late: frames of different cycles share a slot.
+
+    Two slots become one at either of their places, if all deadlines are still met then. Fixed slots stay.
+    """
+    if lane.misses or any(it.slot is not None for group in lane.slots.values() for it in group):
+        return lane
+    groups, place = list(merged(lane).slots.values()), 0
+    while place < len(groups):
+        shorter = next((it for it in joinings(groups, place) if not measured(numbered(it), offset).misses), None)
+        if shorter is None:
+            place += 1
+        else:
+            groups, place = shorter, min(place, len(shorter))
+    return numbered(groups)
+
+
+def joinings(groups: Sequence[list[Entry]], place: int) -> Iterator[list[list[Entry]]]:
+    """Yields the orders in which the slot at a place and a later one are one slot, at the first or the second place."""
+    first = groups[place]
+    for other in range(place + 1, len(groups)):
+        second = groups[other]
+        if all(not one.cycles.meet(it.cycles) for one in first for it in second):
+            both, between = [*first, *second], list(groups[place + 1:other])
+            yield [*groups[:place], both, *between, *groups[other + 1:]]
+            yield [*groups[:place], *between, both, *groups[other + 1:]]
+
+
+def numbered(groups: Iterable[list[Entry]]) -> Lane:
+    """Returns the order of some slots without gaps."""
+    return Lane(dict(enumerate(groups)))
