@@ -15,8 +15,8 @@ BASH_FIRST = ("bind 'set bell-style none'; bind '\"\\C-t\": insert-completions'"
 ZSH_FIRST = ("autoload -Uz compinit; compinit -u -D", "autoload -Uz _all_matches; zle -C all complete-word _generic",
              "zstyle ':completion:all::::' completer _all_matches _complete",
              "zstyle ':completion:all:*' insert true", "bindkey '^I' complete-word", "bindkey '^T' all", CATCHING)
-COMMANDS = ("annotate check commits completion decode diff encode faults help import latency lint log man monitor "
-            "page plan reads run signals")
+COMMANDS = ("annotate check commits completion decode design diff encode faults help import latency lint log man "
+            "monitor page plan reads run signals")
 ALL = "\x14"
 """The key that inserts all completions, and not only what they have in common."""
 TYPED = (

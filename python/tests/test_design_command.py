@@ -31,7 +31,7 @@ class Designs(Shows):
     def designed(self, text: str, *words: str) -> tuple[int, list[dict[str, Any]], str]:
         """Returns the status, the rows of the report and the messages for a network."""
         status, output, told = self.asked("design", self.written("network.toml", text), "--json", *words)
-        return status, [json.loads(it) for it in output.splitlines()], told
+        return int(status or 0), [json.loads(it) for it in output.splitlines()], told
 
     def made(self, text: str, *words: str) -> dict[str, Any]:
         """Returns the tables of the cluster file of a network, of which `lint --strict` has no warning."""
@@ -70,6 +70,8 @@ class Made(Designs):
         found = {it["message"]: (it["worst_us"], it["deadline_us"], it["margin_us"]) for it in rows
                  if it["kind"] == "message"}
         self.assertEqual(found, {"speed": (10028, 10028, 0), "pedal": (5028, 5028, 0), "alarm": (5025, 6000, 975)})
+        self.assertEqual({it: rows[0][it] for it in ("message", "worst_mt", "deadline_mt", "margin_mt")},
+                         {"message": "speed", "worst_mt": 10028, "deadline_mt": 10028, "margin_mt": 0})
 
     def test_the_same_words_give_the_same_file(self) -> None:
         text = (NETWORKS / "car.toml").read_text()
@@ -103,14 +105,15 @@ class Made(Designs):
                          [(3, [("level", 0, 12), ("fuel", 12, 8)])])
 
     def test_a_fixed_slot_stays(self) -> None:
-        made = self.made(NETWORK + message("door", "brakes", "slot = 4", "base = 1", "repetition = 2", 'channels = "B"'))
+        fixed = ("slot = 4", "base = 1", "repetition = 2", 'channels = "B"')
+        made = self.made(NETWORK + message("door", "brakes", *fixed))
         door = next(it for it in made["node"][1]["buffer"] if it["name"] == "door")
         self.assertEqual((door["slot"], door["channels"], door["base"], door["repetition"]), (4, "B", 1, 2))
 
     def test_a_dynamic_frame_on_both_channels_has_two_buffers(self) -> None:
         made = self.made(NETWORK + message("trip", "engine", "sporadic = true", 'channels = "AB"'))
-        self.assertEqual(sorted((it["name"], it["channels"]) for it in made["node"][0]["buffer"] if "trip" in it["name"]),
-                         [("trip.A", "A"), ("trip.B", "B")])
+        found = sorted((it["name"], it["channels"]) for it in made["node"][0]["buffer"] if "trip" in it["name"])
+        self.assertEqual(found, [("trip.A", "A"), ("trip.B", "B")])
 
     def test_reserved_slots_and_minislots(self) -> None:
         self.assertEqual(self.made(NETWORK, "--reserve", "3")["params"]["static_slots"], 2 + 3 * 2)
@@ -148,16 +151,16 @@ class Kept(Designs):
 
     def test_old_frames_stay_guaranteed(self) -> None:
         held = str(EXAMPLES / "ten-nodes/cluster.toml")
-        text = ('[[node]]\nname = "engine"\n' + message("bulk", "engine", "sporadic = true", "bytes = 200",
-                                                          'channels = "A"'))
+        bulk = message("bulk", "engine", "sporadic = true", "bytes = 200", 'channels = "A"')
+        text = f'[[node]]\nname = "engine"\n{bulk}'
         self.assertEqual(self.made(text, "--keep", held)["params"]["static_slots"], 60)
 
 
 class Missed(Designs):
     def test_a_deadline_below_a_cycle(self) -> None:
         self.assertEqual(self.misses(NETWORK.replace("deadline_ms = 6", "deadline_ms = 5")), [
-            "alarm: its deadline is 5000 macroticks, its period 20000, and the worst case of the first dynamic slot is a "
-            "cycle and its frame, 5000 + 25 = 5025; a deadline of at least 5025 macroticks, or a shorter cycle"])
+            "alarm: its deadline is 5000 macroticks, its period 20000, and the worst case of the first dynamic slot is "
+            "a cycle and its frame, 5000 + 25 = 5025; a deadline of at least 5025 macroticks, or a shorter cycle"])
 
     def test_a_period_below_a_cycle(self) -> None:
         self.assertEqual(self.misses(NETWORK.replace("period_ms = 5\n", "period_ms = 4\n")), [
@@ -177,6 +180,15 @@ class Missed(Designs):
         self.assertEqual(len(found), 1)
         self.assertIn("the longest of", found[0])
 
+    def test_the_text_has_a_paragraph_for_each_miss(self) -> None:
+        file = self.written("network.toml", NETWORK.replace("deadline_ms = 6", "deadline_ms = 5"))
+        status, output, _ = self.asked("design", file)
+        self.assertEqual(status, 3)
+        self.assertEqual(output.partition("What isn't met\n")[2].split("\n\n")[0], (
+            "alarm: its deadline is 5000 macroticks, its period 20000, and the worst case of the first dynamic slot is "
+            "a\n    cycle and its frame, 5000 + 25 = 5025\n"
+            "    what helps: a deadline of at least 5025 macroticks, or a shorter cycle"))
+
     def test_nothing_is_written(self) -> None:
         file = self.folder / "made.toml"
         status, _, told = self.designed(NETWORK.replace("deadline_ms = 6", "deadline_ms = 5"), "-o", str(file))
@@ -193,8 +205,10 @@ class Missed(Designs):
 class Refused(Designs):
     def test_each_mistake_has_its_line(self) -> None:
         for change, expected in (
-                (("cycle_mt = 5000", "cycle_ms = 5"), '2:1: refused UnknownKey: `[params]` has the unknown key "cycle_ms"'),
-                (("deadline_ms = 6", "deadline_ms = 0"), "32:1: refused BadMessage: `deadline_ms` of message alarm is 0"),
+                (("cycle_mt = 5000", "cycle_ms = 5"),
+                 '2:1: refused UnknownKey: `[params]` has the unknown key "cycle_ms"'),
+                (("deadline_ms = 6", "deadline_ms = 0"),
+                 "32:1: refused BadMessage: `deadline_ms` of message alarm is 0"),
                 (("bytes = 12", "bytes = 300"), "30:1: refused BadMessage: `bytes` of message alarm is 300"),
                 (('"pedal"', '"speed"'), "19:1: refused BadMessage: two messages have the name speed"),
                 (("sporadic = true", "sporadic = true\nguarded = true\nsegment = \"dynamic\""),
@@ -205,8 +219,8 @@ class Refused(Designs):
                  '12:1: refused BadMessage: `sender` of message speed has "motor", which is no node'),
                 (("bytes = 12", "bytes = 12\nbits = 4"),
                  "30:1: refused Contradiction: message alarm has `bits` and `bytes`"),
-                (("bytes = 12", "bytes = 12\nbase = 1"), "31:1: refused Contradiction: message alarm has `base`, and no "
-                 "`slot`")):
+                (("bytes = 12", "bytes = 12\nbase = 1"),
+                 "31:1: refused Contradiction: message alarm has `base`, and no `slot`")):
             with self.subTest(change[1]):
                 self.assertIn(expected, self.refusals(NETWORK.replace(*change, 1)))
 

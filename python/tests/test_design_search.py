@@ -25,11 +25,12 @@ class Plain(Parameters):
 
 class StaticSlots(unittest.TestCase):
     def test_counts_by_hand(self) -> None:
-        for wants, sync, count in (
-                ([], [], 0), ([(0, "A", 1)], [], 1), ([(0, "A", 2), (0, "A", 2)], [], 1),
-                ([(0, "A", 2), (1, "A", 2)], [], 2), ([(0, "A", 1), (1, "B", 1)], [], 1),
-                ([(0, "AB", 2), (0, "A", 2), (0, "B", 2)], [], 1), ([(0, "AB", 4), (0, "either", 1)], [], 2),
-                ([(0, "either", 1), (1, "either", 1), (2, "either", 1)], [], 2), ([], [0, 1], 2)):
+        cases: tuple[tuple[list[Want], list[int], int], ...] = (
+            ([], [], 0), ([(0, "A", 1)], [], 1), ([(0, "A", 2), (0, "A", 2)], [], 1),
+            ([(0, "A", 2), (1, "A", 2)], [], 2), ([(0, "A", 1), (1, "B", 1)], [], 1),
+            ([(0, "AB", 2), (0, "A", 2), (0, "B", 2)], [], 1), ([(0, "AB", 4), (0, "either", 1)], [], 2),
+            ([(0, "either", 1), (1, "either", 1), (2, "either", 1)], [], 2), ([], [0, 1], 2))
+        for wants, sync, count in cases:
             with self.subTest(wants=wants, sync=sync):
                 self.assertEqual(least_slots(items_of(wants), sync), count)
 
@@ -72,8 +73,9 @@ class DynamicSlots(unittest.TestCase):
         network = Network(read_text("", b""), nodes=nodes)
         scheduler = Scheduler(network, setting, Wishes(until=time.monotonic() + 10))
         scheduler.made.parameters = parameters
+        periods = [min(2 * cycle, max(cycle, deadline)) for _, _, deadline in frames]
         scheduler.place_dynamic([
-            Frame(f"m{number}", node, (), 2 * filled, min(2 * cycle, max(cycle, deadline)), deadline, False, "A", "event")
+            Frame(f"m{number}", node, (), 2 * filled, periods[number], deadline, False, "A", "event")
             for number, (node, filled, deadline) in enumerate(frames)])
         made: Schedule = scheduler.made
         return not made.misses and made.found is not None and not made.found.cost

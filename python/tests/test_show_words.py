@@ -22,6 +22,7 @@ from musmyrtle.show.manual import manual
 from musmyrtle.show.tables import Column, Name, Receiver, Receivers, Row, Section, Time, as_csv, as_json, as_text, cell
 from musmyrtle.version import version
 from tests import judging
+from tests.designing import NETWORK as DESIGN
 from tests.importing import FIBEX, FOLDER, TRUSTING
 from tests.shows import NETWORK, POP, SCENE, THREE, Shows
 from tests.test_diff_clusters import WHOLE
@@ -113,6 +114,7 @@ class Keys(Shows):
             ("signals", [*OF_SIGNALS, "--cycles", "4", "--expect", self.written("expected", "1.speed * > 0")]),
             ("signals --recording", [self.recording_of_signals(), OF_SIGNALS[0]]),
             ("decode", [OF_SIGNALS[0], "engine", "data", "x222ef13c"]),
+            ("design", [self.written("network.toml", DESIGN.replace("deadline_ms = 6", "deadline_ms = 5"))]),
             ("import --compare", [str(FOLDER / "network.toml"), str(FIBEX)]),
         ):
             with TRUSTING, patch.dict(os.environ, judging.variables(self.folder) if words[1:2] == [missing] else {}):

@@ -1,4 +1,4 @@
-"""What keeps a message from its deadline: the numbers of the program, the frames before it, and what helps."""
+"""Bottlenecks of missed deadlines: the numbers of the program, the frames before a slot, and the change that helps."""
 from musmyrtle.design.judging import Judged, Verdict
 from musmyrtle.design.scheduling import Miss, Schedule
 from musmyrtle.findings import counted, joined

@@ -12,7 +12,7 @@ from musmyrtle.design.keeping import Kept, kept_of
 from musmyrtle.design.network import Network
 from musmyrtle.design.parameters import settings
 from musmyrtle.design.reading import NetworkReading
-from musmyrtle.design.report import sections_of
+from musmyrtle.design.report import sections_of, text_of
 from musmyrtle.design.scheduling import Schedule, Scheduler, Wishes
 from musmyrtle.ending import FINE
 from musmyrtle.faults.whole_files import Unusable, replace_file, spare_inputs
@@ -23,7 +23,6 @@ from musmyrtle.output import Stop, pass_on, write
 from musmyrtle.places import Places
 from musmyrtle.show.engines import COMMAND, MOST_REASONS, opened
 from musmyrtle.show.latency import latencies
-from musmyrtle.show.tables import as_text
 from musmyrtle.texts import FILE_LIMIT, Text, no_toml, not_utf8, read_text
 from musmyrtle.toml_reader import Reader
 from musmyrtle.toml_tables import BY_HEADER, Table
@@ -35,7 +34,7 @@ MOST_BYTES = 16 * 1_048_576
 # ---- the network file
 
 
-def text_of(file: str) -> Text:
+def network_text(file: str) -> Text:
     """Returns the text of a network file. Raises `Stop` after the reason where it is none."""
     try:
         with open(file, "rb") as source:
@@ -80,7 +79,7 @@ def kept_from(file: str, network: Network) -> Kept:
 
 def network_of(file: str, has_parameters: bool = True) -> Network:
     """Returns the network of a file. Raises `Stop` after all reasons to refuse it."""
-    text = text_of(file)
+    text = network_text(file)
     reading = NetworkReading(text, has_parameters)
     if reading.faults:
         reasons = [block(f"refused {it.refusal}", text.finding(it.headline, it.reason, it.path, it.notes),
@@ -155,7 +154,7 @@ def done(given: argparse.Namespace) -> int:
     is_good = verdict is not None and verdict.is_good and not schedule.misses
     if is_good and built is not None and given.output is not None:
         written(given.output, built)
-    printed(formed(given, sections, as_text(sections, is_bold_on(sys.stdout))))
+    printed(formed(given, sections, text_of(sections, is_bold_on(sys.stdout))))
     if is_good:
         return FINE
     note_missed(given.output)

@@ -36,7 +36,7 @@ class Judged:
 
 @dataclass
 class Verdict:
-    """What the programs say of a cluster file."""
+    """The answers of the programs about a cluster file: latencies, loads and warnings."""
 
     rows: list[Judged] = field(default_factory=list)
     loads: list[Load] = field(default_factory=list)

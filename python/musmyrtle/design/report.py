@@ -1,5 +1,6 @@
 """The report of a design: tables of messages, channels and nodes, notes, and what isn't met."""
-from collections.abc import Iterator
+from collections.abc import Iterator, Sequence
+from textwrap import wrap
 
 from musmyrtle.cluster import MOST_LINES
 from musmyrtle.design.bottlenecks import misses_of
@@ -8,13 +9,16 @@ from musmyrtle.design.network import Network
 from musmyrtle.design.scheduling import Schedule, cycles_left
 from musmyrtle.lint.loads import load_section
 from musmyrtle.show.network import Network as Shown
-from musmyrtle.show.tables import Column, Name, Row, Section
+from musmyrtle.show.options import WIDTH
+from musmyrtle.show.tables import BOLD, RED, USUAL, Column, Name, Row, Section, as_text
+from musmyrtle.visible import visible
 
 ROOM = (Column("node", "node", "name"), Column("slots", "static slots"), Column("free", "free cycles of them"),
         Column("unowned", "static slots without an owner"), Column("buffers", "free buffers"))
 MISSES = (Column("name", "what", "whole"), Column("reason", "bottleneck", "whole"),
           Column("change", "smallest change", "whole"))
 NOTES = (Column("note", "note", "whole"),)
+INDENT = "    "
 MARGIN = "from worst to the deadline"
 
 
@@ -30,6 +34,27 @@ def sections_of(network: Network, schedule: Schedule, verdict: Verdict | None) -
         yield Section("miss", "What isn't met", MISSES, rows)
     if schedule.notes:
         yield Section("note", "Notes", NOTES, [Row({"note": it}) for it in schedule.notes])
+
+
+def text_of(sections: Sequence[Section], is_coloured: bool) -> Iterator[str]:
+    """Yields the report for people, in which misses and notes are paragraphs."""
+    yield from as_text([it for it in sections if it.kind not in ("miss", "note")], is_coloured)
+    for it in sections:
+        if it.kind in ("miss", "note"):
+            is_miss = it.kind == "miss"
+            yield f"\n{BOLD}{it.title}{USUAL}\n" if is_coloured else f"\n{it.title}\n"
+            for row in it.rows:
+                text = "\n".join(paragraphs(row))
+                yield f"{RED}{text}{USUAL}\n" if is_coloured and is_miss else f"{text}\n"
+
+
+def paragraphs(row: Row) -> Iterator[str]:
+    """Yields the lines of a miss or a note."""
+    values = {key: visible(str(it)) for key, it in row.values.items() if it is not None}
+    first = values.get("note") or f"{values['name']}: {values['reason']}"
+    yield from wrap(first, WIDTH, subsequent_indent=INDENT, break_long_words=False, break_on_hyphens=False)
+    if "change" in values:
+        yield from wrap(f"{INDENT}what helps: {values['change']}", WIDTH, subsequent_indent=INDENT)
 
 
 def message_section(verdict: Verdict) -> Section:

@@ -31,7 +31,7 @@ class Miss:
 
 @dataclass
 class Wishes:
-    """What the words of the command ask for."""
+    """The wishes that the words of the command have: reserves, the seed, and the end of the search."""
 
     reserved_slots: int = 0
     reserved_minislots: int = 0

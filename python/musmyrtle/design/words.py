@@ -1,4 +1,4 @@
-"""The words of the command `design`. What does it is imported where it is used, since other commands would wait."""
+"""The words of the command `design`. Its work is imported where it is done, since all other commands would wait."""
 import argparse
 import re
 from textwrap import fill
@@ -12,7 +12,7 @@ COMMAND = "musmyrtle"
 USUAL_SECONDS, MOST_SECONDS = 60, 86_400
 PURPOSE = ("Makes a cluster file of a list of messages: slots, cycles and latest minislots by which each one meets\n"
            "its deadline. `fr_bench check`, `lint --strict` and `fr_view latency` judge the result of the search.")
-EXAMPLES = ("design examples/networks/car.toml", "design examples/networks/car.toml -o cluster.toml")
+EXAMPLES = ("design examples/networks/sae-class-c.toml", "design examples/networks/car.toml --json")
 STATUSES = ("status: 0 if each deadline is met, 1 if the network file is refused, with all reasons, 2 if the words are "
             "no command, a program can't be run or fails, or the output can't be written, 3 if a deadline isn't met, "
             "with the best schedule and its bottleneck and no cluster file, 130, 143 or 129 if SIGINT, SIGTERM or "
