@@ -18,7 +18,7 @@ ROOM = (Column("node", "node", "name"), Column("slots", "static slots"), Column(
 MISSES = (Column("name", "what", "whole"), Column("reason", "bottleneck", "whole"),
           Column("change", "smallest change", "whole"))
 NOTES = (Column("note", "note", "whole"),)
-INDENT = "    "
+INDENT, MOST_PARAGRAPHS = "    ", 20
 MARGIN = "from worst to the deadline"
 
 
@@ -43,9 +43,12 @@ def text_of(sections: Sequence[Section], is_coloured: bool) -> Iterator[str]:
         if it.kind in ("miss", "note"):
             is_miss = it.kind == "miss"
             yield f"\n{BOLD}{it.title}{USUAL}\n" if is_coloured else f"\n{it.title}\n"
-            for row in it.rows:
+            rows = list(it.rows)
+            for row in rows[:MOST_PARAGRAPHS]:
                 text = "\n".join(paragraphs(row))
                 yield f"{RED}{text}{USUAL}\n" if is_coloured and is_miss else f"{text}\n"
+            if len(rows) > MOST_PARAGRAPHS:
+                yield f"and {len(rows) - MOST_PARAGRAPHS} more\n"
 
 
 def paragraphs(row: Row) -> Iterator[str]:

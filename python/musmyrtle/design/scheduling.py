@@ -2,6 +2,8 @@
 import time
 from collections.abc import Sequence
 from dataclasses import dataclass, field, replace
+from fractions import Fraction
+from math import ceil
 
 from musmyrtle.cluster import LAST_SLOT, MOST_LINES, PARAMETERS, Parameters
 from musmyrtle.design.frames import Frame, frames_of, least_frames
@@ -9,7 +11,7 @@ from musmyrtle.design.keeping import NO_LIMIT, Kept
 from musmyrtle.design.network import Network
 from musmyrtle.design.packing import Item, NoSlot, Placed, Slots, least_slots, packed
 from musmyrtle.design.parameters import Setting
-from musmyrtle.design.searching import Copy, Found, Search, Tell, copies_of
+from musmyrtle.design.searching import ROUNDS, Copy, Found, Search, Tell, copies_of
 from musmyrtle.findings import counted
 from musmyrtle.texts import FILE_LIMIT
 
@@ -243,9 +245,13 @@ class Scheduler:
         copies += [self.kept_copy(it, parameters) for it in placed]
         if not self.made.is_possible:
             return
+        rounds = 0 if self.is_overloaded(copies, parameters) else ROUNDS
         search = Search(copies, wishes.reserved_minislots * nodes, wishes.seed, wishes.until, wishes.tell)
-        self.made.found = search.found()
+        self.made.found = search.found(rounds)
         self.made.notes += self.made.found.moves
+        if self.made.found.is_exact and self.made.found.cost:
+            self.made.notes.append("all channels, cycles and orders of the dynamic frames were tried, and none of them "
+                                   "meets each deadline with these parameters")
         if wishes.reserved_minislots:
             self.note_reserve(self.made.found)
         if self.made.found.is_cut:
@@ -254,6 +260,29 @@ class Scheduler:
         if parameters.static_slots + places > LAST_SLOT:
             self.miss("dynamic segment", f"it needs {places} slots after {parameters.static_slots}, and slot "
                       f"{LAST_SLOT} is the last", "fewer messages", True)
+
+    def is_overloaded(self, copies: Sequence[Copy], parameters: Parameters) -> bool:
+        """Returns whether the frames need more minislots than there are, which is then noted.
+
+        In a cycle in which frames are all guaranteed, all of them can be sent. Each one needs such a cycle as often as
+        its deadline has cycles. So no order and no cycles help against a sum that is too great.
+        """
+        needed, room = {"A": Fraction(0), "B": Fraction(0), "AB": Fraction(0)}, parameters.minislots + parameters.idle
+        for it in copies:
+            deadline = it.frame.period if it.frame.deadline is None else it.frame.deadline
+            if it.frame.is_kept and not it.frame.members:
+                continue
+            cycles = max(1, (deadline - it.filled * parameters.minislot_mt) // parameters.cycle_mt)
+            needed[it.channels] += Fraction(it.filled + parameters.idle, cycles)
+        for channel, count in (("A", needed["A"]), ("B", needed["B"]), ("both channels", sum(needed.values()))):
+            channels = 2 if channel == "both channels" else 1
+            if count > channels * room:
+                least = ceil(Fraction(count) / channels) - parameters.idle
+                self.miss("dynamic segment", f"by their deadlines its frames need {ceil(count)} minislots of each "
+                          f"cycle on {channel}, with idle ones, and there are {channels * parameters.minislots}",
+                          f"at least {least} minislots in a cycle of this length, longer deadlines, or shorter frames")
+                return True
+        return False
 
     def note_reserve(self, found: Found) -> None:
         """Notes the frames that would be late if the reserved minislots were taken, which no program judges."""

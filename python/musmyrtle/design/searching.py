@@ -79,20 +79,20 @@ class Search:
         self.random = random.Random(seed)
         self.kept: dict[tuple[str, tuple[tuple[int, Choice], ...]], Lane] = {}
 
-    def found(self) -> Found:
-        """Returns the best orders, in which frames share slots if they can."""
-        best = self.searched()
+    def found(self, rounds: int = ROUNDS) -> Found:
+        """Returns the best orders after so many starts at most, in which frames share slots if they can."""
+        best = self.searched(rounds)
         if not best.cost:
             best.lanes = {channel: compacted(lane, self.offset) for channel, lane in best.lanes.items()}
         return best
 
-    def searched(self) -> Found:
+    def searched(self, rounds: int) -> Found:
         """Returns the best orders."""
         state = self.first()
         best = Found(self.lanes(state))
         if best.cost and prod(len(it.choices()) for it in self.copies) <= MOST_EXACT:
             return self.exact(best)
-        for number in range(ROUNDS):
+        for number in range(rounds):
             if not best.cost or best.is_cut:
                 break
             begin = state if not number else self.first(is_random=True)

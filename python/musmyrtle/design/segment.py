@@ -6,6 +6,7 @@ any frame that bears it, and then the place before it: if some order meets all d
 """
 from collections.abc import Iterable, Iterator, Sequence
 from dataclasses import dataclass, field
+from itertools import islice
 
 from musmyrtle.cluster import Cycles
 from musmyrtle.design.frames import Frame
@@ -151,16 +152,23 @@ def measured(lane: Lane, offset: int = 0) -> Lane:
     return found
 
 
-def compacted(lane: Lane, offset: int = 0) -> Lane:
+def compacted(lane: Lane, offset: int = 0, work: int = 200_000) -> Lane:
     """Returns the order with fewer slots, in which no frame is late: frames of different cycles share a slot.
 
-    Two slots become one at either of their places, if all deadlines are still met then. Fixed slots stay.
+    Two slots become one at either of their places, if all deadlines are still met then. Fixed slots stay. WORK limits
+    the trials, each of which counts all slots.
     """
     if lane.misses or any(it.slot is not None for group in lane.slots.values() for it in group):
         return lane
     groups, place = list(merged(lane).slots.values()), 0
     while place < len(groups):
-        shorter = next((it for it in joinings(groups, place) if not measured(numbered(it), offset).misses), None)
+        trials = max(0, work) // (1 + len(groups))
+        shorter = None
+        for it in islice(joinings(groups, place), trials):
+            work -= 1 + len(groups)
+            if not measured(numbered(it), offset).misses:
+                shorter = it
+                break
         if shorter is None:
             place += 1
         else:
