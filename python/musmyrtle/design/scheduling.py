@@ -250,8 +250,8 @@ class Scheduler:
         self.made.found = search.found(rounds)
         self.made.notes += self.made.found.moves
         if self.made.found.is_exact and self.made.found.cost:
-            self.made.notes.append("all channels, cycles and orders of the dynamic frames were tried, and none of them "
-                                   "meets each deadline with these parameters")
+            self.made.notes.append("all channels, cycles and orders of the dynamic frames were tried: with these "
+                                   "parameters none of them sends each frame in time")
         if wishes.reserved_minislots:
             self.note_reserve(self.made.found)
         if self.made.found.is_cut:

@@ -153,12 +153,12 @@ class Search:
 
     def exact(self, best: Found) -> Found:
         """Tries all choices, and all ways in which few frames can share slots."""
-        best.is_exact = True
+        best.is_exact = is_exact = self.may_share()
         for state in product(*(it.choices() for it in self.copies)):
             lanes = self.lanes(state)
-            if sum(it.cost for it in lanes.values()) and self.may_share(state):
+            if is_exact and sum(it.cost for it in lanes.values()):
                 lanes = {channel: self.shared(channel, state) or lanes[channel] for channel in "AB"}
-            found = Found(lanes, is_exact=True)
+            found = Found(lanes, is_exact=is_exact)
             if found.cost < best.cost:
                 best = found
             if not best.cost:
@@ -168,9 +168,9 @@ class Search:
                 break
         return best
 
-    def may_share(self, state: Sequence[Choice]) -> bool:
-        """Returns whether all ways to share slots are tried, which is so for few frames."""
-        return len(state) <= MOST_PARTS and all(it.slot is None for it in self.copies)
+    def may_share(self) -> bool:
+        """Returns whether all ways to share slots are tried, as for few frames without fixed slots."""
+        return len(self.copies) <= MOST_PARTS and all(it.slot is None for it in self.copies)
 
     def shared(self, channel: str, state: Sequence[Choice]) -> Lane | None:
         """Returns the best order over all ways to share slots, or None without entries."""
