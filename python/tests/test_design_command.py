@@ -178,8 +178,8 @@ class Missed(Designs):
         logs = "".join(message(it, "engine", "sporadic = true", "bytes = 100", "deadline_ms = 5.5", 'channels = "A"')
                        for it in ("log", "dump"))
         found = self.misses(NETWORK.replace("cycle_mt = 5000", "cycle_mt = 5000\nminislots = 40") + logs)
-        self.assertEqual(found[0], "dynamic segment: by their deadlines its frames need 56 minislots of each cycle on A, "
-                         "with idle ones, and there are 40; at least 55 minislots in a cycle of this length, longer "
+        self.assertEqual(found[0], "dynamic segment: by their deadlines its frames need 56 minislots of each cycle on "
+                         "A, with idle ones, and there are 40; at least 55 minislots in a cycle of this length, longer "
                          "deadlines, or shorter frames")
 
     def test_a_late_slot_names_the_frames_before_it(self) -> None:

@@ -1,14 +1,14 @@
 """Frames of a network for one choice of parameters: signals of one sender share frames, and each frame has its cycles.
 """
 from collections import defaultdict
-from collections.abc import Iterable, Iterator, Mapping
+from collections.abc import Iterable, Iterator, Mapping, Sequence
 from dataclasses import dataclass, replace
 from typing import Any
 
 from musmyrtle.design.network import EITHER, REPETITIONS, Message
 
-LONGEST_FRAME = 254
-"""The bytes of the longest frame."""
+DYNAMIC_ROOM = 32
+"""The bytes up to which signals share a dynamic frame. Each commit sends all of them."""
 MOST_SIGNALS = 1024
 
 
@@ -67,9 +67,9 @@ def frame_of(it: Message, cycle: int) -> Frame:
 
 
 def frames_of(messages: Iterable[Message], cycle: int, room: int, names: Iterable[str]) -> list[Frame]:
-    """Returns the frames of all messages, with at most ROOM bytes of signals in a frame.
+    """Returns the frames of all messages, with at most ROOM bytes of signals in a static frame.
 
-    NAMES are the names that are taken. First fit: signals with the shortest period come first, then the longest ones.
+    NAMES are the names that are taken. Of first fit and best fit, the one whose frames take fewer cycles counts.
     """
     found: list[Frame] = []
     shared: dict[tuple[int, bool, str, str], list[Message]] = defaultdict(list)
@@ -80,29 +80,44 @@ def frames_of(messages: Iterable[Message], cycle: int, room: int, names: Iterabl
             found.append(frame_of(it, cycle))
     taken = {it.name for it in found} | set(names)
     for members in shared.values():
-        found += packed(members, cycle, room, taken)
+        most = room if members[0].is_static else DYNAMIC_ROOM
+        ways = [groups_of(members, cycle, most, is_best) for is_best in (False, True)]
+        for group in min(ways, key=lambda it: (weight(it, cycle), len(it))):
+            found.append(shared_frame(group, cycle, taken))
     return found
 
 
-def packed(members: list[Message], cycle: int, room: int, taken: set[str]) -> Iterator[Frame]:
-    """Yields the frames of the signals of one sender on the same channels, by first fit."""
-    def urgency(it: Message) -> tuple[int, int]:
-        deadline = timed(it.deadline or it.period, cycle)
-        return cycles_of(timed(it.period, cycle), deadline, cycle), deadline
-    members = sorted(members, key=lambda it: (urgency(it), -it.bits, it.name))
-    groups: list[tuple[tuple[int, int], list[Message], list[int]]] = []
-    for it in members:
-        for key, group, used in groups:
-            # A signal in a frame with a shorter period is sent more often than it has to be: only rests are filled.
-            fits = used[0] + it.bits <= 8 * room and len(group) < MOST_SIGNALS
-            if fits and (key[0] == urgency(it)[0] or it.is_static):
-                group.append(it)
-                used[0] += it.bits
-                break
+def urgency(it: Message, cycle: int) -> tuple[int, int]:
+    """Returns the repetition and the deadline of a signal."""
+    deadline = timed(it.deadline or it.period, cycle)
+    return cycles_of(timed(it.period, cycle), deadline, cycle), deadline
+
+
+def weight(groups: Iterable[Sequence[Message]], cycle: int) -> int:
+    """Returns the cycles of the 64 that the frames of groups of signals take."""
+    return sum(REPETITIONS[-1] // urgency(it[0], cycle)[0] for it in groups)
+
+
+def groups_of(members: Iterable[Message], cycle: int, room: int, is_best: bool) -> list[list[Message]]:
+    """Returns the signals of one sender on the same channels by frames, the most urgent signals first.
+
+    A signal goes to the first frame with room, or with IS_BEST to the fullest one. In the static segment it may be sent
+    more often than it has to be, since only the rest of a frame is filled.
+    """
+    groups: list[list[Message]] = []
+    used: list[int] = []
+    for it in sorted(members, key=lambda it: (urgency(it, cycle), -it.bits, it.name)):
+        fitting = [place for place, group in enumerate(groups) if used[place] + it.bits <= 8 * room
+                   and len(group) < MOST_SIGNALS
+                   and (it.is_static or urgency(group[0], cycle)[0] == urgency(it, cycle)[0])]
+        if fitting:
+            place = max(fitting, key=lambda place: (used[place], -place)) if is_best else fitting[0]
+            groups[place].append(it)
+            used[place] += it.bits
         else:
-            groups.append((urgency(it), [it], [it.bits]))
-    for _, group, _ in groups:
-        yield shared_frame(group, cycle, taken)
+            groups.append([it])
+            used.append(it.bits)
+    return groups
 
 
 def cycles_of(period: int, deadline: int, cycle: int) -> int:
@@ -143,7 +158,7 @@ def least_frames(messages: Iterable[Message], room: int) -> int:
     for it in messages:
         if it.bits:
             bits[it.sender, it.is_static, it.channels, it.kind] += it.bits
-    return sum(-(-it // (8 * room)) for it in bits.values())
+    return sum(-(-it // (8 * (room if is_static else DYNAMIC_ROOM))) for (_, is_static, _, _), it in bits.items())
 
 
 def on_both(it: Frame) -> Frame:

@@ -2,20 +2,17 @@
 from collections.abc import Iterable, Iterator
 from dataclasses import dataclass
 from itertools import islice, product
-from math import ceil
 
 from musmyrtle.cluster import PARAMETERS, Parameters
 from musmyrtle.design.network import Message, Network
+from musmyrtle.design.sizing import static_length, static_words
 from musmyrtle.lint.physical import IDLE, bits_sent
-from musmyrtle.lint.standard import rule_of
 
 USUAL = {"minislot_mt": 5, "symbol_mt": 0, "nit_mt": 2, "idle": 1}
 """The numbers of absent keys. `nit_mt` is the least; the rest of the cycle is added to it."""
 COUNTED = ("static_slots", "minislots")
 """The keys whose numbers follow from the messages."""
 MOST_COMBINATIONS = 64
-ACTION_POINTS = 2 * rule_of("gdActionPointOffset").least
-LEAST_SIGNAL_WORDS = 4
 
 
 @dataclass(frozen=True)
@@ -67,18 +64,9 @@ def settings(network: Network) -> Iterator[Setting]:
     keys = [key for key in PARAMETERS if key in network.params and key not in COUNTED]
     for values in islice(product(*(network.params[key] for key in keys)), MOST_COMBINATIONS):
         chosen = dict(zip(keys, values))
-        for words in static_words(network, chosen):
-            yield setting_of(network, {**USUAL, **chosen, "static_words": words})
-
-
-def static_words(network: Network, chosen: dict[str, int]) -> Iterable[int]:
-    """Returns the words of a static frame: the number of the file, or those of its longest frame."""
-    if "static_words" in chosen:
-        return (chosen["static_words"],)
-    words = max((it.words for it in network.messages if it.is_static), default=0)
-    if not any(it.bits and it.is_static for it in network.messages):
-        return (words,)
-    return (max(words, LEAST_SIGNAL_WORDS),)
+        if "static_words" not in chosen:
+            chosen["static_words"] = static_words(network, chosen["cycle_mt"], chosen.get("static_mt"))
+        yield setting_of(network, {**USUAL, **chosen})
 
 
 def setting_of(network: Network, chosen: dict[str, int]) -> Setting:
@@ -91,11 +79,6 @@ def setting_of(network: Network, chosen: dict[str, int]) -> Setting:
               for key in COUNTED]
     return Setting(chosen["cycle_mt"], chosen["static_words"], static_mt, chosen["minislot_mt"], chosen["symbol_mt"],
                    chosen["nit_mt"], chosen["idle"], words, *ranges)
-
-
-def static_length(words: int, bits: float) -> int:
-    """Returns the macroticks of a static slot: frame, silence, and an action point offset of one at both ends."""
-    return min(PARAMETERS["static_mt"][1], ceil((bits_sent(words, False) + IDLE) / bits) + ACTION_POINTS)
 
 
 def words_per_minislot(messages: Iterable[Message], each: float, idle: int) -> int:

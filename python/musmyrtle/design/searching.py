@@ -156,7 +156,7 @@ class Search:
         best.is_exact = is_exact = self.may_share()
         for state in product(*(it.choices() for it in self.copies)):
             lanes = self.lanes(state)
-            if is_exact and sum(it.cost for it in lanes.values()):
+            if is_exact and any(it.cost for it in lanes.values()):
                 lanes = {channel: self.shared(channel, state) or lanes[channel] for channel in "AB"}
             found = Found(lanes, is_exact=is_exact)
             if found.cost < best.cost:
