@@ -104,6 +104,12 @@ class Made(Designs):
         self.assertEqual([(it["bytes"], [(s["name"], s["bit"], s["bits"]) for s in it["signal"]]) for it in frames],
                          [(3, [("level", 0, 12), ("fuel", 12, 8)])])
 
+    def test_big_endian_signals_take_whole_bytes(self) -> None:
+        text = NETWORK + LEVEL + LEVEL.replace("level", "fuel").replace("bits = 12", 'bits = 10\norder = "big"')
+        frame = self.made(text)["frame"][0]
+        self.assertEqual((frame["bytes"], [(it["name"], it["bit"]) for it in frame["signal"]]),
+                         (4, [("fuel", 7), ("level", 16)]))
+
     def test_a_fixed_slot_stays(self) -> None:
         fixed = ("slot = 4", "base = 1", "repetition = 2", 'channels = "B"')
         made = self.made(NETWORK + message("door", "brakes", *fixed))
@@ -226,6 +232,7 @@ class Refused(Designs):
                  "31:1: refused Contradiction: message alarm has `period_ms` and `period_cycles`"),
                 (('sender = "engine"', 'sender = "motor"'),
                  '12:1: refused BadMessage: `sender` of message speed has "motor", which is no node'),
+                (("bytes = 12", "bits = 4\nfactor = 0"), "31:1: refused BadSignal: `factor` of message alarm is 0"),
                 (("bytes = 12", "bytes = 12\nbits = 4"),
                  "30:1: refused Contradiction: message alarm has `bits` and `bytes`"),
                 (("bytes = 12", "bytes = 12\nbase = 1"),

@@ -87,6 +87,16 @@ def frames_of(messages: Iterable[Message], cycle: int, room: int, names: Iterabl
     return found
 
 
+def is_big(it: Message) -> bool:
+    """Returns whether a signal is big-endian."""
+    return it.signals[0].get("order") == "big"
+
+
+def size_of(it: Message) -> int:
+    """Returns the bits that a signal takes in a shared frame: whole bytes for a big-endian one, which come first."""
+    return -(-it.bits // 8) * 8 if is_big(it) else it.bits
+
+
 def urgency(it: Message, cycle: int) -> tuple[int, int]:
     """Returns the repetition and the deadline of a signal."""
     deadline = timed(it.deadline or it.period, cycle)
@@ -107,16 +117,16 @@ def groups_of(members: Iterable[Message], cycle: int, room: int, is_best: bool) 
     groups: list[list[Message]] = []
     used: list[int] = []
     for it in sorted(members, key=lambda it: (urgency(it, cycle), -it.bits, it.name)):
-        fitting = [place for place, group in enumerate(groups) if used[place] + it.bits <= 8 * room
+        fitting = [place for place, group in enumerate(groups) if used[place] + size_of(it) <= 8 * room
                    and len(group) < MOST_SIGNALS
                    and (it.is_static or urgency(group[0], cycle)[0] == urgency(it, cycle)[0])]
         if fitting:
             place = max(fitting, key=lambda place: (used[place], -place)) if is_best else fitting[0]
             groups[place].append(it)
-            used[place] += it.bits
+            used[place] += size_of(it)
         else:
             groups.append([it])
-            used.append(it.bits)
+            used.append(size_of(it))
     return groups
 
 
@@ -129,10 +139,10 @@ def shared_frame(group: list[Message], cycle: int, taken: set[str]) -> Frame:
     """Returns the frame of some signals, with the shortest of their periods and deadlines."""
     first = group[0]
     tables, end = list[Mapping[str, Any]](), 0
-    for it in group:
-        tables.append({"name": it.name, "bit": end, **{key: value for key, value in it.signals[0].items()
-                                                       if key != "name"}})
-        end += it.bits
+    for it in sorted(group, key=lambda it: not is_big(it)):
+        keys = {key: value for key, value in it.signals[0].items() if key != "name"}
+        tables.append({"name": it.name, "bit": end + 7 if is_big(it) else end, **keys})
+        end += size_of(it)
     deadlines = [timed(it.deadline, cycle) for it in group if it.deadline is not None]
     free = [timed(it.period, cycle) for it in group if it.deadline is None]
     period = min(timed(it.period, cycle) for it in group)

@@ -10,7 +10,7 @@ from musmyrtle.lint.physical import is_number
 from musmyrtle.names import LINE_NAME, RIGHT_NAME
 from musmyrtle.places import Path
 from musmyrtle.signals.exact import exact_in_file
-from musmyrtle.signals.reading import MOST_SIGNALS, SIGNAL_KEYS
+from musmyrtle.signals.reading import MOST_SIGNALS, SIGNAL_KEYS, SignalReading, TableReader
 from musmyrtle.texts import Text
 
 TOP_KEYS = ("guard", "physical", "params", "node", "message")
@@ -21,6 +21,7 @@ SIGNAL_OF_BITS = tuple(it for it in SIGNAL_KEYS if it not in ("name", "bit", "bi
 """The keys of a signal that a message with `bits` may have."""
 MOST_MESSAGES, MOST_CHOICES = 100_000, 64
 LONGEST_TIME = 2**40
+LONGEST_FRAME = 254
 
 
 class NetworkReading:
@@ -258,6 +259,8 @@ class MessageReading:
                 self.contradiction(f"{self.who} has `bits` and `{given[1]}`", "Expected one of both.", given[1], "bits")
             bits = self.reader.number("bits", 1, 64)
             keys = {key: self.table[key] for key in SIGNAL_OF_BITS if key in self.table}
+            self.check_signal({"name": self.name, "bit": 7 if keys.get("order") == "big" else 0, "bits": bits, **keys},
+                              self.path, self.who)
             return 0, bits, ({"name": self.name, "bits": bits, **keys},)
         signals = self.signal_tables()
         length = self.reader.number("bytes", 0, 254) if "bytes" in self.table else 0
@@ -266,6 +269,12 @@ class MessageReading:
             self.contradiction(f"{self.who} has {length} bytes, and its signals need {needed}",
                                f"Expected `bytes` of at least {needed}, or fewer signals.", "bytes", "signal")
         return max(length, needed), 0, signals
+
+    def check_signal(self, table: dict[str, Any], path: Path, who: str) -> None:
+        """Keeps the faults of a signal, as `lint` finds them in the tables `[[frame]]` of a cluster file."""
+        reader = TableReader(table, path, who, "BadSignal", SIGNAL_KEYS, self.network.faults)
+        if reader.name() is not None:
+            SignalReading(reader, self.name, LONGEST_FRAME).read()
 
     def signal_tables(self) -> tuple[dict[str, Any], ...]:
         """Returns the signals of a frame. One without `bit` comes after the one before it."""
@@ -286,6 +295,7 @@ class MessageReading:
                 return ()
             end = max(end, at + bits if order == "little" else 8 * (at // 8 + 1))
             found.append({**it, "bit": at})
+            self.check_signal(found[-1], (*self.path, "signal", len(found) - 1), f"a signal of {self.who}")
         return tuple(found)
 
     def check_guard(self, segment: str, channels: str) -> None:
