@@ -155,6 +155,14 @@ class Kept(Designs):
         self.assertEqual(self.misses(text, "--keep", kept), [
             "static segment: it needs 3 slots, and the kept cluster file has 2; static_slots of at least 3"])
 
+    def test_a_kept_frame_that_comes_too_rarely(self) -> None:
+        self.made(NETWORK)
+        kept = str(self.folder / "made.toml")
+        text = NETWORK.replace("period_ms = 10", "period_ms = 5\ndeadline_ms = 20")
+        self.assertEqual(self.misses(text, "--keep", kept), [
+            "speed: its cycles come every 10000 macroticks, and its period is 5000; a period of at least 10000 "
+            "macroticks, or a place with more cycles"])
+
     def test_old_frames_stay_guaranteed(self) -> None:
         held = str(EXAMPLES / "ten-nodes/cluster.toml")
         bulk = message("bulk", "engine", "sporadic = true", "bytes = 200", 'channels = "A"')

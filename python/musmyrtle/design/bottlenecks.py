@@ -17,6 +17,9 @@ def misses_of(schedule: Schedule, verdict: Verdict) -> list[Miss]:
 def miss_of(it: Judged, schedule: Schedule, verdict: Verdict) -> Miss:
     """Returns a missed deadline. A deadline as long as the worst case is met by this schedule itself."""
     frame, found, worst = it.line.placed.frame, it.latency, it.latency.worst
+    if it.deadline is not None and it.distance > frame.period:
+        return Miss(frame.name, f"its cycles come every {it.distance} macroticks, and its period is {frame.period}",
+                    f"a period of at least {it.distance} macroticks, or a place with more cycles")
     if found.last is None or found.latest is None or found.first is None:
         return Miss(frame.name, f"its worst case is {worst} macroticks, and its deadline {it.deadline}",
                     f"a deadline of at least {worst} macroticks")

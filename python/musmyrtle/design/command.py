@@ -13,7 +13,7 @@ from musmyrtle.design.network import Network
 from musmyrtle.design.parameters import settings
 from musmyrtle.design.reading import NetworkReading
 from musmyrtle.design.report import sections_of, text_of
-from musmyrtle.design.scheduling import Schedule, Scheduler, Wishes
+from musmyrtle.design.scheduling import Miss, Schedule, Scheduler, Wishes
 from musmyrtle.ending import FINE
 from musmyrtle.faults.whole_files import Unusable, replace_file, spare_inputs
 from musmyrtle.findings import block, counted
@@ -126,6 +126,7 @@ def best_of(network: Network, wishes: Wishes, allowed: frozenset[str], kept: Kep
                 schedule.miss_length(len(built.text.encode()))
             else:
                 verdict = verdict_of(built, setting.static_mt, allowed, kept)
+            miss_uncarried(network, schedule)
         is_good = verdict is not None and verdict.is_good and not schedule.misses
         missing = len(schedule.misses) + (len(verdict.late) + len(verdict.warnings) if verdict else 0)
         rank = 0 if verdict else 1, missing
@@ -135,6 +136,12 @@ def best_of(network: Network, wishes: Wishes, allowed: frozenset[str], kept: Kep
             break
     assert best is not None
     return best[1]
+
+
+def miss_uncarried(network: Network, schedule: Schedule) -> None:
+    """Notes the messages that no frame carries, so that a schedule without them is none."""
+    carried = {member.name for it in schedule.frames for member in it.members}
+    schedule.misses += [Miss(it.name, "no frame carries it") for it in network.messages if it.name not in carried]
 
 
 def done(given: argparse.Namespace) -> int:
