@@ -1,4 +1,6 @@
 """Tests of `signals` of recordings, and of the tables for Wireshark, with all values by hand."""
+import csv
+import json
 import os
 import re
 import shutil
@@ -55,6 +57,47 @@ class TestRecording(Recordings):
     def test_another_file(self) -> None:
         status, output, error = self.asked("signals", CLUSTER, "--recording", self.written("x", SCENE), "--json")
         self.assertEqual((status, output, "refused NoCapture" in error), (1, "", True))
+
+
+class TestFindings(Recordings):
+    """The option `--signals` of `monitor`. In this cluster all payloads are too short by a word."""
+
+    def setUp(self) -> None:
+        super().setUp()
+        self.longer = self.written("longer.toml", Path(CLUSTER).read_text().replace("static_words = 4",
+                                                                                    "static_words = 5"))
+
+    def test_text(self) -> None:
+        """A null frame has no signals. Without the option no finding has."""
+        words = "monitor", self.longer, self.recording(), "--channel", "A"
+        lines = self.asked(*words, "--signals")[1].splitlines()
+        self.assertEqual(lines[3:6], ["    speed=87.5 km/h", "    gear=drive", "    temperature=20 C"])
+        self.assertEqual([lines[it].split()[:5] for it in (2, 6)], [["1", "0.000000000", "0", "A", "1"],
+                                                                    ["3", "0.000030000", "0", "A", "2"]])
+        self.assertNotIn("speed", self.asked(*words)[1])
+
+    def test_json(self) -> None:
+        """A missing frame has none, and one with a flipped bit is no payload. The frame that comes back has them."""
+        words = "monitor", CLUSTER, self.recording(), "--channel", "A", "--json"
+        rows = [json.loads(it) for it in self.asked(*words, "--signals")[1].splitlines()]
+        found = [(it["name"], it["cycle"], [(its["signal"], its["value"]) for its in it["signals"]])
+                 for it in rows if it["kind"] == "finding"]
+        self.assertEqual(found, [("Missing", 3, []), ("LoggedFrame", 4, []),
+                                 ("back", 7, [("speed", 90), ("gear", 1), ("temperature", 20)])])
+        self.assertEqual({"signals" in it for it in rows if it["kind"] != "finding"}, {False})
+        self.assertNotIn("signals", self.asked(*words)[1])
+
+    def test_csv(self) -> None:
+        rows = list(csv.DictReader(self.asked("monitor", self.longer, self.recording(), "--signals", "--csv")[1]
+                                   .splitlines()))
+        self.assertEqual([(it["kind"], it["signal"], it["value"], it["name"], it["raw"]) for it in rows[:3]],
+                         [("finding", "", "", "Words", ""), ("signal", "speed", "87.5", "", "8750"),
+                          ("signal", "gear", "1", "drive", "1")])
+
+    def test_faults_in_frames(self) -> None:
+        text = Path(CLUSTER).read_text().replace("bit = 7, bits = 16", "bit = 7, bits = 33")
+        status, output, error = self.asked("monitor", self.written("x.toml", text), self.recording(), "--signals")
+        self.assertEqual((status, output, "ends in byte 5" in error), (1, "", True))
 
 
 class TestWireshark(Recordings):

@@ -2,12 +2,11 @@
 from dataclasses import dataclass, field
 
 from musmyrtle.show.network import Network
-from musmyrtle.show.recordings import BACK, FINDING, FRAME, Place, Senders, back_row, finding_row, number, text
+from musmyrtle.show.recordings import (BACK, ELSEWHERE, FINDING, FRAME, LastFrames, Place, back_row, finding_row,
+                                       number, text)
 from musmyrtle.show.tables import Name
 
 OPENS = "opens"
-ELSEWHERE = ("Missing", "Silent", "Symbol", "Nothing")
-"""The findings that aren't about the frame of their record."""
 
 
 @dataclass(slots=True)
@@ -68,7 +67,7 @@ class Recorded:
         self.frames: dict[int, Frame] = {}
         self.notes: list[Note] = []
         self.lanes = {"A": Lane(), "B": Lane()}
-        self.senders = Senders()
+        self.last = LastFrames()
         self.records = 0
 
     def add(self, line: str) -> None:
@@ -85,7 +84,7 @@ class Recorded:
 
     def add_frame(self, words: list[str]) -> None:
         """Adds the frame of a line. A broken one is in the cycle that its header names."""
-        self.senders.add(words)
+        self.last.add(words)
         place = Place.of(words)
         cycle, begin, length, node = map(number, words[6:10])
         frame = Frame(place.record or 0, place.seconds, place.cycle, place.channel, place.slot, cycle, begin, length,
@@ -111,7 +110,7 @@ class Recorded:
     def add_note(self, words: list[str]) -> None:
         """Adds a finding, or the return of a slot."""
         is_finding = words[0] == FINDING
-        row = finding_row(self.network, words, self.senders.of(words)) if is_finding else back_row(self.network, words)
+        row = finding_row(self.network, words, self.last.sender(words)) if is_finding else back_row(self.network, words)
         place, node, name, why = Place.of(words), row.values["node"], str(row.values["name"]), str(row.values["why"])
         frame, cycle = None, None
         if name == "Missing" and place.cycle is not None:

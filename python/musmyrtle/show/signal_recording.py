@@ -15,8 +15,7 @@ from musmyrtle.show.choice import Words
 from musmyrtle.show.engines import COMMAND, opened
 from musmyrtle.show.monitor import MOST_NUMBER, judged, source_of, tell
 from musmyrtle.show.network import Network
-from musmyrtle.show.recorded import ELSEWHERE
-from musmyrtle.show.recordings import FINDING, FRAME, number
+from musmyrtle.show.recordings import ELSEWHERE, FINDING, FRAME, number
 from musmyrtle.show.selection import Selection, known_places, numbers_of_nodes
 from musmyrtle.show.signal_table import values_of
 from musmyrtle.show.signals import frames_in
