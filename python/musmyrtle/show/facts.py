@@ -109,7 +109,7 @@ def transmission_of(line: str) -> Transmission:
     place = number(words[2]), number(words[3])
     if words[6] == "corrupt":
         return Transmission(window, cycle, *place, words[4], None, "corrupt", None, None, None, None, None,
-                            int(words[7]), int(words[8]))
+                            int(words[7]), number(words[8]))
     return Transmission(window, cycle, *place, words[4], int(words[5]), words[6], words[7], words[8],
                         number(words[9]), text(words[10]), words[11], None, number(words[12]))
 
