@@ -68,8 +68,8 @@ def arguments() -> argparse.ArgumentParser:
         help="a run without history, of up to 4,000,000 cycles; a run whose history has no room is one in any case")
     add_choice(parser)
     add("--recording", metavar="RECORDING",
-        help="the signals of this capture (pcap or pcapng, link type 210) in the place of a run, for example of a "
-             "session; - is standard input, and nodes are the senders. Frames with a finding are left out and counted")
+        help="the signals of this capture (pcap or pcapng, link type 210) in the place of a run, on each channel; - is "
+             "standard input, and nodes are the senders. Frames with a finding are lost, and counted")
     add_judging(parser)
     add("--record", metavar="RECORD",
         help="the signals of a session in the place of a run, by the file that `fr_world --record` wrote; - is "
@@ -155,8 +155,7 @@ def without_run(parser: argparse.ArgumentParser, given: argparse.Namespace, name
 def of_recording(parser: argparse.ArgumentParser, given: argparse.Namespace) -> argparse.Namespace:
     """Returns the words about a recording, which has no scenario. Ends with status 2 for those of runs."""
     without_run(parser, given, "--recording", {
-        "--svg": given.svg, "--expect": given.expect, "--buffer": given.buffer, "--in-cycles": given.in_cycles,
-        "--errors": given.errors, "--record": given.record})
+        "--expect": given.expect, "--buffer": given.buffer, "--in-cycles": given.in_cycles, "--record": given.record})
     prepared(given)
     return given
 
@@ -193,7 +192,7 @@ class Asked:
 
     def samples(self, arrivals: Arrivals, judge: Judge | None) -> Iterator[Sample]:
         """Yields the samples of windows, which are judged on the way. Raises `Stop` where their run is refused."""
-        holdings = Holdings(self.needed)
+        holdings = Holdings(self.needed.of)
         dues: Iterable[Due] = arrivals
         if judge is not None:
             dues = judge.watch(arrivals, holdings)
@@ -370,10 +369,11 @@ def main(words: list[str]) -> int:
             given = parsed(words)
             if given.wireshark is not None:
                 return done_tables(given)
+            spare(given.svg, [("the cluster file", given.cluster), ("the scenario", given.scenario),
+                              ("the recording", given.recording), ("the record", given.record),
+                              ("the file of --expect", given.expect)])
             if given.recording is not None:
                 return done_recording(given)
-            spare(given.svg, [("the cluster file", given.cluster), ("the scenario", given.scenario),
-                              ("the record", given.record), ("the file of --expect", given.expect)])
             if given.record is not None:
                 return done_record(given)
             with opened(given.cluster, given.scenario, given.cycles) as inputs:
