@@ -8,10 +8,11 @@ from collections.abc import Callable, Iterable, Iterator
 from itertools import groupby
 from typing import IO
 
-from musmyrtle.cluster import CYCLES, Cluster, Parameters
+from musmyrtle.arrived import suits
+from musmyrtle.cluster import Cluster, Parameters
 from musmyrtle.lint.command import REFUSED
 from musmyrtle.output import Stop, pass_on
-from musmyrtle.show.arrivals import NULL, Arrivals, Due, Stored, first_word, sent_in
+from musmyrtle.show.arrivals import Arrivals, Due, Stored, first_word, sent_in
 from musmyrtle.show.engines import COMMAND, Inputs
 from musmyrtle.show.facts import ARRIVED, Transmission
 from musmyrtle.signals.layout import Layout
@@ -25,7 +26,6 @@ LINE = re.compile(r"([0-9]{1,10}) ([0-9]{1,7}) (-|[0-9]{1,4}) (-|[0-9]{1,4}) [AB
 """A line of a record, with its window, cycle, minislot, slot and node."""
 LONGEST = 1024
 """The bytes of a line, more than any has."""
-SYNC, STARTUP = "s", "u"
 
 
 class SessionArrivals(Arrivals):
@@ -57,7 +57,7 @@ class SessionArrivals(Arrivals):
 
     def stored(self, sent: list[Transmission]) -> Stored:
         """Returns the receivers that store the frames of a window."""
-        return Stored((it.channel, to) for it in sent if suits(it, self.parameters)
+        return Stored((it.channel, to) for it in sent if is_stored(it, self.parameters.static_words)
                       for to in self.destinations.of(it.slot or 0, it.channel, it.cycle) if to.node != it.node)
 
 
@@ -69,17 +69,11 @@ def begin_of(it: Transmission, parameters: Parameters) -> int:
     return start + parameters.static_slots * parameters.static_mt + (it.minislot - 1) * parameters.minislot_mt
 
 
-def suits(it: Transmission, parameters: Parameters) -> bool:
-    """Returns whether a transmission arrives as a data frame that suits its slot (chapter 6)."""
-    flags = it.flags
-    if it.end != ARRIVED or it.frame is None or flags is None or NULL in flags or it.frame != it.slot:
+def is_stored(it: Transmission, static_words: int) -> bool:
+    """Returns whether a transmission arrives as a data frame that suits its slot."""
+    if it.end != ARRIVED or it.frame is None or it.slot is None or it.data is None:
         return False
-    header = bytes.fromhex((it.data or "")[1:11])
-    if header[4] % len(CYCLES) != it.cycle % len(CYCLES):
-        return False
-    if it.minislot is None:
-        return header[2] >> 1 == parameters.static_words and (STARTUP not in flags or SYNC in flags)
-    return SYNC not in flags and STARTUP not in flags
+    return suits(bytes.fromhex(it.data[1:]), it.slot, it.cycle, static_words if it.minislot is None else None)
 
 
 def lines_in(name: str, source: IO[bytes], cluster: Cluster) -> Iterator[str]:
