@@ -124,7 +124,10 @@ def of_runs(given: argparse.Namespace) -> Iterable[Difference]:
         for it in facts:
             it.inputs.passes_misses_on = False
             it.run()
-        return list(Runs(*facts, Payloads(old, old.network.cluster)).differences())
+        runs = Runs(*facts, Payloads(old, old.network.cluster))
+        if runs.shift:
+            pass_on(f"{COMMAND}: reports aren't compared, since the runs have them at the end, and are shifted")
+        return list(runs.differences())
 
 
 # ---- two recordings
@@ -136,11 +139,7 @@ def of_recordings(given: argparse.Namespace) -> Iterable[Difference]:
     with opened(cluster) as inputs:
         inputs.of_cluster("fr_bench", "check")
         found = [recorded(inputs, it) for it in names]
-        recordings = Recordings(found[0], found[1], Payloads(inputs, inputs.network.cluster))
-        if recordings.shift:
-            cycles, later = counted(abs(recordings.shift), "cycle"), "after" if recordings.shift > 0 else "before"
-            pass_on(f"{COMMAND}: by its cycle counts the second recording begins {cycles} {later} the first one")
-        return list(recordings.differences())
+        return list(Recordings(found[0], found[1], Payloads(inputs, inputs.network.cluster)).differences())
 
 
 def recorded(inputs: Inputs, name: str) -> Recording:

@@ -29,6 +29,8 @@ KINDS: dict[str, tuple[str, tuple[Column, ...]]] = {
     "guardian": ("Macroticks in which a guardian is open", (NODE, CHANNEL, CYCLES, *VALUES)),
     "latency": ("Transmit buffers in runs without faults", (NODE, BUFFER, SLOT, CHANGE, KEY, UNIT, *VALUES)),
     "load": ("Loads of channels", (CHANNEL, KEY, *VALUES)),
+    "shift": ("Shift", (KEY, CHANGE, Column("by", "cycles"))),
+    "alone": ("Cycles of one side alone", (CYCLES, CHANGE, KEY, *VALUES)),
     "commit": ("Commits", (NODE, BUFFER, Column("task", ""), CYCLE, *DETAILS)),
     "call": ("Answers to tasks", (NODE, Column("task", "task"), CYCLE, Column("call", "call"), BUFFER, *DETAILS)),
     "report": ("Reports at the end", (NODE, BUFFER, CHANNEL, KEY, *VALUES)),
@@ -73,6 +75,7 @@ class Difference:
     receiver: Name | None = None
     receiver_buffer: Name | None = None
     unit: str | None = None
+    by: int | None = None
 
     @property
     def row(self) -> Row:
