@@ -146,12 +146,12 @@ def existing(file: str) -> Text:
         found = unreadable(file, "the cluster file")
         raise Stop(USAGE, f"{found.headline}. {found.reason}")
     try:
-        found = read_text(file, data)
+        text = read_text(file, data)
     except NoText as error:
         raise Stop(USAGE, f"{error.why.place or file}: {error.why.headline}. {error.why.reason}") from None
-    if Reading(found.document).cluster is None:
+    if Reading(text.document).cluster is None:
         raise Stop(USAGE, visible(f"{file} isn't accepted as a cluster file: `{COMMAND} lint {file}` has the reasons"))
-    return found
+    return text
 
 
 def compared(given: argparse.Namespace, old: Text, found: "Imported") -> int:
