@@ -1,4 +1,5 @@
 """The programs that a command asks, and its inputs: a refusal is explained as `lint` explains it."""
+import os
 import subprocess
 import sys
 from collections.abc import Iterable, Iterator
@@ -26,6 +27,8 @@ COMMAND = "musmyrtle"
 ENDLESS = "--endless"
 """The word for a run without history."""
 MOST_REASONS = 20
+CHUNK = 1 << 16
+"""The bytes of a program's lines that are read at once."""
 
 
 def temporary_file() -> IO[bytes]:
@@ -143,11 +146,12 @@ class Inputs:
             try:
                 with self.children.started([program, *words_of_run], stdin=subprocess.DEVNULL, stdout=pipe,
                                            stderr=told) as process:
-                    for line in process.stdout or ():
-                        is_whole = line.endswith(b"\n")
-                        if not is_whole:
-                            break
-                        yield line.decode(errors="replace").rstrip("\n")
+                    rest = b""
+                    while process.stdout and (data := os.read(process.stdout.fileno(), CHUNK)):
+                        block, end, rest = (rest + data).rpartition(b"\n")
+                        if end:
+                            yield from block.decode(errors="replace").split("\n")
+                    is_whole = not rest
             except OSError as error:
                 raise self.no_start(program, name, error) from None
             self.keep(program, name)
