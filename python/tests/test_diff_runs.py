@@ -134,6 +134,17 @@ class TestRuns(Diffs):
         self.assertNotIn("shift", found)
         self.assertEqual([it["cycle"] for it in found["commit"]], [2, 3])
 
+    def test_expectations_that_both_runs_miss(self) -> None:
+        """They are no difference, and standard error has them by the lines of the first scenario."""
+        other = SPEEDS.replace("end\n", "expect dashboard 3 engine x2328f13c00000000\nexpect dashboard 3 engine "
+                                        "x0000000000000000\nexpect-none dashboard 0 engine\nend\n")
+        words = [str(SIGNALS / "cluster.toml"), self.written("old", other),
+                 self.written("new", other.replace("frscenario 3\n", "frscenario 3\n\n"))]
+        told = ("musmyrtle: both runs miss 2 expectations: line 6: dashboard (2) engine (0) at the end of cycle 3: "
+                "expected x0000000000000000, found x2328f13c00000000; line 7: dashboard (2) engine (0) at the end of "
+                f"cycle 0: expected nothing, found x222ef13c00000000; the lines are those of {words[1]}\n")
+        self.assertEqual(self.asked("diff", *words, "--cycles", "4"), (0, SAME, told))
+
     def test_missed_expectations(self) -> None:
         """The first run meets both lines; in the second one buffer 1 of node 1 has another payload."""
         expecting = SPEEDS.replace("end\n", "expect dashboard 2-3 engine x2328f13c00000000\nend\n")

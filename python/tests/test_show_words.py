@@ -23,7 +23,7 @@ from musmyrtle.show.tables import Column, Name, Receiver, Receivers, Row, Sectio
 from musmyrtle.version import version
 from tests import judging
 from tests.importing import FIBEX, FOLDER, TRUSTING
-from tests.shows import NETWORK, POP, SCENE, THREE, Shows
+from tests.shows import NETWORK, POP, SCENE, THREE, WITH_IDLE, Shows
 from tests.test_diff_clusters import WHOLE
 from tests.test_diff_runs import LATER, SPEEDS, without_records
 from tests.test_visible_output import IN_TOML, SPELLED
@@ -93,7 +93,7 @@ class Keys(Shows):
         rows = [line.split("|")[1:4] for line in page.splitlines() if line.startswith("| `")]
         expected = {(row[0].strip(" `"), kind): re.findall(r"`([a-z_]+)`", row[2])
                     for row in rows for kind in re.findall(r"`([a-z]+)`", row[1])}
-        run = self.run_of(scene=SCENE.replace(POP, ""))
+        run = self.run_of(scene=WITH_IDLE.replace(POP, ""))
         found: dict[tuple[str, ...], list[str]] = {}
         network = NETWORK.replace('"none"', '"AB"').replace("sync", "startup = true, sync")
         guarded = self.written("guarded.toml", network)
@@ -410,12 +410,6 @@ class Help(Shows):
                 self.assertTrue(it.examples)
                 for example in it.examples:
                     self.assertIn(f" musmyrtle {example}\n", text)
-
-    def printed(self, *words: str) -> str:
-        """Returns the output; the help of a command ends it by an exit with status 0."""
-        status, output, told = self.asked(*words)
-        self.assertEqual((status, told), (0, ""))
-        return output
 
     def test_the_examples_work(self) -> None:
         for it in COMMANDS:

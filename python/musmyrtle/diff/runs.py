@@ -46,6 +46,8 @@ class Runs:
         self.old, self.new, self.payloads, self.network = old, new, payloads, old.network
         self.sides = Side.of(old), Side.of(new)
         self.shift = shift_between(*(it.contents() for it in self.sides))
+        self.both_miss: list[Miss] = []
+        """The expectations that both runs missed alike, once the differences are known: those of the first one."""
 
     def differences(self) -> Iterator[Difference]:
         """Yields all differences. Cycles are those of the first run."""
@@ -187,7 +189,9 @@ class Runs:
                  for it in (self.old, self.new))
         for old, new in pairs(*sides):
             it = old or new
-            if it is None or old and new and (old.found, old.others) == (new.found, new.others):
+            assert it is not None
+            if old and new and (old.found, old.others) == (new.found, new.others):
+                self.both_miss.append(old)
                 continue
             change = CHANGED if old and new else REMOVED if old else ADDED
             yield Difference("missed", change, None, missed_text(old), missed_text(new), cycle=it.cycle,
