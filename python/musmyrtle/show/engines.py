@@ -17,6 +17,7 @@ from musmyrtle.idle_lines import idle_line_of, idle_text
 from musmyrtle.lint.command import MOST_REPEATED, REFUSED, USAGE, is_bold_on, lasting
 from musmyrtle.lint.lint import Lint, Task, lint, read_bytes
 from musmyrtle.missed import MISSED, NOT_JUDGED, UNJUDGED, Miss, is_unjudged, miss_of, misses_of
+from musmyrtle.most_cycles import BAD_CYCLES, too_many_cycles
 from musmyrtle.names import Names
 from musmyrtle.output import Stop, pass_on, write
 from musmyrtle.program import REFUSED_LINE, Answer, is_launcher, itself, no_answer, places, usual_program
@@ -258,7 +259,12 @@ class Inputs:
         if refusals and told.split(" ")[0] in self.awaited:
             raise Awaited(told)
         answer = Answer(status, told, bool(refusals))
-        found = lint(self.task) if answer.status == REFUSED else Lint()
+        found = Lint()
+        if told == BAD_CYCLES:
+            # `lint` knows runs with history alone.
+            found.refusals.append((told, too_many_cycles(self.network.cluster, self.cycles)))
+        elif answer.status == REFUSED:
+            found = lint(self.task)
         if not answer.is_one(found.refusal) or answer.status == USAGE:
             raise Stop(USAGE, no_answer(program, words, answer))
         write(sys.stderr, ["\n".join(reasons(told, found))])
