@@ -3,7 +3,7 @@ from collections.abc import Callable
 
 from musmyrtle.breaking import BrokenOff, SIGNALLED, SIGNALS
 from musmyrtle.output import CANNOT_BE_USED, Stop
-from musmyrtle.streams import fill_streams
+from musmyrtle.streams import CLOSED_INPUT, fill_streams, is_closed_input
 
 FINE = 0
 OUT_OF_MEMORY = "out of memory"
@@ -45,4 +45,5 @@ def reason_of(error: OSError) -> str:
         places = reason.removeprefix(NO_FOLDER).strip("[]").replace("'", "")
         return f"no folder for temporary files can be used ({places}); name one by the variable TMPDIR"
     files = [str(it) for it in (error.filename, error.filename2) if it is not None]
+    reason = CLOSED_INPUT if files and is_closed_input(files[0]) else reason
     return ": ".join([" and ".join(files), reason] if files else [reason])

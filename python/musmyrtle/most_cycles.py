@@ -23,5 +23,5 @@ def too_many_cycles(cluster: Cluster, cycles: int | None = None) -> Finding:
     most = most_cycles(cluster)
     run = "the run has too many cycles" if cycles is None else f"the run has {cycles} cycles"
     return Finding(f"{run}, and one of this cluster without history has at most {most}",
-                   f"A cycle has {windows_of(cluster)} static slots and minislots, and all cycles together have at most "
-                   f"{MOST_WINDOWS:,}. Expected {most} cycles, or fewer.")
+                   f"A cycle has {windows_of(cluster)} static slots and minislots, and all cycles together have at "
+                   f"most {MOST_WINDOWS:,}. Expected {most} cycles, or fewer.")

@@ -54,8 +54,8 @@ class MostCycles(Shows):
         """A page has room for fewer windows."""
         words = self.cluster(1023, 0), self.written("scenario", "frscenario 3\nend\n"), "--endless"
         self.assertEqual(self.asked("page", *words, "--cycles", "1574402"), (
-            2, "", "musmyrtle: a page has room for 3910 cycles of this cluster, which are at most 4,000,000 static slots "
-                   "and minislots\n"))
+            2, "", "musmyrtle: a page has room for 3910 cycles of this cluster, which are at most 4,000,000 static "
+                   "slots and minislots\n"))
 
 
 if __name__ == "__main__":

@@ -35,6 +35,7 @@ from musmyrtle.missed import MISSED
 from musmyrtle.output import Stop, write
 from musmyrtle.program import by_option, is_launcher, itself
 from musmyrtle.selections import Directory, UnknownWord
+from musmyrtle.streams import why_unread
 from musmyrtle.visible import visible
 from musmyrtle.world.refusals import NotStarted, SessionOver
 from musmyrtle.world.world_program import usual_world
@@ -56,7 +57,7 @@ def ranks_before(file: str | None) -> Ranks | None:
             first = source.readline(LONGEST_HEADING)
             return read_ranks(first + source.read() if first in HEADINGS else first)
     except OSError as error:
-        raise Stop(USAGE, f"--against {file}: {error.strerror}") from None
+        raise Stop(USAGE, f"--against {file}: {why_unread(file, error)}") from None
     except ValueError as error:
         why = error if isinstance(error, BadTable) else "isn't a table of faults: it is no UTF-8"
         raise Stop(USAGE, f"--against {file}: {why}") from None

@@ -25,6 +25,7 @@ from musmyrtle.show.recordings import (BACK, FINDING, FRAME, LastFrames, back_ro
 from musmyrtle.show.signals import COLUMNS, frames_in
 from musmyrtle.show.tables import Column, Row, Section, as_json, as_text
 from musmyrtle.signals.receiving import Layouts
+from musmyrtle.streams import CLOSED_INPUT, why_unread
 from musmyrtle.visible import cut
 
 FOUND, REFUSED = 3, "refused"
@@ -121,12 +122,12 @@ def recording_of(name: str, files: ExitStack) -> IO[bytes]:
     """Returns the recording, opened."""
     if name == STANDARD_INPUT:
         if sys.stdin is None:
-            raise Stop(USAGE, "the recording can't be read: standard input is closed")
+            raise Stop(USAGE, f"the recording can't be read: {CLOSED_INPUT}")
         return sys.stdin.buffer
     try:
         return files.enter_context(open(name, "rb"))
     except (OSError, ValueError) as error:
-        reason = error.strerror if isinstance(error, OSError) else str(error)
+        reason = why_unread(name, error) if isinstance(error, OSError) else str(error)
         raise Stop(USAGE, f"{name} can't be read: {reason}") from None
 
 
