@@ -23,13 +23,17 @@ from musmyrtle.output import Stop, pass_on, write
 from musmyrtle.program import REFUSED_LINE, Answer, is_launcher, itself, no_answer, places, usual_program
 from musmyrtle.scenario import Reading, Scenario
 from musmyrtle.show.effects import Effects
+from musmyrtle.show.first_lines import is_foreign
 from musmyrtle.show.network import Network, missed_text
 from musmyrtle.texts import NoText, read_text
+from musmyrtle.version import version
 from musmyrtle.visible import cut, visible
 
 COMMAND = "musmyrtle"
 ENDLESS, RECORD = "--endless", "record"
 """The word for a run without history, and the view that names the lines of faults."""
+WITH_OUTPUT = (FINE, MISSED, UNJUDGED)
+"""The statuses of a program that printed its output."""
 MOST_REASONS = 20
 CHUNK = 1 << 16
 """The bytes of a program's lines that are read at once."""
@@ -149,7 +153,10 @@ class Inputs:
         it gives no answer."""
         program = self.program(name)
         status, output, told = self.ran(program, name, words, data)
-        lines = list(self.watched(words, output.decode(errors="replace").splitlines()))
+        lines = output.decode(errors="replace").splitlines()
+        if status in WITH_OUTPUT and is_foreign(words[0], lines[0] if lines else None):
+            raise foreign(program, words)
+        lines = list(self.watched(words, iter(lines)))
         idle = self.told(program, words, status, told)
         if output and not output.endswith(b"\n"):
             raise cut_off(program, words)
@@ -173,7 +180,13 @@ class Inputs:
             try:
                 with self.children.started([program, *words_of_run], stdin=subprocess.DEVNULL, stdout=pipe,
                                            stderr=told) as process:
-                    yield from self.watched(words_of_run, whole_lines(process.stdout, parts))
+                    lines = self.watched(words_of_run, whole_lines(process.stdout, parts))
+                    first = next(lines, None)
+                    if first is not None:
+                        if is_foreign(command, first):
+                            raise foreign(program, words_of_run)
+                        yield first
+                        yield from lines
             except OSError as error:
                 raise self.no_start(program, name, error) from None
             self.keep(program, name)
@@ -181,6 +194,8 @@ class Inputs:
             self.told(program, words_of_run, process.returncode, told.read())
         if parts:
             raise cut_off(program, words_of_run)
+        if first is None and is_foreign(command, None):
+            raise foreign(program, words_of_run)
 
     def no_start(self, program: str, name: str, error: OSError) -> Stop:
         """Returns the end of a command that can't run a program."""
@@ -229,15 +244,18 @@ class Inputs:
             return True
         return not self.passes_misses_on and miss_of(line) is not None
 
-    def watched(self, words: list[str], lines: Iterable[str]) -> Iterator[str]:
+    def watched(self, words: list[str], lines: Iterator[str]) -> Iterator[str]:
         """Yields the lines that a program prints, and notes the effects of faults in those of the record."""
-        effects = None
-        for number, line in enumerate(lines):
-            if number == 0 and words[0] == RECORD:
-                effects = self.effects = self.effects_of(words)
+        first = next(lines, None) if words[0] == RECORD else None
+        if first is not None:
+            effects = self.effects = self.effects_of(words)
             if effects:
+                effects.add(first)
+            yield first
+            while effects and (line := next(lines, None)) is not None:
                 effects.add(line)
-            yield line
+                yield line
+        yield from lines
 
     def effects_of(self, words: list[str]) -> Effects | None:
         """Returns where to note the effects in a record, or None if the program reports all of them.
@@ -279,6 +297,12 @@ def whole_lines(source: IO[bytes] | None, rest: list[bytes]) -> Iterator[str]:
         if end:
             yield from block.decode(errors="replace").split("\n")
     rest += [left] if left else []
+
+
+def foreign(program: str, words: list[str]) -> Stop:
+    """Returns the end of a command whose program prints something else than it has to."""
+    return Stop(USAGE, visible(f"{program} {words[0]} doesn't print what {COMMAND} {version()} reads: is it another "
+                               "program, or one of another version?"))
 
 
 def cut_off(program: str, words: list[str]) -> Stop:

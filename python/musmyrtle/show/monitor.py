@@ -13,7 +13,7 @@ from musmyrtle.breaking import breaking_off
 from musmyrtle.ending import status_of
 from musmyrtle.file_kinds import CAPTURE, EXPORT, FLEXRAY, UNPACK, described, kind_of_file, link_types_of
 from musmyrtle.findings import counted
-from musmyrtle.lint.command import USAGE, Parser, add_forms, formed, is_bold_on, printed, shown_examples
+from musmyrtle.lint.command import USAGE, Parser, add_forms, formed, is_bold_on, printed, shown_examples, spare
 from musmyrtle.output import Stop, pass_on, write
 from musmyrtle.program import REFUSED_LINE, Answer, is_launcher, itself, no_answer
 from musmyrtle.show.engines import COMMAND, Inputs, opened, temporary_file
@@ -123,7 +123,9 @@ def recording_of(name: str, files: ExitStack) -> IO[bytes]:
     if name == STANDARD_INPUT:
         if sys.stdin is None:
             raise Stop(USAGE, f"the recording can't be read: {CLOSED_INPUT}")
+        spare([("the recording", "/dev/stdin")])
         return sys.stdin.buffer
+    spare([("the recording", name)])
     try:
         return files.enter_context(open(name, "rb"))
     except (OSError, ValueError) as error:
