@@ -12,7 +12,7 @@ from musmyrtle.names import Names
 from musmyrtle.scenario import Reading
 from musmyrtle.show.effects import Effects
 from tests.pages import view
-from tests.shows import NETWORK, Shows
+from tests.shows import EXAMPLES, NETWORK, Shows
 
 LISTS = """frscenario 3
 commit pedal 0 0 position x0001    # no list, though with a comma
@@ -57,6 +57,19 @@ class Commands(Shows):
                        for it in its)
         self.assertEqual(self.asked("diff", cluster, one, other, *cycles)[::2], (0, told))
         self.assertEqual(self.asked("diff", cluster, one, one, *cycles)[2], told.partition(other)[0])
+
+    def test_further_faults(self) -> None:
+        """Each of `--fault` is named as it was given, and lines of the scenario are reported once."""
+        cluster = str(EXAMPLES / "signals/cluster.toml")
+        scene = "frscenario 3\ncommit engine 0 0 data x222ef13c00000000\nmute brake A 0 s1\nend\n"
+        words = cluster, self.written("scenario", scene), "--cycles", "4", "brake.speed"
+        faults = "mute brake A 3 s1", "lost brake 99", "mute brake,engine A 3 s1", "lost engine 2"
+        given = [word for it in faults for word in ("--fault", it)]
+        told = ("line 3 struck nothing\n--fault 'mute brake A 3 s1' struck nothing\n--fault 'lost brake 99' names no "
+                "cycle of the run\n--fault 'mute brake,engine A 3 s1' struck nothing in 1 of its 2 lines: `mute brake "
+                "A 3 s1`\n")
+        self.assertEqual(self.asked("signals", *words, *given)[::2], (0, told))
+        self.assertEqual(self.asked("signals", *words, *given, "--endless")[::2], (0, told))
 
     def test_many_lists(self) -> None:
         """More than ten are one line, and more than three parts of one are counted."""

@@ -77,6 +77,8 @@ class Inputs:
         """
         self.label = ""
         """The beginning of each message, for a command about several runs."""
+        self.further: tuple[int, str] | None = None
+        """The last line of the scenario and its name, for a run with a further line, if messages are about it alone."""
         self.effects: Effects | None = None
         """The effects of the scenario's faults in the record, once it was read, if the programs don't print them."""
         self.is_endless = self.is_unjudged = False
@@ -219,7 +221,11 @@ class Inputs:
         if words[0] == RECORD and self.effects is None:
             self.effects = self.effects_of(words)
         for line in condensed(self.notes(words, lines), self.spelled):
+            if self.further and not line.startswith(f"line {self.further[0]} "):
+                continue
             message = f"{self.label}{line}"
+            if self.further:
+                message = line.replace(f"line {self.further[0]}", self.further[1], 1)
             if message not in self.passed_on:
                 self.passed_on.add(message)
                 pass_on(message)
