@@ -8,7 +8,7 @@ from unittest.mock import patch
 from musmyrtle.program import VARIABLES
 from musmyrtle.show.first_lines import is_foreign
 from musmyrtle.version import version
-from tests.shows import THREE, Shows
+from tests.shows import EXAMPLES, THREE, Shows
 
 OTHER = "#!/bin/sh\necho 'another program 1 2 3'\n"
 NOTHING = "#!/bin/sh\nexit 0\n"
@@ -39,6 +39,11 @@ class Others(Shows):
         for name, command, first in (("fr_bench", "check", "check"), ("fr_bench", "plan", "plan"),
                                      ("fr_view", "plan", "links")):
             self.assertEqual(self.told(OTHER, name, command, THREE[0]), self.foreign(first))
+
+    def test_recordings(self) -> None:
+        recording = str(EXAMPLES / "recordings/disturbed.pcap")
+        for text in (OTHER, NOTHING):
+            self.assertEqual(self.told(text, "fr_monitor", "monitor", THREE[0], recording), self.foreign("--frames"))
 
     def test_no_output(self) -> None:
         self.assertEqual(self.told(NOTHING, "fr_bench", "check", THREE[0]), self.foreign("check"))

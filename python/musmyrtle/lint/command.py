@@ -327,6 +327,8 @@ def linted(given: argparse.Namespace) -> int:
     with lasting(whole) as task:
         if is_trace_file(task.file(task.cluster)):
             return traced(given, task)
+        if given.scenario is None and given.cycles is not None:
+            raise Stop(USAGE, "--cycles wants a scenario: no run of the cluster file alone is checked")
         try:
             overwritten = Overwritten()
             # `run` itself decides whether a scenario fits the cluster. Its outcome is dropped.

@@ -16,7 +16,7 @@ from musmyrtle.findings import counted
 from musmyrtle.lint.command import USAGE, Parser, add_forms, formed, is_bold_on, printed, shown_examples, spare
 from musmyrtle.output import Stop, pass_on, write
 from musmyrtle.program import REFUSED_LINE, Answer, is_launcher, itself, no_answer
-from musmyrtle.show.engines import COMMAND, Inputs, opened, temporary_file
+from musmyrtle.show.engines import COMMAND, Inputs, foreign, opened, temporary_file
 from musmyrtle.show.network import Network
 from musmyrtle.show.options import CLUSTER, HELP
 from musmyrtle.show.payloads import below, of_record
@@ -244,6 +244,8 @@ def judged(inputs: Inputs, given: argparse.Namespace, source: IO[bytes], add: Ca
     answer = answer_of(status, told)
     if status == USAGE or status != FOUND and not answer.is_one():
         raise Stop(USAGE, no_answer(program, words, answer))
+    if not totals and not answer.refusal:
+        raise foreign(program, words)
     file = "/dev/stdin" if given.recording == STANDARD_INPUT else given.recording
     return status, told + [f"{COMMAND}: {it}" for it in mistaken(file, total_row(totals[-1]) if totals else None)]
 
