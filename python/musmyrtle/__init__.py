@@ -18,7 +18,7 @@ from musmyrtle.signals.refusals import BadSignals, BadValue, UnknownSignal
 from musmyrtle.world.builder import Scenario, ScenarioText
 from musmyrtle.world.faults import Babble, Corrupt, Fault, Mute
 from musmyrtle.world.node import Buffer, Node
-from musmyrtle.world.receptions import Listening, Reception
+from musmyrtle.world.receptions import FIFO, Fifo, Listening, Reception
 from musmyrtle.world.refusals import (
     AlreadyPut, AlreadyTaken, BadCycles, BadFault, BadLine, BadName, BadWindow, BusMemory, BusRefused, BusUnknownNode,
     ClusterRefused, HostFull, HostRefused, Memory, NoHistory, NoQueue, NoRoom, NotAllPut, NotAllTaken, NotCollecting,
@@ -35,11 +35,11 @@ from musmyrtle.world.world import World
 __all__ = [
     "AlreadyPut", "AlreadyTaken", "Babble", "BadCycles", "BadFault", "BadLine", "BadName", "BadSignals", "BadValue",
     "BadWindow", "Buffer", "BusMemory", "BusRefused", "BusUnknownNode", "Channel", "ClusterRefused", "Corrupt",
-    "Counters", "Fault", "Frame", "HostFull", "HostRefused", "Listening", "Memory", "Moment", "Mute", "Names", "Node",
-    "NoHistory", "NoQueue", "NoRoom", "NotAllPut", "NotAllTaken", "NotCollecting", "NotFetched", "NotKept",
-    "NotObserved", "NotReceive", "NotSealed", "NotStarted", "NotTransmit", "NoWindow", "Queue", "ReceiveBuffer",
-    "Received", "Reception", "Record", "Refused", "Report", "Scenario", "ScenarioText", "Sent", "SessionOver",
-    "SlotFull", "SlotRefused", "TimedOut", "TooManyFaults", "TransmitBuffer", "UnknownBuffer", "UnknownName",
-    "UnknownNode", "UnknownSignal", "UnknownTask", "Window", "WindowOrder", "World", "WrongLength", "WrongTurn",
-    "WrongWindow", "at_slot", "every", "on_frame",
+    "Counters", "Fault", "FIFO", "Fifo", "Frame", "HostFull", "HostRefused", "Listening", "Memory", "Moment",
+    "Mute", "Names", "Node", "NoHistory", "NoQueue", "NoRoom", "NotAllPut", "NotAllTaken", "NotCollecting",
+    "NotFetched", "NotKept", "NotObserved", "NotReceive", "NotSealed", "NotStarted", "NotTransmit", "NoWindow",
+    "Queue", "ReceiveBuffer", "Received", "Reception", "Record", "Refused", "Report", "Scenario", "ScenarioText",
+    "Sent", "SessionOver", "SlotFull", "SlotRefused", "TimedOut", "TooManyFaults", "TransmitBuffer",
+    "UnknownBuffer", "UnknownName", "UnknownNode", "UnknownSignal", "UnknownTask", "Window", "WindowOrder", "World",
+    "WrongLength", "WrongTurn", "WrongWindow", "at_slot", "every", "on_frame",
 ]

@@ -1,7 +1,8 @@
 """Lines of the programs that are alike: more than ten are one line, with their number and the first three."""
 import re
-from collections.abc import Callable, Iterable, Iterator
+from collections.abc import Callable, Iterable, Iterator, Sequence
 
+from musmyrtle.findings import counted
 from musmyrtle.missed import Miss, miss_of
 
 MOST_ALIKE, SHOWN = 10, 3
@@ -12,6 +13,13 @@ PLURALS = {"names no cycle of the run": "name no cycle of the run", "struck noth
            "is not judged in a run without history": "are not judged in a run without history"}
 """The known messages, as they are said of several lines."""
 MISSES = "expectations were missed"
+
+
+def misses_text(misses: Sequence[Miss], spelled: Callable[[Miss], str] = str) -> str:
+    """Returns the number of missed expectations and these, of more than ten the first three."""
+    shown = misses if len(misses) <= MOST_ALIKE else misses[:SHOWN]
+    more = f"; and {len(misses) - SHOWN} more" if len(misses) > MOST_ALIKE else ""
+    return f"{counted(len(misses), 'expectation')}: {'; '.join(map(spelled, shown))}{more}"
 
 
 def is_of_many(line: str) -> bool:

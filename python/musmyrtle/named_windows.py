@@ -105,6 +105,14 @@ class FaultPlace:
     def has_dynamic(self) -> bool:
         return self.segment != "s"
 
+    def has(self, slot: int | None, minislot: int | None) -> bool:
+        """Returns whether a window is one of them: the slot of a channel in it, if any, and the minislot of a dynamic
+        one."""
+        if self.segment != EVERY and (self.segment == "s") != (minislot is None):
+            return False
+        found = minislot if self.segment == "m" else slot
+        return self.first is None or found is not None and self.first <= found <= (self.last or 0)
+
     @cached_property
     def claims(self) -> int:
         """Returns the windows as bits of a number, one of which each other place that shares a window asks for."""

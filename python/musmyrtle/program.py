@@ -160,12 +160,12 @@ def listened(running: subprocess.Popen[Any], listen: Callable[[IO[str]], None] |
 
 def ask(program: str, words: list[str], started: Started = subprocess.Popen,
         listen: Callable[[IO[str]], None] | None = None, known: re.Pattern[str] | None = None,
-        spelled: Callable[[Miss], str] = str) -> Answer:
+        tell: Callable[[str], None] = pass_on) -> Answer:
     """Returns the program's answer. Messages of its launcher, such as that it builds first, are passed on.
 
     The lines by which a launcher explains a refusal aren't, since this package has longer reasons of its own, nor those
-    of the form KNOWN. Lines that are alike are passed on at the end, and SPELLED returns the text of a missed
-    expectation. LISTEN reads what the program prints, in a thread of its own, until its end.
+    of the form KNOWN. Lines that are alike are given to TELL at the end. LISTEN reads what the program prints, in a
+    thread of its own, until its end.
     """
     refusal, misses, idle, alike = None, list[Miss](), list[int](), list[str]()
     told: deque[str] = deque(maxlen=MOST_TOLD)
@@ -188,8 +188,8 @@ def ask(program: str, words: list[str], started: Started = subprocess.Popen,
                     alike.append(line)
                 else:
                     pass_on(line)
-    for line in condensed(alike, spelled):
-        pass_on(line)
+    for line in condensed(alike):
+        tell(line)
     if running.returncode == 0 or running.returncode == MISSED and misses and refusal is None:
         return Answer(0, None, misses=tuple(misses) if running.returncode else (), idle=tuple(idle))
     is_named = refusal is not None

@@ -28,6 +28,8 @@ HEX = re.compile(r"x(?:[0-9a-f]{2})*")
 WORD = re.compile(r"[^ \t]+")
 RANGE = re.compile(r"\[?[0-9]+(?:-|;|\.\.|,|$)")
 """A word that is meant as several numbers, in the form of other tools."""
+SPAN, MOST_LISTED = re.compile(r"([0-9]{1,4})-([0-9]{1,4})(?:/([0-9]{1,4}))?"), 8
+"""A range of a filter, and the most numbers of one that a message lists."""
 MOST_MEANT = 64
 """The largest number of lines for which a line with lists stands."""
 OLD_PLACE = re.compile(r"s\*|[sm][1-9][0-9]*")
@@ -125,6 +127,8 @@ class Words:
                 whole = " ".join([self.kind, *self.form])
                 newer = self.newer(name, self.words[at])
                 hint = slip_in(name, self.words[at])
+                if name == "PLACE" and self.version == NEWEST:
+                    hint = range_hint(self.words[at]) or hint
                 return f"{name} is `{cut(self.words[at])}`", f"{hint}{right}, in `{whole}`.{newer}", self.columns[at]
         return None
 
@@ -164,9 +168,9 @@ class Words:
                 return None
             why = self.names.why_no_buffer(node, word)
         thing = "a node" if name == "NODE" else "a buffer of the node"
-        several = " Several stand with commas between them, as `0,1`. Only cycles and static slots have ranges."
         if RANGE.match(word):
-            why += several
+            why += (f" Several stand with commas between them, as `{numbers_listed(word) or '0,1'}`. Only cycles and "
+                    "static slots have ranges.")
         return f"{why} Expected a number from 0 to {GREATEST[name]} without leading zeros or the name of {thing}"
 
     def node(self) -> int | None:
@@ -245,6 +249,25 @@ def slip_in(name: str, word: str) -> str:
         return f"Expected `{begin}`, without the 0. " if word[:1] == "0" and HEX.fullmatch(begin) else \
             f"Expected `x{word.lower()}`. " if HEX.fullmatch(f"x{word.lower()}") else ""
     return f"Expected no `{word[-1]}` after a word. " if len(word) > 1 and word[-1] in ",;:" else ""
+
+
+def range_hint(word: str) -> str:
+    """Returns what to write for a place of filters that no line has: a range with a step or of another segment, or a
+    number alone."""
+    letter = word[:1] if word[:1] in ("s", "m", "d") else ""
+    rest = word.removeprefix(letter)
+    if not letter:
+        meant = f"s{rest}" if FaultPlace.of(f"s{rest}") else numbers_listed(rest, "s")
+        return f"Expected `{meant}` for static slots, or `d` or `m` and each number. " if meant else ""
+    listed = numbers_listed(rest, letter)
+    return f"Expected `{listed}`, since only static slots have ranges, without steps. " if listed else ""
+
+
+def numbers_listed(word: str, letter: str = "") -> str | None:
+    """Returns the list that means a range of a few numbers, each after a letter, or None for other words."""
+    found = SPAN.fullmatch(word)
+    numbers = range(int(found[1]), int(found[2]) + 1, int(found[3] or 1) or 1) if found else range(0)
+    return ",".join(f"{letter}{it}" for it in numbers) if 1 < len(numbers) <= MOST_LISTED else None
 
 
 RIGHT_CYCLES = (f"Expected `*` for every cycle, `C`, `C-D`, or `C-D/STEP` for each STEPth cycle from C on up to D, "

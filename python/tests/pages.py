@@ -43,9 +43,9 @@ def unpacked(page: str) -> tuple[dict[str, Any], dict[str, list[Any]]]:
 
 
 class Pages(Shows):
-    def page(self, *words: str, name: str = "run.html") -> str:
-        """Returns the name of a file with the page of a run."""
-        return self.written(name, self.printed("page", *(words or THREE)))
+    def page(self, *words: str, name: str = "run.html", told: str = "") -> str:
+        """Returns the name of a file with the page of a run, by which standard error has TOLD."""
+        return self.written(name, self.printed("page", *(words or THREE), told=told))
 
     def ran(self, script: str, *words: str) -> str:
         """Returns what a script of this folder prints in node."""

@@ -63,9 +63,11 @@ commit 1 0 0 0 x1111
 commit 1 0 0 2 x2222
 read 1 0 1 1
 {POP}babble 1 B 0 s1 x00
-corrupt B 0 m9 0
 end
 """
+WITH_IDLE = SCENE.replace("end\n", "corrupt B 0 m9 0\nend\n")
+"""The same with a fault in line 10 that has no effect, since nothing is sent at minislot 9 of channel B."""
+IDLE_NOTE = "line 10 struck nothing\n"
 EXAMPLES = Path(__file__).resolve().parents[2] / "examples"
 THREE = (str(EXAMPLES / "three-nodes/cluster.toml"), str(EXAMPLES / "three-nodes/scenario"), "--cycles", "4")
 
@@ -95,17 +97,17 @@ class Shows(unittest.TestCase):
                 status = ended.code
         return status, output.getvalue(), told.getvalue()
 
-    def printed(self, *words: str) -> str:
-        """Returns the output of a command that is done."""
-        status, output, told = self.asked(*words)
-        self.assertEqual((status, told), (0, ""))
+    def printed(self, *words: str, told: str = "") -> str:
+        """Returns the output of a command that is done, and has TOLD on standard error."""
+        status, output, error = self.asked(*words)
+        self.assertEqual((status, error), (0, told))
         return output
 
-    def rows(self, kind: str, *words: str) -> list[dict[str, Any]]:
+    def rows(self, kind: str, *words: str, told: str = "") -> list[dict[str, Any]]:
         """Returns the objects of one kind that the command prints with `--json`."""
-        found = [json.loads(line) for line in self.printed(*words, "--json").splitlines()]
+        found = [json.loads(line) for line in self.printed(*words, "--json", told=told).splitlines()]
         return [it for it in found if it.pop("kind") == kind]
 
-    def values(self, kind: str, keys: str, *words: str) -> list[tuple[Any, ...]]:
+    def values(self, kind: str, keys: str, *words: str, told: str = "") -> list[tuple[Any, ...]]:
         """Returns the values of some keys of these objects."""
-        return [tuple(row[key] for key in keys.split()) for row in self.rows(kind, *words)]
+        return [tuple(row[key] for key in keys.split()) for row in self.rows(kind, *words, told=told)]

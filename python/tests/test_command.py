@@ -193,7 +193,7 @@ class Command(Cases):
     def test_words_that_are_no_command(self):
         cluster = self.written("cluster.toml", CLUSTER)
         for words in ([], [cluster, "scenario"], [cluster, "scenario", "--cycles", "0"], [cluster, "--cycles", "1025"],
-                      [cluster, "--strikt"],
+                      [cluster, "--cycles", "4"], [cluster, "--strikt"],
                       [cluster, "a", "b", "--cycles", "4"], [cluster, "--program", str(self.folder / "none")]):
             self.assertEqual(self.run_with(*words)[0], 2, words)
         self.assertEqual(self.run_with("--help")[0], 0)

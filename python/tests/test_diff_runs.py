@@ -4,9 +4,12 @@ The runs are those of three nodes in `examples`, and of the network of signals t
 """
 import json
 import struct
+import unittest
 from pathlib import Path
+from random import Random
 from typing import Any
 
+from musmyrtle.diff.shifts import shift_between
 from tests.shows import EXAMPLES, Shows
 from tests.test_streams import shell
 
@@ -19,6 +22,13 @@ read dashboard 0 3 engine
 end
 """
 """The speeds 87.5 and 90 km/h, 0x222e and 0x2328 hundredths."""
+LATER = """frscenario 3
+commit engine 0 3 data x222ef13c00000000
+commit engine 0 5 data x2328f13c00000000
+read dashboard 0 6 engine
+end
+"""
+"""The same, three cycles later."""
 SAME = "No difference: both runs are the same.\n"
 
 
@@ -100,6 +110,41 @@ class TestRuns(Diffs):
             (0, "data", "x222ef13c00000000", "x2230f13c00000000"), (0, "signal", 87.5, 87.52)])
         self.assertEqual(set(found), {"commit"})
 
+    def test_all_comes_later(self) -> None:
+        """In the last three cycles of the first run the engine sends its frame on both channels."""
+        found = self.of_runs(SPEEDS, LATER, SIGNALS, 12)
+        alone = {"cycles": [9, 10, 11], "key": "data frames"}
+        self.assertEqual(found, {"shift": [{"key": "everything", "change": "later", "by": 3}],
+                                 "alone": [{**alone, "change": "removed", "old": 6}]})
+        self.assertEqual(self.of_runs(LATER, SPEEDS, SIGNALS, 12), {
+            "shift": [{"key": "everything", "change": "earlier", "by": 3}],
+            "alone": [{**alone, "change": "added", "new": 6}]})
+        words = str(SIGNALS / "cluster.toml"), self.written("a", SPEEDS), self.written("b", LATER), "--cycles", "12"
+        status, output, told = self.asked("diff", *words)
+        self.assertEqual((status, output.splitlines()[:3], told), (
+            3, ["Shift", "key         change  cycles", "everything  later        3"],
+            "musmyrtle: reports aren't compared, since the runs have them at the end, and are shifted\n"))
+
+    def test_what_isnt_shifted(self) -> None:
+        """An answer that differs stays a difference, by the cycles of the first run. A single later commit is none."""
+        found = self.of_runs(SPEEDS, LATER.replace("read dashboard 0 6", "read brake 0 6"), SIGNALS, 20)
+        self.assertEqual([(it["cycle"], it["node_name"], it["change"]) for it in found["call"]],
+                         [(3, "dashboard", "removed"), (3, "brake", "added")])
+        found = self.of_runs(SPEEDS, SPEEDS.replace("engine 0 2", "engine 0 3"), SIGNALS, 12)
+        self.assertNotIn("shift", found)
+        self.assertEqual([it["cycle"] for it in found["commit"]], [2, 3])
+
+    def test_expectations_that_both_runs_miss(self) -> None:
+        """They are no difference, and standard error has them by the lines of the first scenario."""
+        other = SPEEDS.replace("end\n", "expect dashboard 3 engine x2328f13c00000000\nexpect dashboard 3 engine "
+                                        "x0000000000000000\nexpect-none dashboard 0 engine\nend\n")
+        words = [str(SIGNALS / "cluster.toml"), self.written("old", other),
+                 self.written("new", other.replace("frscenario 3\n", "frscenario 3\n\n"))]
+        told = ("musmyrtle: both runs miss 2 expectations: line 6: dashboard (2) engine (0) at the end of cycle 3: "
+                "expected x0000000000000000, found x2328f13c00000000; line 7: dashboard (2) engine (0) at the end of "
+                f"cycle 0: expected nothing, found x222ef13c00000000; the lines are those of {words[1]}\n")
+        self.assertEqual(self.asked("diff", *words, "--cycles", "4"), (0, SAME, told))
+
     def test_missed_expectations(self) -> None:
         """The first run meets both lines; in the second one buffer 1 of node 1 has another payload."""
         expecting = SPEEDS.replace("end\n", "expect dashboard 2-3 engine x2328f13c00000000\nend\n")
@@ -178,18 +223,33 @@ class TestRecordings(Diffs):
         whole = self.recorded("a", SPEEDS)
         late = str(self.folder / "late")
         Path(late).write_bytes(without_records(Path(whole).read_bytes(), 6))
-        status, output, told = self.asked("diff", "--recordings", str(SIGNALS / "cluster.toml"), whole, late, "--json")
-        self.assertEqual((status, told), (
-            3, "musmyrtle: by its cycle counts the second recording begins 1 cycle after the first one\n"))
-        rows = [json.loads(line) for line in output.splitlines()]
-        self.assertEqual([(it["cycle"], it["slot"], it["channel"], it["change"]) for it in rows
-                          if it["kind"] == "recorded"],
-                         [(0, slot, channel, "removed") for slot in (1, 2, 3) for channel in "AB"])
-        status, output, told = self.asked("diff", "--recordings", str(SIGNALS / "cluster.toml"), late, whole, "--json")
-        self.assertEqual((status, told), (
-            3, "musmyrtle: by its cycle counts the second recording begins 1 cycle before the first one\n"))
-        rows = [json.loads(line) for line in output.splitlines()]
-        self.assertEqual({(it["cycle"], it["change"]) for it in rows if it["kind"] == "recorded"}, {(-1, "added")})
+        for names, change, alone, cycles in (((whole, late), "later", "removed", [0]),
+                                             ((late, whole), "earlier", "added", [-1])):
+            found = self.of_recordings(list(names))
+            side = "old" if alone == "removed" else "new"
+            self.assertEqual(found[:2], [
+                {"kind": "shift", "key": "begin", "change": change, "by": 1},
+                {"kind": "alone", "cycles": cycles, "change": alone, "key": "frames", side: 6}])
+            self.assertEqual({it["kind"] for it in found[2:]}, {"count"})
+
+    def test_all_comes_later(self) -> None:
+        """In the second recording the engine begins three cycles later, so that cycle 9 of it has no partner."""
+        names = [self.recorded("a", SPEEDS, 10), self.recorded("b", LATER, 10)]
+        self.assertEqual(self.of_recordings(names), [
+            {"kind": "shift", "key": "everything", "change": "later", "by": 3},
+            {"kind": "alone", "cycles": [7, 8, 9], "change": "removed", "key": "frames", "old": 18},
+            {"kind": "alone", "cycles": [0, 1, 2], "change": "added", "key": "frames", "new": 18}])
+        self.assertEqual(self.of_recordings(names[::-1])[0],
+                         {"kind": "shift", "key": "everything", "change": "earlier", "by": 3})
+
+    def test_a_difference_beside_a_shift(self) -> None:
+        """A lost frame of cycle 6 of the second recording is one of cycle 3 of the first one."""
+        lost = LATER.replace("end\n", "mute brake A 6 s2\nend\n")
+        names = [self.recorded("a", SPEEDS, 12), self.recorded("b", lost, 12)]
+        found = self.of_recordings(names)
+        self.assertEqual([(it["cycle"], it["slot"], it["channel"], it["change"]) for it in found
+                          if it["kind"] == "recorded"], [(3, 2, "A", "removed")])
+        self.assertEqual([it["by"] for it in found if it["kind"] == "shift"], [3])
 
     def test_refused_recordings(self) -> None:
         good = self.recorded("a", SPEEDS)
@@ -211,6 +271,29 @@ def without_records(data: bytes, count: int) -> bytes:
     for _ in range(count):
         at += 16 + struct.unpack_from("<I", data, at + 8)[0]
     return data[:24] + data[at:]
+
+
+class TestShifts(unittest.TestCase):
+    def shift(self, old: str, new: str) -> int:
+        """Returns the shift of two rows of cycles, of which equal letters have the same content."""
+        return shift_between(dict(enumerate(old)), dict(enumerate(new)))
+
+    def test_shifts(self) -> None:
+        """A letter is a cycle. With the shift at most a fifth of the cycles differs that differ without it."""
+        for old, new, wanted in (
+                ("aaabbbbbbb", "aaaaaabbbb", 3), ("aaaaaabbbb", "aaabbbbbbb", -3), ("abcdefghij", "xabcdefghi", 1),
+                ("aaaaaaaaaa", "aaaaaaaaaa", 0), ("aaaabbbb", "ccccdddd", 0), ("abcabcabcabc", "bcabcabcabca", -1),
+                ("aabbccddee", "aaabbccddee", 1), ("aaabaaaaaa", "aaaaabaaaa", 2), ("ab", "ba", 0), ("", "a", 0),
+                ("abcdefghijkl", "xxxabcdXfghi", 3), ("abcdefghijkl", "xxxaXcdXfXhi", 0)):
+            with self.subTest(old=old, new=new):
+                self.assertEqual(self.shift(old, new), wanted)
+
+    def test_long_rows(self) -> None:
+        random = Random(7)
+        row = "".join(chr(random.randrange(256)) for _ in range(5000))
+        for shift in (1, 64, 1000, 4000):
+            self.assertEqual((self.shift(row, row[:shift] + row[:5000 - shift]), self.shift(row, row[shift:])),
+                             (shift, -shift))
 
 
 class TestStreams(Diffs):

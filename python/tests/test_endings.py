@@ -1,6 +1,7 @@
 """Failures of the machine: one line, status 2 and no traceback, whichever command meets them."""
 import errno
 import os
+import sys
 import unittest
 from unittest.mock import patch
 
@@ -11,7 +12,7 @@ from musmyrtle.lint.lint import unreadable
 from musmyrtle.output import Stop
 from musmyrtle.program import ask, usual_program
 from tests.shows import EXAMPLES, THREE, Shows
-from tests.test_streams import shell
+from tests.test_streams import TOP, shell
 
 LONG = "n" * 300
 """A name that is longer than those of files."""
@@ -174,6 +175,14 @@ class Machine(Shows):
             status, output, error = self.asked(*words)
             self.assertEqual(status, 1)
             self.assertIn("'missing' isn't there", output + error)
+
+    def test_a_folder_that_was_removed(self) -> None:
+        """Names of files in it lead nowhere."""
+        gone = self.folder / "gone"
+        gone.mkdir()
+        command = f'cd {gone}; rmdir {gone}; {sys.executable} {TOP / "musmyrtle"} check cluster.toml'
+        told = "musmyrtle: the current folder was removed; go to another one\n"
+        self.assertEqual(shell(command), (2, "", told))
 
     def test_a_trace(self) -> None:
         trace = self.written("trace", "frtrace 1\n")

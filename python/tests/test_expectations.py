@@ -19,7 +19,7 @@ from musmyrtle.program import VARIABLES, ask
 from musmyrtle.scenario import Reading
 from tests import judging
 from tests.pages import Pages, needs_node
-from tests.shows import FIRST, NETWORK, SCENE, SECOND, Shows
+from tests.shows import FIRST, IDLE_NOTE, NETWORK, SCENE, SECOND, WITH_IDLE, Shows
 
 BUFFER = "brake 0-1 position"
 NONE = "expect-none brake * unused\n"
@@ -47,8 +47,7 @@ line {6}: pedal (0) position (0) at the end of cycle 0: expected x0001, found no
 """
 """The same, as `musmyrtle` passes it on."""
 LEFT_OUT = "line {7} names no cycle of the run\n"
-IDLE = "line 10 struck nothing\n"
-BEGIN = SCENE.replace("frscenario 1", "frscenario 3").removesuffix("end\n")
+BEGIN = WITH_IDLE.replace("frscenario 1", "frscenario 3").removesuffix("end\n")
 FIRST_LINE = BEGIN.count("\n") + 1
 
 
@@ -91,15 +90,15 @@ class Programs(Expecting):
             with self.subTest(name=name, command=command):
                 output, told, status = self.ran(name, command, *missing)
                 self.assertEqual((output, status), (self.ran(name, command, *without)[0], 3))
-                self.assertEqual(told, numbered(f"{LEFT_OUT}{IDLE}{TOLD}"))
+                self.assertEqual(told, numbered(f"{LEFT_OUT}{IDLE_NOTE}{TOLD}"))
         self.assertEqual(self.ran("fr_view", "trace", "1", *missing)[2], 3)
 
     def test_met(self) -> None:
-        self.assertEqual(self.ran("fr_bench", "run", *self.run_of(scene=scene(MET)))[1:], (IDLE, 0))
+        self.assertEqual(self.ran("fr_bench", "run", *self.run_of(scene=scene(MET)))[1:], (IDLE_NOTE, 0))
 
     def test_none_of_the_run(self) -> None:
         run = self.run_of(scene=scene("expect-none 9 2-3 9\n", "expect 1 5 1 x\n"))
-        told = f"line 11 names no cycle of the run\nline 12 names no cycle of the run\n{IDLE}"
+        told = f"line 11 names no cycle of the run\nline 12 names no cycle of the run\n{IDLE_NOTE}"
         self.assertEqual(self.ran("fr_bench", "run", *run)[1:], (told, 0))
 
     def test_frames_come_and_are_replaced(self) -> None:
@@ -107,7 +106,7 @@ class Programs(Expecting):
         cluster = NETWORK.replace('slot = 5, channels = "B"', 'slot = 3, channels = "AB"')
         run = self.run_of(cluster, scene(f"expect brake 0 unused {FIRST}\nexpect brake 1 unused {SECOND}\n"
                                          f"expect brake 0-1 unused {SECOND}\n"))
-        told = f"{IDLE}line 13: node 1 buffer 3 at the end of cycle 0: expected {SECOND}, found {FIRST}\n"
+        told = f"{IDLE_NOTE}line 13: node 1 buffer 3 at the end of cycle 0: expected {SECOND}, found {FIRST}\n"
         self.assertEqual(self.ran("fr_bench", "run", *run)[1:], (told, 3))
 
 
@@ -149,7 +148,7 @@ class Tables(Expecting):
         for words in (("log",), ("commits", "--json"), ("reads",), ("page",)):
             with self.subTest(words):
                 status, output, told = self.asked(words[0], *self.missing(), *words[1:])
-                self.assertEqual((status, told), (3, numbered(f"{LEFT_OUT}{NAMED}")))
+                self.assertEqual((status, told), (3, numbered(f"{LEFT_OUT}{IDLE_NOTE}{NAMED}")))
                 self.assertTrue(output)
 
 
@@ -233,16 +232,25 @@ class Lints(Expecting):
 
 class Campaigns(Expecting):
     def test_a_campaign_is_as_without(self) -> None:
+        """The first line has the expectations that the run without a fault misses, and the status is 3."""
         words = ["--cycles", "2", "--kinds", "lost", "--cores", "2", "--program", self.programs["fr_view"]]
         cluster = self.written("cluster.toml", NETWORK)
         found = []
         for name, lines in (("without", ()), ("missing", MISSES)):
             status, output, told = self.asked("faults", cluster, self.written(name, scene(*lines)), *words)
             found.append((status, output))
-            passed = [line for line in told.splitlines(True) if line.startswith("line ")]
-            self.assertEqual("".join(passed), IDLE + "" if not lines else numbered(f"{LEFT_OUT}{IDLE}{NAMED}"))
-        self.assertEqual(found[0], found[1])
-        self.assertEqual((found[0][0], found[0][1].count("\n") > 1), (0, True))
+            missed = numbered(NAMED).rstrip().replace("\n", "; ")
+            first = f"musmyrtle faults: the run without a fault misses 6 expectations: {missed}\n{LEFT_OUT}"
+            self.assertEqual(told.partition("kind ")[0], numbered(first if lines else "") + IDLE_NOTE)
+        self.assertEqual(found[0][1], found[1][1])
+        self.assertEqual((found[0][0], found[1][0], found[0][1].count("\n") > 1), (0, 3, True))
+
+    def test_the_status_of_a_campaign(self) -> None:
+        """A run without an answer comes before what was missed. The list of faults needs the run without one, too."""
+        words = ["--cycles", "2", "--kinds", "lost", "--cores", "1", "--program", self.programs["fr_view"]]
+        cluster, missing = self.written("cluster.toml", NETWORK), self.written("missing", scene(*MISSES))
+        for more, expected in ((["--list"], 3), (["--fail-on", "lost"], 3), (["--nodes", "9"], 2)):
+            self.assertEqual(self.asked("faults", cluster, missing, *words, *more)[0], expected)
 
     def test_answers(self) -> None:
         told = "line 12: node 1 buffer 1 at the end of cycle 0: expected x, found nothing\n"

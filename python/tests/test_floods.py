@@ -10,6 +10,7 @@ EXPECTED = "".join(f"expect brake {cycle} position x{cycle:04x}\n" for cycle in 
 LATE = "".join(f"commit pedal 0 {cycle} position x0102\n" for cycle in range(100, 140))
 IDLE = "".join(f"corrupt B {cycle} m9 7\n" for cycle in range(30))
 SCENE = f"frscenario 3\n{EXPECTED}{LATE}{IDLE}end\n"
+IDLE_LINES = "30 lines struck nothing: lines 102, 103, 104 and 27 more\n"
 NOTE = "40 lines name no cycle of the run: lines 62, 63, 64 and 37 more\n"
 MISSES = "60 expectations were missed: " + "; ".join(
     f"line {line}: brake (1) position (1) at the end of cycle {line - 1}: expected x{line - 1:04x}, found nothing"
@@ -50,12 +51,12 @@ class Commands(Shows):
 
     def test_other_commands(self) -> None:
         for command in ("log", "commits", "reads", "page"):
-            self.assertEqual(self.asked(command, *self.words())[::2], (3, NOTE + MISSES))
+            self.assertEqual(self.asked(command, *self.words())[::2], (3, NOTE + IDLE_LINES + MISSES))
 
     def test_faults(self) -> None:
         status, _, error = self.asked("faults", *self.words(), "--kinds", "mute", "--slots", "1")
-        self.assertEqual((status, error.split("kind ")[0]),
-                         (0, f"{NOTE}30 lines struck nothing: lines 102, 103, 104 and 27 more\n{MISSES}"))
+        first = f"musmyrtle faults: the run without a fault misses {MISSES.replace(' were missed', '')}"
+        self.assertEqual((status, error.partition("kind ")[0]), (3, first + NOTE + IDLE_LINES))
 
     def test_lint(self) -> None:
         status, output, error = self.asked("lint", *self.words())

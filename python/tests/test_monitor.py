@@ -175,11 +175,11 @@ class Senders(Monitor):
 class Waits(unittest.TestCase):
     def test_frames_are_known_for_a_while(self) -> None:
         """A frame is known until so many other good ones came on its channel, however many broken ones come."""
-        senders = recordings.Senders()
+        senders = recordings.LastFrames()
         finding = "finding {} 0.0 1 {} 1 Order - -"
 
         def known(record: int, channel: str = "A") -> int | None:
-            return senders.of(finding.format(record, channel).split())
+            return senders.sender(finding.format(record, channel).split())
         for record in range(1, recordings.KEPT + 1):
             senders.add(f"frame {record} 0.0 {record} A 1 - 0 20 {record % 7} -n-- x0000 -".split())
         for record in range(100, 200):

@@ -16,7 +16,7 @@ from random import Random
 from musmyrtle.program import usual_program
 from musmyrtle.show.page import FILES, SCRIPTS, SIGNAL_SCRIPTS
 from tests.pages import HERE, SCRIPT, Pages, needs_node, unpacked, view
-from tests.shows import EXAMPLES, FIRST, NETWORK, SCENE, THREE
+from tests.shows import EXAMPLES, FIRST, IDLE_NOTE, NETWORK, SCENE, THREE, WITH_IDLE
 from tests.test_visible_output import IN_TOML, SPELLED
 
 TOP = Path(__file__).resolve().parents[2]
@@ -60,6 +60,7 @@ class Data(Pages):
         """Compares the data of a page with what `fr_view` prints."""
         cluster, scenario, _, cycles = run
         found = self.facts(page)[0]
+        idle = list[int]()
         for command in ("record", "commits", "answers"):
             lines, idle = view(command, cluster, scenario, cycles)
             self.assertEqual(found[command], lines)
@@ -73,7 +74,8 @@ class Data(Pages):
         self.assertEqual([its for node in found["counts"] for its in node], counts)
         self.assertEqual(found["tables"], [sum(one + other) for one, other in zip(counts[::2], counts[1::2])])
         keys = "node cycle call sender sender_buffer commit_cycle"
-        self.assertEqual(list(map(tuple, found["sources"])), self.values("call", keys, "reads", *run))
+        told = "".join(f"line {it} struck nothing\n" for it in idle)
+        self.assertEqual(list(map(tuple, found["sources"])), self.values("call", keys, "reads", *run, told=told))
         self.assertEqual(found["stored"], [row for node in range(len(found["counts"]))
                                            for row in self.stored(run, node)])
 
@@ -143,7 +145,7 @@ class Scripts(Pages):
         """Views, lanes, hits and searches; page/logic.js has the tests."""
         scene = f"frscenario 3\ncommit pedal 0 0 log {FIRST}\ncorrupt A 0 m* 0\nend\n"
         bits = self.page(*self.run_of(scene=scene), name="bits.html")
-        self.ran("logic.js", self.page(*self.run_of()), bits)
+        self.ran("logic.js", self.page(*self.run_of(scene=WITH_IDLE), told=IDLE_NOTE), bits)
 
     def test_all_that_can_be_chosen(self) -> None:
         """Each node, buffer, commit, slot and fault of some runs, and many windows, are shown and painted."""
@@ -198,7 +200,7 @@ class Scripts(Pages):
                       window["details"])
 
     def test_faults_and_errors(self) -> None:
-        page = self.page(*self.run_of())
+        page = self.page(*self.run_of(scene=WITH_IDLE), told=IDLE_NOTE)
         first, effect, idle, error, collision, none = self.walked(
             page, "click faults line 9", "click faults line 10", "click next-error", "press C", "press n")
         self.assertIn("line 9: babble brake (1) B 0 s1 x001 windowline 10: corrupt B 0 m9 0no effect", first["faults"])
@@ -214,7 +216,7 @@ class Scripts(Pages):
         """A line for both channels is one fault, and has an effect if it has one on either. Brake is lost in slot 2 on
         both channels, where it sends `force` on A and a null frame on B."""
         lines = f"commit pedal 0 0 log {FIRST}\nmute pedal AB 0 d3\ncorrupt AB 1 m9 0\nlost brake 1\n"
-        page = self.page(*self.run_of(scene=f"frscenario 3\n{lines}end\n"))
+        page = self.page(*self.run_of(scene=f"frscenario 3\n{lines}end\n"), told="line 4 struck nothing\n")
         first, both, lost = self.walked(page, "click faults line 3", "click faults line 5")
         self.assertIn("line 3: mute pedal (0) AB 0 d31 windowline 4: corrupt AB 1 m9 0no effect"
                       "line 5: lost brake (1) 11 window", first["faults"])

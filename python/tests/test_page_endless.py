@@ -10,7 +10,7 @@ from unittest import mock
 from musmyrtle.program import usual_program
 from musmyrtle.show.page import GOES_ON
 from musmyrtle.show.page_endless import MOST_WINDOWS
-from tests.pages import Pages, needs_node
+from tests.pages import Pages, needs_node, view
 from tests.shows import NETWORK, SCENE, THREE
 
 TOP = Path(__file__).resolve().parents[2]
@@ -37,9 +37,11 @@ os.kill(os.getpid(), signal.SIGKILL)
 class Endless(Pages):
     def compared(self, run: list[str]) -> None:
         """Compares the pages of a run: with history, without it, and without room for what each node received."""
-        pages = [self.page(*run, name="history.html"), self.page(*run, "--endless", name="endless.html")]
+        told = "".join(f"line {it} struck nothing\n" for it in view("record", run[0], run[1], run[3])[1])
+        pages = [self.page(*run, name="history.html", told=told),
+                 self.page(*run, "--endless", name="endless.html", told=told)]
         with mock.patch(NO_PLACE, 0):
-            pages.append(self.page(*run, "--endless", name="long.html"))
+            pages.append(self.page(*run, "--endless", name="long.html", told=told))
         history, endless, long = self.facts(*pages)
         for key in (*COMMON, *SEEN):
             with self.subTest(key):

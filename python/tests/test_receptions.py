@@ -5,8 +5,10 @@ In `examples/signals` the engine sends in slot 1, the first window of each cycle
 import time
 import unittest
 
-from musmyrtle import BadSignals, Reception, UnknownName, UnknownSignal, World
+from musmyrtle import FIFO, BadSignals, Fifo, Queue, Reception, UnknownName, UnknownSignal, World
+from musmyrtle.faults.frames import data_frame
 from tests.shows import EXAMPLES, NETWORK, Shows
+from tests.test_signals_over_time import with_frames
 
 SIGNALS = str(EXAMPLES / "signals/cluster.toml")
 PEDAL = bytes.fromhex("2c0100004844fa00")
@@ -57,6 +59,93 @@ class TestStream(Shows):
             with world.fault("lost 0 1"):
                 found = list(world.frames(node="brake"))
         self.assertEqual([it.cycle for it in found], [2])
+
+
+class TestFifos(Shows):
+    """In the network the FIFO of the brake admits slot 3 on A, which opens in the third window of twelve."""
+
+    def both(self) -> str:
+        """Returns a cluster file in which the FIFO of the pedal admits the force of the brake, on both channels."""
+        return self.written("cluster.toml", NETWORK.replace(
+            'latest_a = 7\n', 'latest_a = 7\nqueue = {capacity = 1, first = 2, last = 2, channels = "AB"}\n').replace(
+            'slot = 2, channels = "A"}', 'slot = 2, channels = "AB"}') + '\n[[node]]\nname = "other"\nbuffer = []\n')
+
+    def test_a_stream(self) -> None:
+        """A world without history hears the same, also frames that the FIFO overwrites. `next` takes the last one."""
+        file = self.written("cluster.toml", with_frames())
+        for cycles in (3, None):
+            with self.subTest(cycles=cycles), World(file, cycles) as world:
+                found: list[Reception] = []
+                for number in range(3):
+                    world["pedal"]["log"].commit(count=number)
+                    found += world.frames(1, "brake")
+                self.assertEqual([(it.cycle, it.window, it.buffer, it.buffer_name, it.is_fifo, it["count"])
+                                  for it in found], [(it, 12 * it + 2, None, None, True, it) for it in range(3)])
+                self.assertEqual((found[0].node_name, found[0].sender_name, found[0].slot, found[0].channel,
+                                  found[0].payload), ("brake", "pedal", 3, "A", bytes(32)))
+                taken = world["brake"].task(0).next()
+                self.assertEqual((taken and taken.frame.payload[0], world["brake"].report().queue), (2, Queue(0, 2)))
+
+    def test_both_channels(self) -> None:
+        """A flipped bit and a frame of another cycle are stored on no channel. A and B are two frames of one window."""
+        forged = data_frame(2, 5, b"\x11\x11", "A")
+        for fault, channels in (
+                ("", "AB"), ("corrupt A 0 s2 9", "B"), ("corrupt B 0 s2 70", "A"), ("mute 1 A 0 s2", "B"),
+                ("lost 1 0", ""), ("corrupt A 0 s2 80", "AB"), (f"babble 2 B 0 s2 x{forged.hex()}", "A")):
+            found: list[Reception] = []
+            with self.subTest(fault=fault), World(self.both(), cycles=1) as world:
+                world["brake"]["force"].commit(b"\x12\x34")
+                if fault:
+                    world.keep(fault)
+                with world.listen(found.append, "pedal", FIFO):
+                    world.cycle()
+            self.assertEqual([(it.channel, it.window, it.payload) for it in found],
+                             [(it, 1, b"\x12\x34") for it in channels])
+
+    def test_a_frame_that_doesnt_suit(self) -> None:
+        """The brake's own frames are lost on A, and the frame of the other node there is one of another cycle."""
+        found: list[Reception] = []
+        with World(self.both(), cycles=1) as world:
+            world["brake"]["force"].commit(b"\x12\x34")
+            world.keep("mute 1 A 0 s2")
+            world.keep(f"babble 2 A 0 s2 x{data_frame(2, 5, bytes(2), 'A').hex()}")
+            world.listen(found.append)
+            world.cycle()
+        self.assertEqual([(it.is_fifo, it.channel) for it in found], [(True, "B")])
+
+    def test_selection(self) -> None:
+        """A buffer by number is no FIFO, and `FIFO` is no buffer. Frames that were there before are old."""
+        words: tuple[tuple[int | str | None, int | Fifo | None, list[str]], ...] = (
+            (None, None, ["B", "F"]), ("brake", None, ["B", "F"]), (None, FIFO, ["F"]), ("brake", 1, ["B"]),
+            ("pedal", None, []), ("pedal", FIFO, []))
+        for node, buffer, wanted in words:
+            with self.subTest(node=node, buffer=buffer), World(self.written("c", with_frames()), cycles=3) as world:
+                world["pedal"]["position"].commit(angle=1)
+                world["pedal"]["log"].commit(count=1)
+                world.cycle()
+                world["pedal"]["position"].commit(angle=2)
+                world["pedal"]["log"].commit(count=2)
+                found = list(world.frames(node=node, buffer=buffer))
+                self.assertEqual([("F" if it.is_fifo else "B") for it in found], wanted)
+                self.assertEqual({it.payload[-1] if it.slot == 1 else it.payload[0] for it in found},
+                                 {2} if wanted else set())
+
+    def test_a_buffer_before_the_fifo(self) -> None:
+        network = with_frames().replace('slot = 5, channels = "B"', 'slot = 3, channels = "A"')
+        with World(self.written("cluster.toml", network), cycles=1) as world:
+            world["pedal"]["log"].commit(count=1)
+            self.assertEqual([it.buffer_name for it in world.frames()], ["unused"])
+
+    def test_exceptions(self) -> None:
+        """The cycle is done before its listeners are called."""
+        def fail(_: Reception) -> None:
+            raise ArithmeticError
+
+        with World(self.written("cluster.toml", with_frames()), cycles=2) as world:
+            world["pedal"]["log"].commit(count=1)
+            with world.listen(fail, "brake", FIFO):
+                self.assertRaises(ArithmeticError, world.cycle)
+            self.assertEqual((world.at().cycle, world.run(1)), (1, None))
 
 
 class TestListeners(Shows):

@@ -45,6 +45,20 @@ class Lists(unittest.TestCase):
         name, headline, _, column = refused("mute 0,16 A 1 s1\n")
         self.assertEqual((name, headline, column), ("BadLine 2", "NODE is `16`", 8))
 
+    def test_ranges_of_filters(self) -> None:
+        """The message has the list that means the same, for up to eight numbers."""
+        expected = "Expected `{}`, since only static slots have ranges, without steps. "
+        for word, listed in (("d4-6", "d4,d5,d6"), ("m1-9/4", "m1,m5,m9"), ("s1-3/2", "s1,s3"), ("s1,m2-3", "m2,m3")):
+            with self.subTest(word):
+                self.assertTrue(refused(f"mute 0 A 0 {word}\n")[2].startswith(expected.format(listed)))
+        for word in ("d4-12", "d4-4", "d6-4", "d", "x4-6"):
+            self.assertTrue(refused(f"mute 0 A 0 {word}\n")[2].startswith("Expected `sN` for static slot N, "), word)
+        for word, place in (("3", "s3"), ("3-5", "s3-5"), ("1-5/2", "s1,s3,s5")):
+            self.assertIn(f"Expected `{place}` for static slots, or `d` or `m` and each number. ",
+                          refused(f"mute 0 A 0 {word}\n")[2])
+        self.assertIn("with commas between them, as `2,4,6`.", refused("lost 2-6/2 0\n")[2])
+        self.assertIn("with commas between them, as `0,1`.", refused("read 0 0 0 2-60\n")[2])
+
     def test_an_empty_element_is_named(self) -> None:
         right = "Expected one comma between two elements, and none at the ends."
         for word, column in (("1,", 10), (",1", 8), ("1,,2", 10), (",", 8)):

@@ -6,7 +6,7 @@ import unittest
 from unittest import mock
 
 from musmyrtle.show.tables import Column, Numbers, numbers_text, shortened
-from tests.shows import FIRST, NETWORK, POP, SCENE, SECOND, THREE, Shows
+from tests.shows import FIRST, IDLE_NOTE, NETWORK, POP, SCENE, SECOND, THREE, WITH_IDLE, Shows
 
 
 class Clusters(Shows):
@@ -214,7 +214,8 @@ class Log(Shows):
 
     def test_errors_and_times(self) -> None:
         keys = "cycle begin_us slot channel node_name what end bit line"
-        self.assertEqual(self.values("transmission", keys, "log", *self.run_of(), "--errors"), [
+        run = self.run_of(scene=WITH_IDLE)
+        self.assertEqual(self.values("transmission", keys, "log", *run, "--errors", told=IDLE_NOTE), [
             (0, 0, 1, "B", "pedal", "offer", "collided", None, None),
             (0, 0, 1, "B", "brake", "babble", "collided", None, 9),
             # Minislot 9 begins at macrotick 2 * 20 + 8 * 5. On B no frame comes, and it opens slot 3 + 8.
@@ -225,7 +226,9 @@ class Runs(Shows):
     def test_totals(self) -> None:
         """Each of two cycles has two static slots, and ten minislots at which B opens a slot."""
         keys = "nodes cycles time_us windows commits delivered idle_faults"
-        self.assertEqual(self.values("total", keys, "run", *self.run_of()), [(2, 2, 400, 24, 5, 3, 1)])
+        for scene, idle in ((SCENE, 0), (WITH_IDLE, 1)):
+            run = self.run_of(scene=scene)
+            self.assertEqual(self.values("total", keys, "run", *run), [(2, 2, 400, 24, 5, 3, idle)])
 
     def test_commits_that_were_not_delivered(self) -> None:
         self.assertEqual(self.values("undelivered", "node_name buffer_name cycle fate why", "run", *self.run_of()), [
@@ -297,7 +300,8 @@ class Runs(Shows):
             (0, "B", "syntax", 8, [2, 3], [0, 1, 2, 3], [12]), (0, "B", "conflict", 4, [1], [0, 1, 2, 3], [12])])
 
     def test_faults_without_effect(self) -> None:
-        self.assertEqual(self.values("idle", "line fault", "run", *self.run_of()), [(10, "corrupt B 0 m9 0")])
+        run = self.run_of(scene=WITH_IDLE)
+        self.assertEqual(self.values("idle", "line fault", "run", *run), [(10, "corrupt B 0 m9 0")])
 
     def test_a_scenario_of_version_3(self) -> None:
         """A line for two channels that has an effect on one of them isn't idle. Lines that are left out are named once.

@@ -24,9 +24,9 @@ from musmyrtle.version import version
 from tests import judging
 from tests.designing import NETWORK as DESIGN
 from tests.importing import FIBEX, FOLDER, TRUSTING
-from tests.shows import NETWORK, POP, SCENE, THREE, Shows
+from tests.shows import NETWORK, POP, SCENE, THREE, WITH_IDLE, Shows
 from tests.test_diff_clusters import WHOLE
-from tests.test_diff_runs import SPEEDS, without_records
+from tests.test_diff_runs import LATER, SPEEDS, without_records
 from tests.test_visible_output import IN_TOML, SPELLED
 
 TOP = Path(__file__).resolve().parents[2]
@@ -94,7 +94,7 @@ class Keys(Shows):
         rows = [line.split("|")[1:4] for line in page.splitlines() if line.startswith("| `")]
         expected = {(row[0].strip(" `"), kind): re.findall(r"`([a-z_]+)`", row[2])
                     for row in rows for kind in re.findall(r"`([a-z]+)`", row[1])}
-        run = self.run_of(scene=SCENE.replace(POP, ""))
+        run = self.run_of(scene=WITH_IDLE.replace(POP, ""))
         found: dict[tuple[str, ...], list[str]] = {}
         network = NETWORK.replace('"none"', '"AB"').replace("sync", "startup = true, sync")
         guarded = self.written("guarded.toml", network)
@@ -122,7 +122,8 @@ class Keys(Shows):
             for line in output.splitlines():
                 row = json.loads(line)
                 kind = row.pop("kind")
-                found[command, kind] = list(row)
+                # A new release of a description has the rows of two cluster files.
+                found["diff" if command.startswith("import") else command, kind] = list(row)
         self.assertEqual(found, expected)
 
     def different(self) -> list[list[str]]:
@@ -138,7 +139,9 @@ class Keys(Shows):
         scenes = [self.written("a", expecting), self.written("b", expecting.replace("data x2328", "data x2329"))]
         capture = TOP / "examples/recordings/disturbed.pcap"
         (self.folder / "short.pcap").write_bytes(without_records(capture.read_bytes(), 2))
-        return [clusters, [str(TOP / "examples/signals/cluster.toml"), *scenes, "--cycles", "4"],
+        shifted = [self.written("c", SPEEDS), self.written("d", LATER)]
+        runs = [[OF_SIGNALS[0], *it, "--cycles", cycles] for it, cycles in ((scenes, "4"), (shifted, "12"))]
+        return [clusters, *runs,
                 ["--recordings", THREE[0], str(capture), str(self.folder / "short.pcap")]]
 
     def recording_of_signals(self) -> str:
@@ -409,12 +412,6 @@ class Help(Shows):
                 self.assertTrue(it.examples)
                 for example in it.examples:
                     self.assertIn(f" musmyrtle {example}\n", text)
-
-    def printed(self, *words: str) -> str:
-        """Returns the output; the help of a command ends it by an exit with status 0."""
-        status, output, told = self.asked(*words)
-        self.assertEqual((status, told), (0, ""))
-        return output
 
     def test_the_examples_work(self) -> None:
         for it in COMMANDS:

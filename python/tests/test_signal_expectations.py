@@ -4,6 +4,7 @@ The run is that of `test_signals_over_time`. At the ends of cycles 0 and 1 the b
 are lost in the cycles 3, 5 and 6. A cycle has 500 us, so at the end of cycle 3 the frame of cycle 2 is 1000 us old.
 """
 import json
+import os
 import unittest
 from typing import Any
 
@@ -176,10 +177,16 @@ class TestLines(Expecting):
                 self.assertTrue(all(it.isprintable() or it == "\n" for it in error))
 
     def test_files(self) -> None:
-        for file, told in ((str(self.folder / "none"), "the file can't be read"), (str(self.folder), "can't be read"),
-                           (self.written("long", "#" * 1048577), "the file has 1048577 bytes")):
-            status, output, error = self.asked("signals", *self.scene(), "--expect", file)
-            self.assertEqual((status, output, told in error), (1, "", True))
+        file = self.written("long", "#" * 1048577)
+        status, output, error = self.asked("signals", *self.scene(), "--expect", file)
+        self.assertEqual((status, output, "the file has 1048577 bytes" in error), (1, "", True))
+        missing, folder, closed = str(self.folder / "missing"), str(self.folder), self.written("closed", "")
+        os.chmod(closed, 0)
+        for file, told in ((missing, "isn't there"), (folder, "is a folder"),
+                           (closed, "can't be read: Permission denied")):
+            if file != closed or os.geteuid():
+                expected = f"musmyrtle: the file of --expect {file!r} {told}\n"
+                self.assertEqual(self.asked("signals", *self.scene(), "--expect", file), (2, "", expected))
         file = self.written("expected", "brake.speed * > 1\n")
         status, _, error = self.asked("signals", *self.scene(), "--expect", file, "--svg", file)
         self.assertEqual((status, "is the file of --expect" in error), (2, True))

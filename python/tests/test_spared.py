@@ -9,10 +9,11 @@ from tempfile import TemporaryDirectory
 from musmyrtle import World
 from musmyrtle.spared import Output, clash
 from musmyrtle.world.world_program import usual_world
-from tests.shows import THREE
+from tests.shows import EXAMPLES, THREE
 from tests.two_nodes import SCENE, TWO_NODES
 
 TOP = Path(__file__).resolve().parents[2]
+RECORDINGS, SIGNALS = EXAMPLES / "recordings", str(EXAMPLES / "signals/cluster.toml")
 
 
 class Folder(unittest.TestCase):
@@ -166,3 +167,22 @@ class TestCommands(Folder):
                     self.assertEqual((status, told.split(": ", 1)[1]), (
                         2, f"standard output is {what}, which would be overwritten: name another file"))
         self.assertEqual((self.cluster.read_text(), (self.folder / "scenario").read_text()), (TWO_NODES, SCENE))
+
+    def test_other_inputs_at_standard_output(self) -> None:
+        """A recording is read after standard output is opened, and `annotate` prints a scenario."""
+        recording, scene = (RECORDINGS / "disturbed.pcap").read_bytes(), "frscenario 3\nend\n"
+        (self.folder / "recording").write_bytes(recording)
+        self.file("scenario", scene)
+        for output, words in (("recording", ("monitor", THREE[0], "recording")),
+                              ("recording", ("page", THREE[0], "--recording", "recording")),
+                              ("recording", ("diff", "--recordings", THREE[0], "recording", "recording")),
+                              ("scenario", ("annotate", SIGNALS, "scenario"))):
+            with self.subTest(words):
+                told = f"musmyrtle: standard output is the {output}, which would be overwritten: name another file"
+                self.assertEqual(self.ended(output, "a", *words), (2, told))
+        with open(self.folder / "recording", "rb") as source, open(self.folder / "recording", "ab") as table:
+            ran = subprocess.run([sys.executable, "-B", str(TOP / "musmyrtle"), "monitor", THREE[0], "-"],
+                                 stdin=source, stdout=table, stderr=subprocess.PIPE, timeout=120)
+        self.assertEqual((ran.returncode, b"standard output is the recording" in ran.stderr), (2, True))
+        self.assertEqual((self.folder / "recording").read_bytes(), recording)
+        self.assertEqual((self.folder / "scenario").read_text(), scene)

@@ -5,7 +5,7 @@ import sys
 import unittest
 from pathlib import Path
 
-from tests.shows import THREE, Shows
+from tests.shows import EXAMPLES, THREE, Shows
 
 TOP = Path(__file__).resolve().parents[2]
 CLOSED = "the output can't be written: it is closed"
@@ -53,6 +53,27 @@ class Closed(Shows):
             told = "musmyrtle: the recording can't be read: standard input is closed\n"
             self.assertEqual(shell('./musmyrtle "$@" <&-', *words), (2, "", told))
 
+    def test_files_that_are_a_closed_input(self) -> None:
+        """Its names are those of no file, so the input isn't taken for an empty one."""
+        signals = [str(EXAMPLES / "signals/cluster.toml"), str(EXAMPLES / "signals/scenario"), "--cycles", "4"]
+        closed = ": standard input is closed\n"
+        for words, name in ((["lint", "/dev/stdin"], "lint"), (["check", "/dev/fd/0"], ""),
+                            (["run", THREE[0], "/proc/self/fd/0", "--cycles", "4"], ""),
+                            (["signals", *signals, "--expect", "/dev/stdin"], ""),
+                            (["faults", *THREE, "--against", "/dev/stdin"], "faults"),
+                            (["monitor", THREE[0], "/dev/stdin"], ""), (["annotate", THREE[0], "/dev/stdin"], ""),
+                            (["diff", "--cycles", "4", *THREE[:2], "/dev/stdin"], "")):
+            with self.subTest(words):
+                status, output, error = shell('./musmyrtle "$@" <&-', *words)
+                self.assertEqual((status, output, error.count("\n")), (2, "", 1))
+                self.assertTrue(error.startswith(f"musmyrtle {name}".rstrip() + ": "), error)
+                self.assertTrue(error.endswith(closed), error)
+
+    def test_a_file_that_is_a_closed_output(self) -> None:
+        signals = [str(EXAMPLES / "signals/cluster.toml"), str(EXAMPLES / "signals/scenario"), "--cycles", "4"]
+        status, _, _ = shell('./musmyrtle "$@" 2>&-', "signals", *signals, "--svg", "/dev/stderr")
+        self.assertEqual(status, 2)
+
     def test_a_host_program(self) -> None:
         """Its output gets neither into the record of its world nor into the pipes to it."""
         program, record = self.written("host.py", HOST), self.folder / "record"
@@ -66,6 +87,14 @@ class Closed(Shows):
 
 
 class Limited(Shows):
+    def test_little_memory(self) -> None:
+        """A package that can't be loaded is one line, without those of the modules of Python that it needs."""
+        for kilobytes in (20_000, 24_000, 27_500):
+            limit = f"ulimit -v {kilobytes}; "
+            if shell(f"{limit}python3 -c 'import logging'")[0] == 0:
+                status, _, error = shell(f'{limit}./musmyrtle "$@"', "log", *THREE)
+                self.assertIn((status, error.count("\n")), ((0, 0), (2, 1)), error)
+
     def test_a_page(self) -> None:
         """Without a buffer, Python drops the rest of a write that is cut off, and raises no error."""
         file, told = self.folder / "page.html", "musmyrtle: the output can't be written: File too large\n"

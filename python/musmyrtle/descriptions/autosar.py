@@ -4,7 +4,7 @@ from musmyrtle.descriptions.collecting import Description
 from musmyrtle.descriptions.elements import (Element, every, fraction, has, needed, number, one, optional, path_of,
                                              shown, text, truth)
 from musmyrtle.descriptions.network import (Fifo, Network, Node, Sending, Times, bit_of, chosen, cycles_of,
-                                            filter_of, parameters_of, times_of)
+                                            filter_of, timed, times_of)
 from musmyrtle.descriptions.report import Refused, Report
 
 PARAMETERS = {
@@ -43,15 +43,12 @@ class Autosar:
         sendings: list[Sending] = []
         for physical in physicals:
             sendings += self.of_channel(physical, self.channels[id(physical)])
-        parameters = parameters_of(cluster, PARAMETERS, self.report)
-        times = None
-        with self.report.going_on():
-            times = self.times(cluster, parameters)
-        if times is None or self.report.refusals:
+        found = timed(cluster, PARAMETERS, self.report, self.times)
+        if found is None:
             return None
         places = {id(it): place for place, it in enumerate(self.description.by_key.values())}
         nodes = [self.nodes[it] for it in sorted(self.nodes, key=lambda it: places.get(it, 0))]
-        return Network(element.name, path_of(element), parameters, times, nodes, sendings)
+        return Network(element.name, path_of(element), *found, nodes, sendings)
 
     def times(self, cluster: Element, parameters: dict[str, int]) -> Times:
         """Returns the times of the cluster, whose elements are in seconds."""

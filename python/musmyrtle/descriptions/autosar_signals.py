@@ -1,6 +1,7 @@
 """The PDUs and signals of AUTOSAR frames."""
-from musmyrtle.descriptions.coding import (BIG, LITTLE, OPAQUE, as_bytes, clash_free, coded, converted, note_outside,
-                                           order_of, physical_limits, say_of, with_raw, with_unit)
+from musmyrtle.descriptions.coding import (BIG, LITTLE, OPAQUE, When, add_bytes, as_bytes, clash_free, coded,
+                                           converted, note_outside, order_of, physical_limits, say_of, with_raw,
+                                           with_unit)
 from musmyrtle.descriptions.collecting import Description
 from musmyrtle.descriptions.conversions import conversion_of, limit
 from musmyrtle.descriptions.elements import Element, every, has, needed, number, one, optional, path_of, text, truth
@@ -17,7 +18,6 @@ ENCODINGS = {"": "", "NONE": "", "BOOLEAN": "", "2C": "signed",
              **dict.fromkeys(("IEEE754", "SINGLE", "DOUBLE"), "float")}
 FIRST_BITS = {BIG: (0, 7), LITTLE: (0,), OPAQUE: (0,), "": (0,)}
 """The bits of a byte at which a PDU may begin."""
-When = tuple[tuple[SignalTable, int], ...]
 
 
 class AutosarSignals:
@@ -68,7 +68,7 @@ class AutosarSignals:
             return
         mappings = [it for path in MAPPINGS for it in every(pdu, path)]
         if not mappings:
-            self.add_bytes(frame, pdu, at, update, when)
+            add_bytes(frame, pdu, optional(pdu, "LENGTH"), f"kind {pdu.tag}", at, update, when, self.report)
         members = self.updates_of_groups(mappings)
         for mapping in mappings:
             with self.report.going_on():
@@ -89,17 +89,6 @@ class AutosarSignals:
                              frame.name)
         elif pattern is not None:
             frame.unused = pattern & 255
-
-    def add_bytes(self, frame: FrameTable, pdu: Element, at: int, update: list[int], when: When) -> None:
-        """Adds a PDU without signals as one signal of bytes."""
-        length = optional(pdu, "LENGTH")
-        self.report.note(f"a PDU of the kind {pdu.tag} has no signals here, and is one of bytes" if length else
-                         f"a PDU of the kind {pdu.tag} has no signals and no length, and is left out", pdu.name)
-        if length:
-            keys: dict[str, Toml] = {"name": pdu.name, "bit": 8 * at, "bits": 8 * length, "bytes": True}
-            if update:
-                keys["update"] = list(update)
-            frame.signals.append(SignalTable(path_of(pdu), keys, when))
 
     def updates_of_groups(self, mappings: list[Element]) -> dict[int, int]:
         """Returns the update bits of signals by the groups in which they are."""

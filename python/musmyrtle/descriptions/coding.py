@@ -13,6 +13,8 @@ from musmyrtle.signals.signal import FLOATS, MOST_BITS
 
 BIG, LITTLE, OPAQUE = "MOST-SIGNIFICANT-BYTE-FIRST", "MOST-SIGNIFICANT-BYTE-LAST", "OPAQUE"
 Say = Callable[[str], None]
+When = tuple[tuple[SignalTable, int], ...]
+"""The selectors of a signal, each with the code at which the signal is there."""
 
 
 def say_of(report: Report, name: str) -> Say:
@@ -35,6 +37,18 @@ def as_bytes(keys: dict[str, Toml], bit: int, bits: int, path: str) -> None:
         raise Refused("Opaque", path, f"{bits} bits from bit {bit} on aren't whole bytes")
     keys.pop("order", None)
     keys |= {"bit": bit - bit % 8, "bytes": True}
+
+
+def add_bytes(frame: FrameTable, pdu: Element, length: int | None, kind: str, at: int, update: list[int], when: When,
+              report: Report) -> None:
+    """Adds a PDU without signals, of so many bytes, as one signal of bytes. KIND says what it is in the description."""
+    report.note(f"a PDU of the {kind} has no signals here, and is one of bytes" if length else
+                f"a PDU of the {kind} has no signals and no length, and is left out", pdu.name)
+    if length:
+        keys: dict[str, Toml] = {"name": pdu.name, "bit": 8 * at, "bits": 8 * length, "bytes": True}
+        if update:
+            keys["update"] = list(update)
+        frame.signals.append(SignalTable(path_of(pdu), keys, when))
 
 
 def coded(keys: dict[str, Toml], kind: str, bits: int, path: str) -> None:

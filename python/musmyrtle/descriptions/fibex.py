@@ -5,7 +5,7 @@ from musmyrtle.descriptions.collecting import ID_REF, TYPE, Description
 from musmyrtle.descriptions.elements import (Element, every, fraction, has, needed, number, one, optional, path_of,
                                              shown, text, truth)
 from musmyrtle.descriptions.fibex_signals import FibexSignals
-from musmyrtle.descriptions.network import (Network, Node, Sending, Times, bit_of, chosen, cycles_of, parameters_of,
+from musmyrtle.descriptions.network import (Network, Node, Sending, Times, bit_of, chosen, cycles_of, timed,
                                             times_of)
 from musmyrtle.descriptions.report import Refused, Report
 
@@ -48,13 +48,10 @@ class Fibex:
             for triggering in every(channel, "FRAME-TRIGGERINGS/FRAME-TRIGGERING"):
                 with self.report.going_on():
                     sendings += self.sendings(triggering, channel, signals)
-        parameters = parameters_of(cluster, PARAMETERS, self.report)
-        times = None
-        with self.report.going_on():
-            times = self.times(cluster, parameters)
-        if times is None or self.report.refusals:
+        found = timed(cluster, PARAMETERS, self.report, self.times)
+        if found is None:
             return None
-        return Network(cluster.name, path_of(cluster), parameters, times, list(self.nodes.values()), sendings)
+        return Network(cluster.name, path_of(cluster), *found, list(self.nodes.values()), sendings)
 
     def times(self, cluster: Element, parameters: dict[str, int]) -> Times:
         """Returns the times of the cluster, whose elements are in microseconds."""

@@ -1,8 +1,8 @@
 """The PDUs and signals of FIBEX frames."""
 from collections.abc import Iterable
 
-from musmyrtle.descriptions.coding import (as_bytes, clash_free, coded, converted, note_outside, say_of, with_raw,
-                                           with_unit)
+from musmyrtle.descriptions.coding import (When, add_bytes, as_bytes, clash_free, coded, converted, note_outside,
+                                           say_of, with_raw, with_unit)
 from musmyrtle.descriptions.collecting import Description
 from musmyrtle.descriptions.conversions import conversion_of
 from musmyrtle.descriptions.elements import Element, every, needed, number, one, optional, path_of, shown, text, truth
@@ -17,7 +17,6 @@ SIGNED = ("2C", "SIGNED")
 UNSIGNED = ("UNSIGNED", "BIT", "BOOLEAN", "NONE")
 REFUSED = ("1C", "SM", "BCD-P", "BCD-UP", "DSP-FRACTIONAL")
 """Encodings that a signal can't have."""
-When = tuple[tuple[SignalTable, int], ...]
 
 
 class FibexSignals:
@@ -75,18 +74,8 @@ class FibexSignals:
                               "cluster file")
             self.multiplexed(frame, multiplexer, at, update)
         elif not self.instances(frame, pdu, at, update, when):
-            self.add_bytes(frame, pdu, at, update, when)
-
-    def add_bytes(self, frame: FrameTable, pdu: Element, at: int, update: list[int], when: When) -> None:
-        """Adds a PDU without signals as one signal of bytes."""
-        length, kind = optional(pdu, "BYTE-LENGTH"), text(pdu, "PDU-TYPE") or "unknown"
-        self.report.note(f"a PDU of the type {kind} has no signals here, and is one of bytes" if length else
-                         f"a PDU of the type {kind} has no signals and no length, and is left out", pdu.name)
-        if length:
-            keys: dict[str, Toml] = {"name": pdu.name, "bit": 8 * at, "bits": 8 * length, "bytes": True}
-            if update:
-                keys["update"] = list(update)
-            frame.signals.append(SignalTable(path_of(pdu), keys, when))
+            kind = f"type {text(pdu, 'PDU-TYPE') or 'unknown'}"
+            add_bytes(frame, pdu, optional(pdu, "BYTE-LENGTH"), kind, at, update, when, self.report)
 
     def multiplexed(self, frame: FrameTable, multiplexer: Element, at: int, update: list[int]) -> None:
         """Adds a selector, the static signals, and those that the selector selects."""

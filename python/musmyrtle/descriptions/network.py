@@ -1,5 +1,5 @@
 """A cluster as both formats describe it: parameters, nodes, and frames in their slots."""
-from collections.abc import Iterable
+from collections.abc import Callable, Iterable
 from dataclasses import dataclass, field
 from fractions import Fraction
 
@@ -168,6 +168,16 @@ def parameters_of(element: Element, keys: dict[str, str], report: Report) -> dic
         if key == "minislots" and found.get(key) == 0:
             absent |= {"minislot_mt": 1, "idle": 0}
     return found
+
+
+def timed(cluster: Element, keys: dict[str, str], report: Report,
+          times_in: Callable[[Element, dict[str, int]], Times]) -> tuple[dict[str, int], Times] | None:
+    """Returns the parameters and the times of a cluster, or None after refusals, those before it too."""
+    parameters = parameters_of(cluster, keys, report)
+    with report.going_on():
+        times = times_in(cluster, parameters)
+        return None if report.refusals else (parameters, times)
+    return None
 
 
 def times_of(element: Element, parameters: dict[str, int], bit: Fraction, macrotick: Fraction, cycle: Fraction | None,

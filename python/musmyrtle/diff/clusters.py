@@ -6,7 +6,8 @@ from musmyrtle.diff.differences import ADDED, ORDER, REMOVED, Difference
 from musmyrtle.diff.frames import FRAME, FrameTables, frame_differences
 from musmyrtle.diff.pairing import Pair, paired
 from musmyrtle.diff.tables import (
-    Table, alone, changed, content_of, is_in_order, items, key_differences, numbers_of, one_of, renamed, value_of,
+    Table, alone, changed, content_of, is_in_order, items, key_differences, numbers_of, one_of, pair_differences,
+    renamed, value_of,
 )
 from musmyrtle.diff.values import shown
 from musmyrtle.names import tables_of
@@ -135,15 +136,8 @@ def buffers(name: Name, old: Table, new: Table) -> Iterator[Difference]:
     pairs = pairs_of_buffers(old, new)
     for pair in pairs:
         item = one_of(pair)
-        place: dict[str, Any] = {"node": name, "buffer": Name(item.number, item.name, "buffer"),
-                                 "slot": item.value.get("slot")}
-        if pair.both is None:
-            yield alone("buffer", pair, **place)
-        elif pair.is_renamed:
-            yield renamed("buffer", pair, **place)
-        else:
-            for key, *values in key_differences("buffer", pair.both[0].value, pair.both[1].value):
-                yield changed("buffer", key, *values, **place)
+        yield from pair_differences("buffer", pair, node=name, buffer=Name(item.number, item.name, "buffer"),
+                                    slot=item.value.get("slot"))
     numbers = numbers_of(pairs)
     if numbers:
         yield Difference("node", ORDER, "numbers of buffers", *numbers, node=name)

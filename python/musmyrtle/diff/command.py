@@ -15,6 +15,7 @@ from musmyrtle.diff.runs import Runs
 from musmyrtle.diff.schedules import Schedules
 from musmyrtle.ending import FINE, status_of
 from musmyrtle.findings import block, counted
+from musmyrtle.floods import misses_text
 from musmyrtle.lint.command import REFUSED, USAGE, Parser, add_forms, formed, is_bold_on, printed, shown_examples
 from musmyrtle.lint.command import cycles_of as number_of_cycles
 from musmyrtle.lint.lint import read_bytes
@@ -26,7 +27,7 @@ from musmyrtle.show.options import WIDTH
 from musmyrtle.show.tables import as_text
 from musmyrtle.signals.refusals import BadSignals
 from musmyrtle.texts import NoText, Text, read_text
-from musmyrtle.visible import visible
+from musmyrtle.visible import cut, visible
 
 DIFFERENT = 3
 """The status where something differs."""
@@ -120,11 +121,19 @@ def of_runs(given: argparse.Namespace) -> Iterable[Difference]:
     with opened(cluster, scenarios[0], given.cycles) as old, opened(cluster, scenarios[1], given.cycles) as new:
         # A pipe can be read once, so both runs have the file that keeps its content.
         new.task = replace(new.task, files={**new.task.files, cluster: old.task.file(cluster)})
+        new.passed_on = old.passed_on
         facts = Facts(old), Facts(new)
-        for it in facts:
-            it.inputs.passes_misses_on = False
+        for it, scenario in zip(facts, scenarios):
+            it.inputs.passes_misses_on, it.inputs.label = False, f"{cut(scenario)}: "
             it.run()
-        return list(Runs(*facts, Payloads(old, old.network.cluster)).differences())
+        runs = Runs(*facts, Payloads(old, old.network.cluster))
+        if runs.shift:
+            pass_on(f"{COMMAND}: reports aren't compared, since the runs have them at the end, and are shifted")
+        found = list(runs.differences())
+        if runs.both_miss:
+            pass_on(f"{COMMAND}: both runs miss {misses_text(runs.both_miss, old.spelled)}; the lines are those of "
+                    f"{cut(scenarios[0])}")
+        return found
 
 
 # ---- two recordings
@@ -136,11 +145,7 @@ def of_recordings(given: argparse.Namespace) -> Iterable[Difference]:
     with opened(cluster) as inputs:
         inputs.of_cluster("fr_bench", "check")
         found = [recorded(inputs, it) for it in names]
-        recordings = Recordings(found[0], found[1], Payloads(inputs, inputs.network.cluster))
-        if recordings.shift:
-            cycles, later = counted(abs(recordings.shift), "cycle"), "after" if recordings.shift > 0 else "before"
-            pass_on(f"{COMMAND}: by its cycle counts the second recording begins {cycles} {later} the first one")
-        return list(recordings.differences())
+        return list(Recordings(found[0], found[1], Payloads(inputs, inputs.network.cluster)).differences())
 
 
 def recorded(inputs: Inputs, name: str) -> Recording:

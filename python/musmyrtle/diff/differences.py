@@ -1,8 +1,8 @@
 """The differences of two cluster files, as rows of tables."""
 from collections.abc import Iterable, Iterator, Mapping, Sequence
-from dataclasses import dataclass, replace
+from dataclasses import replace
 
-from musmyrtle.show.tables import LONGEST_TEXT, Column, Name, Row, Section, Value
+from musmyrtle.show.tables import LONGEST_TEXT, Column, Row, Section, Value
 
 CHANGED, ADDED, REMOVED, RENAMED, ORDER = "changed", "added", "removed", "renamed", "order"
 LOST, ARRIVED = "lost", "arrived"
@@ -29,6 +29,8 @@ KINDS: dict[str, tuple[str, tuple[Column, ...]]] = {
     "guardian": ("Macroticks in which a guardian is open", (NODE, CHANNEL, CYCLES, *VALUES)),
     "latency": ("Transmit buffers in runs without faults", (NODE, BUFFER, SLOT, CHANGE, KEY, UNIT, *VALUES)),
     "load": ("Loads of channels", (CHANNEL, KEY, *VALUES)),
+    "shift": ("Shift", (KEY, CHANGE, Column("by", "cycles"))),
+    "alone": ("Cycles of one side alone", (CYCLES, CHANGE, KEY, *VALUES)),
     "commit": ("Commits", (NODE, BUFFER, Column("task", ""), CYCLE, *DETAILS)),
     "call": ("Answers to tasks", (NODE, Column("task", "task"), CYCLE, Column("call", "call"), BUFFER, *DETAILS)),
     "report": ("Reports at the end", (NODE, BUFFER, CHANNEL, KEY, *VALUES)),
@@ -45,39 +47,25 @@ BEFORE = 24
 """The characters before the first difference that two long texts show."""
 
 
-@dataclass(frozen=True)
 class Difference:
     """A difference: its kind, what became of the thing, the key that differs, and both values, or None for absent ones.
 
     Names are those of the first file, if it has the thing.
     """
 
-    kind: str
-    change: str = CHANGED
-    key: str | None = None
-    old: Value = None
-    new: Value = None
-    table: str | None = None
-    node: Name | None = None
-    buffer: Name | None = None
-    slot: int | None = None
-    frame: str | None = None
-    signal: str | None = None
-    channel: str | None = None
-    cycles: Value = None
-    cycle: int | None = None
-    minislot: int | None = None
-    task: int | None = None
-    what: str | None = None
-    call: str | None = None
-    receiver: Name | None = None
-    receiver_buffer: Name | None = None
-    unit: str | None = None
+    def __init__(self, kind: str, change: str = CHANGED, key: str | None = None, old: Value = None, new: Value = None,
+                 **place: Value) -> None:
+        """Takes the values of the other columns of its table by their keys. Raises `ValueError` for an unknown one."""
+        unknown = place.keys() - {it.key for _, columns in KINDS.values() for it in columns}
+        if unknown:
+            raise ValueError(f"no table of differences has {', '.join(sorted(unknown))}")
+        self.kind, self.change = kind, change
+        self.values: dict[str, Value] = {"change": change, "key": key, "old": old, "new": new, **place}
 
     @property
     def row(self) -> Row:
         """Returns the row of the table of its kind."""
-        return Row({it.key: getattr(self, it.key) for it in KINDS[self.kind][1]}, self.change in ERRORS)
+        return Row({it.key: self.values.get(it.key) for it in KINDS[self.kind][1]}, self.change in ERRORS)
 
 
 def sections_of(differences: Iterable[Difference]) -> list[Section]:

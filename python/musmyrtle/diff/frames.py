@@ -6,7 +6,7 @@ from typing import Any
 from musmyrtle.diff.differences import ORDER, Difference
 from musmyrtle.diff.pairing import Pair, paired, pairs_of_both
 from musmyrtle.diff.tables import (
-    Table, alone, changed, content_of, is_in_order, items, key_differences, one_of, renamed,
+    Table, changed, content_of, is_in_order, items, key_differences, one_of, pair_differences,
 )
 from musmyrtle.diff.values import shown
 from musmyrtle.signals.frames import FILE, Definitions
@@ -82,32 +82,15 @@ def frame_differences(old: FrameTables, new: FrameTables) -> Iterator[Difference
 def differences_of(pair: Pair[Table]) -> Iterator[Difference]:
     """Yields the differences of a frame."""
     name = name_of(pair)
+    yield from pair_differences("frame", pair, (SIGNALS,), frame=name)
     if pair.is_renamed:
-        yield renamed("frame", pair, frame=name)
         return
-    if pair.both is None:
-        yield alone("frame", pair, (SIGNALS,), frame=name)
-    else:
-        for key, *values in key_differences("frame", pair.both[0].value, pair.both[1].value, (SIGNALS,)):
-            yield changed("frame", key, *values, frame=name)
     signals = [it.value.get(SIGNALS, []) if it else [] for it in (pair.old, pair.new)]
     pairs = paired(*(items("signal", it, lambda _: None) for it in signals))
     for its in pairs:
-        yield from signal_differences(name, its)
+        yield from pair_differences("signal", its, frame=name, signal=name_of(its))
     if not is_in_order(pairs):
         yield Difference("frame", ORDER, "order of signals", *orders(pairs), frame=name)
-
-
-def signal_differences(frame: str, pair: Pair[Table]) -> Iterator[Difference]:
-    """Yields the differences of a signal."""
-    place = {"frame": frame, "signal": name_of(pair)}
-    if pair.both is None:
-        yield alone("signal", pair, **place)
-    elif pair.is_renamed:
-        yield renamed("signal", pair, **place)
-    else:
-        for key, *values in key_differences("signal", pair.both[0].value, pair.both[1].value):
-            yield changed("signal", key, *values, **place)
 
 
 def name_of(pair: Pair[Table]) -> str:

@@ -1,9 +1,11 @@
 """The differences of two recordings of a bus: frames by cycle, slot and channel, and the findings in both.
 
 The cycles are those that `fr_monitor --frames` prints. The second recording may begin in a later or earlier cycle than
-the first one: its cycles are moved so that the cycle counts agree.
+the first one: its cycles are moved so that the cycle counts agree. If all that it has comes later or earlier then, its
+cycles are moved by that, too.
 """
-from collections.abc import Callable, Iterator
+from collections import Counter
+from collections.abc import Callable, Hashable, Iterator
 from dataclasses import dataclass, field
 from typing import Any
 
@@ -11,6 +13,7 @@ from musmyrtle.cluster import CYCLES
 from musmyrtle.diff.differences import ADDED, CHANGED, REMOVED, Difference
 from musmyrtle.diff.payloads import Payloads
 from musmyrtle.diff.runs import Key, in_order, numbered
+from musmyrtle.diff.shifts import (BEGIN, EVERYTHING, Contents, Cycles, alone_rows, common, shift_between, shift_row)
 from musmyrtle.show.network import Network
 from musmyrtle.show.recorded import Frame, Recorded
 from musmyrtle.show.recordings import FOUND
@@ -48,9 +51,24 @@ class Recording:
         """Returns all frames."""
         return list(self.found.frames.values())
 
-    def cycle(self, frame: Frame) -> int | None:
-        """Returns the cycle of a frame on the axis of both channels, or None if it isn't known."""
-        return self.found.on_axis(frame.channel, frame.cycle)
+    def cycle(self, frame: Frame, more: int = 0) -> int | None:
+        """Returns the cycle of a frame on the axis of both channels, with so many more, or None if it isn't known."""
+        cycle = self.found.on_axis(frame.channel, frame.cycle)
+        return None if cycle is None else cycle + more
+
+    def contents(self, more: int = 0) -> Contents:
+        """Returns the frames of each cycle, without the words that have its number."""
+        found: dict[int, list[Hashable]] = {}
+        for it in self.frames:
+            cycle = self.cycle(it, more)
+            if cycle is not None:
+                found.setdefault(cycle, []).append((it.slot, it.channel, it.data, it.flags, it.node))
+        return {cycle: frozenset(its) for cycle, its in found.items()}
+
+    def numbers(self, more: int = 0) -> Counter[int]:
+        """Returns the number of frames of each cycle."""
+        cycles = (self.cycle(it, more) for it in self.frames)
+        return Counter(it for it in cycles if it is not None)
 
     @property
     def first_count(self) -> int | None:
@@ -76,21 +94,28 @@ class Recordings:
 
     def __init__(self, old: Recording, new: Recording, payloads: Payloads) -> None:
         self.old, self.new, self.payloads, self.network = old, new, payloads, old.network
-        self.shift = shift_of(old, new)
+        self.begin = shift_of(old, new)
+        """The cycles by which the second recording begins after the first one."""
+        self.shift = shift_between(old.contents(), new.contents(self.begin))
+        """The cycles by which all comes later in the second one, beside that."""
 
     def differences(self) -> Iterator[Difference]:
         """Yields all differences. Cycles are those of the first recording."""
-        sides = [numbered(it.frames, self.key_in(it, shift)) for it, shift in ((self.old, 0), (self.new, self.shift))]
+        yield from (shift_row(key, it) for key, it in ((BEGIN, self.begin), (EVERYTHING, self.shift)) if it)
+        numbers = self.old.numbers(), self.new.numbers(self.begin)
+        whole = [Cycles(min(it, default=0), max(it, default=-1)) for it in numbers]
+        both = common(whole[0], whole[1], self.shift)
+        yield from alone_rows("frames", *(cycles.others(it) for cycles, it in zip(both, numbers)))
+        sides = [numbered((frame for frame in it.frames if cycles.has(it.cycle(frame, begin))), self.key_in(it, shift))
+                 for it, cycles, begin, shift in ((self.old, both[0], 0, 0),
+                                                  (self.new, both[1], self.begin, self.begin - self.shift))]
         for key in sorted({**sides[0], **sides[1]}, key=in_order):
             yield from self.of_frame(key, *(it.get(key) for it in sides))
         yield from self.counts()
 
     def key_in(self, recording: Recording, shift: int) -> Callable[[Frame], FrameKey]:
         """Returns the cycle, slot and channel of frames of a recording, with so many cycles more."""
-        def key_of(frame: Frame) -> FrameKey:
-            cycle = recording.cycle(frame)
-            return None if cycle is None else cycle + shift, frame.slot, frame.channel
-        return key_of
+        return lambda frame: (recording.cycle(frame, shift), frame.slot, frame.channel)
 
     def of_frame(self, key: Key, old: Frame | None, new: Frame | None) -> Iterator[Difference]:
         """Yields the differences of a frame."""
@@ -104,7 +129,8 @@ class Recordings:
         if old.data != new.data:
             yield Difference("recorded", CHANGED, "data", text_of(old), text_of(new), **place)
             yield from self.signals(old, new, place)
-        for name in (it for it in FRAME_KEYS if getattr(old, it) != getattr(new, it)):
+        for name in (it for it in FRAME_KEYS if getattr(old, it) != getattr(new, it)
+                     and not (it == "count" and self.shift)):
             yield Difference("recorded", CHANGED, name, getattr(old, name), getattr(new, name), **place)
 
     def signals(self, old: Frame, new: Frame, place: dict[str, Any]) -> Iterator[Difference]:

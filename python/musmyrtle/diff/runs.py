@@ -5,6 +5,8 @@ from typing import Any, TypeVar
 
 from musmyrtle.diff.differences import ADDED, ARRIVED, CHANGED, LOST, REMOVED, Difference
 from musmyrtle.diff.payloads import Payloads
+from musmyrtle.diff.shifts import EVERYTHING, Cycles, alone_rows, common, shift_between, shift_row
+from musmyrtle.diff.sides import Side
 from musmyrtle.findings import counted
 from musmyrtle.missed import Miss
 from musmyrtle.outcomes import NodeOutcome
@@ -38,25 +40,42 @@ def pairs(old: Mapping[Key, T], new: Mapping[Key, T]) -> Iterator[tuple[T | None
 
 
 class Runs:
-    """The comparison of two runs of a cluster."""
+    """The comparison of two runs of a cluster. If all comes later or earlier in the second one, one row says it."""
 
     def __init__(self, old: Facts, new: Facts, payloads: Payloads) -> None:
         self.old, self.new, self.payloads, self.network = old, new, payloads, old.network
+        self.sides = Side.of(old), Side.of(new)
+        self.shift = shift_between(*(it.contents() for it in self.sides))
+        self.both_miss: list[Miss] = []
+        """The expectations that both runs missed alike, once the differences are known: those of the first one."""
 
     def differences(self) -> Iterator[Difference]:
-        """Yields all differences."""
+        """Yields all differences. Cycles are those of the first run."""
+        if self.shift:
+            yield from self.shifted()
         yield from self.commits()
         yield from self.calls()
-        yield from self.reports()
+        if not self.shift:
+            yield from self.reports()
         yield from self.misses()
         yield from self.transmissions()
+
+    def shifted(self) -> Iterator[Difference]:
+        """Shifts the second run. Yields the shift, and what one run alone has in cycles without a partner."""
+        yield shift_row(EVERYTHING, self.shift)
+        whole = Cycles(0, self.old.inputs.cycles - 1)
+        both = common(whole, whole, self.shift)
+        numbers = [it.numbers() for it in self.sides]
+        for key in numbers[0]:
+            yield from alone_rows(key, *(cycles.others(its[key]) for cycles, its in zip(both, numbers)))
+        self.sides = self.sides[0].part(both[0], 0), self.sides[1].part(both[1], self.shift)
 
     # ---- commits
 
     def commits(self) -> Iterator[Difference]:
         """Yields the commits that one run alone has, and those with another payload, fate or receivers."""
         sides = (numbered(it.commits, lambda commit: (commit.node, commit.buffer, commit.task, commit.cycle))
-                 for it in (self.old, self.new))
+                 for it in self.sides)
         for old, new in pairs(*sides):
             yield from self.of_commit(old, new)
 
@@ -101,7 +120,7 @@ class Runs:
 
     def transmissions(self) -> Iterator[Difference]:
         """Yields the transmissions that one run alone has, and those with another end or other bytes."""
-        sides = [numbered(it.record, place_of) for it in (self.old, self.new)]
+        sides = [numbered(it.record, place_of) for it in self.sides]
         for key in sorted({**sides[0], **sides[1]}, key=in_order):
             old, new = (it.get(key) for it in sides)
             it = old or new
@@ -120,7 +139,7 @@ class Runs:
     def calls(self) -> Iterator[Difference]:
         """Yields the reads and pops that one run alone has, and those with another answer."""
         sides = (numbered(it.calls, lambda call: (call.node, call.task, call.cycle, call.kind, call.buffer))
-                 for it in (self.old, self.new))
+                 for it in self.sides)
         for old, new in pairs(*sides):
             it = old or new
             assert it is not None
@@ -170,7 +189,9 @@ class Runs:
                  for it in (self.old, self.new))
         for old, new in pairs(*sides):
             it = old or new
-            if it is None or old and new and (old.found, old.others) == (new.found, new.others):
+            assert it is not None
+            if old and new and (old.found, old.others) == (new.found, new.others):
+                self.both_miss.append(old)
                 continue
             change = CHANGED if old and new else REMOVED if old else ADDED
             yield Difference("missed", change, None, missed_text(old), missed_text(new), cycle=it.cycle,

@@ -103,6 +103,17 @@ def alone(kind: str, pair: Pair[Table], without: Sequence[str] = (), **place: An
     return Difference(kind, ADDED, None, None, table, **place)
 
 
+def pair_differences(kind: str, pair: Pair[Table], without: Sequence[str] = (), **place: Any) -> Iterator[Difference]:
+    """Yields the differences of a thing: that one file alone has it, that it is renamed, or its keys."""
+    if pair.both is None:
+        yield alone(kind, pair, without, **place)
+    elif pair.is_renamed:
+        yield renamed(kind, pair, **place)
+    else:
+        for key, *values in key_differences(kind, pair.both[0].value, pair.both[1].value, without):
+            yield changed(kind, key, *values, **place)
+
+
 def one_of(pair: Pair[Table]) -> Item[Table]:
     """Returns the item of the first file, or of the second one if the first has none."""
     item = pair.old or pair.new

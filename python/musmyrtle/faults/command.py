@@ -31,9 +31,11 @@ from musmyrtle.faults.table import worse
 from musmyrtle.faults.whole_files import Unusable, replace_file, spare_inputs, try_file
 from musmyrtle.findings import counted
 from musmyrtle.lint.command import USAGE, formed
+from musmyrtle.missed import MISSED
 from musmyrtle.output import Stop, write
 from musmyrtle.program import by_option, is_launcher, itself
 from musmyrtle.selections import Directory, UnknownWord
+from musmyrtle.streams import why_unread
 from musmyrtle.visible import visible
 from musmyrtle.world.refusals import NotStarted, SessionOver
 from musmyrtle.world.world_program import usual_world
@@ -55,7 +57,7 @@ def ranks_before(file: str | None) -> Ranks | None:
             first = source.readline(LONGEST_HEADING)
             return read_ranks(first + source.read() if first in HEADINGS else first)
     except OSError as error:
-        raise Stop(USAGE, f"--against {file}: {error.strerror}") from None
+        raise Stop(USAGE, f"--against {file}: {why_unread(file, error)}") from None
     except ValueError as error:
         why = error if isinstance(error, BadTable) else "isn't a table of faults: it is no UTF-8"
         raise Stop(USAGE, f"--against {file}: {why}") from None
@@ -192,6 +194,7 @@ def measured(given: argparse.Namespace, folder: Path) -> Results | None:
     else:
         campaign, inputs, selection = with_scenario(given, folder)
         program = itself(given.program)
+    given.has_missed = bool(inputs.misses)
     listing, progress = campaign.listing(selection), Progress()
     faults = listing.faults(progress.listed)
     progress.end()
@@ -234,7 +237,12 @@ def concluded(given: argparse.Namespace, found: Results, before: Ranks | None) -
             f"{visible(','.join(given.buffers))}\n")
     if any(is_failed(its) for _, its in done):
         return UNDONE
-    return FOUND if counting else FINE
+    return status_of_missed(given, FOUND if counting else FINE)
+
+
+def status_of_missed(given: argparse.Namespace, status: int) -> int:
+    """Returns a status, or in the place of 0 that of a run without a fault that missed expectations."""
+    return status or (MISSED if given.has_missed else FINE)
 
 
 def worse_line(fault: SingleFault, found: Difference, labels: Labels) -> str:
@@ -248,7 +256,7 @@ def ran(given: argparse.Namespace) -> int:
         before = ranks_before(given.against)
         with temporary_folder("musmyrtle-faults-") as folder:
             found = measured(given, folder)
-            return FINE if found is None else concluded(given, found, before)
+            return status_of_missed(given, FINE) if found is None else concluded(given, found, before)
     except (NoReference, NoParallel, SessionOver) as error:
         raise Stop(UNDONE, str(error)) from None
     except Unusable as error:

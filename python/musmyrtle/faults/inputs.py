@@ -1,6 +1,7 @@
 """The inputs of a campaign, read once, and whether the program accepts them."""
 import argparse
 import sys
+from collections.abc import Iterator
 from dataclasses import dataclass
 from pathlib import Path
 
@@ -11,10 +12,13 @@ from musmyrtle.faults.campaign import NoReference, no_outcome
 from musmyrtle.faults.children import Children
 from musmyrtle.faults.host_runs import HostFunction, NoHost, function_of
 from musmyrtle.faults.modules import strange_warnings
-from musmyrtle.faults.runs import CLUSTER_FILE, SCENARIO_FILE, outcome_words
+from musmyrtle.faults.options import COMMAND
+from musmyrtle.faults.runs import CLUSTER_FILE, SCENARIO_FILE, outcome_words, words_of_run
 from musmyrtle.faults.whole_files import write_file
 from musmyrtle.lint.command import REFUSED, USAGE, is_bold_on, told
 from musmyrtle.lint.lint import Lint, Task, lint, read_bytes
+from musmyrtle.floods import misses_text
+from musmyrtle.missed import FORM as MISS
 from musmyrtle.missed import Miss
 from musmyrtle.names import Names
 from musmyrtle.output import Stop, pass_on, write
@@ -22,6 +26,7 @@ from musmyrtle.program import Answer as Asked
 from musmyrtle.program import ask
 from musmyrtle.scenario import Reading as ScenarioReading
 from musmyrtle.scenario import Scenario
+from musmyrtle.show.effects import Effects
 from musmyrtle.show.network import Network, missed_text
 from musmyrtle.texts import read_text
 
@@ -35,6 +40,8 @@ class Inputs:
     data: tuple[bytes, bytes]
     module: str | None = None
     """The file of the host program, if it has one."""
+    misses: tuple[Miss, ...] = ()
+    """The expectations of the scenario that the run without a fault missed."""
 
 
 def accepted(given: argparse.Namespace, folder: Path, children: Children) -> Inputs:
@@ -44,9 +51,10 @@ def accepted(given: argparse.Namespace, folder: Path, children: Children) -> Inp
     """
     task, data = copied(given, folder)
     files = task.file(given.cluster), task.file(given.scenario)
+    notes = list[str]()
     try:
-        answer = ask(given.program, outcome_words(*files, given.cycles), children.started,
-                     spelled=lambda miss: named(task, miss))
+        answer = ask(given.program, outcome_words(*files, given.cycles), children.started, known=MISS,
+                     tell=notes.append)
     except OSError as error:
         raise Stop(USAGE, f"{given.program} can't be run: {error.strerror}") from None
     found = lint(task)
@@ -61,7 +69,25 @@ def accepted(given: argparse.Namespace, folder: Path, children: Children) -> Inp
     # Otherwise `found` has a refusal.
     assert cluster is not None
     scenario = ScenarioReading(given.scenario, files_read[1], given.cycles, Names.of(files_read[0])).scenario
-    return Inputs(cluster, scenario, files_read)
+    if answer.misses:
+        told_first = misses_text(answer.misses, lambda miss: named(task, miss))
+        pass_on(f"{COMMAND}: the run without a fault misses {told_first}")
+    for note in (*notes, *idle_parts(given, files, scenario, Names.of(files_read[0]), children)):
+        pass_on(note)
+    return Inputs(cluster, scenario, files_read, misses=answer.misses)
+
+
+def idle_parts(given: argparse.Namespace, files: tuple[str, str], scenario: Scenario, names: Names, children: Children
+               ) -> Iterator[str]:
+    """Yields a line on each list of faults of which a part has no effect. The record says it, which takes one more run.
+    """
+    effects = Effects(scenario, names, given.cycles)
+    if not effects.has_lists:
+        return
+    _, record, _ = children.ran([given.program, *words_of_run("record", *files, given.cycles)])
+    for line in record.decode(errors="replace").splitlines():
+        effects.add(line)
+    yield from effects.told()
 
 
 def named(task: Task, miss: Miss) -> str:

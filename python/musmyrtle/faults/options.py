@@ -22,8 +22,9 @@ standard error. docs/FAULTS.md describes the faults and the words."""
 RUN = "examples/three-nodes/cluster.toml examples/three-nodes/scenario --cycles 4"
 EXAMPLES = (f"faults {RUN} --html faults.html > faults", f"faults {RUN} --kinds mute,lost --nodes 0")
 STATUSES = """status: 0 if no other status applies, 1 if the cluster or the scenario is refused, 2 if the words are no
-command, a file can't be used or the output can't be written, 3 if --fail-on found a cost, 4 if a run was refused or
-killed or has no outcome, 130, 143 or 129 if SIGINT, SIGTERM or SIGHUP broke it off"""
+command, a file can't be used or the output can't be written, 3 if --fail-on found a cost or the run without a fault
+missed expectations, 4 if a run was refused or killed or has no outcome, 130, 143 or 129 if SIGINT, SIGTERM or SIGHUP
+broke it off"""
 
 
 SSHLOGIN = f"""a machine, as parallel names it: 8/bench1, or 8/ssh -p 2222 bench1. The command ssh gets the options

@@ -24,7 +24,12 @@ Result = TypeVar("Result")
 
 def outcome_words(cluster: str, scenario: str, cycles: int) -> list[str]:
     """Returns the words after the program by which it prints the outcome of a run."""
-    return [OUTCOME[1], "--cycles", str(cycles), "--", cluster, scenario]
+    return words_of_run(OUTCOME[1], cluster, scenario, cycles)
+
+
+def words_of_run(command: str, cluster: str, scenario: str, cycles: int) -> list[str]:
+    """Returns the words after the program for a command of it about a run."""
+    return [command, "--cycles", str(cycles), "--", cluster, scenario]
 
 
 class Folder:

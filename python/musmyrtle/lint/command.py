@@ -193,14 +193,18 @@ def lasting(task: Task) -> Iterator[Task]:
 
     Raises `Stop` if standard output is one of them, which a command would spoil.
     """
-    inputs = [("the cluster file", task.cluster), ("the scenario", task.scenario)]
+    spare((("the cluster file", task.cluster), ("the scenario", task.scenario)))
+    with ExitStack() as copies:
+        names = dict.fromkeys(it for it in (task.cluster, task.scenario) if it is not None)
+        yield replace(task, files={name: lasting_file(name, copies) for name in names})
+
+
+def spare(inputs: Iterable[tuple[str, str | None]]) -> None:
+    """Raises `Stop` if standard output is one of the inputs, each given by what it is and its name."""
     spoiled = clash([Output("/dev/stdout", "standard output", "standard output")],
                     [(what, name) for what, name in inputs if name is not None])
     if spoiled:
         raise Stop(USAGE, spoiled)
-    with ExitStack() as copies:
-        names = dict.fromkeys(it for it in (task.cluster, task.scenario) if it is not None)
-        yield replace(task, files={name: lasting_file(name, copies) for name in names})
 
 
 def lasting_file(name: str, copies: ExitStack) -> str:
@@ -323,6 +327,8 @@ def linted(given: argparse.Namespace) -> int:
     with lasting(whole) as task:
         if is_trace_file(task.file(task.cluster)):
             return traced(given, task)
+        if given.scenario is None and given.cycles is not None:
+            raise Stop(USAGE, "--cycles wants a scenario: no run of the cluster file alone is checked")
         try:
             overwritten = Overwritten()
             # `run` itself decides whether a scenario fits the cluster. Its outcome is dropped.

@@ -17,8 +17,10 @@ from musmyrtle.lint.runs import Run, skipped_lines, small_journals
 from musmyrtle.lint.trace_why import is_trace
 from musmyrtle.missed import Miss
 from musmyrtle.names import named_in
+from musmyrtle.output import CANNOT_BE_USED, Stop
 from musmyrtle.scenario import Reading as ScenarioReading
 from musmyrtle.signals.frames import Definitions, Frames
+from musmyrtle.streams import CLOSED_INPUT, is_closed_input
 from musmyrtle.texts import FILE_LIMIT, NoText, Text, read_text
 
 MOST_NAMES = 500
@@ -106,12 +108,17 @@ class Task:
 
 
 def read_bytes(file: str) -> bytes | None:
-    """Returns the bytes of a file up to the limit of its kind; a trace may be longer than others."""
+    """Returns the bytes of a file up to the limit of its kind; a trace may be longer than others.
+
+    Returns None for a file that can't be read. Raises `Stop` for a closed standard input, which is no file.
+    """
     try:
         with open(file, "rb") as source:
             data = source.read(FILE_LIMIT + 1)
             return data + source.read(TRACE_LIMIT) if is_trace(data) else data
     except (OSError, ValueError):
+        if is_closed_input(file):
+            raise Stop(CANNOT_BE_USED, f"{file} can't be read: {CLOSED_INPUT}") from None
         return None
 
 

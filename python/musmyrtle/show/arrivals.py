@@ -55,6 +55,11 @@ class Arrivals:
         self.is_endless = is_endless
         self.known: dict[tuple[int, str, int], tuple[Destination, ...]] = {}
 
+    @property
+    def cycles(self) -> int:
+        """Returns the cycles of the run."""
+        return self.inputs.cycles
+
     def __iter__(self) -> Iterator[Due]:
         """Yields the windows, each as often as it has wanted receivers. Raises `Stop` where the run is refused."""
         ask = self.inputs.lines_of_run
@@ -64,7 +69,7 @@ class Arrivals:
         begins, stored = Begins(windows), stored_in(received)
         window, now = -1, Stored()
         for number, lines in groupby(record, first_word):
-            sent = [it for it in map(transmission_of, lines) if it.slot is not None and it.data]
+            sent = sent_in(lines)
             places = self.places(sent)
             if not places:
                 continue
@@ -140,6 +145,11 @@ class Begins:
         line = next(islice(self.lines, window - self.passed, None))
         self.passed = window + 1
         return int(line.split(" ", 4)[3])
+
+
+def sent_in(lines: Iterable[str]) -> list[Transmission]:
+    """Returns the transmissions of a window that have a slot, by its lines of the record."""
+    return [it for it in map(transmission_of, lines) if it.slot is not None and it.data]
 
 
 def first_word(line: str) -> str:

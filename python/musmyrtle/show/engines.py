@@ -1,4 +1,5 @@
 """The programs that a command asks, and its inputs: a refusal is explained as `lint` explains it."""
+import os
 import subprocess
 import sys
 from collections.abc import Iterable, Iterator
@@ -12,20 +13,30 @@ from musmyrtle.ending import FINE, reason_of
 from musmyrtle.faults.children import Children
 from musmyrtle.findings import block, counted
 from musmyrtle.floods import condensed
-from musmyrtle.idle_lines import idle_line_of
+from musmyrtle.idle_lines import idle_line_of, idle_text
 from musmyrtle.lint.command import MOST_REPEATED, REFUSED, USAGE, is_bold_on, lasting
 from musmyrtle.lint.lint import Lint, Task, lint, read_bytes
 from musmyrtle.missed import MISSED, NOT_JUDGED, UNJUDGED, Miss, is_unjudged, miss_of, misses_of
+from musmyrtle.most_cycles import BAD_CYCLES, too_many_cycles
+from musmyrtle.names import Names
 from musmyrtle.output import Stop, pass_on, write
 from musmyrtle.program import REFUSED_LINE, Answer, is_launcher, itself, no_answer, places, usual_program
+from musmyrtle.scenario import Reading, Scenario
+from musmyrtle.show.effects import Effects
+from musmyrtle.show.first_lines import is_foreign
 from musmyrtle.show.network import Network, missed_text
 from musmyrtle.texts import NoText, read_text
+from musmyrtle.version import version
 from musmyrtle.visible import cut, visible
 
 COMMAND = "musmyrtle"
-ENDLESS = "--endless"
-"""The word for a run without history."""
+ENDLESS, RECORD = "--endless", "record"
+"""The word for a run without history, and the view that names the lines of faults."""
+WITH_OUTPUT = (FINE, MISSED, UNJUDGED)
+"""The statuses of a program that printed its output."""
 MOST_REASONS = 20
+CHUNK = 1 << 16
+"""The bytes of a program's lines that are read at once."""
 
 
 def temporary_file() -> IO[bytes]:
@@ -61,6 +72,15 @@ class Inputs:
         """The expectations of the scenario that the run missed."""
         self.passes_misses_on = True
         """False for a command that has a table of them, in which they aren't messages."""
+        self.passes_idle_on = True
+        """The same of the fault lines without effect. False also for the run of a session, whose scenario is made here.
+        """
+        self.label = ""
+        """The beginning of each message, for a command about several runs."""
+        self.further: tuple[int, str] | None = None
+        """The last line of the scenario and its name, for a run with a further line, if messages are about it alone."""
+        self.effects: Effects | None = None
+        """The effects of the scenario's faults in the record, once it was read, if the programs don't print them."""
         self.is_endless = self.is_unjudged = False
         """True for a command whose run keeps no history; and for a view that judged none of the expectations. In a run
         with history these are judged by another view."""
@@ -80,6 +100,21 @@ class Inputs:
         if network is None:
             raise Stop(USAGE, f"{self.task.cluster} can't be read again, or was changed meanwhile")
         return network
+
+    @cached_property
+    def scenario(self) -> Scenario:
+        """Returns the scenario, which a program has accepted."""
+        return Reading(self.task.scenario or "", self.text, self.cycles, self.names).scenario
+
+    @property
+    def text(self) -> bytes:
+        """Returns the content of the scenario."""
+        return read_bytes(self.task.file(self.task.scenario or "")) or b""
+
+    @property
+    def names(self) -> Names:
+        """Returns the names of the cluster file, which a program has accepted."""
+        return Names.of(read_bytes(self.task.file(self.task.cluster)) or b"")
 
     @property
     def status(self) -> int:
@@ -120,10 +155,14 @@ class Inputs:
         it gives no answer."""
         program = self.program(name)
         status, output, told = self.ran(program, name, words, data)
+        lines = output.decode(errors="replace").splitlines()
+        if status in WITH_OUTPUT and is_foreign(words[0], lines[0] if lines else None):
+            raise foreign(program, words)
+        lines = list(self.watched(words, iter(lines)))
         idle = self.told(program, words, status, told)
         if output and not output.endswith(b"\n"):
             raise cut_off(program, words)
-        return Printed(output.decode(errors="replace").splitlines(), tuple(idle))
+        return Printed(lines, tuple(idle))
 
     def ran(self, program: str, name: str, words: list[str], data: bytes = b"") -> tuple[int, bytes, bytes]:
         """Runs a program, and returns its status, output and standard error."""
@@ -138,23 +177,27 @@ class Inputs:
         """Yields the lines that `fr_view` prints about the run, as it prints them. Raises what `ask` raises."""
         name, pipe = "fr_view", subprocess.PIPE
         program, words_of_run = self.program(name), self.words_of_run(command, *words)
-        is_whole = True
+        parts = list[bytes]()
         with temporary_file() as told:
             try:
                 with self.children.started([program, *words_of_run], stdin=subprocess.DEVNULL, stdout=pipe,
                                            stderr=told) as process:
-                    for line in process.stdout or ():
-                        is_whole = line.endswith(b"\n")
-                        if not is_whole:
-                            break
-                        yield line.decode(errors="replace").rstrip("\n")
+                    lines = self.watched(words_of_run, whole_lines(process.stdout, parts))
+                    first = next(lines, None)
+                    if first is not None:
+                        if is_foreign(command, first):
+                            raise foreign(program, words_of_run)
+                        yield first
+                        yield from lines
             except OSError as error:
                 raise self.no_start(program, name, error) from None
             self.keep(program, name)
             told.seek(0)
             self.told(program, words_of_run, process.returncode, told.read())
-        if not is_whole:
+        if parts:
             raise cut_off(program, words_of_run)
+        if first is None and is_foreign(command, None):
+            raise foreign(program, words_of_run)
 
     def no_start(self, program: str, name: str, error: OSError) -> Stop:
         """Returns the end of a command that can't run a program."""
@@ -175,18 +218,59 @@ class Inputs:
         if status and not misses and not is_unjudged(status, lines):
             self.stop(program, words, status, lines)
         self.misses = misses or self.misses
-        told_on = [it for it in lines if not self.is_told_otherwise(it)]
-        for line in condensed(told_on, self.spelled):
-            if line not in self.passed_on:
-                self.passed_on.add(line)
-                pass_on(line)
+        if words[0] == RECORD and self.effects is None:
+            self.effects = self.effects_of(words)
+        for line in condensed(self.notes(words, lines), self.spelled):
+            if self.further and not line.startswith(f"line {self.further[0]} "):
+                continue
+            message = f"{self.label}{line}"
+            if self.further:
+                message = line.replace(f"line {self.further[0]}", self.further[1], 1)
+            if message not in self.passed_on:
+                self.passed_on.add(message)
+                pass_on(message)
         return [it for it in map(idle_line_of, lines) if it is not None]
+
+    def notes(self, words: list[str], lines: list[str]) -> Iterator[str]:
+        """Yields the lines to pass on of a program's: on the scenario, on its idle faults, and on its expectations."""
+        mine = [it for it in lines if not self.is_told_otherwise(it)]
+        is_last = [miss_of(it) is not None or it.endswith(NOT_JUDGED) for it in mine]
+        yield from (it for it, is_later in zip(mine, is_last) if not is_later)
+        if self.effects and self.passes_idle_on and words[0] == RECORD:
+            if ENDLESS in words:
+                yield from map(idle_text, self.effects.idle())
+            yield from self.effects.told()
+        yield from (it for it, is_later in zip(mine, is_last) if is_later)
 
     def is_told_otherwise(self, line: str) -> bool:
         """Returns whether the command itself prints what a line says, or asks another view for it."""
-        if idle_line_of(line) is not None or not self.is_endless and line.endswith(NOT_JUDGED):
+        if idle_line_of(line) is not None:
+            return not self.passes_idle_on
+        if not self.is_endless and line.endswith(NOT_JUDGED):
             return True
         return not self.passes_misses_on and miss_of(line) is not None
+
+    def watched(self, words: list[str], lines: Iterator[str]) -> Iterator[str]:
+        """Yields the lines that a program prints, and notes the effects of faults in those of the record."""
+        first = next(lines, None) if words[0] == RECORD else None
+        if first is not None:
+            effects = self.effects = self.effects_of(words)
+            if effects:
+                effects.add(first)
+            yield first
+            while effects and (line := next(lines, None)) is not None:
+                effects.add(line)
+                yield line
+        yield from lines
+
+    def effects_of(self, words: list[str]) -> Effects | None:
+        """Returns where to note the effects in a record, or None if the program reports all of them.
+
+        It reports none in a run without history, and no part of a line with lists.
+        """
+        if not self.has_lines or ENDLESS not in words and b"," not in self.text:
+            return None
+        return Effects(self.scenario, self.names, self.cycles)
 
     def spelled(self, miss: Miss) -> str:
         """Returns a missed expectation with the names of its node and buffer."""
@@ -199,11 +283,32 @@ class Inputs:
         if refusals and told.split(" ")[0] in self.awaited:
             raise Awaited(told)
         answer = Answer(status, told, bool(refusals))
-        found = lint(self.task) if answer.status == REFUSED else Lint()
+        found = Lint()
+        if told == BAD_CYCLES:
+            # `lint` knows runs with history alone.
+            found.refusals.append((told, too_many_cycles(self.network.cluster, self.cycles)))
+        elif answer.status == REFUSED:
+            found = lint(self.task)
         if not answer.is_one(found.refusal) or answer.status == USAGE:
             raise Stop(USAGE, no_answer(program, words, answer))
         write(sys.stderr, ["\n".join(reasons(told, found))])
         raise Stop(REFUSED)
+
+
+def whole_lines(source: IO[bytes] | None, rest: list[bytes]) -> Iterator[str]:
+    """Yields the whole lines of an output as they come, and adds a last one without a line feed to REST."""
+    left = b""
+    while source and (data := os.read(source.fileno(), CHUNK)):
+        block, end, left = (left + data).rpartition(b"\n")
+        if end:
+            yield from block.decode(errors="replace").split("\n")
+    rest += [left] if left else []
+
+
+def foreign(program: str, words: list[str]) -> Stop:
+    """Returns the end of a command whose program prints something else than it has to."""
+    return Stop(USAGE, visible(f"{program} {words[0]} doesn't print what {COMMAND} {version()} reads: is it another "
+                               "program, or one of another version?"))
 
 
 def cut_off(program: str, words: list[str]) -> Stop:

@@ -5,11 +5,9 @@ from functools import cache, cached_property
 from musmyrtle.faults.fifos import Fifo, Unread, read_fifo
 from musmyrtle.lint.command import USAGE
 from musmyrtle.links import links_in
-from musmyrtle.lint.lint import read_bytes
-from musmyrtle.names import Names
 from musmyrtle.outcomes import BadOutcome, Outcome, read_outcome
 from musmyrtle.output import Stop
-from musmyrtle.scenario import Reading, Scenario
+from musmyrtle.scenario import Scenario
 from musmyrtle.show.causes import Causes
 from musmyrtle.show.engines import ENDLESS, Inputs
 from musmyrtle.show.idle_cycle import cycle_begins_of, idle_cycle_of
@@ -109,7 +107,7 @@ def transmission_of(line: str) -> Transmission:
     place = number(words[2]), number(words[3])
     if words[6] == "corrupt":
         return Transmission(window, cycle, *place, words[4], None, "corrupt", None, None, None, None, None,
-                            int(words[7]), int(words[8]))
+                            int(words[7]), number(words[8]))
     return Transmission(window, cycle, *place, words[4], int(words[5]), words[6], words[7], words[8],
                         number(words[9]), text(words[10]), words[11], None, number(words[12]))
 
@@ -185,12 +183,10 @@ class Facts:
         except BadOutcome as error:
             raise Stop(USAGE, f"{self.inputs.program('fr_view')} prints no outcome: {error}") from None
 
-    @cached_property
+    @property
     def scenario(self) -> Scenario:
         """Returns the scenario, which a program has accepted."""
-        task = self.inputs.task
-        name, cluster = task.scenario or "", read_bytes(task.file(task.cluster)) or b""
-        return Reading(name, read_bytes(task.file(name)) or b"", self.inputs.cycles, Names.of(cluster)).scenario
+        return self.inputs.scenario
 
     @cached_property
     def windows(self) -> Windows:

@@ -11,7 +11,7 @@ from contextlib import suppress
 from textwrap import fill
 from typing import TYPE_CHECKING
 
-from musmyrtle.cluster import GUARDS
+from musmyrtle.cluster import GUARDS, Reading
 from musmyrtle.ending import FINE, status_of
 from musmyrtle.faults.whole_files import Unusable, replace_file, spare_inputs
 from musmyrtle.findings import counted
@@ -20,8 +20,10 @@ from musmyrtle.lint.lint import read_bytes, unreadable
 from musmyrtle.output import Stop, pass_on, write
 from musmyrtle.show.engines import COMMAND
 from musmyrtle.show.options import WIDTH
-from musmyrtle.show.tables import Column, Row, Section, as_text
+from musmyrtle.show.tables import as_text
+from musmyrtle.signals.refusals import BadSignals
 from musmyrtle.texts import NoText, Text, read_text
+from musmyrtle.visible import visible
 
 if TYPE_CHECKING:
     from musmyrtle.descriptions.importing import Imported, Wishes
@@ -32,8 +34,7 @@ EXAMPLES = ("import examples/descriptions/network.arxml > cluster.toml",
 STATUSES = ("status: 0 if it is done, with notes on standard error, 1 if the description is refused, with "
             "lines `refused NAME PATH: REASON` and no output, 2 if the words are no command, a file can't be read or "
             "written, or defusedxml isn't installed, 3 if --compare finds differences")
-COLUMNS = (Column("thing", "thing"), Column("name", "name", "whole"), Column("change", "change"), Column("key", "key"),
-           Column("before", "before"), Column("after", "after"))
+SAME = "The description says what the cluster file says.\n"
 DIFFERENT = 3
 MEGABYTE = 1_000_000
 MOST_REFUSALS = 200
@@ -145,20 +146,25 @@ def existing(file: str) -> Text:
         found = unreadable(file, "the cluster file")
         raise Stop(USAGE, f"{found.headline}. {found.reason}")
     try:
-        return read_text(file, data)
+        text = read_text(file, data)
     except NoText as error:
         raise Stop(USAGE, f"{error.why.place or file}: {error.why.headline}. {error.why.reason}") from None
+    if Reading(text.document).cluster is None:
+        raise Stop(USAGE, visible(f"{file} isn't accepted as a cluster file: `{COMMAND} lint {file}` has the reasons"))
+    return text
 
 
 def compared(given: argparse.Namespace, old: Text, found: "Imported") -> int:
     """Prints the differences, and returns the status."""
     from musmyrtle.descriptions.comparing import compare
-    changes = compare(old, read_text("", found.text.encode()))
-    rows = [Row({"thing": it.kind, "name": it.name, "change": it.what, "key": it.key or None,
-                 "before": it.before or None, "after": it.after or None}) for it in changes]
-    sections = [Section("change", "", COLUMNS, rows, "The description says what the cluster file says.")]
-    printed(formed(given, sections, as_text(sections, is_bold_on(sys.stdout))))
-    return DIFFERENT if changes else FINE
+    from musmyrtle.diff.differences import for_people, sections_of
+    try:
+        sections = sections_of(compare(old, read_text("", found.text.encode())))
+    except BadSignals as error:
+        raise Stop(USAGE, visible(f"{given.compare}: {error}")) from None
+    text = as_text(for_people(sections), is_bold_on(sys.stdout)) if sections else [SAME]
+    printed(formed(given, sections, text))
+    return DIFFERENT if sections else FINE
 
 
 def done(given: argparse.Namespace) -> int:

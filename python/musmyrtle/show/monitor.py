@@ -6,21 +6,26 @@ import subprocess
 import sys
 from collections.abc import Callable, Iterable, Iterator
 from contextlib import ExitStack
+from dataclasses import replace
 from typing import IO
 
 from musmyrtle.breaking import breaking_off
 from musmyrtle.ending import status_of
 from musmyrtle.file_kinds import CAPTURE, EXPORT, FLEXRAY, UNPACK, described, kind_of_file, link_types_of
 from musmyrtle.findings import counted
-from musmyrtle.lint.command import USAGE, Parser, add_forms, formed, is_bold_on, printed, shown_examples
+from musmyrtle.lint.command import USAGE, Parser, add_forms, formed, is_bold_on, printed, shown_examples, spare
 from musmyrtle.output import Stop, pass_on, write
 from musmyrtle.program import REFUSED_LINE, Answer, is_launcher, itself, no_answer
-from musmyrtle.show.engines import COMMAND, Inputs, opened, temporary_file
+from musmyrtle.show.engines import COMMAND, Inputs, foreign, opened, temporary_file
 from musmyrtle.show.network import Network
-from musmyrtle.show.options import CLUSTER
-from musmyrtle.show.recordings import (BACK, FINDING, FRAME, Senders, back_row, channel_row, finding_row, found_row,
+from musmyrtle.show.options import CLUSTER, HELP
+from musmyrtle.show.payloads import below, of_record
+from musmyrtle.show.recordings import (BACK, FINDING, FRAME, LastFrames, back_row, channel_row, finding_row, found_row,
                                        slot_row, total_row)
+from musmyrtle.show.signals import COLUMNS, frames_in
 from musmyrtle.show.tables import Column, Row, Section, as_json, as_text
+from musmyrtle.signals.receiving import Layouts
+from musmyrtle.streams import CLOSED_INPUT, why_unread
 from musmyrtle.visible import cut
 
 FOUND, REFUSED = 3, "refused"
@@ -69,6 +74,7 @@ def arguments() -> argparse.ArgumentParser:
     add("--findings", metavar="N", type=lambda word: number_of(word, 0), default=20,
         help=f"the most findings of each name to print, 0 to {MOST_NUMBER} (20); all are counted")
     add("--channel", choices=("A", "B"), help="the only channel to judge")
+    add("--signals", action="store_true", help=HELP)
     add_judging(parser)
     add_forms(parser)
     return parser
@@ -116,32 +122,37 @@ def recording_of(name: str, files: ExitStack) -> IO[bytes]:
     """Returns the recording, opened."""
     if name == STANDARD_INPUT:
         if sys.stdin is None:
-            raise Stop(USAGE, "the recording can't be read: standard input is closed")
+            raise Stop(USAGE, f"the recording can't be read: {CLOSED_INPUT}")
+        spare([("the recording", "/dev/stdin")])
         return sys.stdin.buffer
+    spare([("the recording", name)])
     try:
         return files.enter_context(open(name, "rb"))
     except (OSError, ValueError) as error:
-        reason = error.strerror if isinstance(error, OSError) else str(error)
+        reason = why_unread(name, error) if isinstance(error, OSError) else str(error)
         raise Stop(USAGE, f"{name} can't be read: {reason}") from None
 
 
 class Tables:
-    """The rows of a recording by their kinds, in the order of the program's lines."""
+    """The rows of a recording by their kinds, in the order of the program's lines.
 
-    def __init__(self, network: Network) -> None:
-        self.network, self.senders = network, Senders()
+    With LAYOUTS each finding has the signals of its frame below.
+    """
+
+    def __init__(self, network: Network, layouts: Layouts | None = None) -> None:
+        self.network, self.layouts, self.last = network, layouts, LastFrames()
         self.rows: dict[str, list[Row]] = {it: [] for it in KINDS}
 
     def add(self, line: str) -> Section | None:
         """Adds the row of a line, and returns it as a table of its own. Lines of other kinds have none."""
         words = line.split(" ")
         if words[0] == FRAME:
-            self.senders.add(words)
+            self.last.add(words)
             return None
         if words[0] == FINDING:
-            kind, row = FINDING, finding_row(self.network, words, self.senders.of(words))
+            kind, row = FINDING, self.with_signals(finding_row(self.network, words, self.last.sender(words)), words)
         elif words[0] == BACK:
-            kind, row = FINDING, back_row(self.network, words)
+            kind, row = FINDING, self.with_signals(back_row(self.network, words), words)
         elif words[0] == TOTAL.strip():
             kind, row = "total", total_row(words)
         elif words[0] == "channel":
@@ -153,7 +164,14 @@ class Tables:
         else:
             return None
         self.rows[kind].append(row)
-        return Section(kind, "", KINDS[kind][1], [row])
+        return Section(kind, "", KINDS[kind][1], [row], below=COLUMNS)
+
+    def with_signals(self, row: Row, words: list[str]) -> Row:
+        """Returns the row of a finding or a return with the signals of its frame below, if they are asked for."""
+        if self.layouts is None:
+            return row
+        frame = self.last.frame(words)
+        return replace(row, below=tuple(() if frame is None else below(of_record(frame, self.layouts))))
 
     def refuse(self, refusal: str, has_front: bool) -> None:
         """Adds the refusal of the recording. If no record of it was judged, there are no other tables."""
@@ -163,7 +181,8 @@ class Tables:
 
     def sections(self) -> list[Section]:
         """Returns all tables. Of a refused recording they don't state that there is no finding."""
-        return [Section(kind, title, columns, self.rows[kind], "" if self.rows[REFUSED] else nothing)
+        return [Section(kind, title, columns, self.rows[kind], "" if self.rows[REFUSED] else nothing,
+                        COLUMNS if kind == FINDING and self.layouts else ())
                 for kind, (title, columns, nothing) in KINDS.items()]
 
 
@@ -225,6 +244,8 @@ def judged(inputs: Inputs, given: argparse.Namespace, source: IO[bytes], add: Ca
     answer = answer_of(status, told)
     if status == USAGE or status != FOUND and not answer.is_one():
         raise Stop(USAGE, no_answer(program, words, answer))
+    if not totals and not answer.refusal:
+        raise foreign(program, words)
     file = "/dev/stdin" if given.recording == STANDARD_INPUT else given.recording
     return status, told + [f"{COMMAND}: {it}" for it in mistaken(file, total_row(totals[-1]) if totals else None)]
 
@@ -254,7 +275,7 @@ def outcome(given: argparse.Namespace, inputs: Inputs, source: IO[bytes]) -> int
     """Prints the tables of a recording, and returns the status."""
     # Only an accepted cluster has names, and the reason of a refusal is explained.
     inputs.of_cluster("fr_bench", "check")
-    tables = Tables(inputs.network)
+    tables = Tables(inputs.network, Layouts(frames_in(inputs)[1]) if given.signals else None)
 
     def add(line: str) -> None:
         section = tables.add(line)

@@ -1,29 +1,32 @@
 """The command `signals`: signals over time, as each receiver of a run has them, as a table and as a picture."""
 import argparse
+import os
 import sys
 from collections.abc import Generator, Iterable, Iterator
-from contextlib import closing
+from contextlib import ExitStack, closing
+from functools import partial
 
 from musmyrtle.breaking import breaking_off
 from musmyrtle.ending import FINE, status_of
-from musmyrtle.faults.whole_files import Unusable, replace_file, spare_inputs, try_file
 from musmyrtle.findings import counted
-from musmyrtle.lint.command import REFUSED, USAGE, Parser, add_forms, formed, is_bold_on, printed, shown_examples
+from musmyrtle.lint.command import REFUSED, Parser, add_forms, formed, is_bold_on, printed, shown_examples
 from musmyrtle.missed import MISSED, UNJUDGED
 from musmyrtle.output import Stop, pass_on
 from musmyrtle.selections import cycles_of
 from musmyrtle.show.ages import age_of
 from musmyrtle.show.arrivals import Arrivals, Due
 from musmyrtle.show.choice import Chosen, Words, known_names
-from musmyrtle.show.engines import COMMAND, ENDLESS, Awaited, Inputs, opened
+from musmyrtle.show.engines import COMMAND, Awaited, Inputs, opened
 from musmyrtle.show.facts import Facts
-from musmyrtle.show.monitor import add_judging
+from musmyrtle.show.monitor import STANDARD_INPUT, add_judging, recording_of
 from musmyrtle.show.options import CLUSTER, SCENARIO, add_places, statuses
 from musmyrtle.show.page import NO_ROOM, int_of_cycles
-from musmyrtle.show.plot import MOST_LINES, Axis, picture
+from musmyrtle.show.pictures import add_commits, spare, write_picture
+from musmyrtle.show.plot import Axis
 from musmyrtle.show.samples import Holdings, Sample
 from musmyrtle.show.selection import Selection, known_buffers, known_places, numbers_of_nodes
 from musmyrtle.show.series import Series
+from musmyrtle.show.session_record import SessionArrivals, lines_in
 from musmyrtle.show.signal_expectations import BadExpectations, Expectation, expectations_in
 from musmyrtle.show.signal_judging import MISSED as UNMET
 from musmyrtle.show.signal_judging import UNJUDGED as NEVER
@@ -36,8 +39,8 @@ from musmyrtle.show.signals import frames_in, tell_faults
 from musmyrtle.show.tables import Row, Section, as_text
 from musmyrtle.show.wireshark import write_tables
 from musmyrtle.signals.frames import Frames
+from musmyrtle.signals.layout import Layout
 from musmyrtle.signals.receiving import Destinations, Layouts, routes_of
-from musmyrtle.signals.texts import bytes_of
 from musmyrtle.world.bounds import MOST_CYCLES
 
 PURPOSE = ("Prints signals over time, as each receiver has them: a row for each window in which a receive buffer or a\n"
@@ -46,8 +49,6 @@ OF_SIGNALS = "examples/signals/cluster.toml examples/signals/scenario --cycles 4
 EXAMPLES = (f"signals {OF_SIGNALS} brake.speed", f"signals {OF_SIGNALS} --node dashboard --signal speed,gear --csv",
             f"signals {OF_SIGNALS} brake.speed --svg speed.svg --each-fault-of engine > table")
 GOES_ON = f"{COMMAND}: the history of this run has no room, so the run is an endless one, as with --endless"
-MOST_PANELS = 100
-"""The plots of a picture."""
 
 
 def arguments() -> argparse.ArgumentParser:
@@ -67,9 +68,12 @@ def arguments() -> argparse.ArgumentParser:
         help="a run without history, of up to 4,000,000 cycles; a run whose history has no room is one in any case")
     add_choice(parser)
     add("--recording", metavar="RECORDING",
-        help="the signals of this capture (pcap or pcapng, link type 210) in the place of a run, for example of a "
-             "session; - is standard input, and nodes are the senders. Frames with a finding are left out and counted")
+        help="the signals of this capture (pcap or pcapng, link type 210) in the place of a run, on each channel; - is "
+             "standard input, and nodes are the senders. Frames with a finding are lost, and counted")
     add_judging(parser)
+    add("--record", metavar="RECORD",
+        help="the signals of a session in the place of a run, by the file that `fr_world --record` wrote; - is "
+             "standard input")
     add("--wireshark", metavar="FOLDER",
         help="write tables of Wireshark's dissector of signals into this folder, a profile of Wireshark, and do no "
              "more; standard error names what they can't say")
@@ -104,8 +108,11 @@ def parsed(words: list[str]) -> argparse.Namespace:
     given = parser.parse_intermixed_args(words)
     if given.wireshark is not None:
         return given
+    check_picture(parser, given)
     if given.recording is not None:
         return of_recording(parser, given)
+    if given.record is not None:
+        return of_record(parser, given)
     absent = [name for name, value in ((SCENARIO, given.scenario), ("--cycles", given.cycles)) if value is None]
     if absent:
         parser.error(f"the following arguments are required: {', '.join(absent)}")
@@ -117,30 +124,52 @@ def parsed(words: list[str]) -> argparse.Namespace:
     missing = given.in_cycles and given.in_cycles.missing(given.cycles)
     if missing is not None:
         parser.error(f"the run has no cycle {missing}: it has {counted(given.cycles, 'cycle')}")
-    if given.stale is not None and given.svg is None:
-        parser.error("--stale wants --svg FILE")
     check_faults(parser, given)
     return given
 
 
-def of_recording(parser: argparse.ArgumentParser, given: argparse.Namespace) -> argparse.Namespace:
-    """Returns the words about a recording, which has no scenario. Ends with status 2 for those of runs."""
+def check_picture(parser: argparse.ArgumentParser, given: argparse.Namespace) -> None:
+    """Ends with status 2 where an option for the picture stands alone."""
+    if given.stale is not None and given.svg is None:
+        parser.error("--stale wants --svg FILE")
+
+
+def of_record(parser: argparse.ArgumentParser, given: argparse.Namespace) -> argparse.Namespace:
+    """Returns the words about a session, which has no scenario. Ends with status 2 for those of runs."""
+    without_run(parser, given, "--record", {})
+    if given.record == STANDARD_INPUT and os.path.realpath(given.cluster) == os.path.realpath("/dev/stdin"):
+        parser.error("the cluster file and the record can't both come from standard input")
+    return given
+
+
+def without_run(parser: argparse.ArgumentParser, given: argparse.Namespace, name: str, more: dict[str, object]) -> None:
+    """Takes the word for a scenario as one for signals. Ends with status 2 for the words of runs, and for MORE."""
     if given.scenario is not None:
         given.signals, given.scenario = [given.scenario, *given.signals], None
-    of_runs = {"--cycles": given.cycles, "--endless": given.endless, "--svg": given.svg, "--expect": given.expect,
-               "--fault": given.fault, "--each-fault-of": given.each_fault_of, "--buffer": given.buffer,
-               "--in-cycles": given.in_cycles, "--errors": given.errors, "--stale": given.stale}
-    for name in (it for it, value in of_runs.items() if value):
-        parser.error(f"{name} is for a run, and doesn't go with --recording")
+    of_runs = {"--cycles": given.cycles, "--endless": given.endless, "--fault": given.fault,
+               "--each-fault-of": given.each_fault_of, **more}
+    for word in (it for it, value in of_runs.items() if value):
+        parser.error(f"{word} is for a run, and doesn't go with {name}")
+
+
+def of_recording(parser: argparse.ArgumentParser, given: argparse.Namespace) -> argparse.Namespace:
+    """Returns the words about a recording, which has no scenario. Ends with status 2 for those of runs."""
+    without_run(parser, given, "--recording", {
+        "--expect": given.expect, "--buffer": given.buffer, "--in-cycles": given.in_cycles, "--record": given.record})
     prepared(given)
     return given
 
 
 class Asked:
-    """The signals and receivers that the words of the command select, of a cluster file that is accepted."""
+    """The signals and receivers that the words of the command select, of a cluster file that is accepted.
 
-    def __init__(self, given: argparse.Namespace, inputs: Inputs, frames: Frames) -> None:
+    RECORD has the lines of the record of a session, if there is one in the place of runs.
+    """
+
+    def __init__(self, given: argparse.Namespace, inputs: Inputs, frames: Frames,
+                 record: Iterable[str] | None = None) -> None:
         network = inputs.network
+        self.record = record
         self.inputs, self.frames, self.network = inputs, frames, network
         self.selection = selection_of(given, inputs)
         self.routes = routes_of(frames)
@@ -153,11 +182,17 @@ class Asked:
         self.needed = self.chosen.with_places(more, self.routes) if more else self.chosen
         self.destinations, self.layouts = Destinations(frames.cluster), Layouts(frames)
 
-    def samples(self, run: Run, is_endless: bool, judge: Judge | None) -> Iterator[Sample]:
-        """Yields the samples of a run, which is judged on the way. Raises `Stop` where it is refused."""
+    def arrivals(self, run: Run, is_endless: bool) -> Arrivals:
+        """Returns the windows of a run, or of the session."""
         run.inputs.is_endless = is_endless
-        arrivals = Arrivals(run.inputs, self.destinations, self.layouts, self.needed.wants, is_endless)
-        holdings = Holdings(self.needed)
+        wanted = self.destinations, self.layouts, self.needed.wants
+        if self.record is not None:
+            return SessionArrivals(run.inputs, *wanted, self.record)
+        return Arrivals(run.inputs, *wanted, is_endless)
+
+    def samples(self, arrivals: Arrivals, judge: Judge | None) -> Iterator[Sample]:
+        """Yields the samples of windows, which are judged on the way. Raises `Stop` where their run is refused."""
+        holdings = Holdings(self.needed.of)
         dues: Iterable[Due] = arrivals
         if judge is not None:
             dues = judge.watch(arrivals, holdings)
@@ -169,6 +204,11 @@ class Asked:
     def slots(self) -> set[int]:
         """Returns the slots of the frames that have the chosen signals."""
         return {it.sender.slot for it in self.routes if self.chosen.of(it.destination, it.layout)}
+
+    def senders(self) -> dict[tuple[int, int], Layout]:
+        """Returns the frames that have the chosen signals, by the nodes and numbers of their transmit buffers."""
+        return {(it.sender.node, it.sender.number): it.layout for it in self.routes
+                if self.chosen.of(it.destination, it.layout)}
 
 
 def selection_of(given: argparse.Namespace, inputs: Inputs) -> Selection:
@@ -202,15 +242,18 @@ class Shown:
         self.judgements: list[Row] = []
         self.outcomes: set[str] = set()
         self.series = None if given.svg is None else Series(asked.network, asked.routes, limit)
+        self.cycles = 0
 
     def rows(self, runs: Iterable[Run]) -> Generator[Row, None, None]:
         """Yields the rows of all runs. On the way the lines of the picture are collected."""
         asked = self.asked
         for run in runs:
+            arrivals = asked.arrivals(run, self.is_endless)
             judge = None if asked.expectations is None else Judge(asked.expectations, asked.network, asked.words,
-                                                                  self.given.cycles)
-            samples = self.noted(asked.samples(run, self.is_endless, judge), run.fault)
+                                                                  partial(getattr, arrivals, "cycles"))
+            samples = self.noted(asked.samples(arrivals, judge), run.fault)
             yield from Rows(asked.network, asked.selection, run.fault).of(samples)
+            self.cycles = arrivals.cycles
             if judge:
                 self.judgements += judge.rows(run.fault)
                 self.outcomes |= judge.outcomes
@@ -234,7 +277,19 @@ class Shown:
                 # The reader of the table may have gone, but the picture is whole, and all is judged.
                 pass
         if self.series:
-            write_picture(self.given, self.asked, self.series)
+            self.draw(self.series)
+
+    def draw(self, series: Series) -> None:
+        """Writes the picture. A record has no commits."""
+        given, network = self.given, self.asked.network
+        cycle = network.cluster.parameters.cycle_mt
+        chosen = given.in_cycles.numbers if given.in_cycles else range(max(1, self.cycles))
+        series.end(self.cycles * cycle)
+        if self.asked.record is None:
+            add_commits(self.asked.inputs, self.asked.senders(), series)
+        source = given.scenario if given.record is None else f"the session of {given.record}"
+        title = f"Signals of {given.cluster} with {source}, {counted(self.cycles, 'cycle')}"
+        write_picture(given.svg, title, series, Axis.of(chosen[0] * cycle, (chosen[-1] + 1) * cycle, network.macrotick))
 
     def tables(self, rows: Iterable[Row]) -> list[Section]:
         """Returns the tables: of samples, and of expectations. Beside these, samples are printed only if some are
@@ -270,55 +325,6 @@ def chained(first: Row, rows: Iterator[Row]) -> Iterator[Row]:
     yield from rows
 
 
-def write_picture(given: argparse.Namespace, asked: Asked, series: Series) -> None:
-    """Writes the picture. Raises `Stop` where it can't be written, or has too much to show."""
-    cycle = asked.network.cluster.parameters.cycle_mt
-    chosen = given.in_cycles.numbers if given.in_cycles else range(given.cycles)
-    series.end(given.cycles * cycle)
-    add_commits(asked, series, cycle)
-    panels = list(series.panels.values())
-    if len(panels) > MOST_PANELS:
-        raise Stop(USAGE, f"--svg draws at most {MOST_PANELS} signals, and {len(panels)} are selected: name some, as "
-                          "brake.speed")
-    crowded = next((it for it in panels if len(it.merged()) > MOST_LINES), None)
-    if crowded:
-        raise Stop(USAGE, f"--svg draws at most {MOST_LINES} different lines of a signal, and {crowded.signal.name} "
-                          f"has {len(crowded.merged())}: select receivers or faults")
-    for frame, name in series.without_plot:
-        pass_on(f"{COMMAND}: {name} of frame {frame} isn't drawn, since it is whole bytes and no number")
-    axis = Axis.of(chosen[0] * cycle, (chosen[-1] + 1) * cycle, asked.network.macrotick)
-    title = f"Signals of {given.cluster} with {given.scenario}, {counted(given.cycles, 'cycle')}"
-    try:
-        replace_file(given.svg, picture(title, panels, axis).encode())
-    except OSError as error:
-        raise Stop(USAGE, f"--svg {given.svg}: {error.strerror}") from None
-
-
-def add_commits(asked: Asked, series: Series, cycle: int) -> None:
-    """Adds the committed values of the signals that are drawn, each at the begin of the commit's cycle."""
-    layouts = {(it.sender.node, it.sender.number): it.layout for it in asked.routes
-               if asked.chosen.of(it.destination, it.layout)}
-    for line in asked.inputs.lines_of_run("commits", ENDLESS):
-        word, node, buffer, *rest = line.split(" ")
-        layout = layouts.get((int(node), int(buffer))) if word == "commit" else None
-        if layout:
-            series.commit(int(node), int(buffer), layout, int(rest[1]) * cycle, bytes_of(rest[3]) or b"")
-
-
-def spare(given: argparse.Namespace) -> None:
-    """Raises `Stop` where the picture would overwrite an input, or can't be written."""
-    try:
-        spare_inputs({} if given.svg is None else {"--svg": given.svg},
-                     [("the cluster file", given.cluster), ("the scenario", given.scenario),
-                      *([] if given.expect is None else [("the file of --expect", given.expect)])])
-        if given.svg is not None:
-            try_file(given.svg)
-    except Unusable as error:
-        raise Stop(USAGE, str(error)) from None
-    except OSError as error:
-        raise Stop(USAGE, f"--svg {given.svg}: {error.strerror}") from None
-
-
 def done(given: argparse.Namespace, inputs: Inputs) -> int:
     """Does the command about inputs, and returns the status."""
     asked = Asked(given, inputs, frames_in(inputs)[1])
@@ -337,6 +343,16 @@ def done(given: argparse.Namespace, inputs: Inputs) -> int:
     return MISSED if MISSED in found else max(found)
 
 
+def done_record(given: argparse.Namespace) -> int:
+    """Does the command about the record of a session, and returns the status."""
+    with ExitStack() as files, opened(given.cluster) as inputs:
+        frames = frames_in(inputs)[1]
+        lines = lines_in(given.record, recording_of(given.record, files), frames.cluster)
+        shown = Shown(given, Asked(given, inputs, frames, lines), True)
+        shown.show([Run(None, inputs)])
+    return shown.status
+
+
 def done_tables(given: argparse.Namespace) -> int:
     """Writes the tables for Wireshark, and returns the status."""
     with opened(given.cluster) as inputs:
@@ -353,9 +369,13 @@ def main(words: list[str]) -> int:
             given = parsed(words)
             if given.wireshark is not None:
                 return done_tables(given)
+            spare(given.svg, [("the cluster file", given.cluster), ("the scenario", given.scenario),
+                              ("the recording", given.recording), ("the record", given.record),
+                              ("the file of --expect", given.expect)])
             if given.recording is not None:
                 return done_recording(given)
-            spare(given)
+            if given.record is not None:
+                return done_record(given)
             with opened(given.cluster, given.scenario, given.cycles) as inputs:
                 return done(given, inputs)
     return status_of(COMMAND, work)

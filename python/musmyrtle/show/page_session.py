@@ -138,7 +138,7 @@ def page_of_session(cluster: FileName, data: bytes, traces: list[list[str]], rec
         Path(files[name]).write_bytes(data)
         Path(files[SCENARIO]).write_text(text, encoding="ascii")
         inputs = Inputs(Task(name, SCENARIO, cycles, files))
-        inputs.has_lines = False
+        inputs.has_lines = inputs.passes_idle_on = False
         if program is not None:
             inputs.programs["fr_view"] = os.fspath(program)
         try:

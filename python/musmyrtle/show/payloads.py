@@ -72,6 +72,13 @@ def of_call(get: Get, _: Frames, layouts: Layouts) -> Found:
     return layouts.of(slot, str(channel), count), data_of(get)
 
 
+def of_record(words: list[str], layouts: Layouts) -> Found:
+    """Returns the payload of a line `frame` of `fr_monitor` that is a data frame, with the layout of its slot."""
+    if words[3] == "-" or words[5] == "-" or "n" in words[10]:
+        return None, None
+    return layouts.of(int(words[5]), words[4], int(words[3])), bytes_of(words[11])
+
+
 PAYLOADS: dict[str, Callable[[Get, Frames, Layouts], Found]] = {
     "transmission": of_transmission, "commit": of_commit, "undelivered": of_commit, "call": of_call, "fifo": of_call}
 """The payload and the layout of a row, by the kind of its table."""

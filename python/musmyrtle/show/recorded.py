@@ -2,12 +2,11 @@
 from dataclasses import dataclass, field
 
 from musmyrtle.show.network import Network
-from musmyrtle.show.recordings import BACK, FINDING, FRAME, Place, Senders, back_row, finding_row, number, text
+from musmyrtle.show.recordings import (BACK, ELSEWHERE, FINDING, FRAME, LastFrames, Place, back_row, finding_row,
+                                       number, text)
 from musmyrtle.show.tables import Name
 
 OPENS = "opens"
-ELSEWHERE = ("Missing", "Silent", "Symbol", "Nothing")
-"""The findings that aren't about the frame of their record."""
 
 
 @dataclass(slots=True)
@@ -60,6 +59,33 @@ class Lane:
     base: int | None = None
 
 
+class Axis:
+    """The axis of cycles that both channels of a recording share."""
+
+    def __init__(self) -> None:
+        self.lanes = {"A": Lane(), "B": Lane()}
+
+    def open(self, channel: str, count: int, cycle: int, beside: int | None) -> None:
+        """Notes a cycle of a channel with a count, beside which the other channel has the cycle BESIDE.
+
+        The first BESIDE of the channel that begins later shifts its cycles, so that both have one axis. This is form:
+        no count is compared here.
+        """
+        lane, other = self.lanes[channel], self.lanes["B" if channel == "A" else "A"]
+        lane.latest[count] = cycle
+        if lane.base is None:
+            lane.base = (0 if other.base is None or beside is None else other.base + beside) - cycle
+
+    def first(self) -> int:
+        """Returns the first cycle of the channels on the axis."""
+        return min((it.base for it in self.lanes.values() if it.base is not None), default=0)
+
+    def place(self, channel: str, cycle: int) -> int | None:
+        """Returns the place of a channel's cycle on the axis, or None before the channel has one."""
+        base = self.lanes[channel].base
+        return None if base is None else base + cycle
+
+
 class Recorded:
     """The lines of a recording, which are added one by one."""
 
@@ -67,8 +93,8 @@ class Recorded:
         self.network = network
         self.frames: dict[int, Frame] = {}
         self.notes: list[Note] = []
-        self.lanes = {"A": Lane(), "B": Lane()}
-        self.senders = Senders()
+        self.axis = Axis()
+        self.last = LastFrames()
         self.records = 0
 
     def add(self, line: str) -> None:
@@ -85,7 +111,7 @@ class Recorded:
 
     def add_frame(self, words: list[str]) -> None:
         """Adds the frame of a line. A broken one is in the cycle that its header names."""
-        self.senders.add(words)
+        self.last.add(words)
         place = Place.of(words)
         cycle, begin, length, node = map(number, words[6:10])
         frame = Frame(place.record or 0, place.seconds, place.cycle, place.channel, place.slot, cycle, begin, length,
@@ -95,27 +121,19 @@ class Recorded:
             self.open(frame, cycle, number(words[12]))
 
     def open(self, frame: Frame, cycle: int | None, beside: int | None) -> None:
-        """Puts a good frame into a cycle, beside which the other channel has the cycle BESIDE.
-
-        The first BESIDE of the channel that begins later shifts its cycles, so that both have one axis. This is form:
-        no count is compared here.
-        """
+        """Puts a good frame into a cycle, beside which the other channel has the cycle BESIDE."""
         frame.cycle = cycle
-        if cycle is None or frame.count is None:
-            return
-        lane, other = self.lanes[frame.channel], self.lanes["B" if frame.channel == "A" else "A"]
-        lane.latest[frame.count] = cycle
-        if lane.base is None:
-            lane.base = (0 if other.base is None or beside is None else other.base + beside) - cycle
+        if cycle is not None and frame.count is not None:
+            self.axis.open(frame.channel, frame.count, cycle, beside)
 
     def add_note(self, words: list[str]) -> None:
         """Adds a finding, or the return of a slot."""
         is_finding = words[0] == FINDING
-        row = finding_row(self.network, words, self.senders.of(words)) if is_finding else back_row(self.network, words)
+        row = finding_row(self.network, words, self.last.sender(words)) if is_finding else back_row(self.network, words)
         place, node, name, why = Place.of(words), row.values["node"], str(row.values["name"]), str(row.values["why"])
         frame, cycle = None, None
         if name == "Missing" and place.cycle is not None:
-            cycle = self.lanes[place.channel].latest.get(place.cycle)
+            cycle = self.axis.lanes[place.channel].latest.get(place.cycle)
         elif name not in ELSEWHERE and place.record is not None:
             frame = self.frames.get(place.record)
         if frame is not None and name != BACK:
@@ -123,13 +141,7 @@ class Recorded:
         its_node = node.number if isinstance(node, Name) else None
         self.notes.append(Note(place, name, why, its_node, frame, cycle))
 
-    # ---- the axis of both channels
-
-    def first(self) -> int:
-        """Returns the first cycle of the channels on the axis that they share."""
-        return min((it.base for it in self.lanes.values() if it.base is not None), default=0)
-
     def on_axis(self, channel: str, cycle: int | None) -> int | None:
         """Returns the number of a channel's cycle in the recording, from 0, if it is known."""
-        base = self.lanes[channel].base
-        return None if cycle is None or base is None else base + cycle - self.first()
+        place = None if cycle is None else self.axis.place(channel, cycle)
+        return None if place is None else place - self.axis.first()

@@ -59,6 +59,8 @@ KEPT = 16
 """The frames of a channel that are kept, good and broken ones each. A frame waits for the next good one alone."""
 NAMED = ("Missing", "NoBuffer")
 """The findings that have the node as the expected word."""
+ELSEWHERE = ("Missing", "Silent", "Symbol", "Nothing")
+"""The findings that aren't about the frame of their record."""
 
 
 @dataclass(frozen=True, slots=True)
@@ -92,31 +94,35 @@ def microseconds(word: str) -> float | None:
     return None if word == "-" else int(word) / 1000
 
 
-class Senders:
-    """The nodes of the last frames, as the lines of `fr_monitor --frames` name them, by channel and record.
+class LastFrames:
+    """The last frames, as the lines of `fr_monitor --frames` have them, by channel and record.
 
     A finding names the record of a frame: the last one, or one of the last good ones. So few are kept, however long a
     recording is.
     """
 
     def __init__(self) -> None:
-        self.good = {it: deque[tuple[int, int | None]](maxlen=KEPT) for it in CHANNELS}
-        self.broken = {it: deque[tuple[int, int | None]](maxlen=KEPT) for it in CHANNELS}
+        self.good = {it: deque[list[str]](maxlen=KEPT) for it in CHANNELS}
+        self.broken = {it: deque[list[str]](maxlen=KEPT) for it in CHANNELS}
 
     def add(self, words: list[str]) -> None:
         """Adds the line of a frame. A broken record has no indicators."""
         kept = self.broken if words[10] == "-" else self.good
-        kept[words[4]].append((int(words[1]), number(words[9])))
+        kept[words[4]].append(words)
 
-    def of(self, words: list[str]) -> int | None:
-        """Returns the node of a line `finding`, if there is one."""
-        place, name, expected = Place.of(words), words[6], words[7]
-        if name in NAMED:
-            return number(expected)
-        if place.slot is None:
+    def frame(self, words: list[str]) -> list[str] | None:
+        """Returns the line of the frame that a line `finding` or `back` is about, if there is one."""
+        if words[5] == "-" or words[6] in ELSEWHERE:
             return None
-        known = *self.good[place.channel], *self.broken[place.channel]
-        return next((node for record, node in known if record == place.record), None)
+        known = *self.good[words[4]], *self.broken[words[4]]
+        return next((it for it in known if it[1] == words[1]), None)
+
+    def sender(self, words: list[str]) -> int | None:
+        """Returns the node of a line `finding`, if there is one."""
+        if words[6] in NAMED:
+            return number(words[7])
+        found = self.frame(words)
+        return None if found is None else number(found[9])
 
 
 def length_why(expected: str, found: str) -> str:

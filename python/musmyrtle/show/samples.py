@@ -1,10 +1,9 @@
 """Signals over time, as each receiver has them: a sample of each chosen signal in each window that is due."""
-from collections.abc import Iterable, Iterator
+from collections.abc import Callable, Iterable, Iterator
 from dataclasses import dataclass
 from typing import NamedTuple
 
 from musmyrtle.show.arrivals import Due
-from musmyrtle.show.choice import Chosen
 from musmyrtle.signals.layout import Layout, Read
 from musmyrtle.signals.receiving import Destination
 from musmyrtle.signals.signal import Signal
@@ -38,9 +37,12 @@ class Held(NamedTuple):
 
 
 class Holdings:
-    """The last frame of each receiver. A FIFO has one for each slot, the newest."""
+    """The last frame of each receiver. A FIFO has one for each slot, the newest.
 
-    def __init__(self, chosen: Chosen) -> None:
+    CHOSEN returns the chosen signals of a frame at a receiver.
+    """
+
+    def __init__(self, chosen: Callable[[Destination, Layout], tuple[Signal, ...]]) -> None:
         self.chosen = chosen
         self.held: dict[tuple[Destination, int], Held] = {}
         self.last: dict[tuple[str, int], tuple[bytes, tuple[Read, ...]]] = {}
@@ -58,7 +60,7 @@ class Holdings:
     def stored(self, due: Due) -> Iterator[Sample]:
         """Yields the signals of a frame that is stored now."""
         layout, payload = due.layout, due.payload or b""
-        reads = () if layout is None else self.reads(layout, self.chosen.of(due.destination, layout), payload)
+        reads = () if layout is None else self.reads(layout, self.chosen(due.destination, layout), payload)
         self.held[self.of(due)] = Held(due.begin, layout, payload, reads)
         if layout is not None:
             for it in reads:
@@ -70,7 +72,7 @@ class Holdings:
         if layout is None:
             return
         if held is None or held.layout is not layout:
-            for signal in self.chosen.of(due.destination, layout):
+            for signal in self.chosen(due.destination, layout):
                 yield Sample(due, layout, signal, None, None, what)
             return
         for it in held.reads:

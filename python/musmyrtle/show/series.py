@@ -114,10 +114,13 @@ class Series:
         key = fault, destination, it.layout.name, it.signal.name
         if key not in self.lines:
             run = ("without a fault" if fault is None else fault) if has_faults else ""
-            limit = self.limits.get((destination, it.layout.name)) if self.limit is None else self.limit
-            self.lines[key] = Line(self.receiver(destination), run, limit)
+            self.lines[key] = Line(self.receiver(destination), run, self.line_limit(it))
             self.panel(it.layout, it.signal).lines.append(self.lines[key])
         return self.lines[key]
+
+    def line_limit(self, it: Sample) -> int | None:
+        """Returns the macroticks after which the value of a sample is stale."""
+        return self.limits.get((it.due.destination, it.layout.name)) if self.limit is None else self.limit
 
     def panel(self, layout: Layout, signal: Signal) -> Panel:
         """Returns the plot of a signal."""

@@ -11,9 +11,9 @@ from fractions import Fraction
 from typing import Any
 
 from musmyrtle.findings import Finding, joined
-from musmyrtle.lint.lint import read_bytes
+from musmyrtle.lint.lint import read_bytes, unreadable
 from musmyrtle.named_windows import EVERY
-from musmyrtle.output import Stop
+from musmyrtle.output import CANNOT_BE_USED, Stop
 from musmyrtle.places import Place as FilePlace
 from musmyrtle.selections import SelectedCycles, UnknownWord, cycles_of
 from musmyrtle.show.ages import RIGHT as RIGHT_AGE
@@ -76,11 +76,13 @@ class BadWord(Exception):
 
 
 def expectations_in(file: str, network: Network, words: Words) -> list[Expectation]:
-    """Returns the expectations of a file. Raises `BadExpectations` for faults, and for a file that can't be read."""
+    """Returns the expectations of a file.
+
+    Raises `BadExpectations` for faults, and `Stop` for a file that can't be read.
+    """
     data = read_bytes(file)
     if data is None:
-        raise BadExpectations([Finding("the file can't be read", "Expected a file with expectations.",
-                                       FilePlace(file, 1, None))])
+        raise Stop(CANNOT_BE_USED, unreadable(file, "the file of --expect").headline)
     if len(data) > FILE_LIMIT:
         raise BadExpectations([Finding(f"the file has {len(data)} bytes", f"It has at most {FILE_LIMIT}.",
                                        FilePlace(file, 1, None))])

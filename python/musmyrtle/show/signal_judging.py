@@ -5,7 +5,7 @@ buffer at the begin of the next cycle. Lost frames are counted over all cycles o
 """
 import math
 import struct
-from collections.abc import Iterable, Iterator
+from collections.abc import Callable, Iterable, Iterator
 from dataclasses import dataclass, field
 from fractions import Fraction
 
@@ -61,9 +61,13 @@ class Line:
 
 
 class Judge:
-    """Judges the lines in one run. It sees each window that is due, and at each end of a cycle what is held."""
+    """Judges the lines in one run. It sees each window that is due, and at each end of a cycle what is held.
 
-    def __init__(self, expectations: Iterable[Expectation], network: Network, words: Words, cycles: int) -> None:
+    CYCLES returns the cycles of the run, once its last window was seen.
+    """
+
+    def __init__(self, expectations: Iterable[Expectation], network: Network, words: Words,
+                 cycles: Callable[[], int]) -> None:
         self.lines = [Line(it) for it in expectations]
         self.network, self.words, self.cycles = network, words, cycles
         self.lossy: dict[tuple[Destination, str], list[Line]] = {}
@@ -83,7 +87,7 @@ class Judge:
             if due.layout is not None and not due.is_null:
                 self.count(due)
             yield due
-        for it in range(cycle, self.cycles):
+        for it in range(cycle, self.cycles()):
             self.end(it, holdings)
         for line in self.lines:
             self.close(line)

@@ -22,6 +22,7 @@ from musmyrtle.selections import ALL, cycles_of, places_of
 from musmyrtle.show.engines import COMMAND, Inputs
 from musmyrtle.show.facts import Facts
 from musmyrtle.show.selection import numbers_of_nodes
+from musmyrtle.visible import cut
 from musmyrtle.world.refusals import NotStarted
 from musmyrtle.world.world_program import usual_world
 
@@ -130,7 +131,7 @@ def each_run(faults: Faults, folder: Path) -> Iterator[Run]:
     data = read_bytes(task.file(task.cluster)) or b"", read_bytes(task.file(task.scenario or "")) or b""
     files = Folder(folder, *data, inputs.cycles, inputs.children)
     for line in faults.given.fault:
-        yield Run(line, with_lines(inputs, files, [line]))
+        yield Run(line, with_lines(inputs, files, [line], f"--fault {cut(line)!r}"))
     if faults.given.each_fault_of:
         found, progress = faults.listed(folder, data), Progress()
         for number, it in enumerate(found):
@@ -141,8 +142,11 @@ def each_run(faults: Faults, folder: Path) -> Iterator[Run]:
         progress(len(found), len(found))
 
 
-def with_lines(inputs: Inputs, files: Folder, lines: Iterable[str]) -> Inputs:
-    """Returns the inputs of a run of the same scenario with further lines."""
+def with_lines(inputs: Inputs, files: Folder, lines: Iterable[str], label: str = "") -> Inputs:
+    """Returns the inputs of a run of the same scenario with further lines.
+
+    With a label standard error reports whether the first of them has no effect. All else is known from the first run.
+    """
     try:
         name = files.written(files.with_lines(lines).encode())
     except Unusable as error:
@@ -151,5 +155,6 @@ def with_lines(inputs: Inputs, files: Folder, lines: Iterable[str]) -> Inputs:
     made = Inputs(Task(task.cluster, OF_FAULT, task.cycles, {**task.files, OF_FAULT: name}))
     made.programs, made.children, made.passed_on = inputs.programs, inputs.children, inputs.passed_on
     # Expectations are about the run without a fault.
-    made.passes_misses_on = False
+    made.passes_misses_on, made.passes_idle_on = False, bool(label)
+    made.further = files.head.count("\n") + 1, label
     return made

@@ -7,7 +7,9 @@ from textwrap import fill
 from musmyrtle.cluster import Buffer
 from musmyrtle.ending import FINE, status_of
 from musmyrtle.findings import Finding, block, counted
-from musmyrtle.lint.command import REFUSED, USAGE, Parser, add_forms, formed, is_bold_on, printed, shown_examples
+from musmyrtle.lint.command import (
+    REFUSED, USAGE, Parser, add_forms, formed, is_bold_on, printed, shown_examples, spare,
+)
 from musmyrtle.lint.guarantees import number_of
 from musmyrtle.lint.lint import read_bytes, unreadable
 from musmyrtle.names import Names, named_in
@@ -181,6 +183,7 @@ def annotate(words: list[str]) -> int:
     given = annotate_arguments().parse_args(words)
 
     def work(_: Inputs, text: Text, frames: Frames) -> None:
+        spare([("the scenario", given.scenario)])
         scenario = right_scenario(given.scenario, named_in(text.document))
         found = annotated(scenario, frames)
         whole = "\n".join(found.lines)

@@ -5,7 +5,6 @@ The counts are those of the reports. Their slots and cycles are the rows of `fr_
 from collections import Counter
 from collections.abc import Iterator
 
-from musmyrtle.lint.lint import read_bytes
 from musmyrtle.show.facts import Facts
 from musmyrtle.show.reasons import why
 from musmyrtle.show.received import ERRORS
@@ -16,14 +15,14 @@ from musmyrtle.world.replies import Counters, Queue, ReceiveBuffer
 
 def run(facts: Facts) -> list[Section]:
     """Returns the tables of `run`."""
-    facts.inputs.passes_misses_on = False
+    facts.inputs.passes_misses_on = facts.inputs.passes_idle_on = False
     return [totals(facts), missed(facts), undelivered(facts), empty_buffers(facts), overwriting(facts), errors(facts),
             idle(facts)]
 
 
 def totals(facts: Facts) -> Section:
     """Returns the numbers of the whole run."""
-    outcome, idle_lines = facts.ended
+    outcome = facts.ended[0]
     delivered = sum(it.is_delivered for it in facts.commits)
     columns = (Column("nodes", "nodes"), Column("cycles", "cycles"), facts.network.column("time", "time"),
                Column("windows", "windows"), Column("commits", "commits"), Column("delivered", "delivered"),
@@ -31,7 +30,7 @@ def totals(facts: Facts) -> Section:
     time = facts.network.time(facts.windows.begin_of_cycle(facts.inputs.cycles))
     return Section("total", "Run", columns, [Row({
         "nodes": len(outcome.nodes), "cycles": facts.inputs.cycles, "time": time, "windows": outcome.windows,
-        "commits": len(facts.commits), "delivered": delivered, "idle_faults": len(idle_lines)})])
+        "commits": len(facts.commits), "delivered": delivered, "idle_faults": len(idle_faults(facts))})])
 
 
 def missed(facts: Facts) -> Section:
@@ -120,9 +119,18 @@ def error_rows(facts: Facts, node: int, channel: str, counters: Counters) -> Ite
 
 
 def idle(facts: Facts) -> Section:
-    """Returns the fault lines of the scenario that had no effect in the whole run."""
-    task = facts.inputs.task
-    data = read_bytes(task.file(task.scenario or "")) or b""
-    lines = data.decode(errors="replace").split("\n")
-    rows = [Row({"line": it, "fault": lines[it - 1] if it <= len(lines) else None}) for it in facts.ended[1]]
+    """Returns the fault lines of the scenario that had no effect in the whole run, and such parts of those with lists.
+    """
+    rows = [Row({"line": line, "fault": text}) for line, text in idle_faults(facts)]
     return Section("idle", "Faults without effect", (Column("line", "line"), Column("fault", "fault")), rows)
+
+
+def idle_faults(facts: Facts) -> list[tuple[int, str | None]]:
+    """Returns the number and the text of each line without effect, and of each line for which a list stands."""
+    lines = facts.inputs.text.decode(errors="replace").split("\n")
+    found: list[tuple[int, str | None]] = [(it, lines[it - 1] if it <= len(lines) else None) for it in facts.ended[1]]
+    if len(facts.scenario.faults) > len({it.number for it in facts.scenario.faults}):
+        facts.run()
+    parts = facts.inputs.effects.partly_idle() if facts.inputs.effects else {}
+    found += [(line, it.text) for line, its in parts.items() for it in its]
+    return sorted(found, key=lambda it: it[0])

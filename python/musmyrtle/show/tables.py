@@ -345,6 +345,16 @@ class Spelling:
             found += part.texts
         return found
 
+    def pieces(self, row: Row) -> tuple[list[str], ...]:
+        """Returns the texts of a row in pieces, of which those of shared parts are the same lists."""
+        values = row.values
+        if type(values) is not Parts:
+            return (self.row(row),)
+        for part in values.parts:
+            if part.texts is None:
+                part.texts = self.part(part.values)
+        return tuple(part.texts or [] for part in values.parts)
+
     def part(self, values: Mapping[str, Value]) -> list[str]:
         """Returns the texts of a part of a row."""
         texts = [texts[type(value := values[key]), value] for key, texts in self.columns if key in values]
@@ -407,10 +417,10 @@ def as_text(sections: Iterable[Section], is_coloured: bool = False) -> Iterator[
     """Yields the tables for people, with an empty line between them."""
     is_first = True
     for section in sections:
-        lines = list(text_lines(section, is_coloured))
-        if lines:
-            yield ("" if is_first else "\n") + "".join(f"{line}\n" for line in lines)
-            is_first = False
+        front = "" if is_first else "\n"
+        for line in text_lines(section, is_coloured):
+            yield f"{front}{line}\n"
+            front, is_first = "", False
 
 
 def below_text(words: Sequence[str]) -> str:
@@ -419,37 +429,87 @@ def below_text(words: Sequence[str]) -> str:
     return f"    {signal}={name}" if name != ABSENT else f"    {signal}={value}{'' if unit == ABSENT else f' {unit}'}"
 
 
+class Placing:
+    """The places of texts in the columns of a table. Rows come in pieces, and a piece that rows share is placed once.
+
+    A column is as wide as its longest text, and stands at the right if all of its texts are numbers.
+    """
+
+    def __init__(self, headings: Sequence[str], rows: Iterable[tuple[list[str], ...]]) -> None:
+        self.widths = [len(it) for it in headings]
+        self.is_right, self.is_kept = [True] * len(headings), [False] * len(headings)
+        self.known: dict[tuple[int, int], str] = {}
+        """The texts of pieces by their identities and first columns. The rows keep the pieces."""
+        seen: dict[int, set[int]] = {}
+        for pieces in rows:
+            first = 0
+            for piece in pieces:
+                its = seen.setdefault(first, set())
+                if id(piece) not in its:
+                    its.add(id(piece))
+                    self.measure(piece, first)
+                first += len(piece)
+
+    def measure(self, piece: Sequence[str], first: int) -> None:
+        """Notes the lengths of some texts, from a column on."""
+        for place, text in enumerate(piece, first):
+            if len(text) > self.widths[place]:
+                self.widths[place] = len(text)
+            if text != ABSENT:
+                self.is_kept[place] = True
+                if self.is_right[place] and not NUMERIC.fullmatch(text):
+                    self.is_right[place] = False
+
+    def line(self, pieces: Iterable[Sequence[str]]) -> str:
+        """Returns the line of a row."""
+        found, first = [], 0
+        for piece in pieces:
+            key = id(piece), first
+            text = self.known.get(key)
+            if text is None:
+                if len(self.known) >= MOST_SPELLED:
+                    self.known.clear()
+                text = self.known[key] = self.placed(piece, first)
+            if text:
+                found.append(text)
+            first += len(piece)
+        return "  ".join(found).rstrip()
+
+    def placed(self, piece: Sequence[str], first: int) -> str:
+        """Returns some texts in their columns, from a column on. Columns without any text are left out."""
+        return "  ".join(word.rjust(self.widths[place]) if self.is_right[place] else word.ljust(self.widths[place])
+                         for place, word in enumerate(piece, first) if self.is_kept[place])
+
+
 def text_lines(section: Section, is_coloured: bool) -> Iterator[str]:
     """Yields the lines of one table for people."""
     shown = [it for it in section.columns if it.heading]
     spelling = Spelling((it.key, Spelled(it.text)) for it in shown)
     inner = Spelling((it.key, Spelled(it.text)) for it in section.below)
-    rows = [(row.is_error, tuple(spelling.row(row)), [below_text(inner.row(it)) for it in row.below or ()])
-            for row in section.rows]
+    rows, errors, below = list[tuple[list[str], ...]](), set[int](), dict[int, list[str]]()
+    for number, row in enumerate(section.rows):
+        rows.append(spelling.pieces(row))
+        if row.is_error:
+            errors.add(number)
+        if row.below:
+            below[number] = [below_text(inner.row(it)) for it in row.below]
     if not rows:
         if section.nothing:
             yield section.nothing
         return
-    kept = [place for place in range(len(shown)) if any(words[place] != ABSENT for _, words, _ in rows)]
-    columns = [shown[it] for it in kept]
-    cells = [tuple(words[it] for it in kept) for _, words, _ in rows] if len(kept) < len(shown) else \
-        [words for _, words, _ in rows]
-    widths = [max(len(column.heading), *(len(row[place]) for row in cells)) for place, column in enumerate(columns)]
-    is_right = [all(NUMERIC.fullmatch(row[place]) for row in cells) for place in range(len(columns))]
-
-    def line(words: Iterable[str]) -> str:
-        placed = zip(words, widths, is_right)
-        return "  ".join(word.rjust(width) if right else word.ljust(width) for word, width, right in placed).rstrip()
+    headings = [it.heading for it in shown]
+    placing = Placing(headings, rows)
 
     def coloured(text: str, colour: str) -> str:
         return f"{colour}{text}{USUAL}" if is_coloured else text
 
     if section.title:
         yield coloured(section.title, BOLD)
-    yield coloured(line(it.heading for it in columns), BOLD)
-    for (is_error, _, below), words in zip(rows, cells):
-        yield coloured(line(words), RED) if is_error else line(words)
-        yield from below
-    for it in columns:
-        if it.meaning:
+    yield coloured(placing.line((headings,)), BOLD)
+    for number, pieces in enumerate(rows):
+        line = placing.line(pieces)
+        yield coloured(line, RED) if number in errors else line
+        yield from below.get(number, ())
+    for it, is_kept in zip(shown, placing.is_kept):
+        if it.meaning and is_kept:
             yield f"{it.heading.partition(' [')[0]}: {it.meaning}"

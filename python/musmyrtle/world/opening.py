@@ -1,5 +1,6 @@
 """The reason why a world isn't opened: the refusal of the program, and the explanation by `musmyrtle lint`."""
 import os
+from pathlib import Path
 
 from musmyrtle.program import OF_THE_MACHINE
 from musmyrtle.visible import visible
@@ -22,7 +23,7 @@ def refused_cluster(said: str, cluster: str) -> ClusterRefused | BadCycles | NoR
         return None
     refusal, _, explained = lines[places[-1]].removeprefix(REFUSED).partition(": ")
     if refusal == "BadCycles":
-        return BadCycles("a run of the cluster can't have so many cycles")
+        return BadCycles(too_many(cluster))
     name, _, node = refusal.partition(" ")
     if name == "NoRoom" and node.isdigit():
         return NoRoom(int(node))
@@ -31,6 +32,21 @@ def refused_cluster(said: str, cluster: str) -> ClusterRefused | BadCycles | NoR
     # A failure of the machine is no verdict on a file that can be read.
     is_of_machine = name in (*OF_OUTPUTS, *OF_THE_MACHINE) and not (name == "Read" and reason)
     return None if is_of_machine else ClusterRefused(refusal, visible(reason))
+
+
+def too_many(cluster: str) -> str:
+    """Returns why a world can't have so many cycles, with the greatest number if the cluster file can be read again."""
+    from musmyrtle.cluster import Reading
+    from musmyrtle.cluster_file import document_of
+    from musmyrtle.most_cycles import too_many_cycles
+    try:
+        found = Reading(document_of(Path(cluster).read_bytes())).cluster if os.path.isfile(cluster) else None
+    except (OSError, ValueError):
+        found = None
+    if found is None:
+        return "a run of the cluster can't have so many cycles"
+    finding = too_many_cycles(found)
+    return f"{finding.headline}. {finding.reason}"
 
 
 def reason_of(refusal: str, cluster: str) -> str:

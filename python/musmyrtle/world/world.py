@@ -23,7 +23,7 @@ from musmyrtle.world.faults import Fault, fault_line
 from musmyrtle.world.layouts import Layouts
 from musmyrtle.world.node import Buffer, Node
 from musmyrtle.world.playing import Host, Play
-from musmyrtle.world.receptions import Listener, Listening, Reception, Receptions
+from musmyrtle.world.receptions import Fifo, Listener, Listening, Reception, Receptions
 from musmyrtle.world.refusals import BadCycles, BadName, NoHistory, TooManyFaults, WrongLength, refusal
 from musmyrtle.world.replies import Channel, Counters, Moment, Received, Record, Window, record_of, window_of
 from musmyrtle.world.session import CLOSE_SECONDS, FileName, Outputs, Session
@@ -379,21 +379,23 @@ class World:
             return moved(self.ask(line))
         with self._session.lock:
             reply, found = self._receptions.step(line)
+        self._receptions.tell(found)
         if reply.startswith("refused "):
             raise refusal(reply, line)
-        self._receptions.tell(found)
         return moved(reply)
 
     # ---- received frames
 
-    def listen(self, listener: Listener, node: int | str | None = None, buffer: int | str | None = None) -> Listening:
-        """Has a function called with each frame that a receive buffer stores from now on: a `Reception`.
+    def listen(self, listener: Listener, node: int | str | None = None, buffer: int | str | Fifo | None = None
+               ) -> Listening:
+        """Has a function called with each frame that a receive buffer or a receive FIFO stores: a `Reception`.
 
-        NODE and BUFFER are numbers or names, or None for all. The function is called by `window`, `cycle`, `run`,
-        `play` and `play_scenario`, after the window or the cycle in which the frame came, and may call the world. An
-        exception of it comes out of that call. In a cycle done at once it gets the last frame of each buffer. Frames of
-        receive FIFOs are left to `next` and `pop`. Returns a context manager, which `stop` or the end of its block
-        ends. Raises `UnknownName`, and `ValueError` for a buffer by name without its node.
+        NODE and BUFFER are numbers or names, or None for all; the buffer `FIFO` is the receive FIFO alone. The function
+        is called by `window`, `cycle`, `run`, `play` and `play_scenario`, after the window or the cycle in which the
+        frame came, and may call the world. An exception of it comes out of that call. In a cycle done at once it gets
+        the last frame of each buffer; if a FIFO is listened to, a cycle is done window by window. `next` and `pop`
+        still return what a FIFO holds. Returns a context manager, which `stop` or the end of its block ends. Raises
+        `UnknownName`, and `ValueError` for a buffer by name without its node.
         """
         number = self.names.node(node) if isinstance(node, str) else node
         if isinstance(buffer, str):
@@ -403,12 +405,12 @@ class World:
         with self._session.lock:
             return self._receptions.listen(listener, number, buffer)
 
-    def frames(self, cycles: int | None = None, node: int | str | None = None, buffer: int | str | None = None
+    def frames(self, cycles: int | None = None, node: int | str | None = None, buffer: int | str | Fifo | None = None
                ) -> Iterator[Reception]:
         """Does cycle after cycle, up to the end of the run or so many, and yields each frame that is stored.
 
         NODE and BUFFER are those of `listen`, of which it raises what that raises, and what `cycle` raises. Frames come
-        by node and buffer once their cycle is done.
+        by node and buffer once their cycle is done; if a FIFO is listened to, by window before that.
         """
         waiting: deque[Reception] = deque()
         with self.listen(waiting.append, node, buffer):
