@@ -74,6 +74,8 @@ class TestRuns(CampaignCases):
     def test_all_examples(self):
         """The car has 62 static slots, 16 nodes and two channels, and its scenario has babbles, too."""
         for file in sorted(EXAMPLES.glob("*/*.toml")):
+            if file.parent.name == "networks":  # lists of messages, no clusters
+                continue
             scenario = file.with_name("scenario")
             with self.subTest(file):
                 text = scenario.read_text() if scenario.exists() else EMPTY
