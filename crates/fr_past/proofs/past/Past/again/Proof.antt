@@ -74,7 +74,7 @@ module _ (A : RattleType) where
           let vss = z.0.4 in
           let made : (Past.the_row (param 0 A)).Denot = record { of = record {}; items = a.0.now.items } in
           qed 𝓛 ((raw toks ⊛ ‵ (owns (types_at ended.signature.params z.0.0) a vss)) ∷ raw ((held z.0.0 a).requires
-              z.1) ∷ []) ∵
+          z.1) ∷ []) ∵
           keep ! (0 ∷ []) $ split ! $ move ! (1 ∷ []) $
           fsplit ! $ fsplit ! $ feq_l ! (λ is₀. drop ! $ drop ! $
           let p = vptr a.0.ref_ptr.0 a.0.ref_ptr.1 in
@@ -83,7 +83,7 @@ module _ (A : RattleType) where
           sets ! (agg ! (no_more !)) refl (tt, tt) $
           sets ! (agg ! (and_then ! (get ! refl) (no_more !))) refl (tt, (tt, tt)) $
           nothing ! $ owned ! (Mark.the_row item) (Is (Mark.the_row item)) (makes (Mark.the_type item) tt 𝓛)
-              (record {}) (none ∷ []) (tt, (refl, tt)) $
+          (record {}) (none ∷ []) (tt, (refl, tt)) $
           one_made ! (Mark.the_row item) (record {}) none $ fjoin ! $
           returns ! (look_at ! 0 refl) $ free_all ! refl $
           suffices ! _ (ends_at 𝓛 ended stayed held z (one none) made (tt, tt) (tt, tt)) $ says ! refl $
@@ -91,8 +91,11 @@ module _ (A : RattleType) where
 
     meets : (𝓣 : Tables 𝓤 H) → Meets 𝓛 ended.signature (WpFn 𝓤 H 𝓣.C 𝓣.Λ function) (closing 𝓛 ended held)
     meets 𝓣 =
-        walk_Meets 𝓛 ended stayed (Goes-dropped 𝓛 2 (RefOf (0 ∷ []) tt (plain (λ _. Past.the_row (param 0 A))) (λ
-            _. tt)) yes (λ κs x f. refl), tt) held
+        walk_Meets 𝓛 ended stayed (
+          Goes-dropped 𝓛 2 (RefOf (0 ∷ []) tt (plain (λ _. Past.the_row (param 0 A))) (λ
+              _. tt)) yes (λ κs x f. refl),
+          tt,
+        ) held
         (WpFn 𝓤 H 𝓣.C 𝓣.Λ function) (WpFn-mono 𝓤 H 𝓛.laws 𝓣 function) (walks 𝓣.C 𝓣.Λ)
 
 pub again_spec : {M : Type 1} → stated.statement M
@@ -100,5 +103,5 @@ unfolding tables_of
 again_spec 𝓤 𝓛 𝓜 𝓡 wired A LA =
     let 𝓣 : Tables 𝓤 𝓛.H = tables_of 𝓤 𝓛.H 𝓜 (tables 𝓤 𝓛.H 𝓜 𝓡 𝓡.env) in
     entered 𝓤 𝓛.H (triple_of 𝓛 (ended A).signature (closing 𝓛 (ended A) (held A 𝓛 𝓜.mem 𝓡.returns))) 𝓣.C 𝓣.Λ (#self
-        (args A)) (function A)
+    (args A)) (function A)
     (code.unfolded 𝓤 𝓛.H 𝓜 𝓡 wired (A, tt)) (meets A 𝓛 𝓜.mem 𝓡.returns 𝓣)

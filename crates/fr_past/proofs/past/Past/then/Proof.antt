@@ -53,8 +53,14 @@ module _ (A N Y : RattleType) (g : Ghosts Y.Denot N.Denot A.Denot) (d : Dict) wh
   ended = F.ended A N Y g d
 
   abbrev stayed : Stays ended.signature.params ended.kept
-  stayed = (stay_dropped (RefOf (0 ∷ []) tt (plain (λ _. Past.the_row (param 0 A))) (λ _. tt)) yes, (stay_dropped
-      (RefOf (1 ∷ []) tt (plain (λ _. param 1 N)) (λ _. tt)) yes, tt))
+  stayed = (
+    stay_dropped (RefOf (0 ∷ []) tt (plain (λ _. Past.the_row (param 0 A))) (λ _. tt)) yes,
+    (
+      stay_dropped
+          (RefOf (1 ∷ []) tt (plain (λ _. param 1 N)) (λ _. tt)) yes,
+      tt,
+    ),
+  )
 
   module _ {M : Type 1} {𝓤 : Ura M} (𝓛 : Logic 𝓤) (at_mem : Memory → SProp 𝓤) (run : Routine → Fun 𝓤) where
     open 𝓛 use {H}
@@ -74,10 +80,13 @@ module _ (A N Y : RattleType) (g : Ghosts Y.Denot N.Denot A.Denot) (d : Dict) wh
       walks =
           let a = z.0.3 in
           let vss = z.0.4 in
-          let made : (Past.the_row (param 0 A)).Denot = record { of = record {}; items = a.0.now.items ++ g.told
-              a.1.0.now ∷ [] } in
+          let made : (Past.the_row (param 0 A)).Denot = record {
+            of = record {};
+            items = a.0.now.items ++ g.told
+                a.1.0.now ∷ [];
+          } in
           qed 𝓛 ((raw toks ⊛ ‵ (owns (types_at ended.signature.params z.0.0) a vss)) ∷ raw ((held z.0.0 a).requires
-              z.1) ∷ []) ∵
+          z.1) ∷ []) ∵
           keep ! (0 ∷ []) $ split ! $ move ! (1 ∷ []) $
           fsplit ! $ fsplit ! $ feq_l ! (λ is₀. drop ! $ fsplit ! $ fsplit ! $ feq_l ! (λ is₁. drop ! $ drop ! $
           let p = vptr a.0.ref_ptr.0 a.0.ref_ptr.1 in
@@ -88,7 +97,7 @@ module _ (A N Y : RattleType) (g : Ghosts Y.Denot N.Denot A.Denot) (d : Dict) wh
           sets ! (agg ! (no_more !)) refl (tt, tt) $
           sets ! (agg ! (and_then ! (get ! refl) (no_more !))) refl (tt, (tt, tt)) $
           nothing ! $ owned ! (Mark.the_row item) (Is (Mark.the_row item)) (makes (Mark.the_type item) tt 𝓛)
-              (record {}) (none ∷ []) (tt, (refl, tt)) $
+          (record {}) (none ∷ []) (tt, (refl, tt)) $
           one_made ! (Mark.the_row item) (record {}) none $ fjoin ! $
           returns ! (look_at ! 0 refl) $ free_all ! refl $
           suffices ! _ (ends_at 𝓛 ended stayed held z (one none) made (tt, (tt, tt)) (tt, (tt, tt))) $ says ! refl $
@@ -96,9 +105,15 @@ module _ (A N Y : RattleType) (g : Ghosts Y.Denot N.Denot A.Denot) (d : Dict) wh
 
     meets : (𝓣 : Tables 𝓤 H) → Meets 𝓛 ended.signature (WpFn 𝓤 H 𝓣.C 𝓣.Λ function) (closing 𝓛 ended held)
     meets 𝓣 =
-        walk_Meets 𝓛 ended stayed (Goes-dropped 𝓛 5 (RefOf (0 ∷ []) tt (plain (λ _. Past.the_row (param 0 A))) (λ
-            _. tt)) yes (λ κs x f. refl), (Goes-dropped 𝓛 5 (RefOf (1 ∷ []) tt (plain (λ _. param 1 N)) (λ _. tt))
-            yes (λ κs x f. refl), tt)) held
+        walk_Meets 𝓛 ended stayed (
+          Goes-dropped 𝓛 5 (RefOf (0 ∷ []) tt (plain (λ _. Past.the_row (param 0 A))) (λ
+              _. tt)) yes (λ κs x f. refl),
+          (
+            Goes-dropped 𝓛 5 (RefOf (1 ∷ []) tt (plain (λ _. param 1 N)) (λ _. tt))
+                yes (λ κs x f. refl),
+            tt,
+          ),
+        ) held
         (WpFn 𝓤 H 𝓣.C 𝓣.Λ function) (WpFn-mono 𝓤 H 𝓛.laws 𝓣 function) (walks 𝓣.C 𝓣.Λ)
 
 pub then_spec : {M : Type 1} → stated.statement M
@@ -106,5 +121,5 @@ unfolding tables_of
 then_spec 𝓤 𝓛 𝓜 𝓡 wired A N Y LA LN LY g d _ =
     let 𝓣 : Tables 𝓤 𝓛.H = tables_of 𝓤 𝓛.H 𝓜 (tables 𝓤 𝓛.H 𝓜 𝓡 𝓡.env) in
     entered 𝓤 𝓛.H (triple_of 𝓛 (ended A N Y g d).signature (closing 𝓛 (ended A N Y g d) (held A N Y g d 𝓛 𝓜.mem
-        𝓡.returns))) 𝓣.C 𝓣.Λ (#self (args A N Y g d)) (function A N Y g d)
+    𝓡.returns))) 𝓣.C 𝓣.Λ (#self (args A N Y g d)) (function A N Y g d)
     (code.unfolded 𝓤 𝓛.H 𝓜 𝓡 wired (A, (N, (Y, tt))) d) (meets A N Y g d 𝓛 𝓜.mem 𝓡.returns 𝓣)
